@@ -121,19 +121,21 @@ typedef struct pn_neighbour {
     uint8_t chassis[255];
 } pn_neighbour;
 
-/* Who works as a tool: its MAC address and its IP address, to which stations answer, and the number of its request by DCP. Each request, a
- * search and a Set, has a number of its own, so that no answer to another one counts. */
+/* Who works as a tool: its MAC address and its IP address, to which stations answer, and the number of its last request by DCP. Each request,
+ * a search and a Set, has a number of its own, so that no answer to another one counts: the library gives it the next one. Begin with a random
+ * number (a controller uses 1 and 2), and use one tool for all requests. */
 typedef struct pn_tool {
     uint8_t mac[6];
     uint8_t address[4]; /* only pn_tool_read and pn_tool_record read it */
-    uint32_t xid;       /* Xid of the Identify or the Set; a controller uses 1 and 2 */
+    uint32_t xid;       /* Xid of the last Identify or Set */
 } pn_tool;
 
-/* Which stations answered to a name by the place. Begin with zeros. */
+/* Which stations answered to a name by the place. pn_tool_ask writes all of it. */
 typedef struct pn_search {
     uint32_t stations;  /* how many answered: 0, 1, or 2 for more than one */
-    uint32_t is_told;   /* 1: the first one told its name */
-    uint32_t length;    /* the octets of that name; 0: the station has no name */
+    uint32_t is_told;   /* 1: the first one told its name, else 0 */
+    uint32_t length;    /* the octets of that name, at most 240; 0: the station has no name, or told none */
+    uint32_t xid;       /* Xid of the Identify: only answers with this number count */
     uint8_t first[6];   /* the MAC address of the first one */
     uint8_t other[6];   /* that of another one, if more than one answered */
     uint8_t name[240];
@@ -158,10 +160,10 @@ typedef struct pn_controller {
 } pn_controller;
 
 #if defined(__cplusplus)
-static_assert(sizeof(pn_plan) == 4292 && sizeof(pn_search) == 264 && sizeof(pn_tool) == 16 && sizeof(pn_target) == 14,
+static_assert(sizeof(pn_plan) == 4292 && sizeof(pn_search) == 268 && sizeof(pn_tool) == 16 && sizeof(pn_target) == 14,
               "another layout than the library's");
 #else
-_Static_assert(sizeof(pn_plan) == 4292 && sizeof(pn_search) == 264 && sizeof(pn_tool) == 16 && sizeof(pn_target) == 14,
+_Static_assert(sizeof(pn_plan) == 4292 && sizeof(pn_search) == 268 && sizeof(pn_tool) == 16 && sizeof(pn_target) == 14,
                "another layout than the library's");
 #endif
 
@@ -172,10 +174,11 @@ _Static_assert(sizeof(pn_plan) == 4292 && sizeof(pn_search) == 264 && sizeof(pn_
  * pn_controller_put puts a controller into the room and overwrites its contents. Call it only with a plan for which pn_controller_judge
  * returned PN_OK, and a room of PN_CONTROLLER_SIZE octets whose address is a multiple of 16.
  * pn_controller_begin starts it: call it after pn_controller_put, before any pn_controller_step. Later it starts the controller again.
+ * Before it, pn_controller_step does nothing and returns PN_NOT_MADE.
  * pn_controller_step executes one operation on a room into which pn_controller_put put a controller and that only these calls changed
  * since.
- * pn_plan_make reads a catalogue into a plan of `size` octets, and pn_plan_show writes the key of its first fault. The memory that they
- * write must have been initialised.
+ * pn_plan_make reads a catalogue into a plan of `size` octets, and pn_plan_show writes the key of its first fault: it
+ * returns 1, or 2 if there is nothing to write, or 0 if there is no memory. The memory that they write must have been initialised.
  * The six calls of a tool need no room: they write a frame into the operation, or read a received one.
  * Pointers must not be NULL, even if the length is 0. The operation, `given`, the plan, the numbers and the room must not overlap. */
 uint32_t pn_plan_make(const uint8_t *text, size_t length, size_t size, pn_plan *plan);
@@ -185,9 +188,9 @@ uint32_t pn_controller_judge(size_t size, uint32_t abi, size_t op_size, const pn
 void pn_controller_put(void *room, const pn_plan *plan, const uint8_t ar[16], const uint8_t activity[16]);
 void pn_controller_begin(void *room);
 uint32_t pn_controller_step(void *room, pn_op *op, const uint8_t *given, size_t length);
-uint32_t pn_tool_find(const pn_tool *tool, pn_op *op, const uint8_t *alias, size_t length);
+uint32_t pn_tool_find(pn_tool *tool, pn_search *search, pn_op *op, const uint8_t *alias, size_t length);
 void pn_tool_hear(const pn_tool *tool, pn_search *search, const uint8_t *given, size_t length);
-uint32_t pn_tool_name(const pn_tool *tool, const pn_search *search, pn_op *op, const uint8_t *text, size_t length);
+uint32_t pn_tool_name(pn_tool *tool, const pn_search *search, pn_op *op, const uint8_t *text, size_t length);
 uint32_t pn_tool_outcome(const pn_tool *tool, const pn_search *search, pn_op *op, const uint8_t *given, size_t length);
 uint32_t pn_tool_read(const pn_tool *tool, const pn_target *target, const uint8_t activity[16], pn_op *op);
 uint32_t pn_tool_record(const pn_tool *tool, const uint8_t activity[16], pn_op *op, const uint8_t *given, size_t length);
@@ -202,14 +205,15 @@ static inline uint32_t pn_plan_read(pn_plan *plan, const uint8_t *text, size_t l
     return pn_plan_make(text, length, sizeof *plan, plan);
 }
 
-/* For a message: writes the key of the first fault of a catalogue, such as `Project.Slots[1].Slot`, followed by a zero. Returns 0 if the
- * fault has no key. The rest of the room is zeros. Without a text or a room nothing changes. */
+/* For a message: writes the key of the first fault of a catalogue, such as `Project.Slots[1].Slot`, followed by a zero; one that is too long for
+ * the room is cut off. Returns 1 if it wrote a key, else 0: the catalogue has a plan, or the fault has no key, or there is no memory. The rest
+ * of the room is zeros. Without a text or a room nothing changes. */
 static inline uint32_t pn_plan_where(const uint8_t *text, size_t length, char *where, size_t size)
 {
     if (text == NULL || where == NULL || size == 0)
         return 0;
     memset(where, 0, size);
-    return pn_plan_show(text, length, where, size);
+    return pn_plan_show(text, length, where, size) == 1;
 }
 
 /* Returns the first fault of a plan that a host wrote, with the number that a catalogue with this fault has, or PN_OK if it is valid. The
@@ -558,15 +562,17 @@ static inline uint32_t pn_controller_diagnosis(const pn_controller *controller, 
 
 /* --- What a tool does before a controller starts. Frames that it writes are in `length` and `octets` of the operation. --- */
 
-/* Writes an Identify for the name of a station by its place (AliasName): the port of its neighbour, a dot and the name of its neighbour, such
- * as `port-002.switch-1`, with the Xid of the tool. Send it to all stations, and hand each frame that arrives in the next second to
- * pn_tool_heard. May return PN_NULL, PN_BAD_LENGTH (no octets, or more than 511). */
-static inline uint32_t pn_tool_ask(const pn_tool *tool, pn_op *op, const uint8_t *alias, size_t length)
+/* Begins a search: writes an Identify for the name of a station by its place (AliasName): the port of its neighbour, a dot and the name of its
+ * neighbour, such as `port-002.switch-1`. It has the next Xid of the tool. Send it to all stations, and hand each frame that arrives in the
+ * next second to pn_tool_heard; to ask again, send the same frame again. The search need not be initialised. May return PN_NULL, PN_BAD_LENGTH
+ * (no octets, or more than 511); then nothing changes. */
+static inline uint32_t pn_tool_ask(pn_tool *tool, pn_search *search, pn_op *op, const uint8_t *alias, size_t length)
 {
-    return tool == NULL || op == NULL || alias == NULL ? (uint32_t)PN_NULL : pn_tool_find(tool, op, alias, length);
+    return tool == NULL || search == NULL || op == NULL || alias == NULL ? (uint32_t)PN_NULL : pn_tool_find(tool, search, op, alias, length);
 }
 
-/* Hands in a received frame. Only an answer to that Identify changes the search: one with the Xid of the tool. May return PN_NULL. */
+/* Hands in a received frame. Only an answer to the Identify of this search changes it: one with the Xid of the search. An answer to the Identify
+ * of another search does not, however late it comes. May return PN_NULL. */
 static inline uint32_t pn_tool_heard(const pn_tool *tool, pn_search *search, const uint8_t *octets, size_t length)
 {
     if (tool == NULL || search == NULL || octets == NULL)
@@ -576,15 +582,15 @@ static inline uint32_t pn_tool_heard(const pn_tool *tool, pn_search *search, con
 }
 
 /* Writes a Set of a name to the station that answered, which then has it for good: only if it is the only one that answered, and told that
- * it has no name. Before, give the tool another Xid than that of the search. May return PN_NULL, PN_PLAN_NAME (the text is no station name),
- * PN_NOBODY, PN_SEVERAL, PN_HAS_NAME, PN_NAME_UNTOLD. */
-static inline uint32_t pn_tool_give(const pn_tool *tool, const pn_search *search, pn_op *op, const uint8_t *text, size_t length)
+ * it has no name. The Set has the next Xid of the tool; to send it again, send the same frame again. May return PN_NULL, PN_PLAN_NAME (the text
+ * is no station name), PN_NOBODY, PN_SEVERAL, PN_HAS_NAME, PN_NAME_UNTOLD; then nothing changes. */
+static inline uint32_t pn_tool_give(pn_tool *tool, const pn_search *search, pn_op *op, const uint8_t *text, size_t length)
 {
     return tool == NULL || search == NULL || op == NULL || text == NULL ? (uint32_t)PN_NULL : pn_tool_name(tool, search, op, text, length);
 }
 
-/* Reads what a received frame answers to that Set: its BlockError in `note` of the operation, 0 if the station has the name. Only an answer
- * of that station with the Xid of the tool counts. May return PN_NULL, PN_NO_ANSWER. */
+/* Reads what a received frame answers to that Set, the last request of the tool: its BlockError in `note` of the operation, 0 if the station has
+ * the name. Only an answer of that station with the Xid of the tool counts. May return PN_NULL, PN_NO_ANSWER. */
 static inline uint32_t pn_tool_given(const pn_tool *tool, const pn_search *search, pn_op *op, const uint8_t *octets, size_t length)
 {
     return tool == NULL || search == NULL || op == NULL || octets == NULL ? (uint32_t)PN_NULL

@@ -22,7 +22,7 @@ sys.path.insert(0, os.path.join(os.path.dirname(os.path.realpath(__file__)), "..
 from program import answer_help, bench, need, refuse
 
 # how the names of functions begin that read or write blocks
-CRATES_OF_BLOCKS = "(?:block_codec|connect_blocks|block_fields|module_blocks|record_blocks)::"
+CRATES_OF_BLOCKS = "(?:block_codec|connect_blocks|wire|connect_blocks|record_blocks)::"
 MOST_INSTRUCTIONS = 60_000
 # of a block without lists, which needs no room
 MOST_OF_ONE = 2_000

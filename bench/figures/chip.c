@@ -456,15 +456,14 @@ static void both(unsigned submodules)
 
 static void tool(void)
 {
-    static const pn_tool who = {.mac = {2, 0, 0, 0, 0, 9}, .address = {192, 168, 0, 9}};
+    static pn_tool who = {.mac = {2, 0, 0, 0, 0, 9}, .address = {192, 168, 0, 9}, .xid = 0x4E41444E};
     static const pn_target target = {.mac = {2, 0, 0, 0, 0, 1}, .address = {192, 168, 0, 2}, .vendor_id = 0x0123, .device_id = 0x0456};
     static uint8_t octets[PN_OP_SIZE];
     static pn_search search;
     static uint8_t number[16];
     uint32_t answer;
     size_t length;
-    memset(&search, 0, sizeof search);
-    CALL(answer, pn_tool_ask, &who, &op, (const uint8_t *)"port-003.sw-1", 13);
+    CALL(answer, pn_tool_ask, &who, &search, &op, (const uint8_t *)"port-003.sw-1", 13);
     length = op.length;
     memcpy(octets, op.octets, length);
     to_controller.count = 0;

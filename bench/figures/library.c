@@ -1,6 +1,6 @@
 /* Figures of the library through its header, for bench/figures/library.py: what is to be counted by callgrind in an exchange that the lines
  * on standard input set up: N times a unit of time (`unit`; without a relation `alone`, and `addressed` in the first two seconds of an address),
- * 32 units (`leap`), a unit with the frame that it sends (`sent`), a cyclic frame (`cyclic`), or the
+ * 32 units (`leap`), a second without a relation (`second`), a unit with the frame that it sends (`sent`), a cyclic frame (`cyclic`), or the
  * millisecond of an exchange (`cycle`). Callgrind counts what is executed within pn_step and pn_fetch, and not what this program does. */
 #include "nandutable.h"
 #include <stdio.h>
@@ -163,6 +163,8 @@ static void count(const char *what, unsigned long turns)
             must(pn_tick(&device, &op, 32) == PN_OK && op.work == PN_NOTHING, 10);
         } else if (strcmp(what, "sent") == 0) {
             units_pass(1);
+        } else if (strcmp(what, "second") == 0) {
+            units_pass(32000);
         } else if (strcmp(what, "cyclic") == 0) {
             next_cyclic(32);
         } else {
@@ -181,8 +183,8 @@ int main(int words, char **word)
     station.modules[1].submodules[0].input = station.modules[2].submodules[0].output = (uint16_t)(strtoul(word[4], NULL, 10) - 3);
     memcpy(station.order_id, &interval, sizeof interval); /* for library_plain.c */
     start();
-    if (strcmp(word[1], "alone") == 0 || strcmp(word[1], "addressed") == 0) {
-        alone(word[1][1] == 'l');
+    if (strcmp(word[1], "alone") == 0 || strcmp(word[1], "addressed") == 0 || strcmp(word[1], "second") == 0) {
+        alone(word[1][1] != 'd');
     } else {
         exchange();
         announce();

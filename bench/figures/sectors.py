@@ -4,6 +4,7 @@
 Use: bench/figures/sectors.py [--check]   With --check it only compares; the status is 1 where the picture is another one.
 """
 
+import glob
 import os
 import re
 import sys
@@ -18,8 +19,8 @@ SECTOR, WIDTH, LEFT = 4096, 860, 20
 def number_of(name):
     """A constant of the crate's sources."""
     folder = os.path.join(TOP, "crates", "settings_journal", "src")
-    for file in sorted(os.listdir(folder)):
-        with open(os.path.join(folder, file), encoding="utf-8") as text:
+    for file in sorted(glob.glob(os.path.join(folder, "**", "*.rt"), recursive=True)):
+        with open(file, encoding="utf-8") as text:
             found = re.search(rf"\bconst {name}: \w+ = (0x[0-9A-Fa-f]+|[0-9]+);", text.read())
         if found:
             return int(found[1], 0)

@@ -11,7 +11,7 @@ allocation of the program, this ends and prints nothing.
 
 Use: bench/gate/allocations.py [PROGRAM]   (the proved one if left out). Prints a line for each of them, with how many allocations
 were refused in turn; its status is 1 if an answer is wrong.
-     bench/gate/allocations.py --worlds [PROGRAM]   the same of a schedule alone, by the program that `rt run` in crates/table_world makes
+     bench/gate/allocations.py --worlds [PROGRAM]   the same of a schedule alone, by the program of tests/table_world
 """
 
 import glob
@@ -20,12 +20,11 @@ import subprocess
 import sys
 import tempfile
 
-from program import answer_help, name, need, proved, refuse
+from program import answer_help, bench, need, proved, refuse
 
 HERE = os.path.dirname(os.path.realpath(__file__))
 TOP = os.path.dirname(os.path.dirname(HERE))
 CRATE = os.path.join(TOP, "crates", "pnscript")
-WORLDS = os.path.join(TOP, "crates", "table_world", "out", "table_world")
 
 
 def read(path):
@@ -69,9 +68,7 @@ def make_shim(folder):
 
 def fail_worlds(program):
     """Each allocation of a schedule. Status 1 if an answer is wrong, or no growth of a world was refused."""
-    if not os.access(program, os.X_OK):
-        raise SystemExit(f"{name()}: there is no {program}: `rt run` in crates/table_world makes it")
-    plan = read(os.path.join(TOP, "crates", "table_world", "stdin")).splitlines()[0]
+    plan = read(os.path.join(TOP, "tests", "table_world", "stdin")).splitlines()[0]
     schedule = plan + b"\ngrowths 1 2000\n"
     whole = subprocess.run([program], input=schedule, stdout=subprocess.PIPE).stdout
     refused = growths = ended = wrong = 0
@@ -103,7 +100,7 @@ def main(words):
         return refuse(words)
     need("cc")
     if is_worlds:
-        return fail_worlds(words[1] if words[1:] else WORLDS)
+        return fail_worlds(words[1] if words[1:] else bench("table_world", "table_world"))
     program = words[0] if words else proved()
     stored = read(os.path.join(CRATE, "stdin"))
     texts = [("the stored run", "run", stored, read(os.path.join(CRATE, "stdout")))]

@@ -111,6 +111,12 @@ def long_list_rows():
     yield changed(lambda catalogue: catalogue.update(Project=[])), KIND, "Project"
     yield changed(lambda catalogue: catalogue["ModuleItem"].append({"ID": "IN2", "ModuleIdentNumber": 1})), NUMBER, "ModuleItem[3].ID"
     yield changed(lambda catalogue: catalogue["ModuleItem"].append("IN2")), KIND, "ModuleItem[3]"
+    # The last of 150 modules, submodules and parameter records has the name of an earlier one.
+    yield changed(lambda catalogue: catalogue["ModuleItem"].extend({"ID": f"M{i % 149}", "ModuleIdentNumber": 1} for i in range(150))), NUMBER, "ModuleItem[152].ID"
+    yield changed(lambda catalogue: wide(catalogue)["VirtualSubmoduleItem"].extend(
+        {"Subslot": 3 + i % 149, "SubmoduleIdentNumber": 51} for i in range(150))), NUMBER, "ModuleItem[2].VirtualSubmoduleItem[151].Subslot"
+    yield changed(lambda catalogue: part(catalogue)["ParameterRecordDataItem"].extend(
+        {"Index": 100 + i % 149, "Length": 1} for i in range(150))), NUMBER, f"{PART}.ParameterRecordDataItem[151].Index"
 
 
 def submodule_rows():

@@ -34,11 +34,11 @@ def proved():
     return known.PROGRAM
 
 
-def bench(program):
-    """The path of a program of tests/benches, which is ordinary Rust. Ends with status 1 if it is not built."""
+def bench(program, package="test_benches"):
+    """The path of a program of tests/, which is ordinary Rust. Ends with status 1 if it is not built."""
     path = os.path.join(TOP, "out", "plain-rust", "target", "release", program)
     if not os.path.exists(path):
-        raise SystemExit(f"{name()}: {program} is not built: run bench/release/plain-rust, then `cargo build --release -p test_benches` in out/plain-rust")
+        raise SystemExit(f"{name()}: {program} is not built: run bench/release/plain-rust, then `cargo build --release -p {package}` in out/plain-rust")
     return path
 
 

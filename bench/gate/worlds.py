@@ -4,8 +4,8 @@ many of them both ends exchange data, from the rules of a start-up alone: calls 
 schedule from a seed: each frame that changes something, and how far both ends are after it, by `world_model.py`. Neither has octets, nor
 shares a line with the program.
 
-    bench/gate/worlds.py --lines       prints these lines, for the lines of crates/table_world/stdin that ask for them
-    bench/gate/worlds.py --check       compares them with crates/table_world/stdout
+    bench/gate/worlds.py --lines       prints these lines, for the lines of tests/table_world/stdin that ask for them
+    bench/gate/worlds.py --check       compares them with tests/table_world/stdout
     bench/gate/worlds.py --seeds PROGRAM FIRST LAST MOVES      compares the ladders of these seeds with those that a built program prints
 """
 
@@ -17,7 +17,7 @@ import sys
 import world_model
 from program import TOP, answer_help, refuse
 
-TABLE = os.path.join(TOP, "crates", "table_world")
+TABLE = os.path.join(TOP, "tests", "table_world")
 SEARCHES = ("starts", "exchanges", "outputs", "alarms")
 CONNECT = 0
 

@@ -1,8 +1,8 @@
 #!/usr/bin/env python3
 """Puts one block of each kind into a frame of its own, and the blocks of a Connect into one, and prints tshark's line for it.
 
-The blocks are those of bench/interoperation/blocks.txt and those that bench/figures/blocks.py measures. The program `table_block` (made by `rt run`
-in its folder) has to read each and write exactly it again. Records that a device writes and nothing of this repository reads are in
+The blocks are those of bench/interoperation/blocks.txt and those that bench/figures/blocks.py measures. The program of
+tests/table_block has to read each and write exactly it again. Records that a device writes and nothing of this repository reads are in
 bench/interoperation/records.txt: each is put into the answer to a Read.
 Needs Debian's package `tshark`. Its status is 1 where a block is written otherwise or a frame is dissected as malformed.
 Use: bench/interoperation/blocks_in_tshark.py
@@ -18,10 +18,9 @@ import tempfile
 for folder in ("figures", "gate"):
     sys.path.insert(0, os.path.join(os.path.dirname(os.path.realpath(__file__)), "..", folder))
 from blocks import connect
-from program import answer_help, need, refuse
+from program import answer_help, bench, need, refuse
 
 HERE = pathlib.Path(__file__).resolve().parent
-PROGRAM = HERE.parent.parent / "crates/table_block/out/table_block"
 DEVICE = bytes.fromhex("dea000016c9711d1827100a02442df7d")
 CONTROLLER = bytes.fromhex("dea000026c9711d1827100a02442df7d")
 OBJECT = bytes.fromhex("dea000006c9711d18271000104560123")
@@ -48,7 +47,7 @@ def read_records():
 def written_otherwise(found):
     """The names of the blocks that the program does not read, or writes otherwise than they came."""
     lines = "".join(block.hex() + "\n" for _, block in found)
-    printed = subprocess.run([PROGRAM], input=lines, capture_output=True, text=True, check=True).stdout
+    printed = subprocess.run([bench("table_block", "table_block")], input=lines, capture_output=True, text=True, check=True).stdout
     rows = [line for line in printed.splitlines() if line.startswith(("block ", "fault "))]
     wanted = [f"block {block[:2].hex()} rest 0 written {block.hex()}" for _, block in found]
     return [name for (name, _), row, is_wanted in zip(found, rows, wanted) if row != is_wanted]
@@ -95,9 +94,6 @@ def main(words):
     if words:
         return refuse(words)
     need("tshark")
-    if not PROGRAM.exists():
-        print("blocks_in_tshark.py: no program table_block: `rt run` in crates/table_block makes it", file=sys.stderr)
-        return 1
     found = list(blocks())
     otherwise = written_otherwise(found)
     for name in otherwise:

@@ -680,7 +680,7 @@ static void read_words(struct options *options, int count, char *words[])
 /* The controller of a plan as a tool. */
 static pn_tool tool_of(const pn_plan *plan)
 {
-    pn_tool tool = {.xid = 0};
+    pn_tool tool = {.xid = naming_make_xid()};
     memcpy(tool.mac, plan->controller_mac, sizeof tool.mac);
     memcpy(tool.address, plan->controller_address, sizeof tool.address);
     return tool;
@@ -769,7 +769,7 @@ static int is_lowered(const char *name, char lower[PLACE_LONGEST + 1])
 static void replace(struct controller *controller, const struct options *options)
 {
     const pn_plan *plan = &controller->relations[0].plan;
-    const pn_tool tool = tool_of(plan);
+    pn_tool tool = tool_of(plan);
     struct wire *wire = &controller->loop.wire;
     const char *place = options->place;
     char mac[WORDS_MAC], lower[PLACE_LONGEST + 1];

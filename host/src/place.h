@@ -9,14 +9,13 @@
 /* The longest such name, in octets. */
 #define PLACE_LONGEST 511
 
-/* Asks for a second which stations answer to this name by the place. This request and the Set have numbers of their own: the Xid of the tool is
- * not used. */
-void place_find(struct wire *wire, const pn_tool *tool, const char *place, pn_search *search);
+/* Asks for a second which stations answer to this name by the place. This request and the Set have the next numbers of the tool. */
+void place_find(struct wire *wire, pn_tool *tool, const char *place, pn_search *search);
 
 /* Why the station does not get this name, or PN_OK. */
 uint32_t place_judge(const pn_tool *tool, const pn_search *search, const uint8_t *name, size_t length);
 
 /* Gives it the name. Returns 0, the BlockError of its refusal, or -1 without an answer. */
-int place_name(struct wire *wire, const pn_tool *tool, const pn_search *search, const uint8_t *name, size_t length);
+int place_name(struct wire *wire, pn_tool *tool, const pn_search *search, const uint8_t *name, size_t length);
 
 #endif

@@ -217,6 +217,10 @@ static void misuse(void)
     wants("a small room", pn_controller_make(controller.room, PN_CONTROLLER_SIZE - 1, PN_ABI, PN_OP_LENGTH, &plan, ar, activity), PN_SMALL_ROOM);
     bend_again();
     bend_plans();
+    pn_controller_put(controller.room, &plan, ar, activity);
+    memcpy(&before, &controller, sizeof before);
+    for (op.what = 0; op.what < 64; op.what++)
+        wants("an operation before the start", pn_controller_step(controller.room, &op, octets, 0), PN_NOT_MADE);
     keep("a plan", pn_controller_start(&controller, &plan, ar, activity));
     ask_all("in front of the work");
     wants("a frame in front of the work", pn_controller_frame(&controller, &op, octets, 60), PN_HAS_WORK);
@@ -311,17 +315,22 @@ static void hears_neighbour(void)
 /* The calls of a tool without what they need, and with what they refuse. */
 static void misuse_tool(void)
 {
-    static const pn_tool tool = {{2, 0, 0, 0, 0, 2}, {192, 168, 0, 1}, 3};
+    pn_tool tool = {{2, 0, 0, 0, 0, 2}, {192, 168, 0, 1}, 3};
     static const pn_target target = {{2, 0, 0, 0, 0, 1}, {192, 168, 0, 2}, 291, 1110};
     pn_search search;
-    memset(&search, 0, sizeof search);
+    memset(&search, 0xFF, sizeof search);
     memcpy(&before, &controller, sizeof before); /* none of these calls has a controller */
-    wants("no tool that asks", pn_tool_ask(NULL, &op, octets, 3), PN_NULL);
-    wants("no operation to ask with", pn_tool_ask(&tool, NULL, octets, 3), PN_NULL);
-    wants("no place to ask for", pn_tool_ask(&tool, &op, NULL, 3), PN_NULL);
-    wants("an empty place", pn_tool_ask(&tool, &op, octets, 0), PN_BAD_LENGTH);
-    wants("a place that is too long", pn_tool_ask(&tool, &op, octets, 512), PN_BAD_LENGTH);
-    wants("the longest place", pn_tool_ask(&tool, &op, octets, 511), PN_OK);
+    wants("no tool that asks", pn_tool_ask(NULL, &search, &op, octets, 3), PN_NULL);
+    wants("no search to ask for", pn_tool_ask(&tool, NULL, &op, octets, 3), PN_NULL);
+    wants("no operation to ask with", pn_tool_ask(&tool, &search, NULL, octets, 3), PN_NULL);
+    wants("no place to ask for", pn_tool_ask(&tool, &search, &op, NULL, 3), PN_NULL);
+    wants("an empty place", pn_tool_ask(&tool, &search, &op, octets, 0), PN_BAD_LENGTH);
+    wants("a place that is too long", pn_tool_ask(&tool, &search, &op, octets, 512), PN_BAD_LENGTH);
+    wants("a search that was refused stays", search.stations, UINT32_MAX);
+    wants("and so does the number of the tool", tool.xid, 3);
+    wants("the longest place", pn_tool_ask(&tool, &search, &op, octets, 511), PN_OK);
+    wants("the number of the search", search.xid, 4);
+    wants("nobody yet", search.stations | search.is_told | search.length, 0);
     wants("no tool that hears", pn_tool_heard(NULL, &search, octets, 60), PN_NULL);
     wants("no search", pn_tool_heard(&tool, NULL, octets, 60), PN_NULL);
     wants("no frame", pn_tool_heard(&tool, &search, NULL, 0), PN_NULL);

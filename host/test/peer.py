@@ -61,17 +61,20 @@ class Station(threading.Thread):
     `identifies`: how often it answers an Identify for its name; `is_careless`: for another name too. `sets`: the BlockError of its answer to a
     Set, None for no answer. `arp`: the address for which it answers ARP, or None. `calls`: the PNIOStatus of its answer to a call, by the type of
     the first block, or for a Write by that type and the index; no answer if there is none. `rejects`: a packet type (FAULT, REJECT) and the octets
-    with which it answers such a call instead. `place`: its name by its place (AliasName), or None; `is_coy`: it does not tell its name. `differs`: the ModuleState and the SubmoduleState of slot 1 subslot 1 in its answer to the Connect, or
+    with which it answers such a call instead. `place`: its name by its place (AliasName), or None; `is_coy`: it does not tell its name; `late`: for how many
+    seconds it keeps its answer to an Identify. `differs`: the ModuleState and the SubmoduleState of slot 1 subslot 1 in its answer to the Connect, or
     None. `reference`: its LocalAlarmReference."""
 
     def __init__(self, wire, number, name="pump-1", identity=(291, 1110), suite=bytes(12), identifies=1, is_careless=False, sets=None, arp=None,
-                 calls=None, rejects=None, differs=None, reference=1, place=None, is_coy=False):
+                 calls=None, rejects=None, differs=None, reference=1, place=None, is_coy=False, late=0):
         super().__init__(daemon=True)
         self.link, self.mac = wire.socket("d0"), mac_of(number)
         self.name_of_station, self.identity, self.suite = name.encode(), identity, suite
         self.identifies, self.is_careless, self.sets, self.arp, self.calls = identifies, is_careless, sets, arp, calls or {}
         self.rejects, self.differs, self.reference = rejects or {}, differs, reference
-        self.place, self.is_coy = place.encode() if place else None, is_coy
+        self.place, self.is_coy, self.late = place.encode() if place else None, is_coy, late
+        self.kept = []  # answers to an Identify that it keeps: when each is sent, and what it answers
+        self.is_answered = False  # whether it answered an Identify
         self.silences = {}
         self.kinds = []  # of each call that came
         self.named = []  # each name that came in a Set
@@ -90,6 +93,8 @@ class Station(threading.Thread):
         self.link.settimeout(0.02)
         while not self.is_over:
             self.tick()
+            while self.kept and self.kept[0][0] <= time.monotonic():
+                self.identified(*self.kept.pop(0)[1])
             try:
                 came = self.link.recv(2048)
                 self.hear(came)
@@ -125,6 +130,13 @@ class Station(threading.Thread):
         if came[26:28] == b"\2\6" and came[30:30 + length] != self.place:
             return
         blocks = (b"" if self.is_coy else block(2, 2, b"\0\0" + self.name_of_station)) + block(2, 3, b"\0\0" + struct.pack(">HH", *self.identity)) + block(1, 2, b"\0\1" + self.suite)
+        if self.late:
+            self.kept.append((time.monotonic() + self.late, (came, blocks)))
+        else:
+            self.identified(came, blocks)
+
+    def identified(self, came, blocks):
+        self.is_answered = True
         for _ in range(self.identifies):
             self.dcp(came, 0xFEFF, 5, blocks)
 

@@ -1,8 +1,8 @@
 -- The fields of a block that is read are accepted.
 use Rattle.std.proofs.Common.{◌≡◌, ℕ, List, Option, Some, None, Ok, subst}
 use Rattle.connect_blocks.proofs.Accepted.{ar_block_req_accepted, alarm_cr_block_req_accepted, iocr_block_req_accepted, control_accepted}
-use Rattle.module_blocks.proofs.Handled.{expected_accepted}
-use Rattle.module_blocks.proofs.Diff.{module_diff_accepted}
+use Rattle.connect_blocks.proofs.Handled.{expected_accepted}
+use Rattle.connect_blocks.proofs.Diff.{module_diff_accepted}
 use Rattle.record_blocks.proofs.Filter.{filter_data_accepted}
 use Rattle.block_codec.specs.declared.block_type.BlockType.{BlockType}
 use Rattle.block_codec.specs.declared.block_type.BlockType.TheVariants as kind

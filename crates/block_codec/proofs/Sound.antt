@@ -7,16 +7,16 @@ use Rattle.wire.proofs.Fields.{number_in_front, number_sound, number_onward}
 use Rattle.wire.proofs.Joined.{then_by_sound, then_by_onward, seen_sound, seen_onward, framed_sound, framed_onward}
 use Rattle.wire.proofs.Wholes.{refused_sound}
 use Rattle.wire.proofs.Handled.{variant_sound}
-use Rattle.block_fields.specs.declared.fault.BlockFault.TheVariants.{Truncated, Kind}
-use Rattle.block_fields.proofs.Sound.{body_sound, open_body_sound}
+use Rattle.wire.specs.declared.blocks.fault.BlockFault.TheVariants.{Truncated, Kind}
+use Rattle.wire.proofs.BlocksSound.{body_sound, open_body_sound}
 use Rattle.connect_blocks.specs.declared.ar_block.ArBlockReq.{ArBlockReq}
 use Rattle.connect_blocks.specs.declared.ar_block.ArBlockRes.{ArBlockRes}
 use Rattle.connect_blocks.specs.declared.iocr.IocrBlockReq.{IocrBlockReq}
 use Rattle.connect_blocks.specs.declared.iocr.IocrBlockRes.{IocrBlockRes}
 use Rattle.connect_blocks.specs.declared.alarm_cr.AlarmCrBlockReq.{AlarmCrBlockReq}
 use Rattle.connect_blocks.specs.declared.alarm_cr.AlarmCrBlockRes.{AlarmCrBlockRes}
-use Rattle.module_blocks.specs.declared.expected.ExpectedSubmoduleBlockReq.{ExpectedSubmoduleBlockReq}
-use Rattle.module_blocks.specs.declared.module_diff.ModuleDiffBlock.{ModuleDiffBlock}
+use Rattle.connect_blocks.specs.declared.expected.ExpectedSubmoduleBlockReq.{ExpectedSubmoduleBlockReq}
+use Rattle.connect_blocks.specs.declared.module_diff.ModuleDiffBlock.{ModuleDiffBlock}
 use Rattle.connect_blocks.specs.declared.control.ControlBlock.{ControlBlock}
 use Rattle.record_blocks.specs.declared.read_record.IodReadReq.{IodReadReq}
 use Rattle.record_blocks.specs.declared.read_record.IodReadRes.{IodReadRes}
@@ -31,8 +31,8 @@ use Rattle.record_blocks.specs.declared.filter_data.ImFilterData.{ImFilterData}
 use Rattle.record_blocks.specs.declared.alarm_notification.AlarmNotification.{AlarmNotification}
 use Rattle.record_blocks.specs.declared.alarm_ack.AlarmAck.{AlarmAck}
 use Rattle.connect_blocks.proofs.Sound.{ar_block_req_sound, ar_block_res_sound, iocr_block_req_sound, iocr_block_res_sound, alarm_cr_block_req_sound, alarm_cr_block_res_sound, control_sound}
-use Rattle.module_blocks.proofs.Wanted.{expected_sound}
-use Rattle.module_blocks.proofs.Diff.{module_diff_sound}
+use Rattle.connect_blocks.proofs.Wanted.{expected_sound}
+use Rattle.connect_blocks.proofs.Diff.{module_diff_sound}
 use Rattle.record_blocks.proofs.Sound.{iod_read_req_sound, iod_read_res_sound, iod_write_req_sound, iod_write_res_sound, im0_sound, im1_sound, im2_sound, im3_sound, im4_sound, alarm_notification_sound, alarm_ack_sound}
 use Rattle.record_blocks.proofs.Filter.{filter_data_sound}
 use Rattle.block_codec.specs.declared.block_type.BlockType.{BlockType}

@@ -4,17 +4,17 @@ use Rattle.wire.specs.Codec.{Codec, Whole}
 use Rattle.wire.specs.Formats.{number, then_by, seen, framed}
 use Rattle.wire.specs.Whole.{refused}
 use Rattle.wire.specs.Checks.{variant}
-use Rattle.block_fields.specs.declared.fault.BlockFault.{BlockFault}
-use Rattle.block_fields.specs.declared.fault.BlockFault.TheVariants.{Truncated, Kind}
-use Rattle.block_fields.specs.Fields.{body, open_body}
+use Rattle.wire.specs.declared.blocks.fault.BlockFault.{BlockFault}
+use Rattle.wire.specs.declared.blocks.fault.BlockFault.TheVariants.{Truncated, Kind}
+use Rattle.wire.specs.blocks.Fields.{body, open_body}
 use Rattle.connect_blocks.specs.declared.ar_block.ArBlockReq.{ArBlockReq}
 use Rattle.connect_blocks.specs.declared.ar_block.ArBlockRes.{ArBlockRes}
 use Rattle.connect_blocks.specs.declared.iocr.IocrBlockReq.{IocrBlockReq}
 use Rattle.connect_blocks.specs.declared.iocr.IocrBlockRes.{IocrBlockRes}
 use Rattle.connect_blocks.specs.declared.alarm_cr.AlarmCrBlockReq.{AlarmCrBlockReq}
 use Rattle.connect_blocks.specs.declared.alarm_cr.AlarmCrBlockRes.{AlarmCrBlockRes}
-use Rattle.module_blocks.specs.declared.expected.ExpectedSubmoduleBlockReq.{ExpectedSubmoduleBlockReq}
-use Rattle.module_blocks.specs.declared.module_diff.ModuleDiffBlock.{ModuleDiffBlock}
+use Rattle.connect_blocks.specs.declared.expected.ExpectedSubmoduleBlockReq.{ExpectedSubmoduleBlockReq}
+use Rattle.connect_blocks.specs.declared.module_diff.ModuleDiffBlock.{ModuleDiffBlock}
 use Rattle.connect_blocks.specs.declared.control.ControlBlock.{ControlBlock}
 use Rattle.record_blocks.specs.declared.read_record.IodReadReq.{IodReadReq}
 use Rattle.record_blocks.specs.declared.read_record.IodReadRes.{IodReadRes}
@@ -31,8 +31,8 @@ use Rattle.record_blocks.specs.declared.alarm_ack.AlarmAck.{AlarmAck}
 use Rattle.connect_blocks.specs.ArBlock.{ar_block_req, ar_block_res, IsArBlockReq}
 use Rattle.connect_blocks.specs.Iocr.{iocr_block_req, iocr_block_res, IsIocrBlockReq}
 use Rattle.connect_blocks.specs.AlarmCr.{alarm_cr_block_req, alarm_cr_block_res, IsAlarmCrBlockReq}
-use Rattle.module_blocks.specs.Expected.{expected, IsExpectedSubmoduleBlockReq}
-use Rattle.module_blocks.specs.ModuleDiff.{module_diff, IsModuleDiff}
+use Rattle.connect_blocks.specs.Expected.{expected, IsExpectedSubmoduleBlockReq}
+use Rattle.connect_blocks.specs.ModuleDiff.{module_diff, IsModuleDiff}
 use Rattle.connect_blocks.specs.Control.{control}
 use Rattle.record_blocks.specs.ReadRecord.{iod_read_req, iod_read_res}
 use Rattle.record_blocks.specs.WriteRecord.{iod_write_req, iod_write_res}

@@ -1,3 +1,4 @@
 pub mod Kinds
 pub mod Block
 pub mod Reader
+pub mod Writable

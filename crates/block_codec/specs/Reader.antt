@@ -1,6 +1,6 @@
 -- Blocks, one after the other.
 use Rattle.std.specs.Prelude.{◌≡◌, ℕ, Bool, true, false, List, [], ◌∷◌, Option, Some, None, Result, Ok, Err}
-use Rattle.block_fields.specs.declared.fault.BlockFault.{BlockFault}
+use Rattle.wire.specs.declared.blocks.fault.BlockFault.{BlockFault}
 use Rattle.block_codec.specs.declared.block.Block.{Block}
 use Rattle.block_codec.specs.Block.{IsAccepted, IsBlock, block_of, front}
 

@@ -3,14 +3,14 @@
 ghost use Rattle.std.specs.Prelude.{◌≡◌, ◌+◌, ◌≤◌, ◌++◌, ℕ, List};
 ghost use Rattle.arrayvec.specs.ArrayVec.{array_vec_len};
 ghost use Rattle.wire.specs.Codec.{Gives};
-ghost use Rattle.block_fields.specs.Fields.{body};
-ghost use Rattle.module_blocks.specs.Expected.{expected, IsExpectedSubmoduleBlockReq};
-ghost use Rattle.module_blocks.specs.ModuleDiff.{module_diff, IsModuleDiff};
+ghost use Rattle.wire.specs.blocks.Fields.{body};
+ghost use Rattle.connect_blocks.specs.Expected.{expected, IsExpectedSubmoduleBlockReq};
+ghost use Rattle.connect_blocks.specs.ModuleDiff.{module_diff, IsModuleDiff};
 ghost use Rattle.record_blocks.specs.FilterData.{filter_data, IsFilterData};
 
 use crate::{BlockFault, ExpectedSubmoduleBlockReq, ImFilterData, ModuleDiffBlock};
 use arrayvec::ArrayVec;
-use module_blocks::{expected_at, module_diff_at, put_expected, put_module_diff};
+use connect_blocks::{expected_at, module_diff_at, put_expected, put_module_diff};
 use record_blocks::{filter_data_at, put_filter_data};
 
 /// Reads the part of an ExpectedSubmoduleBlockReq that BlockLength counts.

@@ -4,10 +4,9 @@ ghost use Rattle.block_codec.specs.Block.{kind_of};
 
 use crate::BlockType;
 use connect_blocks::{
-    AlarmCrBlockReq, AlarmCrBlockRes, ArBlockReq, ArBlockRes, ControlBlock, IocrBlockReq,
-    IocrBlockRes,
+    AlarmCrBlockReq, AlarmCrBlockRes, ArBlockReq, ArBlockRes, ControlBlock,
+    ExpectedSubmoduleBlockReq, IocrBlockReq, IocrBlockRes, ModuleDiffBlock,
 };
-use module_blocks::{ExpectedSubmoduleBlockReq, ModuleDiffBlock};
 use record_blocks::{
     AlarmAck, AlarmNotification, Im0, Im1, Im2, Im3, Im4, ImFilterData, IodReadReq, IodReadRes,
     IodWriteReq, IodWriteRes,

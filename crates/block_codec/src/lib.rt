@@ -14,10 +14,13 @@
 //!
 //! A block borrows its lists from the octets that were read, or from the lists of its writer. No block is
 //! large, and any number of them can be held at once.
+//!
+//! Laws of blocks: a written block is read back, also if several follow one another.
 #![tactic(auto)]
 
 mod apart;
 mod block;
+mod block_law;
 mod block_reader;
 mod block_type;
 mod law;
@@ -25,21 +28,20 @@ mod reading;
 mod writing;
 
 pub use block::Block;
-pub use block_fields::BlockFault;
+pub use block_law::blocks_are_read;
 pub use block_reader::BlockReader;
 pub use block_type::BlockType;
 pub use connect_blocks::{
-    AlarmCrBlockReq, AlarmCrBlockRes, ArBlockReq, ArBlockRes, ControlBlock, IoObject, IoObjects,
-    IocrBlockReq, IocrBlockRes, IocrType, RtClass,
+    AlarmCrBlockReq, AlarmCrBlockRes, ArBlockReq, ArBlockRes, ControlBlock, DiffModule,
+    DiffModules, DiffSubmodule, ExpectedModule, ExpectedModules, ExpectedSubmodule,
+    ExpectedSubmoduleBlockReq, IoObject, IoObjects, IocrBlockReq, IocrBlockRes, IocrType,
+    ModuleDiffBlock, RtClass, SubmoduleData,
 };
 pub use law::fitting_blocks_are_read;
-pub use module_blocks::{
-    DiffModule, DiffModules, DiffSubmodule, ExpectedModule, ExpectedModules, ExpectedSubmodule,
-    ExpectedSubmoduleBlockReq, ModuleDiffBlock, SubmoduleData,
-};
 pub use reading::{read_alarm_ack, read_block, read_expected};
 pub use record_blocks::{
     AlarmAck, AlarmData, AlarmNotification, FilterModule, FilterModules, FilterSubmodule, Im0, Im1,
     Im2, Im3, Im4, ImFilterData, IodReadReq, IodReadRes, IodWriteReq, IodWriteRes, RecordHeader,
 };
+pub use wire::BlockFault;
 pub use writing::{block_len, notification_front, write_block};

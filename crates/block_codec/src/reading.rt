@@ -15,9 +15,8 @@ use crate::{
 use arrayvec::ArrayVec;
 use connect_blocks::{
     alarm_cr_block_req_at, alarm_cr_block_res_at, ar_block_req_at, ar_block_res_at, control_at,
-    iocr_block_req_at, iocr_block_res_at,
+    expected_in, iocr_block_req_at, iocr_block_res_at,
 };
-use module_blocks::expected_in;
 use record_blocks::{
     alarm_ack_at, alarm_notification_at, im0_at, im1_at, im2_at, im3_at, im4_at, iod_read_req_at,
     iod_read_res_at, iod_write_req_at, iod_write_res_at,

@@ -6,24 +6,22 @@ ghost use Rattle.block_codec.specs.Block.{IsAccepted, IsBlock, block, block_of, 
 use crate::apart::{put_expected_apart, put_filter_data_apart, put_module_diff_apart};
 use crate::{AlarmNotification, Block, BlockType};
 use arrayvec::ArrayVec;
-use block_fields::put_version;
 use connect_blocks::{
     alarm_cr_block_req_len, alarm_cr_block_res_len, ar_block_req_len, ar_block_res_len,
-    control_len, iocr_block_req_len, iocr_block_res_len, put_alarm_cr_block_req,
-    put_alarm_cr_block_res, put_ar_block_req, put_ar_block_res, put_control, put_iocr_block_req,
-    put_iocr_block_res,
+    control_len, expected_len, iocr_block_req_len, iocr_block_res_len, module_diff_len,
+    put_alarm_cr_block_req, put_alarm_cr_block_res, put_ar_block_req, put_ar_block_res,
+    put_control, put_iocr_block_req, put_iocr_block_res,
 };
-use module_blocks::{expected_len, module_diff_len};
 use record_blocks::{
     alarm_ack_len, alarm_front, alarm_notification_len, filter_data_len, im0_len, im1_len, im2_len,
     im3_len, im4_len, iod_read_req_len, iod_read_res_len, iod_write_req_len, iod_write_res_len,
     put_alarm_ack, put_alarm_notification, put_im0, put_im1, put_im2, put_im3, put_im4,
     put_iod_read_req, put_iod_read_res, put_iod_write_req, put_iod_write_res,
 };
-use wire::{append_u16, join};
+use wire::{append_u16, join, put_version};
 
 /// The number of octets that BlockLength counts: the version and the fields.
-#[tactic(auto, unfolding(crate::specs::Block::fields_of, block_fields::specs::Fields::body, block_fields::specs::Fields::open_body, block_fields::specs::Fields::version))]
+#[tactic(auto, unfolding(crate::specs::Block::fields_of, wire::specs::blocks::Fields::body, wire::specs::blocks::Fields::open_body, wire::specs::blocks::Fields::version))]
 fn body_len(block: &Block) -> usize
     ensures size { result ≡ (fields_of (kind_of block.now)).size block.now }
     ensures few { result < 65536 }
@@ -68,7 +66,7 @@ pub fn block_len(block: &Block) -> usize
 }
 
 /// Appends the version and the fields. There must be room.
-#[tactic(auto, using(connect_blocks::proofs::Sound::control_sized), unfolding(crate::specs::Block::fields_of, block_fields::specs::Fields::body, block_fields::specs::Fields::open_body, block_fields::specs::Fields::version))]
+#[tactic(auto, using(connect_blocks::proofs::Sound::control_sized), unfolding(crate::specs::Block::fields_of, wire::specs::blocks::Fields::body, wire::specs::blocks::Fields::open_body, wire::specs::blocks::Fields::version))]
 fn put_body<const N: usize>(out: &mut ArrayVec<u8, N>, block: &Block)
     requires { array_vec_len out.old + (fields_of (kind_of block.now)).size block.now ≤ N }
     ensures items { out.new.items ++ [] ≡ out.old.items ++ (fields_of (kind_of block.now)).write block.now }

@@ -1,8 +1,8 @@
 -- Chains of readings of which one fails.
 use Rattle.std.proofs.Common.{◌≡◌, ◌⊎◌, inl, inr, refl, Result, Err}
-use Rattle.catalogue_keys.specs.declared.fault.CatalogueFault.TheVariants.{OutOfMemory}
-use Rattle.catalogue_keys.specs.declared.fault.PlacedFault.{PlacedFault}
-use Rattle.catalogue_keys.specs.Reader.{◌>>=◌, Reads}
+use Rattle.catalogue.specs.declared.keys.fault.CatalogueFault.TheVariants.{OutOfMemory}
+use Rattle.catalogue.specs.declared.keys.fault.PlacedFault.{PlacedFault}
+use Rattle.catalogue.specs.keys.Reader.{◌>>=◌, Reads}
 
 failed : {A B C : Type 0} (view : A → C) (fault : PlacedFault) (read : Result B PlacedFault) (next : B → Result C PlacedFault) → (fault.fault ≡ OutOfMemory) ⊎ (read ≡ Err fault) → Reads view (Err fault) (read >>= next)
 failed view fault read next (inl memory) = inl memory

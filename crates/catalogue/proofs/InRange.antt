@@ -6,13 +6,13 @@ use Rattle.std.specs.Option.{ok_or}
 use Rattle.std.proofs.lemmas.Bool.{eqb-true, eqb-false}
 use Rattle.serde_json.specs.Data.{Data}
 use Rattle.wire.proofs.Fields.{bind_ok, ok_is}
-use Rattle.catalogue_keys.specs.declared.key.Key.TheVariants as key
-use Rattle.catalogue_keys.specs.declared.fault.CatalogueFault.TheVariants.{Number}
-use Rattle.catalogue_keys.specs.declared.fault.PlacedFault.{PlacedFault}
-use Rattle.catalogue_keys.specs.declared.fault.Step.TheVariants.{At}
-use Rattle.catalogue_keys.specs.Placed.{at_key, behind}
+use Rattle.catalogue.specs.declared.keys.key.Key.TheVariants as key
+use Rattle.catalogue.specs.declared.keys.fault.CatalogueFault.TheVariants.{Number}
+use Rattle.catalogue.specs.declared.keys.fault.PlacedFault.{PlacedFault}
+use Rattle.catalogue.specs.declared.keys.fault.Step.TheVariants.{At}
+use Rattle.catalogue.specs.keys.Placed.{at_key, behind}
 use Rattle.catalogue.specs.declared.submodule.ParameterItem.{ParameterItem}
-use Rattle.catalogue_keys.specs.Reader.{◌>>=◌, Reads, member, number_at, text_at, flag_at, list_at, whole_at}
+use Rattle.catalogue.specs.keys.Reader.{◌>>=◌, Reads, member, number_at, text_at, flag_at, list_at, whole_at}
 use Rattle.catalogue.specs.Submodules.{Submodule, has_index, has_subslot, io_of, parameter, submodule}
 use Rattle.catalogue.specs.Modules.{Module, has_id, module_item, submodules_of}
 use Rattle.catalogue.specs.Slots.{Record, Slot, length_of, octets_at, of_length, parameters_of, record_item, records_of, slot_item}

@@ -6,14 +6,14 @@ use Rattle.std.specs.Option.{ok_or}
 use Rattle.std.proofs.lemmas.Bool.{and_parts, leb-true, eqb-false}
 use Rattle.serde_json.specs.Data.{Data, Items, no_items, item}
 use Rattle.wire.proofs.Fields.{bind_ok, ok_is}
-use Rattle.catalogue_keys.specs.declared.key.Key.{Key}
-use Rattle.catalogue_keys.specs.declared.fault.CatalogueFault.{CatalogueFault}
-use Rattle.catalogue_keys.specs.declared.fault.CatalogueFault.TheVariants.{Number}
-use Rattle.catalogue_keys.specs.declared.fault.PlacedFault.{PlacedFault}
-use Rattle.catalogue_keys.specs.declared.fault.Step.{Step}
-use Rattle.catalogue_keys.specs.declared.fault.Step.TheVariants.{At, Entry}
-use Rattle.catalogue_keys.specs.Placed.{behind, placed}
-use Rattle.catalogue_keys.specs.Reader.{◌>>=◌, Reader, each, whole, within, number, number_at, member, list_at, items_of}
+use Rattle.catalogue.specs.declared.keys.key.Key.{Key}
+use Rattle.catalogue.specs.declared.keys.fault.CatalogueFault.{CatalogueFault}
+use Rattle.catalogue.specs.declared.keys.fault.CatalogueFault.TheVariants.{Number}
+use Rattle.catalogue.specs.declared.keys.fault.PlacedFault.{PlacedFault}
+use Rattle.catalogue.specs.declared.keys.fault.Step.{Step}
+use Rattle.catalogue.specs.declared.keys.fault.Step.TheVariants.{At, Entry}
+use Rattle.catalogue.specs.keys.Placed.{behind, placed}
+use Rattle.catalogue.specs.keys.Reader.{◌>>=◌, Reader, each, whole, within, number, number_at, member, list_at, items_of}
 
 -- a value that passed a test
 pub passed : {F A : Type 0} (b : Bool) (fault : F) (x y : A) → cond b (Ok x) (Err fault) ≡ Ok y → (b ≡ true) × (x ≡ y)

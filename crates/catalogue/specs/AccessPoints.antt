@@ -1,12 +1,12 @@
 -- The device access point: what the device is, and which modules may be in which slots.
 use Rattle.std.specs.Prelude.{ℕ, Bool, List, [], Result, Ok}
 use Rattle.serde_json.specs.Data.{Items}
-use Rattle.catalogue_keys.specs.declared.fault.PlacedFault.{PlacedFault}
-use Rattle.catalogue_keys.specs.declared.fault.Step.TheVariants.{At}
-use Rattle.catalogue_keys.specs.declared.key.Key.{Key}
-use Rattle.catalogue_keys.specs.declared.key.Key.TheVariants as key
-use Rattle.catalogue_keys.specs.Placed.{bare, behind}
-use Rattle.catalogue_keys.specs.Reader.{◌>>=◌, Reader, each, flag_at, items_of, whole, number, number_at, text_at, list_at}
+use Rattle.catalogue.specs.declared.keys.fault.PlacedFault.{PlacedFault}
+use Rattle.catalogue.specs.declared.keys.fault.Step.TheVariants.{At}
+use Rattle.catalogue.specs.declared.keys.key.Key.{Key}
+use Rattle.catalogue.specs.declared.keys.key.Key.TheVariants as key
+use Rattle.catalogue.specs.keys.Placed.{bare, behind}
+use Rattle.catalogue.specs.keys.Reader.{◌>>=◌, Reader, each, flag_at, items_of, whole, number, number_at, text_at, list_at}
 use Rattle.catalogue.specs.Submodules.{Submodule, submodule}
 
 -- The slots in which a module may be.

@@ -2,13 +2,13 @@
 use Rattle.std.specs.Prelude.{◌≡◌, ◌⊎◌, ℕ, List, Some, Ok, Err, IsUtf8}
 use Rattle.serde_json.specs.Data.{Data}
 use Rattle.serde_json.specs.Read.{read}
-use Rattle.catalogue_keys.specs.declared.fault.CatalogueFault.TheVariants.{Json, OutOfMemory}
-use Rattle.catalogue_keys.specs.declared.fault.PlacedFault.{PlacedFault}
-use Rattle.catalogue_keys.specs.declared.fault.Step.TheVariants.{At}
-use Rattle.catalogue_keys.specs.declared.key.Key.TheVariants as key
+use Rattle.catalogue.specs.declared.keys.fault.CatalogueFault.TheVariants.{Json, OutOfMemory}
+use Rattle.catalogue.specs.declared.keys.fault.PlacedFault.{PlacedFault}
+use Rattle.catalogue.specs.declared.keys.fault.Step.TheVariants.{At}
+use Rattle.catalogue.specs.declared.keys.key.Key.TheVariants as key
 use Rattle.catalogue.specs.declared.catalogue.DeviceIdentity.{DeviceIdentity}
-use Rattle.catalogue_keys.specs.Placed.{behind, here}
-use Rattle.catalogue_keys.specs.Reader.{◌>>=◌, Reader, member, number_at, list_at}
+use Rattle.catalogue.specs.keys.Placed.{behind, here}
+use Rattle.catalogue.specs.keys.Reader.{◌>>=◌, Reader, member, number_at, list_at}
 use Rattle.catalogue.specs.AccessPoints.{AccessPoint, access_point}
 use Rattle.catalogue.specs.Modules.{Module, module_item}
 use Rattle.catalogue.specs.Projects.{Project, project}

@@ -5,3 +5,4 @@ pub mod Modules
 pub mod Projects
 pub mod Slots
 pub mod Submodules
+pub mod keys

@@ -2,8 +2,8 @@
 use Rattle.std.specs.Prelude.{ℕ, List, [], ◌∷◌, Bool, Option, Ok, if◌then◌else◌}
 use Rattle.std.specs.List.{list_any}
 use Rattle.std.specs.Str.{bytes_eq}
-use Rattle.catalogue_keys.specs.declared.key.Key.TheVariants as key
-use Rattle.catalogue_keys.specs.Reader.{◌>>=◌, Reader, number_at, text_at, list_at}
+use Rattle.catalogue.specs.declared.keys.key.Key.TheVariants as key
+use Rattle.catalogue.specs.keys.Reader.{◌>>=◌, Reader, number_at, text_at, list_at}
 use Rattle.catalogue.specs.Submodules.{Submodule, place_where, submodule, unless}
 
 -- A module.

@@ -1,11 +1,11 @@
 -- The project: what a controller wants of a station.
 use Rattle.std.specs.Prelude.{◌*◌, ℕ, Bool, List, Result, Ok, Err, nat_lt, if◌then◌else◌}
-use Rattle.catalogue_keys.specs.declared.fault.PlacedFault.{PlacedFault}
-use Rattle.catalogue_keys.specs.declared.fault.CatalogueFault.TheVariants.{Number}
-use Rattle.catalogue_keys.specs.declared.fault.Step.TheVariants.{At}
-use Rattle.catalogue_keys.specs.declared.key.Key.TheVariants as key
-use Rattle.catalogue_keys.specs.Placed.{at_key, behind}
-use Rattle.catalogue_keys.specs.Reader.{◌>>=◌, Reader, member, flag_at, number_at, text_at, list_at}
+use Rattle.catalogue.specs.declared.keys.fault.PlacedFault.{PlacedFault}
+use Rattle.catalogue.specs.declared.keys.fault.CatalogueFault.TheVariants.{Number}
+use Rattle.catalogue.specs.declared.keys.fault.Step.TheVariants.{At}
+use Rattle.catalogue.specs.declared.keys.key.Key.TheVariants as key
+use Rattle.catalogue.specs.keys.Placed.{at_key, behind}
+use Rattle.catalogue.specs.keys.Reader.{◌>>=◌, Reader, member, flag_at, number_at, text_at, list_at}
 use Rattle.catalogue.specs.Modules.{Module}
 use Rattle.catalogue.specs.Slots.{Slot, slot_item}
 

@@ -2,14 +2,14 @@
 use Rattle.std.specs.Prelude.{◌==◌, ℕ, List, [], ◌∷◌, length, Option, Some, None, ok_or, Result, Ok, Err, if◌then◌else◌}
 use Rattle.hex.specs.Hex.{decode_of}
 use Rattle.hex.specs.declared.error.FromHexError.{FromHexError}
-use Rattle.catalogue_keys.specs.declared.fault.CatalogueFault.{CatalogueFault}
-use Rattle.catalogue_keys.specs.declared.fault.PlacedFault.{PlacedFault}
-use Rattle.catalogue_keys.specs.declared.fault.CatalogueFault.TheVariants.{WrongKind, Number}
+use Rattle.catalogue.specs.declared.keys.fault.CatalogueFault.{CatalogueFault}
+use Rattle.catalogue.specs.declared.keys.fault.PlacedFault.{PlacedFault}
+use Rattle.catalogue.specs.declared.keys.fault.CatalogueFault.TheVariants.{WrongKind, Number}
 use Rattle.catalogue.specs.declared.submodule.ParameterItem.{ParameterItem}
-use Rattle.catalogue_keys.specs.declared.key.Key.{Key}
-use Rattle.catalogue_keys.specs.declared.key.Key.TheVariants as key
-use Rattle.catalogue_keys.specs.Placed.{at_key, placed}
-use Rattle.catalogue_keys.specs.Reader.{◌>>=◌, Reader, whole_at, number_at, text_at, list_at}
+use Rattle.catalogue.specs.declared.keys.key.Key.{Key}
+use Rattle.catalogue.specs.declared.keys.key.Key.TheVariants as key
+use Rattle.catalogue.specs.keys.Placed.{at_key, placed}
+use Rattle.catalogue.specs.keys.Reader.{◌>>=◌, Reader, whole_at, number_at, text_at, list_at}
 use Rattle.catalogue.specs.Submodules.{Submodule}
 use Rattle.catalogue.specs.Modules.{Module, submodules_of}
 

@@ -4,15 +4,15 @@ use Rattle.std.specs.List.{list_any}
 use Rattle.std.specs.Str.{bytes_eq}
 use Rattle.serde_json.specs.Data.{Data, Items, no_items, item}
 use Rattle.serde_json.specs.Find.{get}
-use Rattle.catalogue_keys.specs.declared.fault.PlacedFault.{PlacedFault}
-use Rattle.catalogue_keys.specs.declared.fault.CatalogueFault.TheVariants.{WrongKind, Number}
+use Rattle.catalogue.specs.declared.keys.fault.PlacedFault.{PlacedFault}
+use Rattle.catalogue.specs.declared.keys.fault.CatalogueFault.TheVariants.{WrongKind, Number}
 use Rattle.catalogue.specs.declared.submodule.ParameterItem.{ParameterItem}
-use Rattle.catalogue_keys.specs.declared.fault.Step.TheVariants.{At, Entry}
-use Rattle.catalogue_keys.specs.declared.key.Key.{Key}
-use Rattle.catalogue_keys.specs.declared.key.Key.TheVariants as key
-use Rattle.catalogue_keys.specs.Keys.{name_of}
-use Rattle.catalogue_keys.specs.Placed.{at_key, behind}
-use Rattle.catalogue_keys.specs.Reader.{◌>>=◌, Reader, number_at, text_at, items_of, list_at}
+use Rattle.catalogue.specs.declared.keys.fault.Step.TheVariants.{At, Entry}
+use Rattle.catalogue.specs.declared.keys.key.Key.{Key}
+use Rattle.catalogue.specs.declared.keys.key.Key.TheVariants as key
+use Rattle.catalogue.specs.keys.Keys.{name_of}
+use Rattle.catalogue.specs.keys.Placed.{at_key, behind}
+use Rattle.catalogue.specs.keys.Reader.{◌>>=◌, Reader, number_at, text_at, items_of, list_at}
 
 -- A submodule. A parameter record is an index with its length in octets.
 pub record Submodule : Type 0 where

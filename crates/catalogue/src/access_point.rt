@@ -1,14 +1,14 @@
 //! The device access point: what the device is, and which modules may be in which slots.
 ghost use Rattle.std.specs.Prelude.{◌≡◌, List, string_bytes};
 ghost use Rattle.serde_json.specs.View.{view, items_view};
-ghost use Rattle.catalogue_keys.specs.Reader.{Reads};
+ghost use Rattle.catalogue.specs.keys.Reader.{Reads};
 ghost use Rattle.catalogue.specs.AccessPoints.{AccessPoint, Reference, slots_in, slots_at, reference, access_point};
 
 use crate::SubmoduleTable;
-use crate::submodules::submodules_at;
-use catalogue_keys::{
+use crate::keys::{
     Entry, Key, PlacedFault, Step, each_of, flag_at, items_at, list, long_at, string,
 };
+use crate::submodules::submodules_at;
 use serde_json::Value;
 use std::alloc::Global;
 use std::marker::Model;

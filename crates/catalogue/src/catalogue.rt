@@ -1,16 +1,16 @@
 //! Reads a whole catalogue.
 ghost use Rattle.std.specs.Prelude.{◌≡◌, IfOk, IfErr, List};
 ghost use Rattle.serde_json.specs.View.{view};
-ghost use Rattle.catalogue_keys.specs.Reader.{Reads};
+ghost use Rattle.catalogue.specs.keys.Reader.{Reads};
 ghost use Rattle.catalogue.specs.Modules.{Module};
 ghost use Rattle.catalogue.specs.Catalogues.{Catalogue, Found, Refuses, identity, identity_in, access_point_in, project_in, catalogue};
 ghost use Rattle.catalogue.specs.Kept.{IsInRange};
 
 use crate::access_point::access_point;
+use crate::keys::{CatalogueFault, Key, PlacedFault, Step, member_at, word_at};
 use crate::module::{ModuleTable, modules_at};
 use crate::project::project_of;
 use crate::{AccessPoint, ModuleItem, Project};
-use catalogue_keys::{CatalogueFault, Key, PlacedFault, Step, member_at, word_at};
 use serde_json::Value;
 use std::alloc::Global;
 use std::marker::Model;

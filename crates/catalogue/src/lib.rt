@@ -3,6 +3,7 @@
 
 mod access_point;
 mod catalogue;
+mod keys;
 mod module;
 mod parameters;
 mod project;
@@ -12,7 +13,10 @@ mod submodules;
 
 pub use access_point::{AccessPoint, ModuleReference};
 pub use catalogue::{Catalogue, DeviceIdentity, read, read_tree};
-pub use catalogue_keys::{CatalogueFault, Key, PlacedFault, Step};
+pub use keys::{
+    CatalogueFault, Entry, Key, PlacedFault, Step, each_of, flag_at, items_at, list, long_at,
+    member_at, number_in, string, text, whole, whole_at, word_at,
+};
 pub use module::ModuleItem;
 pub use parameters::ParameterTable;
 pub use project::{ControllerItem, Project, StationItem};

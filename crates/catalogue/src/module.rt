@@ -3,12 +3,12 @@ ghost use Rattle.std.specs.Prelude.{◌≡◌, ◌++◌, ℕ, not, cond, is_some
 ghost use Rattle.std.specs.BTreeMap.{get_by_text};
 ghost use Rattle.std.specs.Str.{bytes_eq};
 ghost use Rattle.serde_json.specs.View.{view, items_view};
-ghost use Rattle.catalogue_keys.specs.Reader.{Reads, each, list_at};
+ghost use Rattle.catalogue.specs.keys.Reader.{Reads, each, list_at};
 ghost use Rattle.catalogue.specs.Modules.{Module, has_id, module_item, place_of, submodules_of};
 
 use crate::SubmoduleTable;
+use crate::keys::{CatalogueFault, Key, PlacedFault, Step, items_at, long_at, string};
 use crate::submodules::submodules_at;
-use catalogue_keys::{CatalogueFault, Key, PlacedFault, Step, items_at, long_at, string};
 use serde_json::Value;
 use std::alloc::{AllocError, Global};
 use std::collections::BTreeMap;
@@ -165,7 +165,7 @@ fn modules_of(alloc: Global, trees: &[Value]) -> Result<ModuleTable, PlacedFault
 }
 
 /// Reads the modules at a key. An empty table if the key is absent.
-#[tactic(auto, unfolding(catalogue_keys::specs::Reader::list_at))]
+#[tactic(auto, unfolding(crate::specs::keys::Reader::list_at))]
 pub(crate) fn modules_at(alloc: Global, tree: &Value, key: Key) -> Result<ModuleTable, PlacedFault>
     ensures { Reads (λ found. found) result (list_at key module_item (view tree.now)) }
 {

@@ -3,12 +3,12 @@ ghost use Rattle.std.specs.Prelude.{◌≡◌, ◌==◌, ◌++◌, ℕ, [], ◌�
 ghost use Rattle.std.specs.Ordering.{nat_cmp};
 ghost use Rattle.std.specs.BTreeMap.{get};
 ghost use Rattle.serde_json.specs.View.{view, items_view};
-ghost use Rattle.catalogue_keys.specs.Reader.{Reads, each, list_at};
+ghost use Rattle.catalogue.specs.keys.Reader.{Reads, each, list_at};
 ghost use Rattle.catalogue.specs.Submodules.{has_index, parameter};
 ghost use Rattle.catalogue.specs.Slots.{length_of};
 
 use crate::ParameterItem;
-use catalogue_keys::{CatalogueFault, Key, PlacedFault, Step, items_at, word_at};
+use crate::keys::{CatalogueFault, Key, PlacedFault, Step, items_at, word_at};
 use serde_json::Value;
 use std::alloc::{AllocError, Global};
 use std::collections::BTreeMap;
@@ -111,7 +111,7 @@ fn parameters_of(alloc: Global, trees: &[Value]) -> Result<ParameterTable, Place
 }
 
 /// Reads the parameter records at a key. An empty table if the key is absent.
-#[tactic(auto, unfolding(catalogue_keys::specs::Reader::list_at))]
+#[tactic(auto, unfolding(crate::specs::keys::Reader::list_at))]
 pub(crate) fn parameters_at(
     alloc: Global,
     tree: &Value,

@@ -2,15 +2,15 @@
 ghost use Rattle.std.specs.Prelude.{◌≡◌, List, string_bytes};
 ghost use Rattle.wire.specs.Codec.{Gives};
 ghost use Rattle.serde_json.specs.View.{view};
-ghost use Rattle.catalogue_keys.specs.Reader.{Reads};
+ghost use Rattle.catalogue.specs.keys.Reader.{Reads};
 ghost use Rattle.catalogue.specs.Modules.{Module};
 ghost use Rattle.catalogue.specs.Projects.{Station, Controller, Project, station, controller, controller_in, reduction, project};
 
 use crate::SlotItem;
-use crate::module::ModuleTable;
-use catalogue_keys::{
+use crate::keys::{
     CatalogueFault, Key, PlacedFault, Step, flag_at, list, member_at, string, word_at,
 };
+use crate::module::ModuleTable;
 use serde_json::Value;
 use std::alloc::Global;
 use std::marker::Model;

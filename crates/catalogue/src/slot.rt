@@ -2,18 +2,18 @@
 ghost use Rattle.std.specs.Prelude.{◌≡◌, List, [], string_bytes};
 ghost use Rattle.serde_json.specs.View.{view, items_view};
 ghost use Rattle.hex.specs.Hex.{decode_of};
-ghost use Rattle.catalogue_keys.specs.Placed.{placed};
-ghost use Rattle.catalogue_keys.specs.Reader.{Reads, each};
+ghost use Rattle.catalogue.specs.keys.Placed.{placed};
+ghost use Rattle.catalogue.specs.keys.Reader.{Reads, each};
 ghost use Rattle.catalogue.specs.Submodules.{Submodule};
 ghost use Rattle.catalogue.specs.Modules.{submodules_of};
 ghost use Rattle.catalogue.specs.Slots.{Record, Slot, record_item, slot_item, records_of, hex_or_fault, octets_at};
 
 use crate::SubmoduleTable;
-use crate::module::ModuleTable;
-use catalogue_keys::{
+use crate::keys::{
     CatalogueFault, Entry, Key, PlacedFault, Step, each_of, items_at, string, text, whole_at,
     word_at,
 };
+use crate::module::ModuleTable;
 use hex::FromHexError;
 use serde_json::Value;
 use std::alloc::Global;
@@ -122,7 +122,7 @@ fn records_in(
 }
 
 /// Reads the records of a slot in which the module with this ID is. An ID that no module has is a fault only if there are records.
-#[tactic(auto, unfolding(catalogue_keys::specs::Reader::list_at))]
+#[tactic(auto, unfolding(crate::specs::keys::Reader::list_at))]
 fn records_of(
     alloc: Global,
     tree: &Value,

@@ -6,7 +6,7 @@ ghost use Rattle.catalogue.specs.Submodules.{Submodule, is_octet_type, is_word_t
 ghost use Rattle.catalogue.specs.Submodules.{octets_at, io_in, io_of};
 
 use crate::ParameterTable;
-use catalogue_keys::{CatalogueFault, Key, PlacedFault, Step, items_at, text, word_at};
+use crate::keys::{CatalogueFault, Key, PlacedFault, Step, items_at, text, word_at};
 use serde_json::Value;
 use std::marker::Model;
 

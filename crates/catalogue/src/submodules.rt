@@ -3,14 +3,14 @@ ghost use Rattle.std.specs.Prelude.{◌≡◌, ◌==◌, ◌++◌, ℕ, [], ◌�
 ghost use Rattle.std.specs.Ordering.{nat_cmp};
 ghost use Rattle.std.specs.BTreeMap.{get};
 ghost use Rattle.serde_json.specs.View.{view, items_view};
-ghost use Rattle.catalogue_keys.specs.Reader.{Reads, each, list_at};
+ghost use Rattle.catalogue.specs.keys.Reader.{Reads, each, list_at};
 ghost use Rattle.catalogue.specs.Submodules.{has_subslot, place_of, submodule};
 ghost use Rattle.catalogue.specs.Slots.{parameters_of};
 
+use crate::keys::{CatalogueFault, Key, PlacedFault, Step, items_at, long_at, word_at};
 use crate::parameters::parameters_at;
 use crate::submodule::io_at;
 use crate::{ParameterTable, SubmoduleItem};
-use catalogue_keys::{CatalogueFault, Key, PlacedFault, Step, items_at, long_at, word_at};
 use serde_json::Value;
 use std::alloc::{AllocError, Global};
 use std::collections::BTreeMap;
@@ -154,7 +154,7 @@ fn submodules_of(alloc: Global, trees: &[Value]) -> Result<SubmoduleTable, Place
 }
 
 /// Reads the submodules at a key. An empty table if the key is absent.
-#[tactic(auto, unfolding(catalogue_keys::specs::Reader::list_at))]
+#[tactic(auto, unfolding(crate::specs::keys::Reader::list_at))]
 pub(crate) fn submodules_at(
     alloc: Global,
     tree: &Value,

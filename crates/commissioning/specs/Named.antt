@@ -8,7 +8,7 @@ use Rattle.dcp_core.specs.declared.request.Service.TheVariants.{Get, Set, Identi
 use Rattle.dcp_core.specs.Answer.{number_of}
 use Rattle.dcp_core.specs.Response.{Answered, AnsweredBlock, reported, came_out}
 use Rattle.plans.specs.declared.parts.Controller.{Controller}
-use Rattle.controller_frames.specs.Heard.{Heard, Answers, heard_of}
+use Rattle.controller_messages.specs.Heard.{Heard, Answers, heard_of}
 use Rattle.commissioning.specs.declared.naming.Unnamed.{Unnamed}
 use Rattle.commissioning.specs.declared.naming.Unnamed.TheVariants as why
 use Rattle.commissioning.specs.Asked.{IsHeardAs, name_asked}

@@ -1,14 +1,15 @@
 -- Who is at a place: the stations that answered to a name by the place.
-use Rattle.std.specs.Prelude.{◌≡◌, ◌==◌, ◌&&◌, ℕ, Bool, true, false, List, [], ◌∷◌, nat_eq, take, Option, Some, None, option_map, if◌then◌else◌}
+use Rattle.std.specs.Prelude.{◌≡◌, ◌≤◌, ◌⊎◌, ◌==◌, ◌&&◌, ℕ, Bool, true, false, List, [], ◌∷◌, nat_eq, take, Option, Some, None, option_map, if◌then◌else◌}
 use Rattle.std.specs.List.{AllByRecursion}
 use Rattle.std.specs.Cmp.Lexicographic.{pointwise}
+use Rattle.pn_values.specs.declared.mac.Mac.{Mac}
 use Rattle.dcp_core.specs.declared.kind.Kind.TheVariants.{NameOfStation}
 use Rattle.dcp_core.specs.declared.request.Service.{Service}
 use Rattle.dcp_core.specs.declared.request.Service.TheVariants.{Get, Set, Identify}
 use Rattle.dcp_core.specs.Answered.{value_among}
 use Rattle.dcp_core.specs.Response.{Answered}
 use Rattle.plans.specs.declared.parts.Controller.{Controller}
-use Rattle.controller_frames.specs.Heard.{Heard, Answers, heard_of}
+use Rattle.controller_messages.specs.Heard.{Heard, Answers, heard_of}
 use Rattle.commissioning.specs.declared.search.Search.{Search}
 
 -- Nobody answered; one station, with the name that it told last, if it told one (it is empty if the station has none); or more
@@ -26,6 +27,15 @@ abbrev pub place_of : Search → Place
 place_of search =
     if search.stations == 0 then Nobody
     else (if search.stations == 1 then One search.first (name_of search) else Several search.first search.other)
+
+-- What a host finds in a search: it counts to 2, and the name lies in its room. Of a station that told no name, and of nobody, it finds
+-- none.
+pub record IsTidy (search : Search) : Type 0 where
+  pub counted : search.stations ≤ 2
+  pub flag : search.is_told ≤ 1
+  pub short : search.length ≤ 240
+  pub untold : search.is_told ≡ 0 → search.length ≡ 0
+  pub nobody : search.stations ≡ 0 → search.is_told ≡ 0
 
 -- After the answer of a station that told this name.
 abbrev pub met : Place → List ℕ → Option (List ℕ) → Place
@@ -69,3 +79,44 @@ AreFrom mac answers = AllByRecursion (λ answer. answer.0 ≡ mac) answers
 abbrev pub last_told : Option (List ℕ) → List (List ℕ × Option (List ℕ)) → Option (List ℕ)
 last_told name [] = name
 last_told name (answer ∷ answers) = last_told (option_map (take 240) answer.1) answers
+
+-- ---- over all frames
+
+-- A frame brings an answer to the Identify with this number, from this station.
+pub record IsAnswerOf (tool : Controller) (xid : ℕ) (mac frame : List ℕ) : Type 0 where
+  pub source : Mac
+  pub answer : Answered
+  pub heard : heard_of tool frame ≡ Answers source answer
+  pub from : source.octets ≡ mac
+  pub found : is_found xid answer ≡ true
+
+-- After these frames.
+abbrev pub after_frames : Controller → ℕ → Place → List (List ℕ) → Place
+after_frames tool xid place [] = place
+after_frames tool xid place (frame ∷ frames) = after_frames tool xid (after_frame tool xid place frame) frames
+
+-- One of the frames brings an answer to the Identify with this number, from this station.
+abbrev pub AnsweredIn : Controller → ℕ → List ℕ → List (List ℕ) → Type 0
+AnsweredIn tool xid mac [] = ⊥
+AnsweredIn tool xid mac (frame ∷ frames) = IsAnswerOf tool xid mac frame ⊎ AnsweredIn tool xid mac frames
+
+-- ---- searches one after another
+
+-- What a tool does: it asks by the Identify with this number, or hears a frame.
+pub data Doing : Type 0 where
+  Asks : (xid : ℕ) → Doing
+  Hears : (frame : List ℕ) → Doing
+
+-- The number of the search, and who is at its place.
+abbrev pub Searching : Type 0
+Searching = ℕ × Place
+
+-- After one thing that a tool does: an Identify begins a search, and a frame counts by the number of the search.
+abbrev pub after_doing : Controller → Searching → Doing → Searching
+after_doing tool search (Asks xid) = (xid, Nobody)
+after_doing tool search (Hears frame) = (search.0, after_frame tool search.0 search.1 frame)
+
+-- After all of these.
+abbrev pub after_doings : Controller → Searching → List Doing → Searching
+after_doings tool search [] = search
+after_doings tool search (one ∷ more) = after_doings tool (after_doing tool search one) more

@@ -4,21 +4,21 @@ use Rattle.std.specs.Cmp.Lexicographic.{pointwise}
 use Rattle.std.specs.Int.{w16, to_be_bytes}
 use Rattle.uuid.specs.Parts.{zero_bytes}
 use Rattle.frame_codec.specs.Calls.{calls_at}
-use Rattle.frame_codec.specs.Frame.{frame_of}
-use Rattle.frame_codec.specs.Meaning.{UdpDatagram}
+use Rattle.frame_codec.specs.Frame.{frame_bytes, frame_of}
+use Rattle.frame_codec.specs.Meaning.{Meaning, UdpDatagram}
 use Rattle.rpc_core.specs.declared.header.CallHeader.{CallHeader}
 use Rattle.rpc_core.specs.declared.interface.Interface.TheVariants.{Device}
 use Rattle.rpc_core.specs.declared.response.Status.{Status}
 use Rattle.rpc_core.specs.Interface.{interface_uuid}
-use Rattle.rpc_core.specs.Call.{Asked as Call, call_of}
+use Rattle.rpc_core.specs.Call.{Asked as Call, call_bytes, call_of}
 use Rattle.rpc_core.specs.Response.{Answered, is_done}
 use Rattle.record_blocks.specs.declared.read_record.IodReadReq.{IodReadReq}
 use Rattle.block_codec.specs.declared.block.Block.TheVariants as is
 use Rattle.block_codec.specs.Block.{block_bytes, block_of}
 use Rattle.plans.specs.declared.parts.Controller.{Controller}
-use Rattle.controller_frames.specs.Heard.{Heard, Responds, Refuses, heard_of}
-use Rattle.controller_frames.specs.RecordRequests.{most_record_octets}
-use Rattle.record_access.specs.Access.{record_in}
+use Rattle.controller_messages.specs.Heard.{Heard, Responds, Refuses, heard_of}
+use Rattle.controller_messages.specs.RecordRequests.{most_record_octets}
+use Rattle.controller_messages.specs.Access.{record_in}
 use Rattle.commissioning.specs.declared.record.Target.{Target}
 use Rattle.commissioning.specs.declared.record.RecordPlace.{RecordPlace}
 use Rattle.commissioning.specs.declared.record.RecordTold.{RecordTold}
@@ -56,11 +56,17 @@ abbrev pub read_asked : Target → List ℕ → RecordPlace → Call
 read_asked target activity place =
     record { header = header_of target activity; args_maximum = 1372; blocks = Some (block_bytes (is.IodReadReq (read_of place))) }
 
--- The station reads this frame as this call of the tool.
+-- A datagram of the tool to the station, with these octets.
+abbrev pub datagram_to : Controller → Target → List ℕ → Meaning
+datagram_to tool target body =
+    record { destination = target.mac; source = tool.mac; tag = None; content = UdpDatagram (calls_at tool.address) (calls_at target.address) body }
+
+-- The station reads this frame as this call of the tool. The frame is that of a datagram with the octets of the call and no others.
 pub record IsCallTo (frame : List ℕ) (tool : Controller) (target : Target) (call : Call) : Type 0 where
   pub body : List ℕ
-  pub read : frame_of frame
-      ≡ Ok (record { destination = target.mac; source = tool.mac; tag = None; content = UdpDatagram (calls_at tool.address) (calls_at target.address) body })
+  pub octets : body ≡ call_bytes Device call
+  pub whole : frame ≡ frame_bytes (datagram_to tool target body)
+  pub read : frame_of frame ≡ Ok (datagram_to tool target body)
   pub asks : call_of Device body ≡ Ok call
 
 -- ---- its answer

@@ -12,7 +12,7 @@ mod record;
 mod request;
 mod search;
 
-pub use law::a_nameless_station_is_alone;
+pub use law::{a_nameless_station_is_alone, an_answer_belongs_to_its_search};
 pub use naming::Unnamed;
 pub use record::{RecordPlace, RecordTold, Target, read_record, record_told};
 pub use request::identify_by_alias;

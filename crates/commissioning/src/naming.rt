@@ -8,7 +8,7 @@ ghost use Rattle.commissioning.specs.Place.{place_of};
 
 use crate::request::set_name;
 use crate::search::Search;
-use controller_frames::{Hearing, heard};
+use controller_messages::{Hearing, heard};
 use dcp_core::{Outcome, Response, ResponseBlock, Service};
 use frame_codec::{Bytes, Frame};
 use plans::Controller;

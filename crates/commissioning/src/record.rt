@@ -6,11 +6,10 @@ ghost use Rattle.commissioning.specs.Record.{IsCallTo, IsShort, header_of as hea
 
 use arrayvec::ArrayVec;
 use block_codec::{Block, IodReadReq, RecordHeader, write_block};
-use controller_frames::{Hearing, MOST_RECORD_OCTETS, heard};
+use controller_messages::{Hearing, MOST_RECORD_OCTETS, heard, record_in};
 use frame_codec::{Bytes, Endpoint, Frame, Layered, Payload, Udp, write};
 use plans::Controller;
 use pn_values::Mac;
-use record_access::record_in;
 use record_blocks::iod_read_req_len;
 use rpc_core::{Call, CallHeader, Datagram, Interface, Response, Status, Uuid, write_request};
 
@@ -64,7 +63,7 @@ fn header_of(target: &Target, activity: Uuid) -> CallHeader
 }
 
 /// The block of the Read, which names no relation.
-#[tactic(auto, unfolding(block_codec::specs::Block::block_size, block_codec::specs::Block::fields_of, block_fields::specs::Fields::body, block_fields::specs::Fields::version))]
+#[tactic(auto, unfolding(block_codec::specs::Block::block_size, block_codec::specs::Block::fields_of, wire::specs::blocks::Fields::body, wire::specs::blocks::Fields::version))]
 fn read_block_of(place: &RecordPlace) -> ArrayVec<u8, 64>
     ensures { result.items ≡ block_bytes (Block.IodReadReq (read_of place.now)) }
 {

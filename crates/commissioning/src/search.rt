@@ -1,11 +1,13 @@
 //! Who is at a place.
-ghost use Rattle.std.specs.Prelude.{◌≡◌, ◌≤◌, length, Some, option_map, take, if◌then◌else◌};
+ghost use Rattle.std.specs.Prelude.{◌≡◌, ◌≢◌, ◌≤◌, length, None, Some, option_map, take, if◌then◌else◌};
 ghost use Rattle.dcp_core.specs.Answered.{answered};
-ghost use Rattle.commissioning.specs.Place.{Nobody, One, after_frame, is_found as is_found_by, met, name_of, place_of, told_name};
+ghost use Rattle.commissioning.specs.Asked.{IsHeardAs, alias_asked, identify_multicast};
+ghost use Rattle.commissioning.specs.Place.{IsTidy, Nobody, One, after_frame, is_found as is_found_by, met, name_of, place_of, told_name};
 
-use controller_frames::{Hearing, heard};
+use crate::request::identify_by_alias;
+use controller_messages::{Hearing, heard};
 use dcp_core::{Kind, Response, Service};
-use frame_codec::Bytes;
+use frame_codec::{Bytes, Frame};
 use plans::Controller;
 use pn_values::Mac;
 use wire::at_most;
@@ -19,10 +21,12 @@ pub(crate) const MOST_NAME: usize = 240;
 pub struct Search {
     /// How many stations answered: 0, 1, or 2 for more than one.
     pub stations: u32,
-    /// 1 if the first one told its name.
+    /// 1 if the first one told its name, else 0.
     pub is_told: u32,
-    /// The octets of that name: none if the station has no name.
+    /// The octets of that name, at most 240: none if the station has no name, or told none.
     pub length: u32,
+    /// The number of the Identify by which this search asks (Xid).
+    pub xid: u32,
     /// The MAC address of the first one.
     pub first: [u8; 6],
     /// The MAC address of another one, if more than one answered.
@@ -31,42 +35,76 @@ pub struct Search {
 }
 
 impl Search {
-    /// Nobody answered yet.
-    pub fn new() -> Search
-        ensures { place_of result ≡ Nobody }
+    /// Nobody answered yet. `xid` is the number of the Identify by which the search asks: no other request has it.
+    pub fn new(xid: u32) -> Search
+        ensures place { place_of result ≡ Nobody }
+        // Only answers with this number will count.
+        ensures number { result.xid ≡ xid }
+        // A host finds no more than is told.
+        ensures tidy { IsTidy result }
     {
         Search {
             stations: 0,
             is_told: 0,
             length: 0,
+            xid,
             first: [0; 6],
             other: [0; 6],
             name: [0; 240],
         }
     }
 
-    /// Hears a frame that this tool received. Only an answer to its Identify counts, whose number was `xid`.
-    pub fn hear(&mut self, tool: &Controller, xid: u32, bytes: &Bytes)
-        ensures { place_of self.new ≡ after_frame tool.now xid (place_of self.old) bytes.now.items }
+    /// Begins again: nobody answered yet. Returns the frame by which this station asks all stations which one has this name by its place:
+    /// at most 511 octets. `xid` is its number, which no other request has; a controller uses 1 and 2.
+    pub fn ask(&mut self, source: Mac, xid: u32, alias: &[u8]) -> Frame
+        requires { length alias.now ≤ 511 }
+        // A station reads the frame as an Identify with this number, and this AliasName as its only filter.
+        ensures asks { IsHeardAs result.items source identify_multicast (alias_asked xid alias.now) }
+        // What was answered before is forgotten.
+        ensures place { place_of self.new ≡ Nobody }
+        // From now on only answers with the number of this Identify count.
+        ensures number { self.new.xid ≡ xid }
+        // A host finds no more than is told.
+        ensures tidy { IsTidy self.new }
+    {
+        *self = Search::new(xid);
+        identify_by_alias(source, xid, alias)
+    }
+
+    /// Hears a frame that this tool received. Only an answer to the Identify of this search counts.
+    pub fn hear(&mut self, tool: &Controller, bytes: &Bytes)
+        ensures place { place_of self.new ≡ after_frame tool.now self.old.xid (place_of self.old) bytes.now.items }
+        // It goes on to ask by this number.
+        ensures number { self.new.xid ≡ self.old.xid }
+        // A host finds no more than is told.
+        ensures tidy { IsTidy self.old → IsTidy self.new }
+        // After the answer of a second station the name is still that of the first one.
+        ensures kept { self.old.stations ≢ 0 → self.new.stations ≢ 1 → name_of self.new ≡ name_of self.old }
     {
         match heard(tool, bytes) {
-            Hearing::Answers(source, answer) => self.hear_answer(source, xid, &answer),
+            Hearing::Answers(source, answer) => self.hear_answer(source, &answer),
             _ => {}
         }
     }
 
     /// Hears the answer of a station to a request of DCP.
-    fn hear_answer(&mut self, source: Mac, xid: u32, answer: &Response<'_>)
-        ensures { place_of self.new ≡ (if is_found_by xid (answered answer.now) then met (place_of self.old) source.octets (told_name (answered answer.now)) else place_of self.old) }
+    fn hear_answer(&mut self, source: Mac, answer: &Response<'_>)
+        ensures place { place_of self.new ≡ (if is_found_by self.old.xid (answered answer.now) then met (place_of self.old) source.octets (told_name (answered answer.now)) else place_of self.old) }
+        ensures number { self.new.xid ≡ self.old.xid }
+        ensures tidy { IsTidy self.old → IsTidy self.new }
+        ensures kept { self.old.stations ≢ 0 → self.new.stations ≢ 1 → name_of self.new ≡ name_of self.old }
     {
-        if is_found(answer, xid) {
+        if is_found(answer, self.xid) {
             self.meet(source, answer.value(Kind::NameOfStation));
         }
     }
 
     /// A station answered, and told this name.
     fn meet(&mut self, source: Mac, name: Option<&[u8]>)
-        ensures { place_of self.new ≡ met (place_of self.old) source.octets (option_map (λ name. name.now) name.entry) }
+        ensures place { place_of self.new ≡ met (place_of self.old) source.octets (option_map (λ name. name.now) name.entry) }
+        ensures number { self.new.xid ≡ self.old.xid }
+        ensures tidy { IsTidy self.old → IsTidy self.new }
+        ensures kept { self.old.stations ≢ 0 → self.new.stations ≢ 1 → name_of self.new ≡ name_of self.old }
     {
         match self.stations {
             0 => self.meet_first(source, name),
@@ -78,7 +116,10 @@ impl Search {
     /// A station answered after one.
     fn meet_again(&mut self, source: Mac, name: Option<&[u8]>)
         requires { self.old.stations ≡ 1 }
-        ensures { place_of self.new ≡ met (place_of self.old) source.octets (option_map (λ name. name.now) name.entry) }
+        ensures place { place_of self.new ≡ met (place_of self.old) source.octets (option_map (λ name. name.now) name.entry) }
+        ensures number { self.new.xid ≡ self.old.xid }
+        ensures tidy { IsTidy self.old → IsTidy self.new }
+        ensures kept { self.new.stations ≢ 1 → name_of self.new ≡ name_of self.old }
     {
         if self.first == source.octets {
             self.meet_first(source, name);
@@ -91,27 +132,46 @@ impl Search {
 
     /// The only station so far told this name.
     fn meet_first(&mut self, source: Mac, name: Option<&[u8]>)
-        ensures { place_of self.new ≡ One source.octets (option_map (λ name. take 240 name.now) name.entry) }
+        ensures place { place_of self.new ≡ One source.octets (option_map (λ name. take 240 name.now) name.entry) }
+        ensures number { self.new.xid ≡ self.old.xid }
+        ensures tidy { IsTidy self.new }
+        ensures stations { self.new.stations ≡ 1 }
     {
         let octets = source.octets;
         self.stations = 1;
         self.first = octets;
         match name {
             Some(name) => self.keep(at_most(name, MOST_NAME)),
-            None => self.is_told = 0,
+            None => self.forget(),
         }
     }
 
     /// Keeps a name.
     fn keep(&mut self, name: &[u8])
-        requires { length name.now ≤ 240 }
+        requires few { length name.now ≤ 240 }
+        requires stations { self.old.stations ≡ 1 }
         ensures told { name_of self.new ≡ Some name.now }
         ensures stations { self.new.stations ≡ self.old.stations }
         ensures first { self.new.first ≡ self.old.first }
+        ensures number { self.new.xid ≡ self.old.xid }
+        ensures tidy { IsTidy self.new }
     {
         self.is_told = 1;
         self.length = name.len() as u32;
         self.name[..name.len()].copy_from_slice(name);
+    }
+
+    /// Keeps that no name is told.
+    fn forget(&mut self)
+        requires { self.old.stations ≡ 1 }
+        ensures told { name_of self.new ≡ None }
+        ensures stations { self.new.stations ≡ self.old.stations }
+        ensures first { self.new.first ≡ self.old.first }
+        ensures number { self.new.xid ≡ self.old.xid }
+        ensures tidy { IsTidy self.new }
+    {
+        self.is_told = 0;
+        self.length = 0;
     }
 }
 

@@ -1,7 +1,7 @@
 -- The faults of a text that gives no plan.
 use Rattle.std.specs.Prelude.{ℕ}
-use Rattle.catalogue_keys.specs.declared.fault.CatalogueFault.{CatalogueFault}
-use Rattle.catalogue_keys.specs.declared.fault.CatalogueFault.TheVariants as reading
+use Rattle.catalogue.specs.declared.keys.fault.CatalogueFault.{CatalogueFault}
+use Rattle.catalogue.specs.declared.keys.fault.CatalogueFault.TheVariants as reading
 use Rattle.plans.specs.declared.plan.TooLong.{TooLong}
 use Rattle.plans.specs.declared.plan.TooLong.TheVariants as long
 use Rattle.configurator.specs.declared.fault.PlanFault.{PlanFault}

@@ -1,9 +1,9 @@
 -- The places of faults of the whole catalogue.
 use Rattle.std.specs.Prelude.{List, [], ◌∷◌, if◌then◌else◌}
 use Rattle.station_names.specs.Valid.{is_station_name}
-use Rattle.catalogue_keys.specs.declared.fault.Step.{Step}
-use Rattle.catalogue_keys.specs.declared.fault.Step.TheVariants.{At}
-use Rattle.catalogue_keys.specs.declared.key.Key.TheVariants as key
+use Rattle.catalogue.specs.declared.keys.fault.Step.{Step}
+use Rattle.catalogue.specs.declared.keys.fault.Step.TheVariants.{At}
+use Rattle.catalogue.specs.declared.keys.key.Key.TheVariants as key
 use Rattle.catalogue.specs.Projects.{Project}
 use Rattle.catalogue.specs.Catalogues.{Catalogue}
 use Rattle.configurator.specs.declared.fault.PlanFault.{PlanFault}

@@ -5,7 +5,7 @@ use Rattle.plans.specs.declared.parts.Parts.{Parts}
 use Rattle.plans.specs.declared.parts.PlanRecord.{PlanRecord}
 use Rattle.plans.specs.declared.plan.TooLong.TheVariants as long
 use Rattle.plans.specs.Plan.{plan_of}
-use Rattle.catalogue_keys.specs.declared.fault.PlacedFault.{PlacedFault}
+use Rattle.catalogue.specs.declared.keys.fault.PlacedFault.{PlacedFault}
 use Rattle.catalogue.specs.Slots.{Record, Slot}
 use Rattle.catalogue.specs.Catalogues.{Catalogue, Found, Refuses}
 use Rattle.configurator.specs.declared.addresses.Addresses.{Addresses}

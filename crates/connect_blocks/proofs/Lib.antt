@@ -1,3 +1,7 @@
 pub mod Sound
 pub mod Objects
 pub mod Accepted
+pub mod Wanted
+pub mod Diff
+pub mod ModuleBlocksAccepted
+pub mod Handled

@@ -8,9 +8,9 @@ use Rattle.wire.specs.Counted.{size_each, read_each, write_each, FitsEach}
 use Rattle.wire.specs.Codec.{◌>>=◌}
 use Rattle.wire.proofs.Fields.{bind_ok, ok_is}
 use Rattle.wire.proofs.Counts.{fits_more, write_more, write_done}
-use Rattle.block_fields.specs.declared.fault.BlockFault.{BlockFault}
-use Rattle.block_fields.specs.declared.fault.BlockFault.TheVariants.{Count}
-use Rattle.block_fields.specs.Fields.{two}
+use Rattle.wire.specs.declared.blocks.fault.BlockFault.{BlockFault}
+use Rattle.wire.specs.declared.blocks.fault.BlockFault.TheVariants.{Count}
+use Rattle.wire.specs.blocks.Fields.{two}
 use Rattle.connect_blocks.specs.declared.io_object.IoObject.{IoObject}
 use Rattle.connect_blocks.specs.Objects.{io_object, next_object, io_objects}
 use Rattle.connect_blocks.proofs.Sound.{io_object_sound}

@@ -4,10 +4,10 @@ use Rattle.wire.specs.Codec.{IsSound}
 use Rattle.wire.proofs.Joined.{then_by_sound, seen_sound}
 use Rattle.wire.proofs.Handled.{checked_sound, named_sound}
 use Rattle.wire.proofs.Counts.{bounded_sound, counted_sound}
-use Rattle.block_fields.specs.declared.fault.BlockFault.TheVariants.{Count, Field}
+use Rattle.wire.specs.declared.blocks.fault.BlockFault.TheVariants.{Count, Field}
 use Rattle.connect_blocks.specs.declared.control.ControlBlock.{ControlBlock}
-use Rattle.block_fields.specs.Fields.{two, four, mac}
-use Rattle.block_fields.proofs.Sound.{numeral_sound, octets_sound, blank_sound, ranged_sound, fixed_sound, fixed_four_sound, unchecked_two_sound, mac_sound}
+use Rattle.wire.specs.blocks.Fields.{two, four, mac}
+use Rattle.wire.proofs.BlocksSound.{numeral_sound, octets_sound, blank_sound, ranged_sound, fixed_sound, fixed_four_sound, unchecked_two_sound, mac_sound}
 use Rattle.connect_blocks.specs.declared.io_object.IoObject.{IoObject}
 use Rattle.connect_blocks.specs.declared.iocr.IocrType.{IocrType}
 use Rattle.connect_blocks.specs.declared.iocr.IocrType.TheVariants.{Input, Output}

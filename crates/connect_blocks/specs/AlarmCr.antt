@@ -2,8 +2,8 @@
 use Rattle.std.specs.Prelude.{◌≤◌}
 use Rattle.wire.specs.Codec.{Codec}
 use Rattle.wire.specs.Formats.{◌⨾◌, seen}
-use Rattle.block_fields.specs.declared.fault.BlockFault.{BlockFault}
-use Rattle.block_fields.specs.Fields.{two, four, ranged, fixed, unchecked_two}
+use Rattle.wire.specs.declared.blocks.fault.BlockFault.{BlockFault}
+use Rattle.wire.specs.blocks.Fields.{two, four, ranged, fixed, unchecked_two}
 use Rattle.connect_blocks.specs.declared.alarm_cr.AlarmCrBlockReq.{AlarmCrBlockReq}
 use Rattle.connect_blocks.specs.declared.alarm_cr.AlarmCrBlockRes.{AlarmCrBlockRes}
 

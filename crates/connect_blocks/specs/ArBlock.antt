@@ -6,9 +6,9 @@ use Rattle.pn_values.specs.declared.mac.Mac.{Mac}
 use Rattle.wire.specs.Codec.{Codec}
 use Rattle.wire.specs.Formats.{◌⨾◌, then_by, seen}
 use Rattle.wire.specs.Checks.{checked}
-use Rattle.block_fields.specs.declared.fault.BlockFault.{BlockFault}
-use Rattle.block_fields.specs.declared.fault.BlockFault.TheVariants.{Field}
-use Rattle.block_fields.specs.Fields.{two, four, ranged, fixed, unchecked_two, octets, mac}
+use Rattle.wire.specs.declared.blocks.fault.BlockFault.{BlockFault}
+use Rattle.wire.specs.declared.blocks.fault.BlockFault.TheVariants.{Field}
+use Rattle.wire.specs.blocks.Fields.{two, four, ranged, fixed, unchecked_two, octets, mac}
 use Rattle.connect_blocks.specs.declared.ar_block.ArBlockReq.{ArBlockReq}
 use Rattle.connect_blocks.specs.declared.ar_block.ArBlockRes.{ArBlockRes}
 

@@ -3,9 +3,9 @@ use Rattle.std.specs.Prelude.{◌==◌, ℕ, Bool, true, Option, Some, None}
 use Rattle.wire.specs.Codec.{Codec}
 use Rattle.wire.specs.Formats.{◌⨾◌, seen}
 use Rattle.wire.specs.Checks.{checked}
-use Rattle.block_fields.specs.declared.fault.BlockFault.{BlockFault}
-use Rattle.block_fields.specs.declared.fault.BlockFault.TheVariants.{Field}
-use Rattle.block_fields.specs.Fields.{two, blank, octets}
+use Rattle.wire.specs.declared.blocks.fault.BlockFault.{BlockFault}
+use Rattle.wire.specs.declared.blocks.fault.BlockFault.TheVariants.{Field}
+use Rattle.wire.specs.blocks.Fields.{two, blank, octets}
 use Rattle.connect_blocks.specs.declared.control.ControlBlock.{ControlBlock}
 
 -- Whether a ControlCommand is the wanted one; any is if none is wanted.

@@ -4,9 +4,9 @@ use Rattle.wire.specs.Codec.{Codec}
 use Rattle.frame_codec.specs.FrameId.{is_cyclic}
 use Rattle.wire.specs.Formats.{◌⨾◌, then_by, seen}
 use Rattle.wire.specs.Checks.{checked, named}
-use Rattle.block_fields.specs.declared.fault.BlockFault.{BlockFault}
-use Rattle.block_fields.specs.declared.fault.BlockFault.TheVariants.{Field}
-use Rattle.block_fields.specs.Fields.{two, four, ranged, fixed, fixed_four, mac}
+use Rattle.wire.specs.declared.blocks.fault.BlockFault.{BlockFault}
+use Rattle.wire.specs.declared.blocks.fault.BlockFault.TheVariants.{Field}
+use Rattle.wire.specs.blocks.Fields.{two, four, ranged, fixed, fixed_four, mac}
 use Rattle.connect_blocks.specs.declared.iocr.IocrType.{IocrType}
 use Rattle.connect_blocks.specs.declared.iocr.IocrType.TheVariants.{Input, Output}
 use Rattle.connect_blocks.specs.declared.iocr.RtClass.{RtClass}

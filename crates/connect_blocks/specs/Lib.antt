@@ -4,3 +4,5 @@ pub mod AlarmCr
 pub mod Iocr
 pub mod Objects
 pub mod Places
+pub mod Expected
+pub mod ModuleDiff

@@ -3,9 +3,9 @@ use Rattle.std.specs.Prelude.{◌≡◌, ℕ, List, [], length, Result, Ok, Err}
 use Rattle.wire.specs.Codec.{Codec}
 use Rattle.wire.specs.Formats.{◌⨾◌, seen}
 use Rattle.wire.specs.Counted.{counted, bounded, read_each}
-use Rattle.block_fields.specs.declared.fault.BlockFault.{BlockFault}
-use Rattle.block_fields.specs.declared.fault.BlockFault.TheVariants.{Count}
-use Rattle.block_fields.specs.Fields.{two}
+use Rattle.wire.specs.declared.blocks.fault.BlockFault.{BlockFault}
+use Rattle.wire.specs.declared.blocks.fault.BlockFault.TheVariants.{Count}
+use Rattle.wire.specs.blocks.Fields.{two}
 use Rattle.connect_blocks.specs.declared.io_object.IoObject.{IoObject}
 
 -- SlotNumber, SubslotNumber, FrameOffset.

@@ -2,11 +2,11 @@
 ghost use Rattle.std.specs.Prelude.{◌≡◌, ◌+◌, ◌≤◌, ◌++◌, List, ℕ};
 ghost use Rattle.arrayvec.specs.ArrayVec.{array_vec_len};
 ghost use Rattle.wire.specs.Codec.{Gives};
-ghost use Rattle.block_fields.specs.Fields.{body};
+ghost use Rattle.wire.specs.blocks.Fields.{body};
 ghost use Rattle.connect_blocks.specs.AlarmCr.{alarm_cr_block_req, alarm_cr_block_res, IsAlarmCrBlockReq};
 
 use arrayvec::ArrayVec;
-use block_fields::{BlockFault, len_fields, put_fields, read_body};
+use wire::{BlockFault, len_fields, put_fields, read_body};
 
 /// 0x0103: AlarmCRBlockReq (IEC 61158-6-10, 5.2.4.7), with AlarmCRType 1 and LT 0x8892.
 #[derive(Clone, Copy)]
@@ -44,7 +44,7 @@ macro_rules! alarm_cr_block_req_fields {
 }
 
 /// Reads the part of an AlarmCRBlockReq that BlockLength counts: the version and the fields, to the last octet.
-#[tactic(auto, unfolding(block_fields::specs::Fields::body, crate::specs::AlarmCr::alarm_cr_block_req))]
+#[tactic(auto, unfolding(wire::specs::blocks::Fields::body, crate::specs::AlarmCr::alarm_cr_block_req))]
 pub fn alarm_cr_block_req_at(bytes: &[u8]) -> Result<AlarmCrBlockReq, BlockFault>
     ensures { Gives (λ x. x) result ((body alarm_cr_block_req).read bytes.now) }
 {
@@ -87,7 +87,7 @@ macro_rules! alarm_cr_block_res_fields {
 }
 
 /// Reads the part of an AlarmCRBlockRes that BlockLength counts: the version and the fields, to the last octet.
-#[tactic(auto, unfolding(block_fields::specs::Fields::body, crate::specs::AlarmCr::alarm_cr_block_res))]
+#[tactic(auto, unfolding(wire::specs::blocks::Fields::body, crate::specs::AlarmCr::alarm_cr_block_res))]
 pub fn alarm_cr_block_res_at(bytes: &[u8]) -> Result<AlarmCrBlockRes, BlockFault>
     ensures { Gives (λ x. x) result ((body alarm_cr_block_res).read bytes.now) }
 {

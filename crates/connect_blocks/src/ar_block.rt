@@ -2,15 +2,13 @@
 ghost use Rattle.std.specs.Prelude.{◌≡◌, ◌+◌, ◌≤◌, ◌++◌, List, ℕ, true};
 ghost use Rattle.arrayvec.specs.ArrayVec.{array_vec_len};
 ghost use Rattle.wire.specs.Codec.{Gives};
-ghost use Rattle.block_fields.specs.Fields.{body, mac};
+ghost use Rattle.wire.specs.blocks.Fields.{body, mac};
 ghost use Rattle.connect_blocks.specs.ArBlock.{ar_uuid, initiator_mac, station_name, ar_block_req, ar_block_res, IsArBlockReq};
 
 use arrayvec::ArrayVec;
-use block_fields::{
-    BlockFault, Uuid, append, append_u16, len_fields, mac_at, octets_at, put_fields, ranged_at,
-    read_body, slice_at,
-};
 use pn_values::Mac;
+use wire::blocks::{append, append_u16, octets_at};
+use wire::{BlockFault, Uuid, len_fields, mac_at, put_fields, ranged_at, read_body, slice_at};
 
 /// 0x0101: ARBlockReq (IEC 61158-6-10, 5.2.4.1), with ARType 1, IOCAR_Single.
 #[derive(Drop)]
@@ -107,7 +105,7 @@ fn station_name_len(name: &ArrayVec<u8, 240>) -> usize
 }
 
 /// Reads the part of an ARBlockReq that BlockLength counts: the version and the fields, to the last octet.
-#[tactic(auto, unfolding(block_fields::specs::Fields::body, crate::specs::ArBlock::ar_block_req))]
+#[tactic(auto, unfolding(wire::specs::blocks::Fields::body, crate::specs::ArBlock::ar_block_req))]
 pub fn ar_block_req_at(bytes: &[u8]) -> Result<ArBlockReq, BlockFault>
     ensures { Gives (λ x. x) result ((body ar_block_req).read bytes.now) }
 {
@@ -159,7 +157,7 @@ macro_rules! ar_block_res_fields {
 }
 
 /// Reads the part of an ARBlockRes that BlockLength counts: the version and the fields, to the last octet.
-#[tactic(auto, unfolding(block_fields::specs::Fields::body, crate::specs::ArBlock::ar_block_res))]
+#[tactic(auto, unfolding(wire::specs::blocks::Fields::body, crate::specs::ArBlock::ar_block_res))]
 pub fn ar_block_res_at(bytes: &[u8]) -> Result<ArBlockRes, BlockFault>
     ensures { Gives (λ x. x) result ((body ar_block_res).read bytes.now) }
 {

@@ -2,11 +2,12 @@
 ghost use Rattle.std.specs.Prelude.{◌≡◌, ◌+◌, ◌≤◌, ◌++◌, List, ℕ, Option, None, true};
 ghost use Rattle.arrayvec.specs.ArrayVec.{array_vec_len};
 ghost use Rattle.wire.specs.Codec.{Gives};
-ghost use Rattle.block_fields.specs.Fields.{body};
+ghost use Rattle.wire.specs.blocks.Fields.{body};
 ghost use Rattle.connect_blocks.specs.Control.{command, control, is_command};
 
 use arrayvec::ArrayVec;
-use block_fields::{BlockFault, Uuid, len_fields, put_fields, read_body, u16_at};
+use wire::blocks::u16_at;
+use wire::{BlockFault, Uuid, len_fields, put_fields, read_body};
 
 /// IODControl, IOXControl and IODRelease: the requests 0x0110, 0x0112 and 0x0114 and the responses 0x8110, 0x8112 and
 /// 0x8114.
@@ -49,7 +50,7 @@ fn command_at(bytes: &[u8], wanted: Option<u16>) -> Result<(u16, &[u8]), BlockFa
 
 /// Reads the part of a control block that BlockLength counts: the version and the fields, to the last octet. `wanted` is
 /// the only ControlCommand that is accepted; `None` accepts any.
-#[tactic(auto, unfolding(block_fields::specs::Fields::body, crate::specs::Control::control))]
+#[tactic(auto, unfolding(wire::specs::blocks::Fields::body, crate::specs::Control::control))]
 pub fn control_at(bytes: &[u8], wanted: Option<u16>) -> Result<ControlBlock, BlockFault>
     ensures { Gives (λ x. x) result ((body (control wanted)).read bytes.now) }
 {

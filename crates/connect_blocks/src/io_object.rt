@@ -5,7 +5,7 @@ ghost use Rattle.wire.specs.Codec.{Gives};
 ghost use Rattle.connect_blocks.specs.Objects.{io_object};
 
 use arrayvec::ArrayVec;
-use block_fields::{BlockFault, put_fields, read_fields};
+use wire::{BlockFault, put_fields, read_fields};
 
 /// An IODataObject or an IOCS of an IOCRBlockReq: the place in the frame of a submodule's data or of its consumer status.
 #[derive(Clone, Copy, Default)]

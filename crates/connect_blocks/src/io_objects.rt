@@ -7,8 +7,9 @@ ghost use Rattle.connect_blocks.specs.Objects.{next_object, io_objects, objects_
 
 use crate::io_object::{IoObject, io_object_at, put_io_object};
 use arrayvec::ArrayVec;
-use block_fields::{BlockFault, append_u16, u16_at};
 use std::marker::Model;
+use wire::BlockFault;
+use wire::blocks::{append_u16, u16_at};
 
 /// The number of octets that a place takes.
 const OBJECT_LEN: usize = 6;

@@ -2,18 +2,16 @@
 ghost use Rattle.std.specs.Prelude.{◌≡◌, ◌+◌, ◌≤◌, ◌++◌, List, ℕ};
 ghost use Rattle.arrayvec.specs.ArrayVec.{array_vec_len};
 ghost use Rattle.wire.specs.Codec.{Gives};
-ghost use Rattle.block_fields.specs.Fields.{body};
+ghost use Rattle.wire.specs.blocks.Fields.{body};
 ghost use Rattle.connect_blocks.specs.Iocr.{iocr_type, rt_class, is_frame_id, frame_id, iocr_head, iocr_times, iocr_places, iocr_block_req};
 ghost use Rattle.connect_blocks.specs.Iocr.{iocr_block_res, IsIocrBlockReq};
 
 use crate::io_objects::{IoObjects, io_objects_at, io_objects_len, put_io_objects};
 use arrayvec::ArrayVec;
-use block_fields::{
-    BlockFault, append_u16, append_u32, ended, len_fields, put_fields, read_body, read_fields,
-    u16_at, u32_at, version_at,
-};
 use frame_codec::is_cyclic;
 use pn_values::Mac;
+use wire::blocks::{append_u16, append_u32, u16_at, u32_at};
+use wire::{BlockFault, ended, len_fields, put_fields, read_body, read_fields, version_at};
 
 /// IOCRType.
 #[derive(Clone, Copy, Debug, PartialEq, Eq)]
@@ -268,7 +266,7 @@ fn iocr_places_at(bytes: &[u8]) -> Result<(IocrPlaces<'_>, &[u8]), BlockFault>
 /// Reads the part of an IOCRBlockReq that BlockLength counts: the version and the fields, to the last octet. A function
 /// of its own, so that the reader of all kinds of blocks does not clear its locals for each block.
 #[inline(never)]
-#[tactic(auto, unfolding(block_fields::specs::Fields::body, crate::specs::Iocr::iocr_block_req))]
+#[tactic(auto, unfolding(wire::specs::blocks::Fields::body, crate::specs::Iocr::iocr_block_req))]
 pub fn iocr_block_req_at(bytes: &[u8]) -> Result<IocrBlockReq<'_>, BlockFault>
     ensures { Gives (λ x. x) result ((body iocr_block_req).read bytes.now) }
 {
@@ -343,7 +341,7 @@ macro_rules! iocr_block_res_fields {
 }
 
 /// Reads the part of an IOCRBlockRes that BlockLength counts: the version and the fields, to the last octet.
-#[tactic(auto, unfolding(block_fields::specs::Fields::body, crate::specs::Iocr::iocr_block_res))]
+#[tactic(auto, unfolding(wire::specs::blocks::Fields::body, crate::specs::Iocr::iocr_block_res))]
 pub fn iocr_block_res_at(bytes: &[u8]) -> Result<IocrBlockRes, BlockFault>
     ensures { Gives (λ x. x) result ((body iocr_block_res).read bytes.now) }
 {

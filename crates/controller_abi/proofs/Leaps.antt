@@ -1,11 +1,11 @@
 -- Units of time that pass at once: those before the last one send nothing and end nothing.
 use Rattle.std.proofs.Common.{◌≡◌, ◌+◌, ◌≤◌, ◌<◌, ◌++◌, ℕ, zero, suc, Bool, true, false, List, [], ◌∷◌, drop, refl, sym, ap, subst, ◌∙◌, arith, inl, inr}
 use Rattle.std.specs.Prelude.{◌||◌, ◌&&◌, not}
-use Rattle.controller_state.specs.declared.event.Event.TheVariants.{Tick}
-use Rattle.controller_state.specs.declared.state.State as phase
+use Rattle.controller_core.specs.declared.stored.event.Event.TheVariants.{Tick}
+use Rattle.controller_core.specs.declared.stored.state.State as phase
 use Rattle.controller_core.specs.Leaps.{NoneEnds, OnlyTheLastEnds, ticks_of}
 use Rattle.controller_core.specs.Machine.{step_of}
-use Rattle.controller_state.specs.State.{Controlling}
+use Rattle.controller_core.specs.stored.State.{Controlling}
 use Rattle.controller_station.specs.Beside as services
 use Rattle.controller_station.specs.Beside.{Beside, sent_by_tick, ticked}
 use Rattle.controller_station.specs.Served.{Frames, Served, in_order}
@@ -32,20 +32,21 @@ at units port = record {
   controller = (ticks_of units port.controller).controller;
   services = services.ticks_of units port.services;
   frames = (ticks_of units port.controller).frames ++ sent_beside units port.services;
+  is_started = port.is_started;
 }
 
 abbrev both : State → Served
 both port = record { controller = port.controller; services = port.services }
 
-abbrev with_frames : Controlling → Beside → List (List ℕ) → State
-with_frames controller services frames = record { controller = controller; services = services; frames = frames }
+abbrev with_frames : Bool → Controlling → Beside → List (List ℕ) → State
+with_frames is_started controller services frames = record { controller = controller; services = services; frames = frames; is_started = is_started }
 
 abbrev stopped_by : Bool → List (List ℕ) → phase.State → Bool
 stopped_by was_over frames phase = has_frames frames || (not was_over && is_over phase)
 
 pub ticks_all : (was_over : Bool) (units : ℕ) (old : State) → has_frames old.frames ≡ false → is_stopped was_over old ≡ false → OnlyTheLastSends units (both old) → OnlyTheLastEnds units old.controller
     → Ticks was_over units old (at units old)
-ticks_all was_over zero old idle free last ends = ap (with_frames old.controller old.services) (sym (none_of old.frames idle))
+ticks_all was_over zero old idle free last ends = ap (with_frames old.is_started old.controller old.services) (sym (none_of old.frames idle))
 ticks_all was_over (suc units) old idle free last ends =
     let first = ticks_of units old.controller in
     let step = step_of first.controller Tick in
@@ -59,8 +60,8 @@ ticks_all was_over (suc units) old idle free last ends =
       at units old,
       ticks_all was_over units old idle free (λ before earlier. last before (omega (arith, earlier))) (λ before earlier. ends before (omega (arith, earlier))),
       ap (λ (f : List (List ℕ)). stopped_by was_over f first.controller.live.phase) (none ∙ sym (none_of old.frames idle)) ∙ ap (stopped_by was_over old.frames) phase ∙ free,
-      ap (λ (f : List (List ℕ)). with_frames step.controller (ticked (services.ticks_of units old.services)) ((f ++ step.frames) ++ (sent_beside units old.services ++ beside))) quiet
-          ∙ ap (λ (f : List (List ℕ)). with_frames step.controller (ticked (services.ticks_of units old.services)) (step.frames ++ (f ++ beside))) by_services,
+      ap (λ (f : List (List ℕ)). with_frames old.is_started step.controller (ticked (services.ticks_of units old.services)) ((f ++ step.frames) ++ (sent_beside units old.services ++ beside))) quiet
+          ∙ ap (λ (f : List (List ℕ)). with_frames old.is_started step.controller (ticked (services.ticks_of units old.services)) (step.frames ++ (f ++ beside))) by_services,
     )
 
 -- The port after units with which nothing is due: the frames stay fetched.
@@ -69,6 +70,7 @@ quiet_at units port = record {
   controller = (ticks_of units port.controller).controller;
   services = services.ticks_of units port.services;
   frames = port.frames;
+  is_started = port.is_started;
 }
 
 pub ticks_quiet : (was_over : Bool) (units : ℕ) (old : State) → has_frames old.frames ≡ false → is_stopped was_over old ≡ false → NoneSends units (both old) → NoneEnds units old.controller
@@ -77,7 +79,7 @@ ticks_quiet was_over units old idle free none ends =
     let now = quiet_at units old in
     let fetched : (ticks_of units old.controller).frames ++ sent_beside units old.services ≡ old.frames =
     ap in_order (none units (omega arith)) ∙ sym (none_of old.frames idle) in
-    subst (Ticks was_over units old) (ap (with_frames now.controller now.services) fetched)
+    subst (Ticks was_over units old) (ap (with_frames now.is_started now.controller now.services) fetched)
     (ticks_all was_over units old idle free (λ before earlier. none before (omega (arith, earlier))) (λ before earlier. ends before (omega (arith, earlier))))
 
 -- A port whose frames are fetched is not stopped by an end of before.

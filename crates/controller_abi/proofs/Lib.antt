@@ -1,3 +1,4 @@
 pub mod Left
 pub mod Leaps
 pub mod Ranges
+pub mod Numbers

@@ -3,3 +3,4 @@ pub mod Plans
 pub mod Serves
 pub mod State
 pub mod Steps
+pub mod Tool

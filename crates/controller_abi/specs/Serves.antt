@@ -4,25 +4,25 @@
 -- controller nor in the operation.
 use Rattle.std.specs.Prelude.{◌≡◌, ◌+◌, ◌*◌, ◌==◌, ◌++◌, nat_lt, ℕ, Bool, true, false, not, if◌then◌else◌, List, [], ◌∷◌, length, min, slice_get, take, Option, Some, None, option_map}
 use Rattle.record_blocks.specs.declared.alarm_notification.AlarmNotification.{AlarmNotification}
-use Rattle.controller_state.specs.Cause.{number_of}
-use Rattle.cyclic_exchange.specs.Process.{value_at}
+use Rattle.controller_core.specs.stored.Cause.{number_of}
+use Rattle.cyclic_data.specs.exchange.Process.{value_at}
 use Rattle.lldp.specs.Peer.{Peer}
 use Rattle.lldp.specs.State.{Known}
-use Rattle.cyclic_exchange.specs.declared.exchange.ProviderStatus.{ProviderStatus}
+use Rattle.cyclic_data.specs.declared.exchange.exchange.ProviderStatus.{ProviderStatus}
 use Rattle.rpc_core.specs.declared.response.Status.{Status}
-use Rattle.alarm_reports.specs.declared.priority.Priority.{Priority}
-use Rattle.alarm_reports.specs.declared.priority.Priority.TheVariants.{High, Low}
-use Rattle.alarm_reports.specs.declared.report.Report.{Report}
-use Rattle.record_access.specs.Access.{record_of}
+use Rattle.diagnosis.specs.declared.reports.priority.Priority.{Priority}
+use Rattle.diagnosis.specs.declared.reports.priority.Priority.TheVariants.{High, Low}
+use Rattle.diagnosis.specs.declared.reports.report.Report.{Report}
+use Rattle.controller_messages.specs.Access.{record_of}
 use Rattle.diagnosis.specs.declared.diagnosis.Diagnosis.{Diagnosis}
-use Rattle.reported_diagnosis.specs.Reported.{Reported}
+use Rattle.diagnosis.specs.reported.Reported.{Reported}
 use Rattle.controller_core.specs.Machine.{can_request, end_of, provider_of, report_in}
-use Rattle.record_access.specs.declared.access.Answer.{Answer}
-use Rattle.controller_state.specs.declared.state.RefusedRecord.{RefusedRecord}
-use Rattle.controller_state.specs.declared.event.Event.{Event}
-use Rattle.controller_state.specs.declared.event.Event.TheVariants as event
-use Rattle.controller_state.specs.declared.state.State as phase
-use Rattle.controller_state.specs.declared.state.State.TheVariants.{Looking, Addressing, Connecting, Writing, Ending, Waiting, Exchanging, Ended}
+use Rattle.controller_messages.specs.declared.access.Answer.{Answer}
+use Rattle.controller_core.specs.declared.stored.state.RefusedRecord.{RefusedRecord}
+use Rattle.controller_core.specs.declared.stored.event.Event.{Event}
+use Rattle.controller_core.specs.declared.stored.event.Event.TheVariants as event
+use Rattle.controller_core.specs.declared.stored.state.State as phase
+use Rattle.controller_core.specs.declared.stored.state.State.TheVariants.{Looking, Addressing, Connecting, Writing, Ending, Waiting, Exchanging, Ended}
 use Rattle.c_layout.specs.declared.op.Op.{Op}
 use Rattle.c_layout.specs.Places.{place_in}
 use Rattle.c_layout.specs.Reported.{with_octets}
@@ -263,46 +263,54 @@ IsNeighbour None asked answer reported = (answer ≡ 9) × (reported ≡ asked)
 
 -- ---- all of them
 
--- The result of an operation: 10 if there is no such operation.
-abbrev pub Serves : Option Operation → State → Op → List ℕ → ℕ → State → Op → Type 0
-Serves (Some operation.Frame) old asked given answer new reported =
+-- The result of an operation of a controller that started: 10 if there is no such operation.
+abbrev pub Performs : Option Operation → State → Op → List ℕ → ℕ → State → Op → Type 0
+Performs (Some operation.Frame) old asked given answer new reported =
     (reported ≡ asked) × IsEvent (has_frames old.frames) old (event.Frame (record { items = take 1519 given })) answer new
-Serves (Some operation.Tick) old asked given answer new reported = IsTick (has_frames old.frames) old asked answer new reported
-Serves (Some operation.Give) old asked given answer new reported =
+Performs (Some operation.Tick) old asked given answer new reported = IsTick (has_frames old.frames) old asked answer new reported
+Performs (Some operation.Give) old asked given answer new reported =
     (reported ≡ asked) × IsGift (place_in asked.slot asked.subslot) old given answer new
-Serves (Some operation.Next) old asked given answer new reported = IsHandOut old asked answer new reported
-Serves (Some operation.Value) old asked given answer new reported =
+Performs (Some operation.Next) old asked given answer new reported = IsHandOut old asked answer new reported
+Performs (Some operation.Value) old asked given answer new reported =
     (new ≡ old) × IsInput (place_in asked.slot asked.subslot) old asked answer reported
-Serves (Some operation.State) old asked given answer new reported =
+Performs (Some operation.State) old asked given answer new reported =
     (new ≡ old) × (answer ≡ 0) × (reported ≡ with_state old.controller.live.phase asked)
-Serves (Some operation.Alarm) old asked given answer new reported = (new ≡ old) × IsAlarm old.controller.live.alarm asked answer reported
-Serves (Some operation.Stop) old asked given answer new reported =
+Performs (Some operation.Alarm) old asked given answer new reported = (new ≡ old) × IsAlarm old.controller.live.alarm asked answer reported
+Performs (Some operation.Stop) old asked given answer new reported =
     (reported ≡ asked) × IsEvent (has_frames old.frames) old event.Stop answer new
-Serves (Some operation.Due) old asked given answer new reported =
+Performs (Some operation.Due) old asked given answer new reported =
     (new ≡ old) × (answer ≡ 0) × (reported ≡ record asked { units = port_due_in old })
-Serves (Some operation.Status) old asked given answer new reported =
+Performs (Some operation.Status) old asked given answer new reported =
     (reported ≡ asked) × IsStatus (place_in asked.slot asked.subslot) old (not (asked.place == 0)) answer new
-Serves (Some operation.Provider) old asked given answer new reported =
+Performs (Some operation.Provider) old asked given answer new reported =
     (new ≡ old) × IsProvider (place_in asked.slot asked.subslot) old asked answer reported
-Serves (Some operation.Conflicts) old asked given answer new reported =
+Performs (Some operation.Conflicts) old asked given answer new reported =
     (new ≡ old) × (answer ≡ 0) × (reported ≡ with_conflicts old.services.ip.conflicts asked)
-Serves (Some operation.Refusal) old asked given answer new reported =
+Performs (Some operation.Refusal) old asked given answer new reported =
     (new ≡ old) × IsRefusal old.controller.live.refusal asked answer reported
-Serves (Some operation.ReadRecord) old asked given answer new reported =
+Performs (Some operation.ReadRecord) old asked given answer new reported =
     (reported ≡ asked) × IsRead (place_in asked.slot asked.subslot) (index_in asked.place) old answer new
-Serves (Some operation.WriteRecord) old asked given answer new reported =
+Performs (Some operation.WriteRecord) old asked given answer new reported =
     (reported ≡ asked) × IsWrite (place_in asked.slot asked.subslot) (index_in asked.place) old given answer new
-Serves (Some operation.Answer) old asked given answer new reported =
+Performs (Some operation.Answer) old asked given answer new reported =
     (new ≡ old) × IsAnswered old.controller.live.access.answer (record_of old.controller.live.access) asked answer reported
-Serves (Some operation.RefusedRecord) old asked given answer new reported =
+Performs (Some operation.RefusedRecord) old asked given answer new reported =
     (new ≡ old) × IsRefusedRecord old.controller.live.refused_record asked answer reported
-Serves (Some operation.Report) old asked given answer new reported =
+Performs (Some operation.Report) old asked given answer new reported =
     (new ≡ old) × IsReported (report_in old.controller.live (priority_in asked.place))
     (end_of old.controller.live (priority_in asked.place)).seen asked answer reported
-Serves (Some operation.Diagnoses) old asked given answer new reported =
+Performs (Some operation.Diagnoses) old asked given answer new reported =
     (new ≡ old) × (answer ≡ 0) × (reported ≡ with_diagnoses old.controller.live.diagnosis asked)
-Serves (Some operation.Diagnosis) old asked given answer new reported =
+Performs (Some operation.Diagnosis) old asked given answer new reported =
     (new ≡ old) × IsDiagnosis (slice_get old.controller.live.diagnosis.existing asked.place) asked answer reported
-Serves (Some operation.Neighbour) old asked given answer new reported =
+Performs (Some operation.Neighbour) old asked given answer new reported =
     (new ≡ old) × IsNeighbour (option_map (λ (k : Known). k.peer) old.services.near.known) asked answer reported
-Serves None old asked given answer new reported = (answer ≡ 10) × (new ≡ old) × (reported ≡ asked)
+Performs None old asked given answer new reported = (answer ≡ 10) × (new ≡ old) × (reported ≡ asked)
+
+-- The result of an operation: 17 for each one if the controller did not start, and nothing changes.
+abbrev pub ServesIf : Bool → Option Operation → State → Op → List ℕ → ℕ → State → Op → Type 0
+ServesIf true what old asked given answer new reported = Performs what old asked given answer new reported
+ServesIf false what old asked given answer new reported = (answer ≡ 17) × (new ≡ old) × (reported ≡ asked)
+
+abbrev pub Serves : Option Operation → State → Op → List ℕ → ℕ → State → Op → Type 0
+Serves what old asked given answer new reported = ServesIf old.is_started what old asked given answer new reported

@@ -1,6 +1,6 @@
 -- Units of time that pass.
 use Rattle.std.specs.Prelude.{◌≡◌, ◌≢◌, ◌≤◌, ◌-◌, ℕ, zero, suc, Bool, true, false}
-use Rattle.controller_state.specs.declared.event.Event.TheVariants.{Tick}
+use Rattle.controller_core.specs.declared.stored.event.Event.TheVariants.{Tick}
 use Rattle.controller_abi.specs.State.{State, after, is_over, is_stopped}
 
 -- That many units of time, one step of the controller each. Before each of them all frames were fetched, and the

@@ -7,7 +7,7 @@ ghost use Rattle.station_names.specs.Valid.{is_station_name};
 ghost use Rattle.plans.specs.Plan.{plan_of};
 ghost use Rattle.controller_station.specs.Served.{begun};
 ghost use Rattle.c_layout.specs.Modules.{is_module, is_submodule, module_of};
-ghost use Rattle.controller_abi.specs.State.{opened};
+ghost use Rattle.controller_abi.specs.State.{IsUnstarted, opened};
 ghost use Rattle.controller_abi.specs.Plans.{IsShort, IsWritten, are_addresses as is_addressed, are_low as is_low, are_named};
 ghost use Rattle.controller_abi.specs.Plans.{are_numbers as are_all_numbers, are_ordered as is_in_order};
 ghost use Rattle.controller_abi.specs.Plans.{are_placed as are_all_placed, are_times as is_timed, controller_name_in};
@@ -122,7 +122,7 @@ pub fn judge(size: usize, abi: u32, op_size: usize, written: &WrittenPlan, ar: &
 #[inline(always)]
 pub fn unstarted(written: &WrittenPlan, ar: &[u8; 16], activity: &[u8; 16]) -> Port
     requires { is_planned written.now ≡ true }
-    ensures { result.controller.setup ≡ record { plan = parts_of written.now; ar = ar.now; activity = activity.now; options = options_in written.now } }
+    ensures { IsUnstarted (record { plan = parts_of written.now; ar = ar.now; activity = activity.now; options = options_in written.now }) result }
 {
     Port::unstarted(
         planned(written),

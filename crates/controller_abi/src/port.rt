@@ -4,7 +4,7 @@ ghost use Rattle.lldp.specs.State.{Known};
 ghost use Rattle.lldp.specs.Views.{peer_as};
 ghost use Rattle.controller_station.specs.Served.{begun};
 ghost use Rattle.controller_abi.specs.Outputs.{output_at as output_in, output_of as output_in_module};
-ghost use Rattle.controller_abi.specs.State.{IsNext, advanced, after, has_frames, is_over as over, is_stopped as stops, opened, port_due_in};
+ghost use Rattle.controller_abi.specs.State.{IsNext, IsUnstarted, advanced, after, has_frames, is_over as over, is_stopped as stops, opened, port_due_in};
 ghost use Rattle.controller_abi.specs.Steps.{Passes, Ticks};
 
 use controller_core::{Controller, ControllerOptions, Event, State};
@@ -27,6 +27,8 @@ pub struct Port {
     frames_past: usize,
     /// At most what is due of a port whose frames are fetched; 0 if that is not counted.
     due: u32,
+    /// Whether the host started it.
+    is_started: bool,
 }
 
 impl Model for Port {
@@ -36,22 +38,23 @@ impl Model for Port {
 
     ghost Value = { State };
 
-    ghost view = { λ port. record { controller = port.served.controller; services = port.served.services; frames = drop port.frames_past (in_order port.outbox) } };
+    ghost view = { λ port. record { controller = port.served.controller; services = port.served.services; frames = drop port.frames_past (in_order port.outbox); is_started = port.is_started } };
 
-    ghost invariant = { λ port. IsKnown port.due (record { controller = port.served.controller; services = port.served.services; frames = drop port.frames_past (in_order port.outbox) }) };
+    ghost invariant = { λ port. IsKnown port.due (record { controller = port.served.controller; services = port.served.services; frames = drop port.frames_past (in_order port.outbox); is_started = port.is_started }) };
 }
 
 impl Port {
     /// The controller of a plan, with the ARUUID of its relation, the activity of its calls and its options, before it starts.
     #[inline(always)]
     pub fn unstarted(plan: Plan, ar: Uuid, activity: Uuid, options: ControllerOptions) -> Port
-        ensures { result.controller.setup ≡ record { plan = plan; ar = ar; activity = activity; options = options } }
+        ensures { IsUnstarted (record { plan = plan; ar = ar; activity = activity; options = options }) result }
     {
         Port {
             served: ServedController::unstarted(plan, ar, activity, options),
             outbox: ServedOutbox::new(),
             frames_past: 0,
             due: 0,
+            is_started: false,
         }
     }
 
@@ -63,6 +66,15 @@ impl Port {
         self.served.send_opening(&mut self.outbox);
         self.frames_past = 0;
         self.due = 0;
+        self.is_started = true;
+    }
+
+    /// Whether it was started.
+    #[inline(always)]
+    pub fn is_started(&self) -> bool
+        ensures { result ≡ self.now.is_started }
+    {
+        self.is_started
     }
 
     /// The controller.

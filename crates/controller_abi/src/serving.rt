@@ -1,26 +1,26 @@
 //! One operation of the host.
 ghost use Rattle.std.specs.Prelude.{◌≡◌, ◌==◌, Some, length, not, option_map, slice_get, take};
-ghost use Rattle.cyclic_exchange.specs.Process.{value_at};
+ghost use Rattle.cyclic_data.specs.exchange.Process.{value_at};
 ghost use Rattle.lldp.specs.State.{Known};
 ghost use Rattle.lldp.specs.Views.{peer_as};
-ghost use Rattle.controller_state.specs.declared.event.Event.TheVariants.{Frame as Framed, Give as Given, Read as Reads, Status as Rated, Write as Writes};
-ghost use Rattle.record_access.specs.Access.{record_of};
+ghost use Rattle.controller_core.specs.declared.stored.event.Event.TheVariants.{Frame as Framed, Give as Given, Read as Reads, Status as Rated, Write as Writes};
+ghost use Rattle.controller_messages.specs.Access.{record_of};
 ghost use Rattle.controller_core.specs.Machine.{can_request, end_of, provider_of, report_in};
 ghost use Rattle.c_layout.specs.Places.{place_in};
 ghost use Rattle.controller_abi.specs.Outputs.{why_not_fit, why_not_rated, why_not_read, why_not_set, why_not_written};
 ghost use Rattle.controller_abi.specs.State.{has_frames, port_due_in};
-ghost use Rattle.controller_abi.specs.Serves.{IsAlarm, IsAnswered, IsDiagnosis, IsEvent, IsGift, IsHandOut, IsInput, IsNeighbour, IsProvider, IsProviderAt, IsRead, IsRefusal, IsRefusedRecord, IsReported, IsSet, IsStatus, IsTick, IsValue, IsWrite, Serves};
+ghost use Rattle.controller_abi.specs.Serves.{IsAlarm, IsAnswered, IsDiagnosis, IsEvent, IsGift, IsHandOut, IsInput, IsNeighbour, IsProvider, IsProviderAt, IsRead, IsRefusal, IsRefusedRecord, IsReported, IsSet, IsStatus, IsTick, IsValue, IsWrite, Performs, Serves};
 ghost use Rattle.controller_abi.specs.Serves.{index_in, priority_in, status_number as status_number_in, structure_number as structure_number_in};
 ghost use Rattle.controller_abi.specs.Serves.{cause_number, operation_of as operation_in, phase_number, planned_output, why_no_place};
 ghost use Rattle.controller_abi.specs.Serves.{status_number as status_number_in, with_alarm, with_conflicts, with_diagnoses, with_neighbour, with_next, with_state};
 
 use crate::operation::{Operation, operation_of};
 use crate::port::Port;
-use alarm_reports::{Priority, Report};
 use arrayvec::ArrayVec;
 use block_codec::AlarmNotification;
 use c_layout::{BAD_LENGTH, HAS_WORK, NO_FRAME, NO_SLOT, Op, UNKNOWN, place_of, put};
 use controller_core::{Event, ProviderStatus, State};
+use diagnosis::{Priority, Report};
 use frame_codec::Bytes;
 use lldp::Neighbour;
 use rpc_core::Status;
@@ -35,13 +35,19 @@ const BUSY: u32 = 26;
 /// No request of the application was answered.
 const NO_ANSWER: u32 = 27;
 
+/// The controller was not started.
+const NOT_MADE: u32 = 17;
+
 /// The maximum number of octets of a record in one call.
 const MOST_RECORD: usize = 1308;
 
-/// Carries out one operation, with the given octets. Returns 0, or why nothing changed.
+/// Carries out one operation of a controller that was started, with the given octets. Returns 0, or why nothing changed.
 pub fn serve(port: &mut Port, op: &mut Op, given: &[u8]) -> u32
     ensures { Serves (operation_in op.old.what) port.old op.old given.now result port.new op.new }
 {
+    if !port.is_started() {
+        return NOT_MADE;
+    }
     match operation_of(op.what) {
         Some(operation) => perform(operation, port, op, given),
         None => UNKNOWN,
@@ -50,7 +56,7 @@ pub fn serve(port: &mut Port, op: &mut Op, given: &[u8]) -> u32
 
 // Carries out a known operation.
 fn perform(operation: Operation, port: &mut Port, op: &mut Op, given: &[u8]) -> u32
-    ensures { Serves (Some operation) port.old op.old given.now result port.new op.new }
+    ensures { Performs (Some operation) port.old op.old given.now result port.new op.new }
 {
     match operation {
         Operation::Frame => frame(port, given),

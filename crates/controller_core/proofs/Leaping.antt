@@ -15,18 +15,18 @@ use Rattle.pn_alarms.specs.Controller.{controller_later}
 use Rattle.pn_alarms.specs.Ends.{ControllerEnd}
 use Rattle.pn_alarms.specs.Leaps.{NothingDue, ack_due, after, data_due_in, never}
 use Rattle.pn_alarms.specs.Sending.{due, either_due}
-use Rattle.cyclic_exchange.specs.Cyclic.{Cyclic}
-use Rattle.cyclic_exchange.specs.Leaps.{IsQuietFor, cyclic_due_in}
-use Rattle.cyclic_exchange.specs.Units.{Brought, cyclic_later, ending_by, is_silent, tick_by, tick_of}
-use Rattle.controller_frames.specs.declared.record_request.RecordRequest.{RecordRequest}
-use Rattle.controller_frames.specs.declared.request.Request.{Request}
-use Rattle.controller_frames.specs.declared.setup.Setup.{Setup}
-use Rattle.controller_frames.specs.Sent.{Sent, bytes_of}
-use Rattle.controller_state.specs.declared.state.Cause.TheVariants.{NoProgress}
-use Rattle.controller_state.specs.declared.event.Event.TheVariants.{Tick}
+use Rattle.cyclic_data.specs.exchange.Cyclic.{Cyclic}
+use Rattle.cyclic_data.specs.exchange.Leaps.{IsQuietFor, cyclic_due_in}
+use Rattle.cyclic_data.specs.exchange.Units.{Brought, cyclic_later, ending_by, is_silent, tick_by, tick_of}
+use Rattle.controller_messages.specs.declared.record_request.RecordRequest.{RecordRequest}
+use Rattle.controller_messages.specs.declared.request.Request.{Request}
+use Rattle.controller_messages.specs.declared.setup.Setup.{Setup}
+use Rattle.controller_messages.specs.Sent.{Sent, bytes_of}
+use Rattle.controller_core.specs.declared.stored.state.Cause.TheVariants.{NoProgress}
+use Rattle.controller_core.specs.declared.stored.event.Event.TheVariants.{Tick}
 use Rattle.controller_core.specs.Leaps.{LeapsAreTicks, NoneEnds, NoneSends, OnlyTheLastEnds, OnlyTheLastSends, access_due_in, and_then, exchange_due_in, patience_due_in, request_due_in, ticks_of}
 use Rattle.controller_core.specs.Machine.{Stepped, Turn, accesses_by, exchange_later, flowed, gone_on, is_again, is_spent, later, pending_by, pending_of, quit, requests_of, step_of, stepped, ticked, where_due}
-use Rattle.controller_state.specs.State.{Controlling, Live, is_limited, with_live}
+use Rattle.controller_core.specs.stored.State.{Controlling, Live, is_limited, with_live}
 
 pub below_left : (number one other : ℕ) → number < min one other → number < one
 below_left number one other below = omega (arith, below)

@@ -2,3 +2,5 @@ pub mod Leaping
 pub mod Quiet
 pub mod OutputsGiven
 pub mod Nearer
+pub mod StartUpAnswering
+pub mod ExchangeBegins

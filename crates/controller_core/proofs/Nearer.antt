@@ -10,12 +10,12 @@ use Rattle.pn_alarms.specs.Ends.{ControllerEnd}
 use Rattle.pn_alarms.specs.Leaps.{after, data_due_in, never, waiting_due_in}
 use Rattle.pn_alarms.specs.Sending.{waiting_behind}
 use Rattle.pn_alarms.specs.Sending as alarm
-use Rattle.cyclic_exchange.specs.Cyclic.{Cyclic}
-use Rattle.cyclic_exchange.specs.Leaps.{cyclic_due_in}
-use Rattle.cyclic_exchange.specs.Units.{cyclic_later}
+use Rattle.cyclic_data.specs.exchange.Cyclic.{Cyclic}
+use Rattle.cyclic_data.specs.exchange.Leaps.{cyclic_due_in}
+use Rattle.cyclic_data.specs.exchange.Units.{cyclic_later}
 use Rattle.controller_core.specs.Leaps.{access_due_in, live_due_in, patience_due_in}
 use Rattle.controller_core.proofs.Leaping.{off_later, on_later}
-use Rattle.controller_state.specs.State.{Live}
+use Rattle.controller_core.specs.stored.State.{Live}
 
 -- So it comes nearer by at most so many with several.
 counts : {A : Type 0} (due : A → ℕ) (step : A → A) → ((state : A) → due state ≤ 1 + due (step state)) → (units : ℕ) (state : A) → due state ≤ units + due (after step units state)

@@ -5,11 +5,11 @@ use Rattle.std.proofs.lemmas.Bool.{cases_Bool}
 use Rattle.cyclic_data.specs.declared.place.PlaceKind.TheVariants.{Data}
 use Rattle.cyclic_data.specs.Image.{Cell, changed, changed_in, with_status, with_value}
 use Rattle.cyclic_data.specs.Layout.{is_of}
-use Rattle.cyclic_exchange.specs.Cyclic.{Cyclic}
-use Rattle.cyclic_exchange.specs.Process.{given_at}
+use Rattle.cyclic_data.specs.exchange.Cyclic.{Cyclic}
+use Rattle.cyclic_data.specs.exchange.Process.{given_at}
 use Rattle.controller_core.specs.Machine.{given, has_output, iops_with, marks_with, remarked, with_output}
-use Rattle.controller_state.specs.Outputs.{awaits}
-use Rattle.controller_state.specs.State.{Live}
+use Rattle.controller_core.specs.stored.Outputs.{awaits}
+use Rattle.controller_core.specs.stored.State.{Live}
 
 -- A cell that gets a value and then its status gets both.
 both : (slot subslot iops : ℕ) (value : List ℕ) (cells : List Cell)

@@ -7,11 +7,11 @@ use Rattle.pn_alarms.specs.declared.repeats.Due.{Due}
 use Rattle.pn_alarms.specs.declared.repeats.Due.TheVariants.{Nothing, Again, Spent}
 use Rattle.pn_alarms.specs.Sending.{due, either_due}
 use Rattle.pn_alarms.specs.Sending.{is_again as is_repeated}
-use Rattle.cyclic_exchange.specs.Cyclic.{Cyclic}
-use Rattle.cyclic_exchange.specs.Units.{Brought, ending_by, ending_of, is_silent, tick_by, tick_of}
-use Rattle.controller_frames.specs.Sent.{Sent}
+use Rattle.cyclic_data.specs.exchange.Cyclic.{Cyclic}
+use Rattle.cyclic_data.specs.exchange.Units.{Brought, ending_by, ending_of, is_silent, tick_by, tick_of}
+use Rattle.controller_messages.specs.Sent.{Sent}
 use Rattle.controller_core.specs.Machine.{Turn, brought, flowed, outputs_of, where_due}
-use Rattle.controller_state.specs.State.{Live}
+use Rattle.controller_core.specs.stored.State.{Live}
 
 abbrev only_cyclic : Bool → Brought
 only_cyclic is_cyclic = record { ending = None; is_alarm = false; is_cyclic = is_cyclic }

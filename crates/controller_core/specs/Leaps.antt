@@ -1,9 +1,9 @@
 -- Several units of time at once, which do what as many Tick events do, one by one.
 use Rattle.std.specs.Prelude.{◌≡◌, ◌==◌, ◌<◌, ◌≤◌, ◌-◌, ◌++◌, ℕ, zero, suc, min, List, [], ◌∷◌, sum, is_some, if◌then◌else◌}
 use Rattle.pn_alarms.specs.Leaps.{data_due_in, never}
-use Rattle.cyclic_exchange.specs.Leaps.{cyclic_due_in}
-use Rattle.controller_state.specs.declared.event.Event.TheVariants.{Tick}
-use Rattle.controller_state.specs.State.{Controlling, Live}
+use Rattle.cyclic_data.specs.exchange.Leaps.{cyclic_due_in}
+use Rattle.controller_core.specs.declared.stored.event.Event.TheVariants.{Tick}
+use Rattle.controller_core.specs.stored.State.{Controlling, Live}
 use Rattle.controller_core.specs.Machine.{Stepped, step_of}
 
 -- The number of units up to and with the next one with which the request is sent again.

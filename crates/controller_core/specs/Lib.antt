@@ -1,2 +1,5 @@
 pub mod Machine
 pub mod Leaps
+pub mod stored
+pub mod start_up
+pub mod Readied

@@ -16,64 +16,65 @@ use Rattle.cyclic_data.specs.Image.{Cell, cell_at, changed_in, has_size}
 use Rattle.pn_alarms.specs.declared.abort.Abort.{Abort}
 use Rattle.pn_alarms.specs.declared.message.Notice.TheVariants as notice
 use Rattle.pn_alarms.specs.declared.pdu.Header.{Header}
-use Rattle.alarm_reports.specs.declared.priority.Priority.{Priority}
-use Rattle.alarm_reports.specs.declared.priority.Priority.TheVariants.{High, Low}
+use Rattle.diagnosis.specs.declared.reports.priority.Priority.{Priority}
+use Rattle.diagnosis.specs.declared.reports.priority.Priority.TheVariants.{High, Low}
 use Rattle.pn_alarms.specs.declared.repeats.Due.{Due}
-use Rattle.alarm_reports.specs.declared.report.Report.{Report}
+use Rattle.diagnosis.specs.declared.reports.report.Report.{Report}
 use Rattle.pn_alarms.specs.declared.pdu.PduType.{PduType}
 use Rattle.pn_alarms.specs.declared.pdu.PduType.TheVariants as pdu
 use Rattle.pn_alarms.specs.declared.receiver.Taken.{Taken}
 use Rattle.pn_alarms.specs.declared.receiver.Taken.TheVariants.{New, Again, Refused}
 use Rattle.pn_alarms.specs.Controller.{confirmed, controller_later, unheard, with_ack, with_data}
-use Rattle.alarm_reports.specs.Message.{ToController}
+use Rattle.diagnosis.specs.reports.Message.{ToController}
 use Rattle.pn_alarms.specs.Receiver.{taken_as}
 use Rattle.pn_alarms.specs.Ends.{ControllerEnd}
 use Rattle.pn_alarms.specs.Sending.{due, either_due}
 use Rattle.pn_alarms.specs.Sending.{is_again as is_repeated}
-use Rattle.cyclic_exchange.specs.Opening.{begun_of, ended_of, related}
-use Rattle.cyclic_exchange.specs.declared.exchange.ProviderStatus.{ProviderStatus}
-use Rattle.cyclic_exchange.specs.Process.{provider_at, stated_at}
-use Rattle.cyclic_exchange.specs.Received.{behind_frame}
-use Rattle.cyclic_exchange.specs.Units.{Brought, cyclic_later, tick_of}
+use Rattle.cyclic_data.specs.exchange.Cyclic.{Cyclic}
+use Rattle.cyclic_data.specs.exchange.Opening.{begun_of, ended_of, related}
+use Rattle.cyclic_data.specs.declared.exchange.exchange.ProviderStatus.{ProviderStatus}
+use Rattle.cyclic_data.specs.exchange.Process.{provider_at, stated_at}
+use Rattle.cyclic_data.specs.exchange.Received.{behind_frame}
+use Rattle.cyclic_data.specs.exchange.Units.{Brought, cyclic_later, tick_of}
 use Rattle.plans.specs.declared.parts.Parts.{Parts}
 use Rattle.plans.specs.Numbers.{alarm_factor, alarm_retries}
-use Rattle.controller_frames.specs.declared.record_request.RecordRequest.{RecordRequest}
-use Rattle.controller_frames.specs.declared.record_request.RecordService.{RecordService}
-use Rattle.controller_frames.specs.declared.record_request.RecordService.TheVariants as service
-use Rattle.controller_frames.specs.declared.refusal.Refusal.{Refusal}
-use Rattle.controller_frames.specs.declared.setup.ControllerOptions.{ControllerOptions}
-use Rattle.controller_frames.specs.declared.setup.Setup.{Setup}
-use Rattle.controller_frames.specs.declared.request.Request.{Request}
-use Rattle.controller_frames.specs.declared.request.Request.TheVariants as asks
-use Rattle.controller_frames.specs.Heard.{Heard, Nothing, Answers, Responds, Refuses, Calls, Alarms, heard_of}
-use Rattle.controller_frames.specs.Heard.{Cyclic as Comes}
-use Rattle.controller_frames.specs.Options.{default_options}
-use Rattle.controller_frames.specs.RecordRequests.{most_record_octets}
-use Rattle.controller_frames.specs.Requests.{first_of, writing_from}
-use Rattle.controller_frames.specs.Sent.{Sent, Requests, Accesses, Agrees, Cycles, Confirms, Replies, Ends, bytes_of, ready_answer}
-use Rattle.controller_frames.specs.Sent.{done as no_error}
-use Rattle.connect_answers.specs.declared.connect.Found.{Found}
-use Rattle.reported_diagnosis.specs.Reported.{after_report, nothing_reported}
-use Rattle.controller_state.specs.declared.outputs.OutputMark.{OutputMark}
-use Rattle.controller_state.specs.declared.state.Cause.{Cause}
-use Rattle.controller_state.specs.declared.state.Cause.TheVariants as cause
-use Rattle.controller_state.specs.declared.state.State.{State}
-use Rattle.controller_state.specs.declared.state.State.TheVariants.{Looking, Addressing, Connecting, Ending, Waiting, Exchanging, Ended}
-use Rattle.controller_state.specs.declared.event.Event.{Event}
-use Rattle.controller_state.specs.declared.event.Event.TheVariants.{Frame, Tick as Ticks, Give, Status as Rate, Read, Write, Stop}
-use Rattle.record_access.specs.Access.{answered_with, call_number, dropped, is_rejected, is_reply, made, no_access, record_in}
-use Rattle.controller_state.specs.Outputs.{awaits, change_by, iops_of, mark_at, marked}
-use Rattle.controller_state.specs.State.{Controlling, Live, is_limited, left_in, phase_for, with_live}
-use Rattle.startup_answers.specs.Answers.{is_addressed, is_answer, is_found, is_ready, is_refused, is_right, is_set_answer, ready_in}
-use Rattle.connect_answers.specs.Connect.{Chosen, chosen_of, found_in, is_whole, nothing}
-use Rattle.startup_answers.specs.declared.outcomes.Outcomes.{Outcomes}
-use Rattle.startup_answers.specs.declared.outcomes.Outcomes.TheVariants.{AllWritten, Unreadable}
-use Rattle.startup_answers.specs.declared.outcomes.Outcomes.TheVariants.{Refused as Denied}
-use Rattle.startup_answers.specs.Outcomes.{outcomes_of}
-use Rattle.controller_state.specs.Alarms.{ack_of, header_of, is_alarm, kept_alarm}
-use Rattle.controller_state.specs.Opening.{route_of, sending_of, nobody, first_cyclic, first_outputs}
-use Rattle.controller_state.specs.Cause.{cause_of}
-use Rattle.startup_answers.specs.Requests.{next_sequence}
+use Rattle.controller_messages.specs.declared.record_request.RecordRequest.{RecordRequest}
+use Rattle.controller_messages.specs.declared.record_request.RecordService.{RecordService}
+use Rattle.controller_messages.specs.declared.record_request.RecordService.TheVariants as service
+use Rattle.controller_messages.specs.declared.refusal.Refusal.{Refusal}
+use Rattle.controller_messages.specs.declared.setup.ControllerOptions.{ControllerOptions}
+use Rattle.controller_messages.specs.declared.setup.Setup.{Setup}
+use Rattle.controller_messages.specs.declared.request.Request.{Request}
+use Rattle.controller_messages.specs.declared.request.Request.TheVariants as asks
+use Rattle.controller_messages.specs.Heard.{Heard, Nothing, Answers, Responds, Refuses, Calls, Alarms, heard_of}
+use Rattle.controller_messages.specs.Heard.{Cyclic as Comes}
+use Rattle.controller_messages.specs.Options.{default_options}
+use Rattle.controller_messages.specs.RecordRequests.{most_record_octets}
+use Rattle.controller_messages.specs.Requests.{first_of, writing_from}
+use Rattle.controller_messages.specs.Sent.{Sent, Requests, Accesses, Agrees, Cycles, Confirms, Replies, Ends, bytes_of, ready_answer}
+use Rattle.controller_messages.specs.Sent.{done as no_error}
+use Rattle.connects.specs.declared.answers.connect.Found.{Found}
+use Rattle.diagnosis.specs.reported.Reported.{after_report, nothing_reported}
+use Rattle.controller_core.specs.declared.stored.outputs.OutputMark.{OutputMark}
+use Rattle.controller_core.specs.declared.stored.state.Cause.{Cause}
+use Rattle.controller_core.specs.declared.stored.state.Cause.TheVariants as cause
+use Rattle.controller_core.specs.declared.stored.state.State.{State}
+use Rattle.controller_core.specs.declared.stored.state.State.TheVariants.{Looking, Addressing, Connecting, Ending, Waiting, Exchanging, Ended}
+use Rattle.controller_core.specs.declared.stored.event.Event.{Event}
+use Rattle.controller_core.specs.declared.stored.event.Event.TheVariants.{Frame, Tick as Ticks, Give, Status as Rate, Read, Write, Stop}
+use Rattle.controller_messages.specs.Access.{answered_with, call_number, dropped, is_rejected, is_reply, made, no_access, record_in}
+use Rattle.controller_core.specs.stored.Outputs.{awaits, change_by, iops_of, mark_at, marked}
+use Rattle.controller_core.specs.stored.State.{Controlling, Live, is_limited, left_in, phase_for, with_live}
+use Rattle.controller_core.specs.start_up.Answers.{is_addressed, is_answer, is_found, is_ready, is_refused, is_right, is_set_answer, ready_in}
+use Rattle.connects.specs.answers.Connect.{Chosen, chosen_of, found_in, is_whole, nothing}
+use Rattle.controller_core.specs.declared.start_up.outcomes.Outcomes.{Outcomes}
+use Rattle.controller_core.specs.declared.start_up.outcomes.Outcomes.TheVariants.{AllWritten, Unreadable}
+use Rattle.controller_core.specs.declared.start_up.outcomes.Outcomes.TheVariants.{Refused as Denied}
+use Rattle.controller_core.specs.start_up.Outcomes.{outcomes_of}
+use Rattle.controller_core.specs.stored.Alarms.{ack_of, header_of, is_alarm, kept_alarm}
+use Rattle.controller_core.specs.stored.Opening.{route_of, sending_of, nobody, first_cyclic, first_outputs}
+use Rattle.controller_core.specs.stored.Cause.{cause_of}
+use Rattle.controller_core.specs.start_up.Requests.{next_sequence}
 
 -- The next state, and the messages.
 pub record Turn : Type 0 where
@@ -559,6 +560,32 @@ first plan = record {
   alarms = unheard alarm_factor alarm_retries;
   low_alarms = unheard alarm_factor alarm_retries;
   outputs = first_outputs plan;
+  alarm = None;
+  access = no_access;
+  user_structure = None;
+  low_alarm = None;
+  low_user_structure = None;
+  diagnosis = nothing_reported;
+}
+
+-- Before it starts, with this exchange: no request was made, no timer runs, no relation is established, and nothing was
+-- received.
+abbrev pub before_start : Cyclic → Live
+before_start cyclic = record {
+  phase = Looking;
+  device = nobody;
+  asked = None;
+  waited = 0;
+  left = 0;
+  units = 0;
+  stands = false;
+  deviates = false;
+  refusal = None;
+  refused_record = None;
+  cyclic = cyclic;
+  alarms = unheard alarm_factor alarm_retries;
+  low_alarms = unheard alarm_factor alarm_retries;
+  outputs = [];
   alarm = None;
   access = no_access;
   user_structure = None;

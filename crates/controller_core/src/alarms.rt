@@ -1,19 +1,19 @@
 // The alarms of the relation (IEC 61158-6-10, 4.8 and 5.2.5).
 ghost use Rattle.std.specs.Prelude.{◌≡◌, ◌<◌, ◌+◌, ◌++◌, ◌∷◌, [], map, true};
 ghost use Rattle.arrayvec.specs.ArrayVec.{array_vec_len};
-ghost use Rattle.controller_frames.specs.Sent.{bytes_of};
-ghost use Rattle.controller_state.specs.Alarms.{ack_of};
-ghost use Rattle.controller_state.specs.State.{with_live};
+ghost use Rattle.controller_messages.specs.Sent.{bytes_of};
+ghost use Rattle.controller_core.specs.stored.Alarms.{ack_of};
+ghost use Rattle.controller_core.specs.stored.State.{with_live};
 ghost use Rattle.controller_core.specs.Machine.{ack_now, acked_under, behind_ack, behind_data, confirming, end_of, noticed, over, reply_of, taken};
 ghost use Rattle.pn_alarms.specs.Format.{is_long};
 ghost use Rattle.pn_alarms.specs.Receiver.{taken_as};
 ghost use Rattle.frame_codec.specs.Outbox.{boxed};
 
+use crate::stored::{KeptAlarm, ack_of, header_of};
 use crate::{Cause, Controller, State};
-use alarm_reports::{Priority, Report};
 use block_codec::AlarmAck;
-use controller_frames::{send_alarm_ack, send_alarm_reply};
-use controller_state::{KeptAlarm, ack_of, header_of};
+use controller_messages::{send_alarm_ack, send_alarm_reply};
+use diagnosis::{Priority, Report};
 use frame_codec::Outbox;
 use pn_alarms::{ControllerAlarms, Notice, PduType, Taken};
 

@@ -1,23 +1,24 @@
 //! The controller.
 ghost use Rattle.std.specs.Prelude.{◌≡◌, ◌≤◌, IfSome, [], ◌∷◌, length, option_map};
-ghost use Rattle.cyclic_exchange.specs.Process.{value_at};
+ghost use Rattle.cyclic_data.specs.exchange.Process.{value_at};
 ghost use Rattle.frame_codec.specs.Outbox.{boxed};
-ghost use Rattle.record_access.specs.Access.{record_of};
-ghost use Rattle.controller_core.specs.Machine.{can_request, end_of, fresh, fresh_with, opening_of, provider_of, report_in};
+ghost use Rattle.controller_messages.specs.Access.{record_of};
+ghost use Rattle.controller_core.specs.stored.Opening.{IsClosed};
+ghost use Rattle.controller_core.specs.Machine.{before_start, can_request, end_of, fresh, fresh_with, opening_of, provider_of, report_in};
 
+use crate::stored::{KeptAlarm, OutputMark, open};
 use crate::{RefusedRecord, State};
-use alarm_reports::{Priority, Report};
 use arrayvec::ArrayVec;
 use block_codec::AlarmNotification;
-use controller_frames::{ControllerOptions, RecordRequest, Request, Setup, send_request};
-use controller_state::{KeptAlarm, OutputMark, open};
-use cyclic_exchange::{CyclicExchange, ProviderStatus};
+use controller_messages::{
+    Access, Answer, ControllerOptions, RecordRequest, Request, Setup, send_request,
+};
+use cyclic_data::{CyclicExchange, ProviderStatus};
+use diagnosis::{Diagnosis, Priority, Report, ReportedDiagnoses};
 use frame_codec::{Frame, Outbox};
 use plans::{Plan, RTA_RETRIES, RTA_TIMEOUT_FACTOR};
 use pn_alarms::ControllerAlarms;
 use pn_values::Mac;
-use record_access::{Access, Answer};
-use reported_diagnosis::{Diagnosis, ReportedDiagnoses};
 use rpc_core::{Status, Uuid};
 use std::marker::Model;
 
@@ -62,8 +63,8 @@ pub struct Controller {
 
 impl Model for Controller {
     ghost use Rattle.std.specs.Prelude.{◌<◌, option_map};
-    ghost use Rattle.controller_state.specs.State.{Controlling};
-    ghost use Rattle.controller_state.specs.Alarms.{alarm_in, structure_in};
+    ghost use Rattle.controller_core.specs.stored.State.{Controlling};
+    ghost use Rattle.controller_core.specs.stored.Alarms.{alarm_in, structure_in};
 
     ghost Value = { Controlling };
 
@@ -126,7 +127,11 @@ impl Controller {
     /// completes it in place.
     #[inline(always)]
     pub fn unstarted(plan: Plan, ar: Uuid, activity: Uuid, options: ControllerOptions) -> Controller
-        ensures { result.setup ≡ record { plan = plan; ar = ar; activity = activity; options = options } }
+        ensures setup { result.setup ≡ record { plan = plan; ar = ar; activity = activity; options = options } }
+        // No request was made, no timer runs, no relation is established, and nothing was received.
+        ensures live { result.live ≡ before_start result.live.cyclic }
+        // No data is exchanged, and no submodule has a place.
+        ensures closed { IsClosed result.live.cyclic }
     {
         // In this order the plan is copied once less.
         let alarms = ControllerAlarms::new(RTA_TIMEOUT_FACTOR, RTA_RETRIES);

@@ -1,10 +1,11 @@
 //! Several units of time at once.
 ghost use Rattle.std.specs.Prelude.{◌≡◌, ◌+◌, ◌<◌, ◌≤◌};
 ghost use Rattle.frame_codec.specs.Outbox.{boxed};
+ghost use Rattle.controller_core.specs.declared.stored.state.State.TheVariants.{Exchanging};
 ghost use Rattle.controller_core.specs.Leaps.{LeapsAreTicks, NoneEnds, NoneSends, OnlyTheLastEnds, OnlyTheLastSends, access_due_in, exchange_due_in, live_due_in, patience_due_in, request_due_in, ticks_of};
 
 use crate::Controller;
-use controller_state::{SECOND, counter_later, waited_later};
+use crate::stored::{SECOND, counter_later, waited_later};
 use frame_codec::Outbox;
 use pn_alarms::NEVER;
 
@@ -78,6 +79,8 @@ impl Controller {
         ensures frames { boxed outbox.new ≡ (ticks_of units self.old).frames }
         ensures last { OnlyTheLastSends units self.old }
         ensures ends { OnlyTheLastEnds units self.old }
+        // No time begins an exchange of data.
+        ensures exchanging { self.new.live.phase ≡ Exchanging → self.old.live.phase ≡ Exchanging }
     {
         outbox.clear();
         if units == 0 {

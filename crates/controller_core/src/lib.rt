@@ -9,14 +9,23 @@
 mod alarms;
 mod controller;
 mod leaps;
+mod start_up;
 mod step;
+mod stored;
 
-pub use alarm_reports::{Priority, Report};
 pub use controller::Controller;
-pub use controller_frames::{ControllerOptions, MOST_RECORD_OCTETS, RecordRequest, RecordService};
-pub use controller_state::{Cause, Event, RefusedRecord, State};
-pub use cyclic_exchange::ProviderStatus;
+pub use controller_messages::{
+    Answer, ControllerOptions, MOST_RECORD_OCTETS, RecordRequest, RecordService,
+};
+pub use cyclic_data::ProviderStatus;
+pub use diagnosis::{Diagnosis, Priority, Report};
 pub use leaps::leaps_are_ticks;
-pub use record_access::Answer;
-pub use reported_diagnosis::Diagnosis;
-pub use startup_answers::Outcomes;
+pub use start_up::{
+    Outcomes, is_addressed, is_answer, is_found, is_ready, is_refused, is_right, is_set_answer,
+    next_sequence, outcomes_of, ready_in, request_behind,
+};
+pub use stored::{
+    Cause, Event, KeptAlarm, OutputMark, RefusedRecord, SECOND, State, ack_of, awaits, cause_of,
+    change, counter_later, header_of, iops_in, is_alarm, is_limited, left_in, open, phase_for,
+    route_of, waited_later,
+};

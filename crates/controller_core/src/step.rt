@@ -1,50 +1,50 @@
 //! One step.
-ghost use Rattle.std.specs.Prelude.{◌≡◌, ◌<◌, ◌≤◌, ◌+◌, ◌++◌, Some, [], false, length, map, true};
+ghost use Rattle.std.specs.Prelude.{◌≡◌, ◌⊎◌, ◌<◌, ◌≤◌, ◌+◌, ◌++◌, Some, [], false, length, map, true};
 ghost use Rattle.arrayvec.specs.ArrayVec.{array_vec_len};
 ghost use Rattle.dcp_core.specs.Answered.{answered as answered_as};
 ghost use Rattle.rpc_core.specs.Call.{asked};
 ghost use Rattle.rpc_core.specs.Response.{answered as responded_as};
-ghost use Rattle.controller_frames.specs.Heard.{heard_of, heard_real_time as heard_as};
-ghost use Rattle.controller_frames.specs.Sent.{bytes_of};
-ghost use Rattle.controller_frames.specs.Reported.{reported};
-ghost use Rattle.connect_answers.specs.Connect.{chosen_by, nothing, found_in as all_found};
-ghost use Rattle.controller_state.specs.declared.state.Cause.TheVariants.{NoProgress};
-ghost use Rattle.controller_state.specs.State.{with_live};
+ghost use Rattle.controller_messages.specs.Heard.{heard_of, heard_real_time as heard_as};
+ghost use Rattle.controller_messages.specs.Sent.{bytes_of};
+ghost use Rattle.controller_messages.specs.Reported.{reported};
+ghost use Rattle.connects.specs.answers.Connect.{chosen_by, nothing, found_in as all_found};
+ghost use Rattle.controller_core.specs.declared.stored.state.Cause.TheVariants.{NoProgress};
+ghost use Rattle.controller_core.specs.declared.stored.state.State.TheVariants.{Exchanging};
+ghost use Rattle.controller_core.specs.Readied.{IsReadied};
+ghost use Rattle.controller_core.specs.stored.State.{with_live};
 ghost use Rattle.controller_core.specs.Machine.{accesses_of, accessing, failed, granted, pending_of, rejected, replied, replied_by, requested, written};
 ghost use Rattle.controller_core.specs.Machine.{acks_of, addressed, alarmed, answered, asking, called, come, connected, connected_by};
 ghost use Rattle.controller_core.specs.Machine.{brought, decided, denied, done, due_frames, ended_by, exchange_later, flowed, found, given};
 ghost use Rattle.controller_core.specs.Machine.{after_write, gone_on, is_again, handled, later, noted, outputs_of, past_record};
 ghost use Rattle.controller_core.specs.Machine.{rated, readied, refused, refused_by, refused_record as ended_by_record, related_by, released, remarked, requests_of, responded, step_of};
-ghost use Rattle.startup_answers.specs.Answers.{ready_in as block_of_ready};
-ghost use Rattle.controller_core.specs.Machine.{is_spent, quit, ticked, turned, undone, where_due, writing};
+ghost use Rattle.controller_core.specs.start_up.Answers.{ready_in as block_of_ready};
+ghost use Rattle.controller_core.specs.Machine.{is_spent, quit, ticked, turn_of, turned, undone, where_due, writing};
 ghost use Rattle.frame_codec.specs.Outbox.{boxed};
 ghost use Rattle.pn_alarms.specs.Sending.{due};
 ghost use Rattle.pn_alarms.specs.Sending.{is_again as is_repeated};
 
-use crate::{Cause, Controller, Event, RefusedRecord, State};
-use alarm_reports::{Priority, Report};
-use block_codec::ControlBlock;
-use connect_answers::{Found, found_in};
-use controller_frames::{
-    Hearing, MOST_RECORD_OCTETS, RecordRequest, RecordService, Refusal, Request, first_of, heard,
-    heard_real_time, real_time_in, send_alarm_end, send_outputs, send_ready_answer,
-    send_record_request, send_request,
-};
-use controller_state::{
-    SECOND, awaits, cause_of, change, header_of, iops_in, is_alarm, is_limited, left_in, phase_for,
-    route_of,
-};
-use cyclic_data::Provider;
-use cyclic_exchange::Tick;
-use frame_codec::{Bytes, Caller, Outbox, is_cyclic};
-use pn_alarms::{Abort, Due, Header, Notice, PduType};
-use pn_values::Mac;
-use record_access::{call_number, is_rejected, is_reply, record_in};
-use rpc_core::{Call, Response, Status};
-use startup_answers::{
+use crate::start_up::{
     Outcomes, is_addressed, is_answer, is_found, is_ready, is_refused, is_right, is_set_answer,
     next_sequence, outcomes_of, ready_in, request_behind,
 };
+use crate::stored::{
+    SECOND, awaits, cause_of, change, header_of, iops_in, is_alarm, is_limited, left_in, phase_for,
+    route_of,
+};
+use crate::{Cause, Controller, Event, RefusedRecord, State};
+use block_codec::ControlBlock;
+use connects::{Found, found_in};
+use controller_messages::{
+    Hearing, MOST_RECORD_OCTETS, RecordRequest, RecordService, Refusal, Request, call_number,
+    first_of, heard, heard_real_time, is_rejected, is_reply, real_time_in, record_in,
+    send_alarm_end, send_outputs, send_ready_answer, send_record_request, send_request,
+};
+use cyclic_data::{Provider, Tick};
+use diagnosis::{Priority, Report};
+use frame_codec::{Bytes, Caller, Outbox, is_cyclic};
+use pn_alarms::{Abort, Due, Header, Notice, PduType};
+use pn_values::Mac;
+use rpc_core::{Call, Response, Status};
 
 /// The maximum number of blocks in the answer to a Connect: more than a frame holds.
 const MOST_BLOCKS: usize = 400;
@@ -63,8 +63,24 @@ impl Controller {
     pub fn step(&mut self, event: &Event, outbox: &mut Outbox)
         ensures state { self.new ≡ (step_of self.old event.now).controller }
         ensures frames { boxed outbox.new ≡ (step_of self.old event.now).frames }
+        // If data is exchanged after the step, it was exchanged before, or the event is a frame with an ApplicationReady of
+        // the relation, and the step sent the positive answer to it, and nothing else.
+        ensures exchanging { self.new.live.phase ≡ Exchanging →
+            (self.old.live.phase ≡ Exchanging) ⊎ IsReadied self.old event.now (boxed outbox.new) }
+        // After each such answer data is exchanged.
+        ensures answered { IsReadied self.old event.now (boxed outbox.new) → self.new.live.phase ≡ Exchanging }
     {
         outbox.clear();
+        self.handle(event, outbox);
+    }
+
+    // Handles one event.
+    #[inline(always)]
+    fn handle(&mut self, event: &Event, outbox: &mut Outbox)
+        requires empty { outbox.old.items ≡ [] }
+        ensures state { self.new ≡ with_live self.old (turn_of self.old.setup self.old.live event.now).live }
+        ensures frames { boxed outbox.new ≡ map (bytes_of self.old.setup) (turn_of self.old.setup self.old.live event.now).sent }
+    {
         match event {
             Event::Frame(bytes) => self.hear(bytes, outbox),
             Event::Tick => self.tick(outbox),
@@ -220,7 +236,7 @@ impl Controller {
 
     // Receives a frame.
     #[inline(never)]
-    #[tactic(auto, unfolding(controller_frames::specs::Heard::heard_real_time))]
+    #[tactic(auto, unfolding(controller_messages::specs::Heard::heard_real_time))]
     fn hear(&mut self, bytes: &Bytes, outbox: &mut Outbox)
         requires empty { outbox.old.items ≡ [] }
         ensures state { self.new ≡ with_live self.old (turned self.old.setup self.old.live

@@ -12,11 +12,11 @@ use Rattle.services.specs.State.{State, disputed}
 use Rattle.services.specs.Answer.{after_content, after_layers, answer_to, arp_answer, arp_reply_of, heard, is_conflict}
 use Rattle.services.specs.Answer.{is_sought as sought_of}
 use Rattle.plans.specs.declared.parts.Controller.{Controller}
-use Rattle.controller_frames.specs.Heard.{Nothing, heard_of}
-use Rattle.controller_state.specs.declared.event.Event.{Event}
-use Rattle.controller_state.specs.declared.event.Event.TheVariants.{Frame as Framed, Tick, Give, Status, Read, Write, Stop}
+use Rattle.controller_messages.specs.Heard.{Nothing, heard_of}
+use Rattle.controller_core.specs.declared.stored.event.Event.{Event}
+use Rattle.controller_core.specs.declared.stored.event.Event.TheVariants.{Frame as Framed, Tick, Give, Status, Read, Write, Stop}
 use Rattle.controller_core.specs.Machine.{step_of}
-use Rattle.controller_state.specs.State.{Controlling}
+use Rattle.controller_core.specs.stored.State.{Controlling}
 use Rattle.controller_station.specs.Beside.{Beside, is_real_time, met, overheard}
 use Rattle.controller_station.specs.Served.{Frames, Served, after_frame, beside, beside_frame, by_services, is_sought, no_frames, only, services_after}
 use Rattle.controller_station.proofs.Ticks.{few_by_tick, few_in}

@@ -1,8 +1,8 @@
 -- Units at once, at a controller and what is beside it.
 use Rattle.std.proofs.Common.{◌≡◌, ◌<◌, ◌++◌, ℕ, zero, suc, List, [], refl, sym, ap, ◌∙◌, arith}
-use Rattle.controller_state.specs.declared.event.Event.TheVariants.{Tick}
+use Rattle.controller_core.specs.declared.stored.event.Event.TheVariants.{Tick}
 use Rattle.controller_core.specs.Leaps.{NoneSends as NoneOfController, ticks_of as controller_ticks}
-use Rattle.controller_state.specs.State.{Controlling}
+use Rattle.controller_core.specs.stored.State.{Controlling}
 use Rattle.controller_station.specs.Beside.{Beside, NoneSends, sent_by_tick, ticked, ticks_of}
 use Rattle.controller_station.specs.Leaps.{NoneSends as NoneOfBoth, sent_beside}
 use Rattle.controller_station.specs.Served.{Frames, Served}

@@ -1,6 +1,6 @@
 -- The controller beside the services over any list of events.
 use Rattle.std.proofs.Common.{◌≡◌, List, [], ◌∷◌, map, refl, ap}
-use Rattle.controller_state.specs.declared.event.Event.{Event}
+use Rattle.controller_core.specs.declared.stored.event.Event.{Event}
 use Rattle.controller_core.specs.Machine.{step_of}
 use Rattle.controller_station.specs.Runs.{after, after_event, alone, sent, sent_alone}
 use Rattle.controller_station.specs.Served.{Frames, Served}

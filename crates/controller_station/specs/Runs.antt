@@ -1,8 +1,8 @@
 -- A controller and what is beside it over any list of events.
 use Rattle.std.specs.Prelude.{ℕ, List, [], ◌∷◌}
-use Rattle.controller_state.specs.declared.event.Event.{Event}
+use Rattle.controller_core.specs.declared.stored.event.Event.{Event}
 use Rattle.controller_core.specs.Machine.{step_of}
-use Rattle.controller_state.specs.State.{Controlling}
+use Rattle.controller_core.specs.stored.State.{Controlling}
 use Rattle.controller_station.specs.Served.{Frames, Served, beside, services_after}
 
 -- The controller alone after these events.

@@ -7,11 +7,11 @@ use Rattle.frame_codec.specs.declared.arp.Arp.{Arp}
 use Rattle.services.specs.State.{broadcast, frames_in}
 use Rattle.services.specs.Answer.{answer_to, is_request}
 use Rattle.plans.specs.declared.parts.Controller.{Controller}
-use Rattle.controller_frames.specs.declared.setup.Setup.{Setup}
-use Rattle.controller_state.specs.declared.event.Event.{Event}
-use Rattle.controller_state.specs.declared.event.Event.TheVariants.{Frame, Tick, Give, Status, Read, Write, Stop}
+use Rattle.controller_messages.specs.declared.setup.Setup.{Setup}
+use Rattle.controller_core.specs.declared.stored.event.Event.{Event}
+use Rattle.controller_core.specs.declared.stored.event.Event.TheVariants.{Frame, Tick, Give, Status, Read, Write, Stop}
 use Rattle.controller_core.specs.Machine.{first}
-use Rattle.controller_state.specs.State.{Controlling}
+use Rattle.controller_core.specs.stored.State.{Controlling}
 use Rattle.controller_station.specs.Beside.{Beside, beside_at, heard, sent_by_tick, ticked}
 
 -- The controller, and what is beside it: the services of its IP address and its neighbour.

@@ -1,6 +1,6 @@
 //! Laws of a controller in a station. No code is involved.
 ghost use Rattle.std.specs.Prelude.{◌≡◌, List, map};
-ghost use Rattle.controller_state.specs.declared.event.Event.{Event};
+ghost use Rattle.controller_core.specs.declared.stored.event.Event.{Event};
 ghost use Rattle.controller_station.specs.Runs.{after, alone, sent, sent_alone};
 ghost use Rattle.controller_station.specs.Served.{Frames, Served};
 

@@ -7,11 +7,12 @@ ghost use Rattle.frame_codec.specs.Outbox.{boxed};
 ghost use Rattle.lldp.specs.State.{Known};
 ghost use Rattle.lldp.specs.Views.{peer_as};
 ghost use Rattle.services.specs.Answer.{answer_to, arp_reply_of};
-ghost use Rattle.controller_frames.specs.Heard.{Nothing, heard_of};
-ghost use Rattle.controller_frames.specs.Options.{default_options};
+ghost use Rattle.controller_messages.specs.Heard.{Nothing, heard_of};
+ghost use Rattle.controller_messages.specs.Options.{default_options};
 ghost use Rattle.controller_core.specs.Leaps.{NoneEnds, OnlyTheLastEnds};
-ghost use Rattle.controller_core.specs.Machine.{opening_of, step_of};
-ghost use Rattle.controller_state.specs.declared.event.Event.TheVariants.{Frame as Framed};
+ghost use Rattle.controller_core.specs.Machine.{before_start, opening_of, step_of};
+ghost use Rattle.controller_core.specs.stored.Opening.{IsClosed};
+ghost use Rattle.controller_core.specs.declared.stored.event.Event.TheVariants.{Frame as Framed};
 ghost use Rattle.controller_station.specs.Beside.{beside_at, due_in, ticks_of};
 ghost use Rattle.controller_station.specs.Served.{after_frame, begun, beside, beside_frame, by_services, is_sought, no_frames, only, services_after};
 ghost use Rattle.controller_station.specs.Leaps.{NoneSends, OnlyTheLastSends, sent_beside, sent_by, served_due_in, ticked_by};
@@ -82,7 +83,13 @@ impl ServedController {
         activity: Uuid,
         options: ControllerOptions,
     ) -> ServedController
-        ensures { result.controller.setup ≡ record { plan = plan; ar = ar; activity = activity; options = options } }
+        ensures setup { result.controller.setup ≡ record { plan = plan; ar = ar; activity = activity; options = options } }
+        // No request was made, no timer of the controller runs, no relation is established, and nothing was received.
+        ensures live { result.controller.live ≡ before_start result.controller.live.cyclic }
+        // No data is exchanged, and no submodule has a place.
+        ensures closed { IsClosed result.controller.live.cyclic }
+        // What is beside it is as at its start.
+        ensures services { result.services ≡ beside_at plan.controller }
     {
         ServedController {
             services: services_of(&plan),

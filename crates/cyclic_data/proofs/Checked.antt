@@ -7,7 +7,7 @@ use Rattle.std.proofs.lemmas.List.{drop_more}
 use Rattle.std.proofs.lemmas.Option.{get_or_from_slice_get, slice_get_within, slice_get_cases}
 use Rattle.connect_blocks.specs.declared.iocr.IocrType.{IocrType}
 use Rattle.connect_blocks.specs.declared.io_object.IoObject.{IoObject}
-use Rattle.module_blocks.specs.declared.submodule_data.SubmoduleData.{SubmoduleData}
+use Rattle.connect_blocks.specs.declared.submodule_data.SubmoduleData.{SubmoduleData}
 use Rattle.cyclic_data.specs.declared.place.PlaceKind.{PlaceKind}
 use Rattle.cyclic_data.specs.declared.place.PlaceKind.TheVariants.{Data, Iocs}
 use Rattle.cyclic_data.specs.declared.place.Place.{Place}

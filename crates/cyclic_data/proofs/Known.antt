@@ -3,7 +3,7 @@ use Rattle.std.proofs.Common.{◌≡◌, ◌≢◌, ◌⊎◌, inl, inr, ℕ, ze
 use Rattle.std.proofs.lemmas.Bool.{cases_Bool, true≢false, false≢true, and_parts, and_from, or_cases, or_parts, eqb-true, eq-eqb, not-true, not-false}
 use Rattle.std.proofs.lemmas.List.{get_or-replicate, get_or-set_same, get_or-set_other, length-set}
 use Rattle.connect_blocks.specs.declared.iocr.IocrType.{IocrType}
-use Rattle.module_blocks.specs.declared.submodule_data.SubmoduleData.{SubmoduleData}
+use Rattle.connect_blocks.specs.declared.submodule_data.SubmoduleData.{SubmoduleData}
 use Rattle.cyclic_data.specs.declared.place.PlaceKind.{PlaceKind}
 use Rattle.cyclic_data.specs.declared.place.PlaceKind.TheVariants.{Data, Iocs}
 use Rattle.cyclic_data.specs.declared.place.Place.{Place}

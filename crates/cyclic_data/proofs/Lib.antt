@@ -9,3 +9,7 @@ pub mod Frames
 pub mod Taken
 pub mod Cyclic
 pub mod EachOctet
+pub mod ExchangeStated
+pub mod ExchangeKept
+pub mod ExchangeProvided
+pub mod ExchangeLeaps

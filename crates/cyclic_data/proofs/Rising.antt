@@ -1,7 +1,7 @@
 -- Submodules in order: one that is found after an index is the first in its subslot.
 use Rattle.std.proofs.Common.{◌≡◌, ◌⊎◌, inl, inr, ℕ, zero, suc, ◌+◌, ◌<◌, ◌==◌, ◌&&◌, true, false, List, [], ◌∷◌, drop, Option, Some, None, nat_lt, refl, sym, ap, ◌∙◌, arith}
 use Rattle.std.proofs.lemmas.Bool.{cases_Bool, and_parts, or_cases, ltb-true, eqb-true}
-use Rattle.module_blocks.specs.declared.submodule_data.SubmoduleData.{SubmoduleData}
+use Rattle.connect_blocks.specs.declared.submodule_data.SubmoduleData.{SubmoduleData}
 use Rattle.cyclic_data.specs.declared.place.ExpectedData.{ExpectedData}
 use Rattle.cyclic_data.specs.Places.{is_at, found_from}
 use Rattle.cyclic_data.specs.Rising.{is_before, rises, rises_from}

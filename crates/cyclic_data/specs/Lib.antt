@@ -8,3 +8,4 @@ pub mod Tail
 pub mod Image
 pub mod Held
 pub mod Leaps
+pub mod exchange

@@ -4,7 +4,7 @@ use Rattle.std.specs.Prelude.{ℕ, ◌+◌, ◌==◌, ◌&&◌, Bool, List, [], 
 use Rattle.connect_blocks.specs.declared.iocr.IocrType.{IocrType}
 use Rattle.connect_blocks.specs.declared.iocr.IocrType.TheVariants.{Input, Output}
 use Rattle.connect_blocks.specs.declared.io_object.IoObject.{IoObject}
-use Rattle.module_blocks.specs.declared.submodule_data.SubmoduleData.{SubmoduleData}
+use Rattle.connect_blocks.specs.declared.submodule_data.SubmoduleData.{SubmoduleData}
 use Rattle.cyclic_data.specs.declared.place.PlaceKind.{PlaceKind}
 use Rattle.cyclic_data.specs.declared.place.PlaceKind.TheVariants.{Data, Iocs}
 use Rattle.cyclic_data.specs.declared.place.Place.{Place}

@@ -11,8 +11,7 @@ ghost use Rattle.cyclic_data.specs.Seen.{mark_in, mark_of, has_unknown, seen_beh
 use crate::fault::LayoutFault;
 use crate::place::{ExpectedData, Place, PlaceKind, find, taken};
 use arrayvec::ArrayVec;
-use connect_blocks::{IoObject, IoObjects, IocrType};
-use module_blocks::SubmoduleData;
+use connect_blocks::{IoObject, IoObjects, IocrType, SubmoduleData};
 
 /// What the places of a communication relation are checked against.
 #[derive(Clone, Copy)]

@@ -2,6 +2,7 @@
 //! communication relation, the content of the frames, and which frames are due, accepted, or too late.
 #![tactic(auto)]
 
+mod exchange;
 mod fault;
 mod image;
 mod judge;
@@ -15,6 +16,10 @@ mod tail;
 mod timing;
 mod zero_octets;
 
+pub use exchange::{
+    CyclicExchange, ProviderStatus, Received, Route, Statuses, Tick, cyclic_data_is_kept,
+    send_cyclic,
+};
 pub use fault::LayoutFault;
 pub use image::Image;
 pub use layout::Layout;

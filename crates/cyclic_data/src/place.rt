@@ -4,8 +4,7 @@ ghost use Rattle.cyclic_data.specs.Places.{opposite_of, data_in, taken, found_fr
 ghost use Rattle.cyclic_data.specs.Rising.{is_before, rises, rises_from};
 ghost use Rattle.cyclic_data.specs.Layout.{is_same_kind, is_of};
 
-use connect_blocks::IocrType;
-use module_blocks::SubmoduleData;
+use connect_blocks::{IocrType, SubmoduleData};
 
 /// The content of a place.
 #[derive(Clone, Copy, Debug, Default, PartialEq, Eq)]

@@ -1,3 +1,5 @@
+pub mod RecordedPushed
+pub mod RecordedStored
 pub mod RecordingFew
 pub mod RecordingLegal
 pub mod RecordingPlaced
@@ -9,3 +11,4 @@ pub mod PortLeaps
 pub mod PortLeft
 pub mod PortStages
 pub mod PortReported
+pub mod PortPlays

@@ -13,9 +13,9 @@ use Rattle.flash_model.specs.declared.flash.Sector.{Sector}
 use Rattle.flash_model.specs.declared.flash.Sector.TheVariants.{First, Second}
 use Rattle.settings_journal.specs.Cut.{CutOff, IsCutShort, all_carried_out, carried_out}
 use Rattle.settings_journal.specs.Image.{BootsTo, LeftByDevice, StartsWith}
-use Rattle.settings_store.specs.Legal.{made_of}
-use Rattle.settings_store.specs.Machine.{Accepted, Carried, Pass, carried_one, carried}
-use Rattle.settings_store.specs.State.{Values}
+use Rattle.settings_journal.specs.settings_store.Legal.{made_of}
+use Rattle.settings_journal.specs.settings_store.Machine.{Accepted, Carried, Pass, carried_one, carried}
+use Rattle.settings_journal.specs.settings_store.State.{Values}
 use Rattle.device_abi.specs.recorded.Record.{image_of}
 use Rattle.device_frames.specs.declared.event.Event.{Event}
 use Rattle.device_frames.specs.declared.note.Note.{Note}

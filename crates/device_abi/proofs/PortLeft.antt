@@ -1,6 +1,6 @@
 -- The work that remains after a position in the calls and a position in the frames.
 use Rattle.std.proofs.Common.{◌≡◌, ◌+◌, ◌<◌, ◌≤◌, ℕ, Bool, true, false, zero, suc, refl, List, [], ◌∷◌, length, map, drop, get_or, sym, ap, ◌∙◌, inl, inr, arith, Option, Some, None}
-use Rattle.std.specs.Prelude.{nat_lt}
+use Rattle.std.specs.Prelude.{nat_lt, slice_get, unwrap_or}
 use Rattle.std.proofs.lemmas.Bool.{cases_Bool, ltb-true, ltb-false}
 use Rattle.std.proofs.Math.ListN.{get_or-map}
 use Rattle.std.proofs.lemmas.List.{drop_more, drop_all, drop-drop, length-drop, length-map}
@@ -115,3 +115,9 @@ no_calls (call ∷ calls) none = cc none
 -- A call remains at this position.
 pub some_there : {T : Type 0} (n : ℕ) (all : List T) → has_some (drop n all) ≡ true → n < length all
 some_there n all some = ltb-true n (length all) (sym (some_left n all) ∙ some)
+
+-- The call at this position is the first of those that remain.
+pub next_at : {T : Type 0} (n : ℕ) (all : List T) (one : T) → slice_get all n ≡ Some one → (rest : List T) × (drop n all ≡ one ∷ rest)
+next_at n [] one at = cc at
+next_at zero (first ∷ others) one at = (others, ap (λ (o : Option _). unwrap_or o first ∷ others) at)
+next_at (suc n) (first ∷ others) one at = next_at n others one at

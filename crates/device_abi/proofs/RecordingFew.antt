@@ -1,4 +1,5 @@
--- No step makes more than 48 calls: it asks for at most 16 commits, and a commit makes at most three calls.
+-- No step makes more than 48 calls: it asks for at most 16 commits, and a commit makes at most three calls. It programs at most
+-- 438 octets, those of a base and of its gate.
 use Rattle.std.proofs.Common.{◌==◌, ◌*◌, ◌-◌, ◌≤◌, ℕ, Bool, true, false, zero, suc, List, [], ◌∷◌, length, sym, subst, Option, Some, None, arith}
 use Rattle.std.specs.Prelude.{if◌then◌else◌}
 use Rattle.std.proofs.lemmas.List.{length-append}
@@ -11,10 +12,12 @@ use Rattle.flash_model.specs.Calls.{Call}
 use Rattle.flash_model.specs.Image.{Image}
 use Rattle.flash_model.specs.declared.flash.Sector.{Sector}
 use Rattle.settings_journal.specs.Calls.{CommitCalls, calls_of}
-use Rattle.settings_journal.specs.Cut.{all_carried_out}
-use Rattle.settings_store.specs.Machine.{Accepted, Carried, Pass, carried_one, carried}
-use Rattle.settings_store.specs.State.{Values}
+use Rattle.settings_journal.specs.Cut.{AreWrites, all_carried_out}
+use Rattle.settings_journal.specs.settings_store.Machine.{Accepted, Carried, Pass, carried_one, carried}
+use Rattle.settings_journal.specs.settings_store.State.{Values}
+use Rattle.device_abi.specs.recorded.Pushed.{sum_of}
 use Rattle.device_abi.specs.recording.Calls.{CallsOf}
+use Rattle.device_abi.proofs.RecordedPushed.{sum_append}
 
 -- ---- the calls of commands
 
@@ -33,6 +36,26 @@ few_of_commands image stored room (one ∷ more) calls of =
     let later = few_of_commands (all_carried_out image of.0) (apply one.command stored) (room - 1) more of.1 of.4 in
     let both = length-append of.0 of.1 in
     subst (λ c. length c ≤ 3 * length (one ∷ more)) (sym of.5) (omega (arith, here, later, both))
+
+-- ---- their octets
+
+short_calls_of : (slots : ℕ) (active : Option Sector) (generation free : ℕ) (settings : Settings) (command : Command) → AreWrites (calls_of slots active generation free settings command)
+    → sum_of (calls_of slots active generation free settings command) ≤ 438
+short_calls_of slots (Some sector) generation (suc left) settings command writes = omega (arith, writes.0)
+short_calls_of slots (Some sector) generation zero settings command writes = omega (arith, writes.1.0)
+short_calls_of slots None generation free settings command writes = omega (arith, writes.1.0)
+
+short_commit : (image : Image) (settings : Settings) (room : ℕ) (command : Command) (calls : List Call) → CommitCalls image settings room command calls → sum_of calls ≤ 438
+short_commit image settings room command calls of =
+    subst (λ c. sum_of c ≤ 438) (sym of.are) (short_calls_of _ of.active of.generation of.free settings command (subst AreWrites of.are of.writes))
+
+pub short_of_commands : (image : Image) (stored : Settings) (room : ℕ) (accepted : List Accepted) (calls : List Call) → CallsOf image stored room accepted calls → sum_of calls ≤ 438 * length accepted
+short_of_commands image stored room [] calls of = subst (λ c. sum_of c ≤ 0) (sym of.0) (omega arith)
+short_of_commands image stored room (one ∷ more) calls of =
+    let here = short_commit image stored room one.command of.0 of.2 in
+    let later = short_of_commands (all_carried_out image of.0) (apply one.command stored) (room - 1) more of.1 of.4 in
+    let both = sum_append of.0 of.1 in
+    subst (λ c. sum_of c ≤ 438 * length (one ∷ more)) (sym of.5) (omega (arith, here, later, both))
 
 -- ---- the commands of items
 

@@ -1,7 +1,7 @@
 -- Units of time that pass at once: none calls the flash.
 use Rattle.std.proofs.Common.{◌≡◌, ◌++◌, ℕ, zero, suc, false, List, [], refl, sym, ap, subst, ◌∙◌, arith}
 use Rattle.std.proofs.lemmas.List.{append-nil}
-use Rattle.settings_store.specs.State.{Values}
+use Rattle.settings_journal.specs.settings_store.State.{Values}
 use Rattle.settings_journal.specs.Image.{StartsWith}
 use Rattle.device_frames.specs.declared.event.Event.TheVariants.{Tick}
 use Rattle.device_frames.specs.Heard.{heard_of}
@@ -40,6 +40,7 @@ passes_one old sent starts frames = record {
     of_commands = (refl, starts);
     record_is = refl;
     few = omega arith;
+    short = omega arith;
     last = ((record_of old.flash).recent, sym (append-nil (record_of old.flash).recent));
     image = refl;
     made = refl;

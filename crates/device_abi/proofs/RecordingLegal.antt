@@ -9,8 +9,8 @@ use Rattle.flash_model.specs.declared.flash.Sector.TheVariants.{First, Second}
 use Rattle.settings_journal.specs.Commit.{IsKept}
 use Rattle.settings_journal.specs.Cut.{CutOff, carried_out, all_carried_out}
 use Rattle.settings_journal.specs.Image.{BootsTo, LeftByDevice}
-use Rattle.settings_store.specs.Legal.{LegalEnd, made_of}
-use Rattle.settings_store.specs.Machine.{Accepted}
+use Rattle.settings_journal.specs.settings_store.Legal.{LegalEnd, made_of}
+use Rattle.settings_journal.specs.settings_store.Machine.{Accepted}
 use Rattle.device_abi.specs.recording.Calls.{CallsOf, AcceptedOf, AreLegal, unanswered}
 
 -- ---- lengths do not change

@@ -4,12 +4,14 @@ use Rattle.device_core.specs.Machine.{items_of, handled_step, heard_step, step_o
 use Rattle.device_core.specs.State.{State, store_of}
 use Rattle.device_frames.specs.Heard.{heard_of}
 use Rattle.device_frames.specs.declared.event.Event.{Event}
-use Rattle.settings_store.specs.Carries.{OneByOne, Holds, Stretch}
+use Rattle.settings_journal.specs.settings_store.Carries.{OneByOne, Holds, Stretch}
+use Rattle.device_abi.specs.recorded.Pushed.{sum_of}
 use Rattle.device_abi.specs.recorded.Record.{image_of, record_of}
 use Rattle.device_abi.specs.recorded.Laws.{IsImage-of}
 use Rattle.device_abi.specs.declared.recorded.flash.RecordedFlash.{RecordedFlash}
 use Rattle.device_abi.specs.recording.Recorded.{Records}
-use Rattle.device_abi.proofs.RecordingFew.{few_of_commands, few_of_items}
+use Rattle.device_abi.proofs.RecordedPushed.{room_from}
+use Rattle.device_abi.proofs.RecordingFew.{few_of_commands, few_of_items, short_of_commands}
 use Rattle.device_abi.proofs.RecordingLegal.{are_legal}
 use Rattle.device_abi.proofs.RecordingPlaced.{after_image, as_recorded, items_calls, last_calls}
 
@@ -24,12 +26,15 @@ step_records old new event holds going asks placed stretch goes =
     let accepts = few_of_items old.live.values (items_of old.station old.live (heard_of old.station.identity event)) in
     let commits = few_of_commands (image_of old.flash) old.live.values.stored old.live.values.room _ all.calls all.of_commands in
     let few : length all.calls ≤ 48 = omega (arith, asks, accepts, commits) in
-    let kept = last_calls (record_of old.flash) all.calls few in
+    let octets = short_of_commands (image_of old.flash) old.live.values.stored old.live.values.room _ all.calls all.of_commands in
+    let short : sum_of all.calls ≤ 7008 = omega (arith, asks, accepts, octets) in
+    let kept = last_calls (record_of old.flash) all.calls (room_from all.calls few short) in
     record {
       calls = all.calls;
       of_commands = all.of_commands;
       record_is = is;
       few = few;
+      short = short;
       last = (kept.0, ap (λ r. r.recent) is ∙ kept.1);
       image = ap (λ r. r.image) is ∙ after_image (record_of old.flash) all.calls;
       made = stretch.made goes;

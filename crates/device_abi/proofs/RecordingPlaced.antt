@@ -1,8 +1,7 @@
 -- The calls that items make to a recorded flash are those of the accepted commands.
-use Rattle.std.proofs.Common.{◌≡◌, ◌⊎◌, ◌==◌, ◌-◌, ◌+◌, ◌≤◌, ℕ, Bool, true, false, List, [], ◌∷◌, ◌++◌, length, refl, sym, ap, subst, ◌∙◌, inl, inr, arith}
-use Rattle.std.specs.Prelude.{nat_lt, if◌then◌else◌}
-use Rattle.std.proofs.lemmas.Bool.{cases_Bool, lt-ltb}
-use Rattle.std.proofs.lemmas.List.{length-append, append-nil, append_assoc}
+use Rattle.std.proofs.Common.{◌≡◌, ◌⊎◌, ◌==◌, ◌-◌, ℕ, Bool, true, false, List, [], ◌∷◌, ◌++◌, refl, sym, ap, subst, ◌∙◌, inl, inr}
+use Rattle.std.specs.Prelude.{if◌then◌else◌}
+use Rattle.std.proofs.lemmas.List.{append-nil, append_assoc}
 use Rattle.pn_values.specs.Command.{apply}
 use Rattle.pn_values.specs.declared.command.Command.{Command}
 use Rattle.pn_values.specs.declared.set_item.SetItem.{SetItem}
@@ -11,13 +10,15 @@ use Rattle.flash_model.specs.Calls.{Call}
 use Rattle.flash_model.specs.declared.flash.Flash.{Ghosts as Flash}
 use Rattle.settings_journal.specs.Cut.{AreWrites, all_carried_out}
 use Rattle.settings_journal.specs.Image.{LeftByDevice}
-use Rattle.settings_store.specs.State.{State, Values}
-use Rattle.settings_store.specs.Machine.{Outcome, Pass, Accepted, Carried, accepted, carried_one, carried}
-use Rattle.settings_store.specs.Carries.{OneByOne, CarriesOne, Holds}
-use Rattle.device_abi.specs.recorded.Record.{Record, image_of, record_of, pushed, after_one, after_all, IsAsked}
+use Rattle.settings_journal.specs.settings_store.State.{State, Values}
+use Rattle.settings_journal.specs.settings_store.Machine.{Outcome, Pass, Accepted, Carried, accepted, carried_one, carried}
+use Rattle.settings_journal.specs.settings_store.Carries.{OneByOne, CarriesOne, Holds}
+use Rattle.device_abi.specs.recorded.Pushed.{have_room, newest, pushed}
+use Rattle.device_abi.specs.recorded.Record.{Record, image_of, record_of, after_one, after_all, IsAsked}
 use Rattle.device_abi.specs.recorded.Laws.{failures_of, has_power, IsAlways, after_all-append}
 use Rattle.device_abi.specs.declared.recorded.flash.RecordedFlash.{RecordedFlash}
 use Rattle.device_abi.specs.recording.Calls.{CallsOf}
+use Rattle.device_abi.proofs.RecordedPushed.{newest_behind, room_front}
 
 -- a recorded flash as a flash
 abbrev pub as_recorded : {S : ℕ} → Flash (RecordedFlash S) S
@@ -48,29 +49,20 @@ pub after_image : (before : Record) (calls : List Call) → (after_all before ca
 after_image before [] = refl
 after_image before (call ∷ calls) = after_image (after_one before call) calls
 
--- one more call after those that are stored: they stay, if there is room
-pushed_behind : (front back : List Call) (call : Call) → length back + 1 ≤ 48 → (old : List Call) × (pushed (front ++ back) call ≡ old ++ (back ++ call ∷ []))
-pushed_behind [] back call few =
-    let short : nat_lt (length back) 48 ≡ true = lt-ltb _ _ (omega (arith, few)) in
-    ([], rw short refl)
-pushed_behind (one ∷ front) back call few =
-    elim (cases_Bool (nat_lt (length ((one ∷ front) ++ back)) 48)) [
-      | inl short ↦ (one ∷ front, rw short (append_assoc (one ∷ front) back (call ∷ [])))
-      | inr long ↦ (front, rw long (append_assoc front back (call ∷ [])))
-    ]
-
 -- more calls after those that are stored: they stay, if there is room for all of them
-kept_behind : (front back calls : List Call) → length back + length calls ≤ 48 → (before : Record) → before.recent ≡ front ++ back
+kept_behind : (front back calls : List Call) → have_room (back ++ calls) ≡ true → (before : Record) → before.recent ≡ front ++ back
     → (old : List Call) × ((after_all before calls).recent ≡ old ++ (back ++ calls))
-kept_behind front back [] few before is = (front, is ∙ ap (λ l. front ++ l) (sym (append-nil back)))
-kept_behind front back (call ∷ calls) few before is =
-    let long = length-append back (call ∷ []) in
-    let pushes = pushed_behind front back call (omega (arith, few)) in
-    let rest = kept_behind pushes.0 (back ++ call ∷ []) calls (omega (arith, long, few)) (after_one before call) (ap (λ l. pushed l call) is ∙ pushes.1) in
-    (rest.0, rest.1 ∙ ap (λ l. rest.0 ++ l) (append_assoc back (call ∷ []) calls))
+kept_behind front back [] room before is = (front, is ∙ ap (λ l. front ++ l) (sym (append-nil back)))
+kept_behind front back (call ∷ calls) room before is =
+    let these = append_assoc back (call ∷ []) calls in
+    let all : have_room ((back ++ call ∷ []) ++ calls) ≡ true = ap have_room these ∙ room in
+    let pushes = newest_behind front (back ++ call ∷ []) (room_front (back ++ call ∷ []) calls all) in
+    let now = ap (λ l. pushed l call) is ∙ ap newest (append_assoc front back (call ∷ [])) ∙ pushes.1 in
+    let rest = kept_behind pushes.0 (back ++ call ∷ []) calls all (after_one before call) now in
+    (rest.0, rest.1 ∙ ap (λ l. rest.0 ++ l) these)
 
-pub last_calls : (before : Record) (calls : List Call) → length calls ≤ 48 → (old : List Call) × ((after_all before calls).recent ≡ old ++ calls)
-last_calls before calls few = kept_behind before.recent [] calls (omega (arith, few)) before (sym (append-nil before.recent))
+pub last_calls : (before : Record) (calls : List Call) → have_room calls ≡ true → (old : List Call) × ((after_all before calls).recent ≡ old ++ calls)
+last_calls before calls room = kept_behind before.recent [] calls room before (sym (append-nil before.recent))
 
 -- ---- the items
 

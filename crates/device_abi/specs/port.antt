@@ -1,4 +1,5 @@
 pub mod Host
+pub mod Plays
 pub mod Refusals
 pub mod State
 pub mod Steps

@@ -1,3 +1,6 @@
 pub mod Entry
+pub mod Fits
 pub mod Laws
+pub mod Pushed
 pub mod Record
+pub mod Stored

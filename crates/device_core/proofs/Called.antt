@@ -3,7 +3,7 @@ use Rattle.std.proofs.lemmas.Bool.{cond_both}
 use Rattle.std.proofs.Common.{◌≡◌, ◌&&◌, ℕ, Bool, not, List, [], ◌∷◌, ◌++◌, Option, Some, None, is_some, Result, Ok, Err, refl, sym, ap, ◌∙◌}
 use Rattle.pn_values.specs.declared.mac.Mac.{Mac}
 use Rattle.pn_values.specs.declared.set_item.BlockError.{BlockError}
-use Rattle.settings_store.specs.Machine.{Outcome, carried}
+use Rattle.settings_journal.specs.settings_store.Machine.{Outcome, carried}
 use Rattle.dcp_core.specs.declared.request.Service.{Service}
 use Rattle.dcp_core.specs.declared.request.Service.TheVariants as service
 use Rattle.dcp_core.specs.Request.{Asked}
@@ -22,16 +22,16 @@ use Rattle.records.specs.declared.writes.writing.Writing.TheVariants.{One, Each}
 use Rattle.records.specs.writes.Asked.{writing_of}
 use Rattle.pn_alarms.specs.declared.device.PduFate.{PduFate}
 use Rattle.pn_alarms.specs.declared.device.PduFate.TheVariants as fate
-use Rattle.cyclic_exchange.specs.declared.received.Received.{Received}
-use Rattle.cyclic_exchange.specs.declared.received.Received.TheVariants as received
-use Rattle.device_exchange.specs.declared.statuses.InputStatus.{InputStatus}
-use Rattle.device_exchange.specs.Statuses.{statuses_at}
-use Rattle.device_exchange.specs.Flow.{Flow}
+use Rattle.cyclic_data.specs.declared.exchange.received.Received.{Received}
+use Rattle.cyclic_data.specs.declared.exchange.received.Received.TheVariants as received
+use Rattle.relations.specs.declared.exchange.statuses.InputStatus.{InputStatus}
+use Rattle.relations.specs.exchange.Statuses.{statuses_at}
+use Rattle.relations.specs.exchange.Flow.{Flow}
 use Rattle.relations.specs.Exchanged.{given_to, heard_by, hearing, raised_to, received_by, receiving}
 use Rattle.relations.specs.declared.hearing.ReadyAnswer.{ReadyAnswer}
 use Rattle.relations.specs.declared.hearing.ReadyAnswer.TheVariants as to_ready
 use Rattle.relations.specs.RelationState.{RelationState, uuid_of, is_alarm_of, is_preparing, phase_of}
-use Rattle.relation_records.specs.Reading.{implicit_read, relation_read}
+use Rattle.device_records.specs.Reading.{implicit_read, relation_read}
 use Rattle.relations.specs.Phases.{keeping, updated}
 use Rattle.relations.specs.Calls.{prm_end_answer, release_answer}
 use Rattle.relations.specs.Connect.{connect_answer}

@@ -3,10 +3,10 @@ use Rattle.std.proofs.Common.{◌≡◌, ◌≢◌, ℕ, Bool, cond, true, false
 use Rattle.pn_values.specs.declared.mac.Mac.{Mac}
 use Rattle.pn_alarms.specs.declared.device.PduFate.TheVariants as fate
 use Rattle.pn_alarms.specs.Message.{ToDevice}
-use Rattle.cyclic_exchange.specs.declared.received.Received.{Received}
-use Rattle.cyclic_exchange.specs.declared.received.Received.TheVariants.{Foreign, Short, Stale, Taken}
-use Rattle.device_exchange.specs.Flow.{Flow}
-use Rattle.device_exchange.specs.Received.{behind_frame, received_as}
+use Rattle.cyclic_data.specs.declared.exchange.received.Received.{Received}
+use Rattle.cyclic_data.specs.declared.exchange.received.Received.TheVariants.{Foreign, Short, Stale, Taken}
+use Rattle.relations.specs.exchange.Flow.{Flow}
+use Rattle.relations.specs.exchange.Received.{behind_frame, received_as}
 use Rattle.relations.specs.RelationState.{RelationState, flow_of, is_preparing, phase_of}
 use Rattle.relations.specs.Phases.{Prepared, updated}
 use Rattle.relations.specs.Exchanged.{becoming, heard_by, hearing, received_by, receiving, receiving_as}

@@ -7,9 +7,9 @@ use Rattle.pn_values.specs.declared.set_item.SetItem.{SetItem}
 use Rattle.pn_values.specs.declared.set_item.SetItem.TheVariants.{Ask, Signal, Answer}
 use Rattle.pn_values.specs.declared.set_item.BlockError.{BlockError}
 use Rattle.pn_values.specs.declared.set_item.BlockError.TheVariants.{Done}
-use Rattle.settings_store.specs.State.{Values}
-use Rattle.settings_store.specs.Machine.{Outcome, rest_of, carried}
-use Rattle.settings_store.specs.Faults.{answer_after_fault, GoesOn}
+use Rattle.settings_journal.specs.settings_store.State.{Values}
+use Rattle.settings_journal.specs.settings_store.Machine.{Outcome, rest_of, carried}
+use Rattle.settings_journal.specs.settings_store.Faults.{answer_after_fault, GoesOn}
 use Rattle.device_frames.specs.declared.event.Event.{Event}
 use Rattle.device_frames.specs.declared.note.Note.{Note}
 use Rattle.device_core.specs.State.{Station, State, Live}

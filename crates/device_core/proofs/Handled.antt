@@ -1,6 +1,6 @@
 -- An outcome that asks nothing of the settings.
 use Rattle.std.proofs.lemmas.Bool.{cond_both}
-use Rattle.device_exchange.specs.declared.statuses.InputStatus.{InputStatus}
+use Rattle.relations.specs.declared.exchange.statuses.InputStatus.{InputStatus}
 use Rattle.std.proofs.Common.{◌≡◌, ◌&&◌, ℕ, Bool, false, not, is_some, List, [], Option, Some, None, refl}
 use Rattle.pn_values.specs.declared.mac.Mac.{Mac}
 use Rattle.frame_codec.specs.declared.arp.Arp.{Arp}
@@ -8,9 +8,9 @@ use Rattle.pn_alarms.specs.declared.pdu.Header.{Header}
 use Rattle.pn_alarms.specs.Message.{ToDevice}
 use Rattle.pn_alarms.specs.declared.device.PduFate.{PduFate}
 use Rattle.pn_alarms.specs.declared.device.PduFate.TheVariants as fate
-use Rattle.cyclic_exchange.specs.declared.received.Received.{Received}
-use Rattle.cyclic_exchange.specs.declared.received.Received.TheVariants as received
-use Rattle.device_exchange.specs.Flow.{Flow}
+use Rattle.cyclic_data.specs.declared.exchange.received.Received.{Received}
+use Rattle.cyclic_data.specs.declared.exchange.received.Received.TheVariants as received
+use Rattle.relations.specs.exchange.Flow.{Flow}
 use Rattle.relations.specs.RelationState.{RelationState, is_alarm_of, is_preparing, phase_of}
 use Rattle.relations.specs.Phases.{updated}
 use Rattle.module_diff.specs.Plugged.{submodule_ident}

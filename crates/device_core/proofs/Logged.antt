@@ -11,7 +11,7 @@ use Rattle.relations.specs.Phases.{updated}
 use Rattle.relations.specs.Ready.{handled_by}
 use Rattle.relations.specs.RelationState.{RelationState, uuid_of}
 use Rattle.records.specs.declared.status.call_fault.CallFault.{CallFault}
-use Rattle.device_log.specs.declared.entry.LogEntry.{LogEntry}
+use Rattle.device_records.specs.declared.log_data.entry.LogEntry.{LogEntry}
 use Rattle.device_core.specs.Handled.{came_with, handled_answer, handled_message, handled_pdu}
 use Rattle.device_core.specs.Log.{answer_log, connect_log, fate_log, release_log}
 use Rattle.device_core.specs.Machine.{end_of}

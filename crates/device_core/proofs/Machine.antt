@@ -1,7 +1,7 @@
 -- What one step and runs of steps do.
 use Rattle.std.proofs.Common.{◌≡◌, Bool, true, false, List, [], ◌∷◌, ◌++◌, map, refl, ap, ◌∙◌, append_assoc}
 use Rattle.std.proofs.lemmas.List.{append-nil}
-use Rattle.settings_store.specs.Machine.{Outcome}
+use Rattle.settings_journal.specs.settings_store.Machine.{Outcome}
 use Rattle.device_frames.specs.declared.event.Event.{Event}
 use Rattle.device_core.specs.State.{Station, Live}
 use Rattle.device_frames.specs.Heard.{Heard}

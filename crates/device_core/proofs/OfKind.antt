@@ -13,7 +13,7 @@ use Rattle.device_frames.specs.Heard.{Heard, heard_by, heard_content}
 use Rattle.device_frames.specs.Hearing.{heard_as, heard_in}
 use Rattle.device_frames.specs.declared.note.Note.{Note}
 use Rattle.device_frames.specs.declared.note.Note.TheVariants.{Fault}
-use Rattle.settings_store.specs.Carries.{Holds}
+use Rattle.settings_journal.specs.settings_store.Carries.{Holds}
 use Rattle.device_core.specs.Handled.{handled}
 use Rattle.device_core.specs.State.{State}
 use Rattle.device_core.specs.Steps.{Steps}

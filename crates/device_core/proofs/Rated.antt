@@ -1,7 +1,7 @@
 -- What a status of inputs leaves, if it is kept and if it is refused.
 use Rattle.std.proofs.Common.{◌≡◌, ℕ, Bool, true, false, List, Option, Some, None, is_some, unwrap_or, refl}
 use Rattle.std.proofs.lemmas.Bool.{false≢true, true≢false}
-use Rattle.device_exchange.specs.declared.statuses.InputStatus.{InputStatus}
+use Rattle.relations.specs.declared.exchange.statuses.InputStatus.{InputStatus}
 use Rattle.relations.specs.Phases.{updated}
 use Rattle.relations.specs.Exchanged.{rating}
 use Rattle.device_frames.specs.declared.note.Note.TheVariants.{Done, Refused}

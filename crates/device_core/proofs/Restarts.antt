@@ -7,9 +7,9 @@ use Rattle.settings_journal.specs.declared.journal.BootFault.{BootFault}
 use Rattle.settings_journal.specs.declared.journal.BootFault.TheVariants.{FlashFault, Foreign}
 use Rattle.settings_journal.specs.Commit.{HasBootCause}
 use Rattle.settings_journal.specs.Image.{StartsWith, IsForeign, LeftByDevice}
-use Rattle.settings_store.specs.Legal.{CrashSafe, LegalEnd}
-use Rattle.settings_store.specs.Machine.{Accepted}
-use Rattle.settings_store.specs.Carries.{IsCaused}
+use Rattle.settings_journal.specs.settings_store.Legal.{CrashSafe, LegalEnd}
+use Rattle.settings_journal.specs.settings_store.Machine.{Accepted}
+use Rattle.settings_journal.specs.settings_store.Carries.{IsCaused}
 use Rattle.relations.specs.Exchanged.{output_in}
 use Rattle.device_frames.specs.declared.event.Event.{Event}
 use Rattle.device_core.specs.State.{Station, State, Live}

@@ -3,12 +3,13 @@ use Rattle.std.proofs.Common.{◌≡◌, ◌+◌, ◌<◌, length, arith, ℕ, B
 use Rattle.std.proofs.lemmas.List.{append-nil}
 use Rattle.std.proofs.lemmas.Bool.{cond-true}
 use Rattle.flash_model.specs.declared.flash.Flash.{Ghosts as Flash}
-use Rattle.settings_store.specs.Carries.{OneByOne, Holds, Stretch}
-use Rattle.settings_store.specs.State as store
-use Rattle.settings_store.specs.Machine.{Accepted}
+use Rattle.settings_journal.specs.settings_store.Carries.{OneByOne, Holds, Stretch}
+use Rattle.settings_journal.specs.settings_store.State as store
+use Rattle.settings_journal.specs.settings_store.Machine.{Accepted}
 use Rattle.device_frames.specs.declared.event.Event.{Event}
 use Rattle.device_core.specs.State.{State, store_of}
 use Rattle.device_frames.specs.Heard.{Heard, heard_of}
+use Rattle.device_frames.specs.Sendable.{AreSendable}
 use Rattle.device_core.specs.Machine.{Ran, Stepped, items_of, heard_step, step_of, run_of}
 use Rattle.device_frames.specs.declared.note.Note.{Note}
 use Rattle.device_core.specs.Steps.{Steps, HandsOn, Runs, IsExactStep, IsExactRun, TakesRoom}
@@ -61,11 +62,14 @@ run_more as_flash old mid new events event before between now run on =
       inactive = λ same.
           let neither = none_in_both _ _ _ (λ failed. (run.stretch.stays_failed failed).0) (λ failed. (step.stretch.stays_failed failed).0) same in
           joined_inactive run.outcomes events step.outcomes (run.inactive neither.0) (step.inactive neither.1);
-      placed = placed_more as_flash run.outcomes step.outcomes old.station old.flash mid.flash new.flash old.live events event run.placed
-          (subst (λ v. OneByOne as_flash step.outcomes (record { flash = mid.flash; values = ran.live.values }) (items_of old.station ran.live (heard_of old.station.identity event)) (record { flash = new.flash; values = v }))
-          (ap (λ l. l.values) live)
-          (subst (λ l. OneByOne as_flash step.outcomes (record { flash = mid.flash; values = l.values }) (items_of old.station l (heard_of old.station.identity event)) (store_of new)) run.live
-          (subst (λ i. OneByOne as_flash step.outcomes (store_of mid) (items_of i mid.live (heard_of i.identity event)) (store_of new)) run.same step.placed)));
+      placed = placed_more as_flash run.outcomes step.outcomes old.station old.flash mid.flash new.flash old.live events event run.placed (
+        (subst (λ v. OneByOne as_flash step.outcomes (record { flash = mid.flash; values = ran.live.values }) (items_of old.station ran.live (heard_of old.station.identity event)) (record { flash = new.flash; values = v }))
+            (ap (λ l. l.values) live)
+            (subst (λ l. OneByOne as_flash step.outcomes (record { flash = mid.flash; values = l.values }) (items_of old.station l (heard_of old.station.identity event)) (store_of new)) run.live
+            (subst (λ i. OneByOne as_flash step.outcomes (store_of mid) (items_of i mid.live (heard_of i.identity event)) (store_of new)) run.same step.placed))),
+        subst (λ s. AreSendable old.station.identity s.sent) is
+            (subst (λ i. AreSendable i.identity (heard_step step.outcomes mid.station mid.live (heard_of mid.station.identity event)).sent) run.same step.sendable),
+      );
       stretch = subst (λ a. Stretch as_flash (store_of old) a (store_of new)) (ap (λ s. ran.accepted ++ s.accepted) is ∙ sym (ap (λ r. r.accepted) all))
           (step.continues (store_of old) ran.accepted run.stretch);
       after_loss = λ lost.

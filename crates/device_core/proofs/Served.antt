@@ -1,7 +1,7 @@
 -- The outcome of a call, from the function that handles it.
 use Rattle.std.proofs.Common.{◌≡◌, ℕ, false, List, [], map, Result, Ok, Err, IfErr, IfOk, OnOk, IsOk, refl, sym, ap, ◌∙◌}
 use Rattle.flash_model.specs.declared.flash.Flash.{Ghosts as Flash}
-use Rattle.settings_store.specs.Carries.{Holds}
+use Rattle.settings_journal.specs.settings_store.Carries.{Holds}
 use Rattle.records.specs.declared.status.operation.Operation.{Operation}
 use Rattle.records.specs.declared.status.call_fault.CallFault.{CallFault}
 use Rattle.record_blocks.specs.declared.write_record.IodWriteReq.{IodWriteReq}

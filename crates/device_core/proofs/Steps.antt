@@ -7,10 +7,10 @@ use Rattle.pn_values.specs.declared.mac.Mac.{Mac}
 use Rattle.pn_values.specs.declared.set_item.SetItem.{SetItem}
 use Rattle.pn_values.specs.declared.set_item.BlockError.{BlockError}
 use Rattle.pn_values.specs.declared.settings.Settings.{Settings}
-use Rattle.settings_store.specs.Machine.{Outcome, carried}
-use Rattle.settings_store.specs.State as store
-use Rattle.settings_store.specs.Carries.{Carries, OneByOne, Holds, Stretch, Continues}
-use Rattle.settings_store.specs.Faults.{GoesOn}
+use Rattle.settings_journal.specs.settings_store.Machine.{Outcome, carried}
+use Rattle.settings_journal.specs.settings_store.State as store
+use Rattle.settings_journal.specs.settings_store.Carries.{Carries, OneByOne, Holds, Stretch, Continues}
+use Rattle.settings_journal.specs.settings_store.Faults.{GoesOn}
 use Rattle.rpc_core.specs.Call.{Asked as Called}
 use Rattle.rpc_core.specs.Cache.{looked, again}
 use Rattle.dcp_core.specs.declared.request.Service.TheVariants as service

@@ -15,9 +15,9 @@ use Rattle.relations.specs.Timers.{due_behind, left_behind}
 use Rattle.pn_alarms.specs.declared.receiver.Taken.{Taken}
 use Rattle.pn_alarms.specs.declared.message.Notice.TheVariants as message
 use Rattle.pn_alarms.specs.Message.{ToDevice}
-use Rattle.alarm_reports.specs.declared.priority.Priority.{Priority}
-use Rattle.alarm_reports.specs.declared.priority.Priority.TheVariants.{High, Low}
-use Rattle.device_exchange.specs.declared.cyclic.Repeated.{Repeated}
+use Rattle.diagnosis.specs.declared.reports.priority.Priority.{Priority}
+use Rattle.diagnosis.specs.declared.reports.priority.Priority.TheVariants.{High, Low}
+use Rattle.relations.specs.declared.exchange.cyclic.Repeated.{Repeated}
 use Rattle.relations.specs.Diagnosed.{report_one, reporting}
 use Rattle.relations.specs.Phases.{updated}
 use Rattle.relations.specs.RelationState.{flow_of}

@@ -6,9 +6,9 @@ use Rattle.settings_journal.specs.declared.journal.BootFault.{BootFault}
 use Rattle.settings_journal.specs.declared.journal.BootFault.TheVariants.{Foreign}
 use Rattle.settings_journal.specs.Commit.{HasBootCause}
 use Rattle.settings_journal.specs.Image.{StartsWith, IsForeign, LeftByDevice}
-use Rattle.settings_store.specs.Machine.{Outcome, Accepted}
-use Rattle.settings_store.specs.Legal.{CrashSafe, made_of}
-use Rattle.settings_store.specs.Carries.{IsCaused}
+use Rattle.settings_journal.specs.settings_store.Machine.{Outcome, Accepted}
+use Rattle.settings_journal.specs.settings_store.Legal.{CrashSafe, made_of}
+use Rattle.settings_journal.specs.settings_store.Carries.{IsCaused}
 use Rattle.relations.specs.Exchanged.{output_in}
 use Rattle.device_frames.specs.declared.event.Event.{Event}
 use Rattle.device_core.specs.State.{Station, State, Live, at_start}

@@ -3,7 +3,7 @@ use Rattle.std.specs.Prelude.{◌≡◌, ℕ, Bool, true, false, List, [], ◌�
 use Rattle.pn_values.specs.declared.set_item.SetItem.{SetItem}
 use Rattle.pn_values.specs.declared.set_item.SetItem.TheVariants.{Ask, Signal, Answer}
 use Rattle.pn_values.specs.declared.set_item.BlockError.{BlockError}
-use Rattle.settings_store.specs.Faults.{GoesOn}
+use Rattle.settings_journal.specs.settings_store.Faults.{GoesOn}
 use Rattle.device_frames.specs.declared.event.Event.{Event}
 use Rattle.device_frames.specs.declared.note.Note.{Note}
 use Rattle.device_core.specs.State.{Station, State, Live}

@@ -36,12 +36,12 @@ use Rattle.pn_alarms.specs.Message.{ToDevice}
 use Rattle.pn_alarms.specs.declared.device.PduFate.{PduFate}
 use Rattle.pn_alarms.specs.declared.device.PduFate.TheVariants as fate
 use Rattle.pn_alarms.specs.declared.pdu.Header.{Header}
-use Rattle.cyclic_exchange.specs.declared.received.Received.{Received}
-use Rattle.cyclic_exchange.specs.declared.received.Received.TheVariants as received
-use Rattle.device_exchange.specs.Flow.{Flow}
-use Rattle.device_exchange.specs.declared.statuses.InputStatus.{InputStatus}
-use Rattle.device_exchange.specs.Statuses.{statuses_at}
-use Rattle.device_exchange.specs.Marks.{Starting}
+use Rattle.cyclic_data.specs.declared.exchange.received.Received.{Received}
+use Rattle.cyclic_data.specs.declared.exchange.received.Received.TheVariants as received
+use Rattle.relations.specs.exchange.Flow.{Flow}
+use Rattle.relations.specs.declared.exchange.statuses.InputStatus.{InputStatus}
+use Rattle.relations.specs.exchange.Statuses.{statuses_at}
+use Rattle.relations.specs.exchange.Marks.{Starting}
 use Rattle.module_diff.specs.Plugged.{submodule_ident}
 use Rattle.diagnosis.specs.Existing.{changed}
 use Rattle.diagnosis.specs.declared.diagnosis.Change.{Change}
@@ -52,8 +52,8 @@ use Rattle.relations.specs.declared.hearing.ReadyAnswer.{ReadyAnswer}
 use Rattle.relations.specs.declared.hearing.ReadyAnswer.TheVariants as to_ready
 use Rattle.relations.specs.declared.phase.Partner.{Partner}
 use Rattle.relations.specs.RelationState.{RelationState, uuid_of, flow_of, is_alarm_of, is_preparing, phase_of}
-use Rattle.relation_records.specs.Reading.{implicit_read, relation_read}
-use Rattle.relation_records.specs.Sources.{Known}
+use Rattle.device_records.specs.Reading.{implicit_read, relation_read}
+use Rattle.device_records.specs.Sources.{Known}
 use Rattle.relations.specs.Calls.{prm_end_of, release_of, prm_end_answer, release_answer}
 use Rattle.relations.specs.Connect.{connect_within, connect_answer, making}
 use Rattle.relations.specs.Ready.{answer_of as ready_answer, handled_by}

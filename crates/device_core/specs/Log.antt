@@ -1,7 +1,7 @@
 -- What a device logs: how its relations ended, and which Connects it refused.
 use Rattle.std.specs.Prelude.{ℕ, List, replicate, Option, Some, None, Result, Ok, Err}
 use Rattle.rpc_core.specs.declared.response.Status.{Status}
-use Rattle.connect_requests.specs.Handled.{asked_uuid}
+use Rattle.connects.specs.requests.Handled.{asked_uuid}
 use Rattle.records.specs.declared.status.call_fault.CallFault.{CallFault}
 use Rattle.records.specs.declared.status.call_fault.CallFault.TheVariants.{Arguments}
 use Rattle.records.specs.declared.status.operation.Operation.{Operation}
@@ -13,8 +13,8 @@ use Rattle.pn_alarms.specs.declared.device.PduFate.TheVariants as fate
 use Rattle.relations.specs.declared.farewell.Farewell.{Farewell}
 use Rattle.relations.specs.declared.hearing.ReadyAnswer.{ReadyAnswer}
 use Rattle.relations.specs.declared.hearing.ReadyAnswer.TheVariants as to_ready
-use Rattle.device_log.specs.declared.entry.LogEntry.{LogEntry}
-use Rattle.device_log.specs.Log.{logged}
+use Rattle.device_records.specs.declared.log_data.entry.LogEntry.{LogEntry}
+use Rattle.device_records.specs.log_data.Log.{logged}
 use Rattle.device_core.specs.State.{Live, Rest}
 
 -- ---- the log after an event at a time

@@ -21,7 +21,7 @@ use Rattle.relations.specs.declared.farewell.Farewell.{Farewell}
 use Rattle.relations.specs.Farewells.{farewell_of}
 use Rattle.relations.specs.Phases.{Ended, Named, answered, keeping, taking, updated}
 use Rattle.pn_values.specs.declared.identity.Identity.{Identity}
-use Rattle.settings_store.specs.Machine.{Outcome, Accepted, carried}
+use Rattle.settings_journal.specs.settings_store.Machine.{Outcome, Accepted, carried}
 use Rattle.dcp_core.specs.Set.{plan_of}
 use Rattle.device_frames.specs.declared.event.Event.{Event}
 use Rattle.device_frames.specs.declared.note.Note.{Note}

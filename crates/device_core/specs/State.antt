@@ -3,15 +3,15 @@ use Rattle.std.specs.Prelude.{◌+◌, ◌%◌, ℕ, List, [], Option, None}
 use Rattle.std.specs.Option.{option_map}
 use Rattle.pn_values.specs.declared.identity.Identity.{Identity}
 use Rattle.pn_values.specs.declared.real.Real.{Real}
-use Rattle.settings_store.specs.State as store
-use Rattle.settings_store.specs.State.{Values}
+use Rattle.settings_journal.specs.settings_store.State as store
+use Rattle.settings_journal.specs.settings_store.State.{Values}
 use Rattle.rpc_core.specs.Cache.{Kept}
 use Rattle.diagnosis.specs.declared.diagnosis.Diagnosis.{Diagnosis}
 use Rattle.lldp.specs.Peer.{Peer, alias_of}
-use Rattle.device_log.specs.declared.entry.LogEntry.{LogEntry}
+use Rattle.device_records.specs.declared.log_data.entry.LogEntry.{LogEntry}
 use Rattle.relations.specs.declared.options.DeviceOptions.{DeviceOptions}
 use Rattle.relations.specs.Options.{default_options}
-use Rattle.device_exchange.specs.declared.statuses.InputStatus.{InputStatus}
+use Rattle.relations.specs.declared.exchange.statuses.InputStatus.{InputStatus}
 use Rattle.relations.specs.RelationState.{RelationState}
 
 -- The fixed properties of a device: its identity, the modules that are plugged, and its options.
@@ -20,9 +20,13 @@ pub record Station : Type 0 where
   pub real : Real
   pub options : DeviceOptions
 
+-- A device with these options.
+abbrev pub station_with : Identity → Real → DeviceOptions → Station
+station_with identity real options = record { identity = identity; real = real; options = options }
+
 -- A device with all options at their defaults.
 abbrev pub plain : Identity → Real → Station
-plain identity real = record { identity = identity; real = real; options = default_options }
+plain identity real = station_with identity real default_options
 
 -- The state that a device has besides its settings, and loses with its power: the number of units for which the lamp
 -- still flashes, the answers to the last calls, newest first, its application relation, if there is one, the units since

@@ -4,8 +4,8 @@ use Rattle.flash_model.specs.declared.flash.Flash.{Ghosts as Flash}
 use Rattle.pn_values.specs.declared.mac.Mac.{Mac}
 use Rattle.pn_values.specs.declared.identity.Identity.{Identity}
 use Rattle.pn_values.specs.declared.settings.Settings.{Settings}
-use Rattle.settings_store.specs.Machine.{Outcome}
-use Rattle.settings_store.specs.Carries.{OneByOne, Stretch, Continues}
+use Rattle.settings_journal.specs.settings_store.Machine.{Outcome}
+use Rattle.settings_journal.specs.settings_store.Carries.{OneByOne, Stretch, Continues}
 use Rattle.dcp_core.specs.declared.request.Service.TheVariants.{Identify}
 use Rattle.dcp_core.specs.Request.{Asked}
 use Rattle.rpc_core.specs.Call.{Asked as Called}
@@ -99,14 +99,15 @@ pub record HandsOn {F : Type 0} {S : ℕ} (as_flash : Flash F S) (old : State F)
   pub steps : Steps as_flash old heard sent said new
   pub handed_on : now ≡ before ++ (if new.live.values.is_lost then [] else sent)
 
--- The events one by one: each starts from the state that the events before it made, and its items begin with the flash
--- that the event before it left.
+-- The events one by one: each starts from the state that the events before it made, its items begin with the flash that the
+-- event before it left, and each message that it sends can be sent.
 abbrev pub EventByEvent : {F : Type 0} {S : ℕ} → Flash F S → List (List Outcome) → Station → F → Live → List Event → F → Type 0
 EventByEvent as_flash outcomes station old live [] new = new ≡ old
 EventByEvent {F} as_flash outcomes station old live (event ∷ events) new =
     let next = (step_of (first_step outcomes) station live event).live in
     (between : F) × OneByOne as_flash (first_step outcomes) (record { flash = old; values = live.values })
     (items_of station live (heard_of station.identity event)) (record { flash = between; values = next.values })
+    × AreSendable station.identity (step_of (first_step outcomes) station live event).sent
     × EventByEvent as_flash (later_steps outcomes) station between next events new
 
 -- Steps one after another, for some outcomes of each, none if no commit failed, each with its cause in its own item of

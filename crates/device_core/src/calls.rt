@@ -3,7 +3,7 @@ ghost use Rattle.std.specs.Prelude.{◌≡◌, ◌<◌, ◌≤◌, ◌&&◌, [],
 ghost use Rattle.relations.specs.RelationState.{uuid_of};
 ghost use Rattle.device_core.specs.Several.{judged_each};
 ghost use Rattle.arrayvec.specs.ArrayVec.{array_vec_len};
-ghost use Rattle.settings_store.specs.Carries.{Holds};
+ghost use Rattle.settings_journal.specs.settings_store.Carries.{Holds};
 ghost use Rattle.rpc_core.specs.Call.{asked};
 ghost use Rattle.rpc_core.specs.Cache.{kept_more};
 ghost use Rattle.records.specs.declared.status.call_fault.CallFault.TheVariants.{Arguments};
@@ -30,6 +30,7 @@ use crate::{Device, Note};
 use arrayvec::ArrayVec;
 use block_codec::IodWriteReq;
 use device_frames::{Caller, send_farewell, send_low_alarm, send_ready_again, send_response};
+use device_records::{Sources, read_implicit, read_within};
 use flash_model::Flash;
 use frame_codec::Outbox;
 use pn_values::{BlockError, Command, Identity, ImValue, SetItem};
@@ -37,7 +38,6 @@ use records::{
     Blocks, CallFault, Effect, Entries, Operation, TakenRecord, Write, Writing, done, judge_write,
     names_relation, put_write_answer,
 };
-use relation_records::{Sources, read_implicit, read_within};
 use relations::{Application, Partner, ReadyAnswer};
 use rpc_core::{Call, CallCache, Interface, Looked, Response, Status, read_call, read_response};
 

@@ -2,7 +2,7 @@
 ghost use Rattle.std.specs.Prelude.{◌≡◌, ◌<◌, ◌≤◌, ◌+◌, [], ◌∷◌, ◌++◌, is_some, map, option_map};
 ghost use Rattle.std.specs.List.{list_any};
 ghost use Rattle.arrayvec.specs.ArrayVec.{array_vec_len};
-ghost use Rattle.settings_store.specs.Carries.{Holds};
+ghost use Rattle.settings_journal.specs.settings_store.Carries.{Holds};
 ghost use Rattle.dcp_core.specs.Reading.{request_of};
 ghost use Rattle.dcp_core.specs.Request.{asked};
 ghost use Rattle.device_frames.specs.Heard.{Asks, heard_request};

@@ -10,21 +10,19 @@ ghost use Rattle.relations.specs.Exchanged.{output_in, provider_in};
 ghost use Rattle.relations.specs.RelationState.{is_parameterized, passed_of, phase_of, taken_of, uuid_of};
 ghost use Rattle.relations.specs.Outputs.{output_of};
 ghost use Rattle.device_core.specs.Cycle.{started};
-ghost use Rattle.device_core.specs.State.{plain};
+ghost use Rattle.device_core.specs.State.{plain, station_with};
 
 use crate::calls::Answering;
 use arrayvec::ArrayVec;
-use device_exchange::InputStatus;
-use device_log::Log;
+use device_records::Log;
 use diagnosis::Diagnoses;
 use flash_model::{Flash, Order};
 use lldp::Neighbour;
 use pn_values::{Identity, Real, SetItem, Settings};
 use records::TakenRecord;
-use relations::{DeviceOptions, Phase, ProviderStatus, Relation};
+use relations::{DeviceOptions, InputStatus, Phase, ProviderStatus, Relation};
 use rpc_core::Uuid;
-use settings_journal::BootFault;
-use settings_store::Store;
+use settings_journal::{BootFault, Store};
 use std::marker::Model;
 
 /// A PROFINET IO device over a flash. In clauses it is the flash, the fixed properties of the station, and the state
@@ -58,7 +56,7 @@ pub struct Device<F: Flash<S>, const S: usize> {
 
 impl<F: Flash<S>, const S: usize> Model for Device<F, S> {
     ghost use Rattle.std.specs.Option.{option_map};
-    ghost use Rattle.settings_store.specs.Carries.{Holds};
+    ghost use Rattle.settings_journal.specs.settings_store.Carries.{Holds};
     ghost use Rattle.lldp.specs.Views.{peer_as};
     ghost use Rattle.device_core.specs.State.{State};
 
@@ -119,7 +117,47 @@ impl<F: Flash<S>, const S: usize> Device<F, S> {
             MatchResult result (λ device. F.is_reliable device.flash) (λ refused. F.is_reliable refused.1
             × (refused.0 ≡ BootFault.Foreign)) }
     {
-        let mut device = Device::unstarted(identity, real, DeviceOptions::default(), flash);
+        Device::boot_with(identity, real, DeviceOptions::default(), flash)
+    }
+
+    /// The same with these options.
+    pub fn boot_with(
+        identity: Identity,
+        real: Real,
+        options: DeviceOptions,
+        flash: F,
+    ) -> Result<Device<F, S>, (BootFault, F)>
+        // After a successful start the stored settings are the running settings, and nothing remains of an earlier
+        // cycle.
+        ensures starts { IfOk result (λ device. StartsWith (F.image flash) device.live.values.stored device.live.values.room) }
+        ensures fresh { IfOk result (λ device. device.live ≡ started device.live.values.stored device.live.values.room) }
+        ensures station { IfOk result (λ device. device.station ≡ station_with identity real options) }
+
+        // If the settings can be read, the start succeeds with them, or it fails with FlashFault. Content that this device
+        // wrote is refused only with FlashFault. A blank flash counts as such, with the factory settings and room for at
+        // least 65,535 commits.
+        ensures known { (settings : Settings) (room : ℕ) → StartsWith (F.image flash) settings room →
+            MatchResult result (λ device. device.live ≡ started settings room) (λ refused. refused.0 ≡ BootFault.FlashFault) }
+        ensures left { LeftByDevice (F.image flash) → IfErr result (λ refused. refused.0 ≡ BootFault.FlashFault) }
+        ensures blank { F.image flash ≡ record { first = erased S; second = erased S } →
+            LeftByDevice (F.image flash) × StartsWith (F.image flash) factory_settings (capacity S) }
+        ensures ample { IsAmple S }
+
+        // `Foreign` is returned only if the content cannot be read, and a start on such content always fails.
+        ensures foreign { IfErr result (λ refused. refused.0 ≡ BootFault.Foreign → IsForeign (F.image flash)) }
+        ensures strange { IsForeign (F.image flash) → IsErr result }
+
+        // Nothing is written. After a successful start the failure counter of the flash is unchanged; FlashFault means
+        // that it rose or is saturated. A reliable flash never returns FlashFault.
+        ensures same { MatchResult result (λ device. F.image device.flash ≡ F.image flash) (λ refused. F.image refused.1 ≡ F.image flash) }
+        ensures calls { MatchResult result (λ device. F.asked flash [] device.flash) (λ refused. F.asked flash [] refused.1) }
+        ensures cause { MatchResult result (λ device. F.failures device.flash ≡ F.failures flash)
+            (λ refused. HasBootCause refused.0 (F.failures flash) (F.failures refused.1)) }
+        ensures reliable { F.is_reliable flash →
+            MatchResult result (λ device. F.is_reliable device.flash) (λ refused. F.is_reliable refused.1
+            × (refused.0 ≡ BootFault.Foreign)) }
+    {
+        let mut device = Device::unstarted(identity, real, options, flash);
         match device.load() {
             Ok(()) => Ok(device),
             Err(fault) => Err((fault, device.into_flash())),
@@ -267,17 +305,17 @@ impl<F: Flash<S>, const S: usize> Device<F, S> {
     pub fn into_flash(self) -> F
         ensures { result ≡ self.flash }
     {
-        self.into_parts().2
+        self.into_parts().3
     }
 
-    /// Returns the identity, the plugged modules, and the flash.
-    pub(crate) fn into_parts(self) -> (Identity, Real, F)
-        ensures { result ≡ (self.station.identity, self.station.real, self.flash) }
+    /// Returns the identity, the plugged modules, the options, and the flash.
+    pub(crate) fn into_parts(self) -> (Identity, Real, DeviceOptions, F)
+        ensures { result ≡ (self.station.identity, self.station.real, self.station.options, self.flash) }
     {
         let Device {
             identity,
             real,
-            options: _,
+            options,
             store,
             lamp: _,
             answers: _,
@@ -289,6 +327,6 @@ impl<F: Flash<S>, const S: usize> Device<F, S> {
             diagnoses: _,
             plan: _,
         } = self;
-        (identity, real, store.into_flash())
+        (identity, real, options, store.into_flash())
     }
 }

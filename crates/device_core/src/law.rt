@@ -1,6 +1,6 @@
 //! Laws of runs, for whoever makes the steps of a device itself, as a station does. No code is involved.
 ghost use Rattle.std.specs.Prelude.{◌≡◌, ◌≢◌, ◌<◌, ◌-◌, ◌^◌, ◌∷◌, ◌++◌, [], ℕ, List, false};
-ghost use Rattle.settings_store.specs.Carries.{Holds};
+ghost use Rattle.settings_journal.specs.settings_store.Carries.{Holds};
 ghost use Rattle.device_frames.specs.Heard.{heard_of};
 ghost use Rattle.device_frames.specs.declared.event.Event.{Event};
 ghost use Rattle.device_core.specs.Faults.{RunGoesOn};

@@ -19,7 +19,7 @@ mod step;
 
 pub use device::Device;
 pub use device_frames::{Caller, Event, LongCall, Note};
-pub use headline::{cycle, restart};
+pub use headline::{cycle, cycle_with, restart};
 pub use law::steps_make_runs;
 pub use leaps::leaps_are_ticks;
 pub use sink::Sink;

@@ -4,8 +4,8 @@ ghost use Rattle.std.specs.Prelude.{◌≡◌};
 ghost use Rattle.relations.specs.RelationState.{uuid_of};
 ghost use Rattle.device_core.specs.Log.{answer_log, arguments_log, connect_log, end_log, entry_log, err_log, fate_log, release_log};
 
-use connect_requests::asked_uuid;
-use device_log::{Log, LogEntry};
+use connects::asked_uuid;
+use device_records::{Log, LogEntry};
 use pn_alarms::PduFate;
 use records::{CallFault, Operation, done};
 use relations::{Farewell, ReadyAnswer, Relation};

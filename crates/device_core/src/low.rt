@@ -3,8 +3,8 @@ ghost use Rattle.std.specs.Prelude.{◌≡◌, [], map};
 ghost use Rattle.relations.specs.Diagnosed.{reporting};
 ghost use Rattle.relations.specs.Phases.{updated};
 ghost use Rattle.frame_codec.specs.Outbox.{boxed};
-ghost use Rattle.settings_store.specs.Carries.{Holds};
-ghost use Rattle.alarm_reports.specs.Message.{low_message_of};
+ghost use Rattle.settings_journal.specs.settings_store.Carries.{Holds};
+ghost use Rattle.diagnosis.specs.reports.Message.{low_message_of};
 ghost use Rattle.device_frames.specs.Heard.{heard_low};
 ghost use Rattle.device_frames.specs.Sendable.{AreSendable};
 ghost use Rattle.device_frames.specs.Sent.{bytes_of};
@@ -15,14 +15,13 @@ ghost use Rattle.device_core.specs.Machine.{end_of};
 ghost use Rattle.device_core.specs.Steps.{StaysReliable, Steps};
 
 use crate::{Device, Note};
-use alarm_reports::read_low_message;
-use device_exchange::is_plugged;
 use device_frames::{send_low_alarm, send_low_reply};
-use diagnosis::{Change, Diagnosis};
+use diagnosis::{Change, Diagnosis, read_low_message};
 use flash_model::Flash;
 use frame_codec::Outbox;
 use pn_alarms::{Header, Message, PduFate, Taken};
 use pn_values::Mac;
+use relations::is_plugged;
 
 impl<F: Flash<S>, const S: usize> Device<F, S> {
     /// The diagnoses that exist, in the order in which they appeared.

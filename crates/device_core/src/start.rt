@@ -11,7 +11,7 @@ ghost use Rattle.device_core.specs.State.{at_start, with_rest};
 use crate::Device;
 use crate::calls::Answering;
 use arrayvec::ArrayVec;
-use device_log::Log;
+use device_records::Log;
 use diagnosis::Diagnoses;
 use flash_model::Flash;
 use pn_alarms::Abort;
@@ -19,8 +19,7 @@ use pn_values::{Identity, Real};
 use records::Blocks;
 use relations::{DeviceOptions, Relation};
 use rpc_core::CallCache;
-use settings_journal::{BootFault, Fill};
-use settings_store::Store;
+use settings_journal::{BootFault, Fill, Store};
 
 impl<F: Flash<S>, const S: usize> Device<F, S> {
     /// A device that did not start: it stores nothing, and has read nothing yet.

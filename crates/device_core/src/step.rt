@@ -1,6 +1,6 @@
 // One step: what an event is, and its outcome.
 ghost use Rattle.std.specs.Prelude.{◌≡◌, ◌≢◌, ◌<◌, ◌-◌, ◌^◌, ◌&&◌, [], true, false, List, ℕ, Option, Some, map, option_map};
-ghost use Rattle.settings_store.specs.Carries.{Holds};
+ghost use Rattle.settings_journal.specs.settings_store.Carries.{Holds};
 ghost use Rattle.dcp_core.specs.Request.{Asked};
 ghost use Rattle.device_frames.specs.Heard.{Asks, heard_alarm, heard_by, heard_content, heard_of, heard_reply};
 ghost use Rattle.frame_codec.specs.Frame.{arp, datagram, frame_of};
@@ -28,21 +28,19 @@ ghost use Rattle.frame_codec.specs.Outbox.{boxed};
 
 use crate::logging::{log_err, log_fate, uuid_of};
 use crate::{Device, Event, Note};
-use alarm_reports::Priority;
-use cyclic_exchange::Received;
+use cyclic_data::Received;
 use dcp_core::Service;
-use device_exchange::{DataExchange, InputStatus, Repeated, put_status};
 use device_frames::{
     Caller, RealTimeKind, is_asked, is_called, kind_of, open_frame, real_time_in, send_alarm,
     send_alarm_again, send_alarm_reply, send_farewell, send_inputs, send_inputs_of, send_low_alarm,
     send_ready, send_ready_again,
 };
-use diagnosis::{Change, Diagnosis};
+use diagnosis::{Change, Diagnosis, Priority};
 use flash_model::Flash;
 use frame_codec::{ContentKind, OpenFrame, Outbox, RealTimeFrame, datagram_at, packet_at};
 use pn_alarms::{Abort, Header, Message, PduFate, read_message};
 use pn_values::Mac;
-use relations::Elapsed;
+use relations::{DataExchange, Elapsed, InputStatus, Repeated, put_status};
 
 impl<F: Flash<S>, const S: usize> Device<F, S> {
     /// Handles an event, and replaces the content of the outbox by the frames to be sent.

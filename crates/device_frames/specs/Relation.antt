@@ -1,9 +1,9 @@
 -- What a device sends for its relation, and when.
 use Rattle.std.specs.Prelude.{◌++◌, ℕ, Bool, List, [], ◌∷◌, if◌then◌else◌, Option, Some, None}
 use Rattle.pn_alarms.specs.declared.receiver.Taken.{Taken}
-use Rattle.cyclic_exchange.specs.declared.route.Route.{Route}
-use Rattle.device_exchange.specs.Flow.{Flow}
-use Rattle.device_exchange.specs.Frames.{Frame, alarm_frame, inputs_frame, low_alarm_frame, low_reply_frame, reply_frame}
+use Rattle.cyclic_data.specs.declared.exchange.route.Route.{Route}
+use Rattle.relations.specs.exchange.Flow.{Flow}
+use Rattle.relations.specs.exchange.Frames.{Frame, alarm_frame, inputs_frame, low_alarm_frame, low_reply_frame, reply_frame}
 use Rattle.relations.specs.declared.farewell.Farewell.{Farewell}
 use Rattle.relations.specs.Timers.{Due}
 use Rattle.relations.specs.RelationState.{RelationState, flow_of}

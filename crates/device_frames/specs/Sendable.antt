@@ -4,12 +4,12 @@ use Rattle.std.specs.Prelude.{List, Some, None, ⊤}
 use Rattle.std.specs.List.{AllByRecursion}
 use Rattle.pn_values.specs.declared.identity.Identity.{Identity}
 use Rattle.frame_codec.specs.Meaning.{RealTime}
-use Rattle.codec_laws.specs.frames.Sendable.{CanBeSent, carrying}
+use Rattle.frame_codec.specs.Sendable.{CanBeSent, carrying}
 use Rattle.rpc_core.specs.Sendable.{CanBeAnswered}
 use Rattle.dcp_core.specs.Identify.{identify_bytes}
 use Rattle.dcp_core.specs.Get.{get_bytes}
 use Rattle.dcp_core.specs.Set.{set_bytes}
-use Rattle.device_exchange.specs.Frames.{tag_of}
+use Rattle.relations.specs.exchange.Frames.{tag_of}
 use Rattle.device_frames.specs.Sent.{Sent, IdentifyAnswer, GetAnswer, SetAnswer, ArpReply, CallAnswer, Again, ReadyCall, Ends, Exchanges, exchange_content, farewell_content, ready_content, reply_content, response_content}
 
 -- A message whose frame can be sent. The frame of an answer that is sent again was sent before.

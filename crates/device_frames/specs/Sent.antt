@@ -8,7 +8,7 @@ use Rattle.frame_codec.specs.declared.arp.ArpOperation.TheVariants.{Reply}
 use Rattle.frame_codec.specs.declared.arp.Holder.{Holder}
 use Rattle.frame_codec.specs.Calls.{calls_at}
 use Rattle.frame_codec.specs.Meaning.{Content, RealTime, ArpPacket, UdpDatagram}
-use Rattle.cyclic_exchange.specs.Frames.{plain_frame, tagged_frame}
+use Rattle.cyclic_data.specs.exchange.Frames.{plain_frame, tagged_frame}
 use Rattle.dcp_core.specs.Request.{Asked}
 use Rattle.dcp_core.specs.Identify.{identify_bytes}
 use Rattle.dcp_core.specs.Get.{get_bytes}
@@ -23,8 +23,8 @@ use Rattle.pn_alarms.specs.Format.{frame_id_of, pdu_bytes}
 use Rattle.relations.specs.declared.farewell.Farewell.{Farewell}
 use Rattle.relations.specs.declared.ready.Ready.{Ready}
 use Rattle.relations.specs.Farewells.{said_by}
-use Rattle.cyclic_exchange.specs.declared.route.Route.{Route}
-use Rattle.device_exchange.specs.Frames.{Frame, tag_of, id_of, body_of}
+use Rattle.cyclic_data.specs.declared.exchange.route.Route.{Route}
+use Rattle.relations.specs.exchange.Frames.{Frame, tag_of, id_of, body_of}
 use Rattle.frame_codec.specs.declared.udp.Caller.{Caller}
 
 -- A message and its destination: the answer to an Identify request, to a Get of a station with this name by its place, or to a Set with the result of each of

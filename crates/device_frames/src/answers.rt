@@ -5,7 +5,7 @@ ghost use Rattle.rpc_core.specs.Response.{answered};
 ghost use Rattle.device_frames.specs.Sendable.{IsSendable};
 ghost use Rattle.device_frames.specs.Sent.{ArpReply, CallAnswer, answer_frame, reply_frame, response_frame};
 ghost use Rattle.frame_codec.specs.Meaning.{RealTime};
-ghost use Rattle.codec_laws.specs.frames.Sendable.{CanBeSent, carrying};
+ghost use Rattle.frame_codec.specs.Sendable.{CanBeSent, carrying};
 ghost use Rattle.frame_codec.specs.Outbox.{boxed};
 
 use crate::Caller;

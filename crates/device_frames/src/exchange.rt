@@ -10,13 +10,12 @@ ghost use Rattle.frame_codec.specs.Outbox.{boxed};
 
 use crate::relation::send_ready;
 use crate::sizes::{can_be_sent_in, cyclic_can_be_sent};
-use alarm_reports::Priority;
-use cyclic_exchange::send_cyclic;
-use device_exchange::DataExchange;
+use cyclic_data::send_cyclic;
+use diagnosis::Priority;
 use frame_codec::{Outbox, Pieces};
 use pn_alarms::{PduType, Taken};
 use pn_values::Identity;
-use relations::Relation;
+use relations::{DataExchange, Relation};
 
 /// Appends the inputs of this exchange at this CycleCounter to the outbox.
 #[inline(always)]

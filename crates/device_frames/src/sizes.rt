@@ -2,11 +2,11 @@
 ghost use Rattle.std.specs.Prelude.{◌≤◌, ◌<◌, List, Some, length, ℕ};
 ghost use Rattle.frame_codec.specs.Frame.{FitsFrame, content_size};
 ghost use Rattle.frame_codec.specs.Meaning.{RealTime, content_of, meaning_in, meaning_of};
-ghost use Rattle.codec_laws.specs.frames.Sendable.{CanBeSent, IsContent, IsEndpoint, IsHolder, IsMac, IsTag, carrying};
+ghost use Rattle.frame_codec.specs.Sendable.{CanBeSent, IsContent, IsEndpoint, IsHolder, IsMac, IsTag, carrying};
 ghost use Rattle.rpc_core.specs.Response.{answered};
 ghost use Rattle.rpc_core.specs.Sendable.{CanBeAnswered, IsHeader, IsStatus, IsUuid};
 
-use cyclic_exchange::Route;
+use cyclic_data::Route;
 use frame_codec::{Endpoint, Holder, Layered, Payload, Pieces};
 use pn_values::Mac;
 use rpc_core::{CallHeader, Response, Status, Uuid};

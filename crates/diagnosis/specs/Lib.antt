@@ -1,3 +1,10 @@
 pub mod Existing
 pub mod Notices
 pub mod Record
+pub mod reports
+pub mod alarms
+pub mod reported
+pub mod Sendable
+pub mod Line
+pub mod World
+pub mod Taken

@@ -1,5 +1,5 @@
 -- What holds of each item of a list.
-use Rattle.std.proofs.Common.{◌≡◌, inl, inr, ◌≤◌, ℕ, zero, suc, List, [], ◌∷◌, ◌++◌, length, Some, refl, ap, ◌∙◌, subst, arith}
+use Rattle.std.proofs.Common.{sym, ◌≡◌, inl, inr, ◌≤◌, ℕ, zero, suc, List, [], ◌∷◌, ◌++◌, length, Some, refl, ap, ◌∙◌, subst, arith}
 use Rattle.std.specs.List.{AllByRecursion}
 use Rattle.std.specs.Prelude.{slice_get}
 use Rattle.end_laws.specs.both.Steps.{IsPart}
@@ -44,6 +44,23 @@ module _ {A : Type 0} where
   part_few [] (x ∷ all) part = omega arith
   part_few (y ∷ some) (x ∷ all) (inl part) = omega (arith, part_few some all part.1)
   part_few (y ∷ some) (x ∷ all) (inr part) = omega (arith, part_few (y ∷ some) all part)
+
+  part_none : (all : List A) → IsPart [] all
+  part_none [] = refl
+  part_none (x ∷ all) = tt
+
+  -- some of a list are some of a longer one, and some of each of two lists are some of both
+  pub part_front : (some all rest : List A) → IsPart some all → IsPart some (all ++ rest)
+  part_front some [] rest part = subst (λ (xs : List A). IsPart xs rest) (sym part) (part_none rest)
+  part_front [] (x ∷ all) rest part = tt
+  part_front (y ∷ some) (x ∷ all) rest (inl part) = inl (part.0, part_front some all rest part.1)
+  part_front (y ∷ some) (x ∷ all) rest (inr part) = inr (part_front (y ∷ some) all rest part)
+
+  pub part_both : (some all more others : List A) → IsPart some all → IsPart more others → IsPart (some ++ more) (all ++ others)
+  part_both some [] more others part next = subst (λ (xs : List A). IsPart (xs ++ more) others) (sym part) next
+  part_both [] (x ∷ all) more others part next = part_more more x (all ++ others) (part_both [] all more others (part_none all) next)
+  part_both (y ∷ some) (x ∷ all) more others (inl part) next = inl (part.0, part_both some all more others part.1 next)
+  part_both (y ∷ some) (x ∷ all) more others (inr part) next = inr (part_both (y ∷ some) all more others part next)
 
   pub part_whole : (some all : List A) → IsPart some all → length all ≤ length some → some ≡ all
   part_whole some [] part enough = part

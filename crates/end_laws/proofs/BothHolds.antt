@@ -4,7 +4,7 @@
 use Rattle.std.proofs.Common.{◌≡◌, ◌⊎◌, ◌<◌, ◌≤◌, ℕ, zero, suc, true, false, List, length, Option, Some, None}
 use Rattle.std.specs.List.{AllByRecursion}
 use Rattle.end_laws.specs.both.Small.{Ask, Releases, ToDevice, Call, Confirms, Idle, ToController, Answers, Readies, Nothing, Rules, Started, Exchanging, RelationState, Kept, Controller, Asking, Exchanges, World}
-use Rattle.end_laws.specs.both.Steps.{IsAsked, records_before, records_of}
+use Rattle.end_laws.specs.both.Steps.{IsAsked, IsPart, records_before, records_of}
 
 -- there is a response
 abbrev pub IsSomeKept : Option Kept → Type 0
@@ -26,6 +26,13 @@ module _ {T Q : Type 0} where
   abbrev pub IsPast : Rules T Q → ℕ → RelationState T Q → Type 0
   IsPast rules sequence link = (link.phase ≡ Started) ⊎ ((rules.count < sequence) × (rules.skips ≡ false → link.taken ≡ records_of rules))
 
+  -- These are some of the records of the first Writes, of which there are at most this many: in order, each once.
+  pub record HasPart (rules : Rules T Q) (sequence : ℕ) (taken : List T) : Type 0 where
+    pub number : ℕ
+    pub before : number ≤ sequence
+    pub planned : number ≤ rules.count
+    pub part : IsPart taken (records_before rules number)
+
   -- The relation, after the response that is stored: it accepted no more records than the Writes up to that one carry. If
   -- it accepted as many, it accepted all of them, in order.
   pub record IsHeld (rules : Rules T Q) (sequence : ℕ) (link : RelationState T Q) : Type 0 where
@@ -33,6 +40,7 @@ module _ {T Q : Type 0} where
     pub made : link.request ≡ rules.request
     pub whole : length (records_before rules sequence) ≤ length link.taken → link.taken ≡ records_before rules sequence
     pub past : IsPast rules sequence link
+    pub part : HasPart rules sequence link.taken
 
   abbrev pub IsHeldIn : Rules T Q → ℕ → Option (RelationState T Q) → Type 0
   IsHeldIn rules sequence None = Unit {0}

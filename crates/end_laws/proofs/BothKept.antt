@@ -5,9 +5,9 @@ use Rattle.std.proofs.lemmas.Bool.{leb-true, leb-false}
 use Rattle.std.specs.List.{AllByRecursion}
 use Rattle.std.specs.Prelude.{nat_le, slice_get}
 use Rattle.end_laws.specs.both.Small.{Ask, Connects, Writes, Parameterized, Releases, Accesses, ToDevice, Call, Confirms, Idle, Answers, Readies, Nothing, Rules, Started, Awaiting, Exchanging, RelationState, Kept, Device}
-use Rattle.end_laws.specs.both.Steps.{IsNew, made, records_before, records_of, TakesSome, IsParameterized, Partly, Comes, IsReady, IsDull, IsAnswered, IsAgain, Rests, GoesBy, DeviceSteps}
-use Rattle.end_laws.proofs.BothEach.{none_is, part_all, part_few, part_whole}
-use Rattle.end_laws.proofs.BothHolds.{IsSomeKept, TookIn, Took, IsPast, IsHeld, IsHeldIn, HoldsAt, Behind, IsCall, TellsDevice, TellsController, IsFine, AreFine, KeepsFine, Unconfirmed}
+use Rattle.end_laws.specs.both.Steps.{IsNew, IsPart, made, records_before, records_of, TakesSome, IsParameterized, Partly, Comes, IsReady, IsDull, IsAnswered, IsAgain, Rests, GoesBy, DeviceSteps}
+use Rattle.end_laws.proofs.BothEach.{none_is, part_all, part_both, part_few, part_front, part_whole}
+use Rattle.end_laws.proofs.BothHolds.{IsSomeKept, TookIn, Took, IsPast, HasPart, IsHeld, IsHeldIn, HoldsAt, Behind, IsCall, TellsDevice, TellsController, IsFine, AreFine, KeepsFine, Unconfirmed}
 use Rattle.end_laws.proofs.BothGoes.{Grows, are_fine_on, keeps_on, same_grows, fine_as, fine_at_most}
 
 module _ {T Q : Type 0} (rules : Rules T Q) where
@@ -94,6 +94,18 @@ module _ {T Q : Type 0} (rules : Rules T Q) where
       let grows = size_grows sequence later before in
       held.whole (omega (arith, all, grows)) ∙ sym (same_records sequence later before (omega (arith, all, held.few)))
 
+  part_later : (sequence later : ℕ) (taken : List T) → sequence ≤ later → HasPart rules sequence taken → HasPart rules later taken
+  part_later sequence later taken before has = record { number = has.number; before = omega (arith, before, has.before); planned = has.planned; part = has.part }
+
+  -- they are some of the records of as many Writes, or of more
+  part_of : (sequence number : ℕ) (taken : List T) → (has : HasPart rules sequence taken) → has.number ≤ number → IsPart taken (records_before rules number)
+  part_of sequence number taken has few =
+      let there = more has.number number few in
+      subst (λ (xs : List T). IsPart taken xs) (sym there.1) (part_front taken (records_before rules has.number) there.0 has.part)
+
+  part_of_all : (sequence : ℕ) (taken : List T) → HasPart rules sequence taken → IsPart taken (records_of rules)
+  part_of_all sequence taken has = part_of sequence rules.count taken has has.planned
+
   held_later : (sequence : ℕ) (kept : Option Kept) (link : Option (RelationState T Q)) → IsNew sequence kept → HoldsAt rules kept link → IsHeldIn rules sequence link
   held_later sequence None link new none = subst (λ (l : Option (RelationState T Q)). IsHeldIn rules sequence l) (sym none) tt
   held_later sequence (Some kept) None new held = tt
@@ -104,6 +116,7 @@ module _ {T Q : Type 0} (rules : Rules T Q) where
         made = held.made;
         whole = whole_later kept.sequence sequence link before held;
         past = past_later kept.sequence sequence link new held.past;
+        part = part_later kept.sequence sequence link.taken before held.part;
       }
 
   -- the relation is held after the response that is stored
@@ -137,6 +150,13 @@ module _ {T Q : Type 0} (rules : Rules T Q) where
             ap (λ (xs : List T). xs ++ takes.values) first
             ∙ (ap (λ (xs : List T). records_before rules number ++ xs) others ∙ ap (λ (n : ℕ). records_before rules n) (sym is));
         past = inl (past_write number held.0.sequence takes.link inside before held.2.past);
+        part = record {
+          number = suc number;
+          before = omega (arith, is);
+          planned = omega (arith, inside);
+          part = part_both takes.link.taken (records_before rules number) takes.values (rules.group number)
+              (part_of held.0.sequence number takes.link.taken held.2.part (omega (arith, held.2.part.before, before))) takes.part;
+        };
       })
 
   -- all records are accepted, or were skipped
@@ -155,10 +175,17 @@ module _ {T Q : Type 0} (rules : Rules T Q) where
               let there : TookIn (size rules.count) (Some ends.link) = subst (λ (l : Option (RelationState T Q)). TookIn (size rules.count) l) ends.was (took strict).taken in
               whole_later held.0.sequence rules.count ends.link (omega (arith, fresh, is)) held.2 there,
         );
+        part = part_later held.0.sequence sequence ends.link.taken (omega (arith, fresh)) held.2.part;
       })
 
   new_held : (sequence : ℕ) → IsHeld rules sequence (made rules)
-  new_held sequence = record { few = omega arith; made = refl; whole = λ all. sym (none_is (records_before rules sequence) all); past = inl refl }
+  new_held sequence = record {
+    few = omega arith;
+    made = refl;
+    whole = λ all. sym (none_is (records_before rules sequence) all);
+    past = inl refl;
+    part = record { number = 0; before = omega arith; planned = omega arith; part = refl };
+  }
 
   behind_suc : (sequence count : ℕ) (kept : Option Kept) (link : Option (RelationState T Q)) → sequence ≡ suc count → Behind rules sequence kept link → rules.skips ≡ false → Took rules count kept link
   behind_suc sequence count kept link is behind = subst (λ (s : ℕ). Behind rules s kept link) is behind
@@ -208,10 +235,14 @@ module _ {T Q : Type 0} (rules : Rules T Q) where
   past_ready sequence link awaits (inr past) strict = past.1 strict
 
   pub ready_is : (kept : Option Kept) (link : Option (RelationState T Q)) (there : RelationState T Q) → link ≡ Some there → there.phase ≡ Awaiting → HoldsAt rules kept link
-      → (there.request ≡ rules.request) × (rules.skips ≡ false → there.taken ≡ records_of rules)
+      → (there.request ≡ rules.request) × (rules.skips ≡ false → there.taken ≡ records_of rules) × IsPart there.taken (records_of rules)
   ready_is kept link there is awaits holds =
       let held = is_held kept link there is holds in
-      (held.2.made, past_ready held.0.sequence there awaits held.2.past)
+      (held.2.made, past_ready held.0.sequence there awaits held.2.past, part_of_all held.0.sequence there.taken held.2.part)
+
+  -- whatever a relation accepted is a part of the records, in order, each once
+  pub part_is : (kept : Option Kept) (link : Option (RelationState T Q)) (there : RelationState T Q) → link ≡ Some there → HoldsAt rules kept link → IsPart there.taken (records_of rules)
+  part_is kept link there is holds = let held = is_held kept link there is holds in part_of_all held.0.sequence there.taken held.2.part
 
   -- a relation is the one that the Connect asks for
   pub made_is : (kept : Option Kept) (link : Option (RelationState T Q)) (there : RelationState T Q) → link ≡ Some there → HoldsAt rules kept link → there.request ≡ rules.request

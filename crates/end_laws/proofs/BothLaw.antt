@@ -3,13 +3,13 @@ use Rattle.std.proofs.Common.{◌≡◌, ◌⊎◌, inl, inr, ◌+◌, ◌≤◌
 use Rattle.std.specs.List.{AllByRecursion}
 use Rattle.std.specs.Prelude.{slice_get}
 use Rattle.end_laws.specs.both.Small.{Ask, Connects, Writes, Parameterized, Releases, Accesses, ToDevice, Call, Confirms, Idle, ToController, Answers, Readies, Nothing, Rules, Awaiting, Exchanging, RelationState, Kept, Device, Controller, Seeking, Asking, Waiting, Exchanges, Ended, World, Move, ComesToDevice, ComesToController, AtDevice, AtController, IsByController, IsByDevice}
-use Rattle.end_laws.specs.both.Steps.{records_of, IsDull, CallsWhile, SaysToDevice, IsSaid, IsNext, Moves, DeviceSteps, StepsAtDevice, StepsAtController, ComesToDeviceAs, ComesToControllerAs, Steps}
+use Rattle.end_laws.specs.both.Steps.{records_of, IsDull, IsPart, CallsWhile, SaysToDevice, IsSaid, IsNext, Moves, DeviceSteps, StepsAtDevice, StepsAtController, ComesToDeviceAs, ComesToControllerAs, Steps}
 use Rattle.end_laws.specs.both.StartUp.{IsRun, last_of, Begins, WasSent, WasHanded, WasExchanging}
 use Rattle.end_laws.proofs.BothHolds.{HoldsAt, Took, Behind, IsCall, TellsDevice, TellsController, IsFine, AreFine, KeepsFine, AsksBehind, Unconfirmed, Holds, MadeIn, ConfirmedIn, HoldsSince}
 use Rattle.end_laws.proofs.BothRuns.{holds_behind_run, later_on}
 use Rattle.end_laws.proofs.BothEach.{each_at, each_behind, each_so}
 use Rattle.end_laws.proofs.BothGoes.{asks_on, are_fine_on, keeps_on, same_grows, fine_as}
-use Rattle.end_laws.proofs.BothKept.{MayCome, may_come, device_leaves, made_is, ready_is}
+use Rattle.end_laws.proofs.BothKept.{MayCome, may_come, device_leaves, made_is, part_is, ready_is}
 
 module _ {T Q : Type 0} (rules : Rules T Q) where
   -- ---- the controller
@@ -74,7 +74,7 @@ module _ {T Q : Type 0} (rules : Rules T Q) where
     pub good_on : (frame : List ℕ) → Good frame → GoodNow frame
     pub good_now : IsByDevice move → (frames : List (List ℕ)) → v.sent ≡ w.sent ++ frames → v.controller ≡ w.controller
         → (number : ℕ) (frame : List ℕ) → slice_get frames number ≡ Some frame
-        → (link : RelationState T Q) → v.device.link ≡ Some link → link.phase ≡ Awaiting → link.request ≡ rules.request → (rules.skips ≡ false → link.taken ≡ records_of rules) → GoodNow frame
+        → (link : RelationState T Q) → v.device.link ≡ Some link → link.phase ≡ Awaiting → link.request ≡ rules.request → (rules.skips ≡ false → link.taken ≡ records_of rules) → IsPart link.taken (records_of rules) → GoodNow frame
 
   module _ (Good GoodNow : List ℕ → Type 0) (w : World T Q) (move : Move) (v : World T Q)
       (passes : Passes Good GoodNow w move v) (holds : Holds rules Good w) where
@@ -96,7 +96,7 @@ module _ {T Q : Type 0} (rules : Rules T Q) where
         let leaves = device_leaves rules Good GoodNow passes.good_on before after steps.frames holds.held holds.kept holds.unconfirmed heard tells
         (λ number frame there ready.
         let all = ready_is rules after.kept after.link ready.link ready.has ready.awaits (held_behind heard tells steps) in
-        passes.good_now by steps.frames steps.behind steps.controller number frame there ready.link ready.has ready.awaits all.0 all.1) steps.steps in
+        passes.good_now by steps.frames steps.behind steps.controller number frame there ready.link ready.has ready.awaits all.0 all.1 all.2) steps.steps in
         record {
           held = leaves.held;
           kept = leaves.kept;
@@ -359,8 +359,9 @@ module _ {T Q : Type 0} (rules : Rules T Q) where
         awaits = good.awaits;
         accepted = good.accepted;
         taken = good.taken;
+        part = good.part;
       };
-      good_now = λ by frames behind same number frame there link has awaits accepted taken. record {
+      good_now = λ by frames behind same number frame there link has awaits accepted taken part. record {
         before = run;
         move = one.0;
         point = one.1;
@@ -377,6 +378,7 @@ module _ {T Q : Type 0} (rules : Rules T Q) where
         awaits = awaits;
         accepted = accepted;
         taken = taken;
+        part = part;
       };
     }
 
@@ -551,3 +553,12 @@ module _ {T Q : Type 0} (rules : Rules T Q) where
     pub is_made : (run : List (Move × World T Q)) → Begins rules first → IsRun rules first run
         → (link : RelationState T Q) → (last_of first run).device.link ≡ Some link → link.request ≡ rules.request
     is_made run begins steps link is = asked_in run (last_of first run) link is (holds_at run begins steps)
+
+    part_in : (run : List (Move × World T Q)) (w : World T Q) (there : RelationState T Q) → w.device.link ≡ Some there → HoldsBehind run w
+        → IsPart there.taken (records_of rules) ⊎ WasHanded rules first run
+    part_in run w there is (inl holds) = inl (part_is rules w.device.kept w.device.link there is holds.held)
+    part_in run w there is (inr holds) = inr holds.handed
+
+    pub is_part : (run : List (Move × World T Q)) → Begins rules first → IsRun rules first run
+        → (link : RelationState T Q) → (last_of first run).device.link ≡ Some link → IsPart link.taken (records_of rules) ⊎ WasHanded rules first run
+    is_part run begins steps link is = part_in run (last_of first run) link is (holds_at run begins steps)

@@ -11,9 +11,9 @@ use Rattle.rpc_core.specs.Response.{Answered as Response, is_done}
 use Rattle.connect_blocks.specs.declared.control.ControlBlock.{ControlBlock}
 use Rattle.record_blocks.specs.declared.alarm_ack.AlarmAck.{AlarmAck}
 use Rattle.record_blocks.specs.declared.alarm_notification.AlarmNotification.{AlarmNotification}
-use Rattle.alarm_reports.specs.declared.priority.Priority.{Priority}
-use Rattle.alarm_reports.specs.declared.priority.Priority.TheVariants.{High, Low}
-use Rattle.alarm_reports.specs.declared.report.Report.{Report}
+use Rattle.diagnosis.specs.declared.reports.priority.Priority.{Priority}
+use Rattle.diagnosis.specs.declared.reports.priority.Priority.TheVariants.{High, Low}
+use Rattle.diagnosis.specs.declared.reports.report.Report.{Report}
 use Rattle.pn_alarms.specs.declared.receiver.Taken.{Taken}
 use Rattle.pn_alarms.specs.declared.receiver.Taken.TheVariants.{New, Again, Refused}
 use Rattle.pn_alarms.specs.Controller.{confirmed, with_ack, with_data}
@@ -22,24 +22,24 @@ use Rattle.pn_alarms.specs.Receiver.{taken_as}
 use Rattle.pn_alarms.specs.Sending.{due}
 use Rattle.pn_alarms.specs.Sending.{is_again as is_repeated}
 use Rattle.plans.specs.declared.parts.Parts.{Parts}
-use Rattle.controller_frames.specs.declared.record_request.RecordRequest.{RecordRequest}
-use Rattle.controller_frames.specs.declared.setup.Setup.{Setup}
-use Rattle.controller_frames.specs.declared.request.Request.{Request}
-use Rattle.controller_frames.specs.declared.request.Request.TheVariants as asks
-use Rattle.controller_frames.specs.Heard.{Heard, Responds, heard_of}
-use Rattle.controller_frames.specs.Requests.{sequence_of, write_count, writing_from}
-use Rattle.controller_frames.specs.Sent.{Sent}
-use Rattle.controller_state.specs.declared.state.Cause.{Cause}
-use Rattle.controller_state.specs.declared.state.State.{State}
-use Rattle.controller_state.specs.declared.state.State.TheVariants.{Looking, Addressing, Connecting, Writing, Ending, Waiting, Exchanging, Ended}
-use Rattle.controller_state.specs.declared.event.Event.{Event}
-use Rattle.controller_state.specs.declared.event.Event.TheVariants.{Frame}
-use Rattle.controller_state.specs.State.{Live}
-use Rattle.controller_state.specs.Alarms.{ack_of, kept_alarm}
-use Rattle.startup_answers.specs.Answers.{is_answer, is_call}
-use Rattle.startup_answers.specs.Outcomes.{are_written}
+use Rattle.controller_messages.specs.declared.record_request.RecordRequest.{RecordRequest}
+use Rattle.controller_messages.specs.declared.setup.Setup.{Setup}
+use Rattle.controller_messages.specs.declared.request.Request.{Request}
+use Rattle.controller_messages.specs.declared.request.Request.TheVariants as asks
+use Rattle.controller_messages.specs.Heard.{Heard, Responds, heard_of}
+use Rattle.controller_messages.specs.Requests.{sequence_of, write_count, writing_from}
+use Rattle.controller_messages.specs.Sent.{Sent}
+use Rattle.controller_core.specs.declared.stored.state.Cause.{Cause}
+use Rattle.controller_core.specs.declared.stored.state.State.{State}
+use Rattle.controller_core.specs.declared.stored.state.State.TheVariants.{Looking, Addressing, Connecting, Writing, Ending, Waiting, Exchanging, Ended}
+use Rattle.controller_core.specs.declared.stored.event.Event.{Event}
+use Rattle.controller_core.specs.declared.stored.event.Event.TheVariants.{Frame}
+use Rattle.controller_core.specs.stored.State.{Live}
+use Rattle.controller_core.specs.stored.Alarms.{ack_of, kept_alarm}
+use Rattle.controller_core.specs.start_up.Answers.{is_answer, is_call}
+use Rattle.controller_core.specs.start_up.Outcomes.{are_written}
 use Rattle.controller_core.specs.Machine.{Turn, stays, noted, released, writing, standing, end_of, with_end, keeping, acking, behind_data, behind_ack, diagnosing, confirming, taken, is_again, later, where_due, requests_of, accesses_by, pending_by, pending_of, acks_in, acks_of, outputs_of, flow_later, due_frames, brought, turn_of}
-use Rattle.startup_answers.specs.Requests.{next_sequence}
+use Rattle.controller_core.specs.start_up.Requests.{next_sequence}
 use Rattle.end_laws.specs.turns.Ended.{IsReleased}
 use Rattle.end_laws.specs.turns.Turns.{Came, Hears, IsGranted, IsKind, IsReadied, IsSkipped, IsTurn, Kind, Rests, Connects, Addresses, Ends, Releases, Relates, Writes, Skips, Waits, Forgets, Begins, Repeats, Takes, IsAcked, Asks, IsReplied, Flows, Breaks, Idles, came_by, turn_by}
 use Rattle.end_laws.specs.both.Small as small

@@ -2,9 +2,9 @@
 use Rattle.std.proofs.Common.{◌≡◌, ℕ, Bool, true, false, cond, List, Option, Result, Ok, Err}
 use Rattle.records.specs.declared.status.call_fault.CallFault.{CallFault}
 use Rattle.records.specs.declared.status.call_fault.CallFault.TheVariants as fault
-use Rattle.connect_requests.specs.Pieces.{pieces_of}
-use Rattle.connect_requests.specs.Request.{Request}
-use Rattle.connect_requests.specs.Handled.{any_short, request_within}
+use Rattle.connects.specs.requests.Pieces.{pieces_of}
+use Rattle.connects.specs.requests.Request.{Request}
+use Rattle.connects.specs.requests.Handled.{any_short, request_within}
 use Rattle.pn_values.specs.declared.mac.Mac.{Mac}
 use Rattle.relations.specs.declared.options.DeviceOptions.{DeviceOptions}
 use Rattle.relations.specs.RelationState.{RelationState, uuid_of}

@@ -1,6 +1,6 @@
 -- The several records of one Write of a start-up: those that the relation accepts are some of them, in order, and all if
 -- the response says so.
-use Rattle.std.proofs.Common.{◌≡◌, ◌⊎◌, inl, inr, ◌+◌, ℕ, Bool, true, false, cond, List, [], ◌∷◌, ◌++◌, Option, Some, None, Result, Ok, Err, refl, sym, ap, subst, ◌∙◌, append_assoc}
+use Rattle.std.proofs.Common.{◌≡◌, ◌⊎◌, inl, inr, ℕ, Bool, true, false, cond, List, [], ◌∷◌, ◌++◌, Option, Some, None, Result, Ok, Err, refl, sym, ap, subst, ◌∙◌, append_assoc}
 use Rattle.std.proofs.lemmas.Bool.{false≢true}
 use Rattle.std.proofs.lemmas.List.{append-nil}
 use Rattle.wire.specs.Checks.{or_fault}
@@ -28,7 +28,6 @@ use Rattle.records.specs.writes.Asked.{handled_writing, several_of, writing_of}
 use Rattle.records.specs.writes.Entry.{Entry}
 use Rattle.records.specs.writes.Handled.{handled_request}
 use Rattle.records.specs.writes.Several.{is_several, list_behind}
-use Rattle.records.specs.writes.Taken.{keep_of}
 use Rattle.relations.specs.Passed.{PassedOn}
 use Rattle.relations.specs.RelationState.{RelationState, passes_on}
 use Rattle.relations.specs.Phases.{Records, keeping, taking, updated, with_records}

@@ -8,7 +8,7 @@ use Rattle.wire.specs.Checks.{or_fault}
 use Rattle.wire.specs.Formats.{big_number}
 use Rattle.pn_values.specs.declared.real.Real.{Real}
 use Rattle.rpc_core.specs.Sendable.{IsStatus}
-use Rattle.block_fields.specs.declared.fault.BlockFault.{BlockFault}
+use Rattle.wire.specs.declared.blocks.fault.BlockFault.{BlockFault}
 use Rattle.connect_blocks.specs.declared.control.ControlBlock.{ControlBlock}
 use Rattle.block_codec.specs.declared.block_type.BlockType.{BlockType}
 use Rattle.block_codec.specs.declared.block_type.BlockType.TheVariants as kind
@@ -23,10 +23,10 @@ use Rattle.records.specs.status.Status.{status_of}
 use Rattle.records.specs.calls.Handled.{handled as in_order}
 use Rattle.records.specs.calls.Naming.{in_relation, is_relation}
 use Rattle.records.specs.calls.Single.{formed, single_of}
-use Rattle.connect_requests.specs.declared.parts.Ar.{Ar}
-use Rattle.connect_requests.specs.Pieces.{Piece, pieces_of}
-use Rattle.connect_requests.specs.Request.{Request}
-use Rattle.connect_requests.specs.Handled.{admitted, any_short, ar_in, conflict, request_behind, request_in, request_of, request_within}
+use Rattle.connects.specs.declared.requests.parts.Ar.{Ar}
+use Rattle.connects.specs.requests.Pieces.{Piece, pieces_of}
+use Rattle.connects.specs.requests.Request.{Request}
+use Rattle.connects.specs.requests.Handled.{admitted, any_short, ar_in, conflict, request_behind, request_in, request_of, request_within}
 use Rattle.record_blocks.specs.declared.write_record.IodWriteReq.{IodWriteReq}
 use Rattle.im_records.specs.Indices.{is_anywhere, is_read_only, record_with}
 use Rattle.im_records.specs.Records.{is_real}
@@ -37,9 +37,9 @@ use Rattle.records.specs.reads.Answer.{answer_of as read_answer_of}
 use Rattle.records.specs.reads.Handled.{found, has_parameter, placed, read_of, request_of as read_request_of}
 use Rattle.records.specs.reads.Listing.{is_of_relation, is_there, listed_at, listing_of, octets_of, served as read_served, served_by}
 use Rattle.records.specs.reads.Within.{record_within, request_within as read_within}
-use Rattle.relation_records.specs.Own.{own_of}
-use Rattle.relation_records.specs.Reading.{relation_read}
-use Rattle.relation_records.specs.Sources.{Known}
+use Rattle.device_records.specs.Own.{own_of}
+use Rattle.device_records.specs.Reading.{relation_read}
+use Rattle.device_records.specs.Sources.{Known}
 use Rattle.records.specs.declared.writes.taken.TakenRecord.{TakenRecord}
 use Rattle.records.specs.declared.writes.writing.Writing.TheVariants.{One, Each}
 use Rattle.records.specs.writes.Asked.{handled_writing, several_of, writing_of}

@@ -13,10 +13,9 @@ use Rattle.records.specs.declared.status.operation.Operation.{Operation}
 use Rattle.records.specs.declared.status.operation.Operation.TheVariants as operation
 use Rattle.records.specs.status.Operation.{operation_of}
 use Rattle.records.specs.status.Status.{status_of}
-use Rattle.connect_requests.specs.Request.{Request}
+use Rattle.connects.specs.requests.Request.{Request}
 use Rattle.records.specs.declared.writes.taken.TakenRecord.{TakenRecord}
 use Rattle.records.specs.declared.writes.write.Effect.TheVariants.{Stores, Keeps}
-use Rattle.records.specs.declared.writes.write.Write.{Write}
 use Rattle.records.specs.declared.writes.writing.Writing.TheVariants.{One, Each}
 use Rattle.relations.specs.declared.ready.Ready.{Ready}
 use Rattle.relations.specs.declared.phase.Partner.{Partner}
@@ -27,7 +26,7 @@ use Rattle.relations.specs.RelationState.{RelationState, is_exchanging, passes_o
 use Rattle.pn_values.specs.declared.im_value.ImValue.{ImValue}
 use Rattle.device_frames.specs.Heard.{Heard, Reported, Calls}
 use Rattle.device_frames.specs.Sent.{Sent, CallAnswer, Again, Exchanges, ReadyCall, bytes_of}
-use Rattle.settings_store.specs.Machine.{Outcome}
+use Rattle.settings_journal.specs.settings_store.Machine.{Outcome}
 use Rattle.device_core.specs.State.{Station, Rest, Live}
 use Rattle.device_core.specs.Machine.{handled_step, heard_step, statuses_of}
 use Rattle.device_core.specs.Several.{judged_each}

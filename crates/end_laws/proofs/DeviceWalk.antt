@@ -23,7 +23,7 @@ use Rattle.records.specs.declared.status.call_fault.CallFault.{CallFault}
 use Rattle.records.specs.declared.status.operation.Operation.{Operation}
 use Rattle.records.specs.declared.status.operation.Operation.TheVariants as operation
 use Rattle.records.specs.status.Operation.{operation_of}
-use Rattle.connect_requests.specs.Request.{Request}
+use Rattle.connects.specs.requests.Request.{Request}
 use Rattle.record_blocks.specs.declared.write_record.IodWriteReq.{IodWriteReq}
 use Rattle.records.specs.declared.writes.taken.TakenRecord.{TakenRecord}
 use Rattle.records.specs.declared.writes.write.Effect.{Effect}
@@ -33,17 +33,17 @@ use Rattle.records.specs.declared.writes.writing.Writing.{Writing}
 use Rattle.records.specs.declared.writes.writing.Writing.TheVariants.{One, Each}
 use Rattle.records.specs.writes.Asked.{writing_of}
 use Rattle.records.specs.writes.Entry.{Entry}
-use Rattle.relation_records.specs.Reading.{relation_read}
+use Rattle.device_records.specs.Reading.{relation_read}
 use Rattle.pn_values.specs.declared.im_value.ImValue.{ImValue}
 use Rattle.pn_alarms.specs.declared.abort.Abort.{Abort}
 use Rattle.pn_alarms.specs.declared.device.PduFate.TheVariants as fate
 use Rattle.pn_alarms.specs.Message.{ToDevice as Message}
-use Rattle.cyclic_exchange.specs.declared.received.Received.{Received}
-use Rattle.cyclic_exchange.specs.declared.received.Received.TheVariants as received
-use Rattle.cyclic_exchange.specs.declared.route.Route.{Route}
-use Rattle.device_exchange.specs.Flow.{Flow}
-use Rattle.device_exchange.specs.Diagnosis.{begins_with_one, behind_low, diagnoses_begun, next_reported}
-use Rattle.device_exchange.specs.Frames.{Frame, alarm_frame, low_alarm_frame}
+use Rattle.cyclic_data.specs.declared.exchange.received.Received.{Received}
+use Rattle.cyclic_data.specs.declared.exchange.received.Received.TheVariants as received
+use Rattle.cyclic_data.specs.declared.exchange.route.Route.{Route}
+use Rattle.relations.specs.exchange.Flow.{Flow}
+use Rattle.relations.specs.exchange.Diagnosis.{begins_with_one, behind_low, diagnoses_begun, next_reported}
+use Rattle.relations.specs.exchange.Frames.{Frame, alarm_frame, low_alarm_frame}
 use Rattle.relations.specs.declared.hearing.ReadyAnswer.{ReadyAnswer}
 use Rattle.relations.specs.declared.hearing.ReadyAnswer.TheVariants as to_ready
 use Rattle.relations.specs.RelationState.{RelationState, flow_of, is_alarm_of, uuid_of, is_started, is_awaiting, is_exchanging, is_preparing, passes_on, phase_of}
@@ -61,12 +61,12 @@ use Rattle.device_frames.specs.Relation.{alarms_of, frames_in, inputs_of, low_al
 use Rattle.device_frames.specs.Sent.{Sent, IdentifyAnswer, GetAnswer, SetAnswer, ArpReply, Again, Ends, CallAnswer, ReadyCall}
 use Rattle.device_frames.specs.declared.note.Note.{Note}
 use Rattle.device_frames.specs.declared.note.Note.TheVariants as note
-use Rattle.settings_store.specs.Machine.{Outcome, carried}
+use Rattle.settings_journal.specs.settings_store.Machine.{Outcome, carried}
 use Rattle.device_core.specs.State.{Station, Live, Rest, alias_in, counter_of, units_after}
 use Rattle.device_core.specs.Handled.{Handled, Refuses, Sets, Moves, is_running, is_request, outcome_of, served, ready_behind, partner_of, kept_answer, handled_effect, handled_write, handled_new, handled_looked, handled_blocks, handled_call, handled_alarm, handled_answer, handled_beginning, handled_change, handled_low, handled_low_message, handled_low_pdu, handled_said, handled_received, handled_input, handled_met, handled_notice, handled_pdu, handled_message, handled_request, goes_on_with, kept_status, starting_of, handled, known_of}
 use Rattle.device_core.specs.Several.{Judged, judged_each}
 use Rattle.device_core.specs.Machine.{effect_link, first_answer, link_behind, one_link, several_answer, resets, farewells_at, finished, items_in, handled_step, heard_step, link_after, written_as}
-use Rattle.device_log.specs.declared.entry.LogEntry.{LogEntry}
+use Rattle.device_records.specs.declared.log_data.entry.LogEntry.{LogEntry}
 use Rattle.device_core.specs.Log.{but_rest, connect_log, end_log, err_log, release_log}
 use Rattle.end_laws.specs.both.Small.{Rules}
 use Rattle.end_laws.specs.device.Owed.{IsOwed}
@@ -74,13 +74,13 @@ use Rattle.end_laws.proofs.DeviceConnects.{unlimited}
 use Rattle.end_laws.proofs.DeviceOwing.{IsPlainIn, connect_plain, keeping_plain, outcome_sized, prm_plain, read_plain, release_plain, stored_plain, writing_plain, IsPlain, bind_ok}
 use Rattle.rpc_core.specs.Response.{Answered as Response, answer_to, is_done}
 use Rattle.relations.specs.Farewells.{farewell_of}
-use Rattle.device_exchange.specs.Notices.{behind_message}
-use Rattle.device_exchange.specs.Process.{with_input}
-use Rattle.device_exchange.specs.Marks.{awaits}
-use Rattle.device_exchange.specs.Statuses.{statuses_at}
-use Rattle.device_exchange.specs.declared.statuses.InputStatus.{InputStatus}
-use Rattle.device_exchange.specs.Received.{behind_frame, received_as}
-use Rattle.device_exchange.specs.Units.{flow_later, repeated_of, tick_of}
+use Rattle.relations.specs.exchange.Notices.{behind_message}
+use Rattle.relations.specs.exchange.Process.{with_input}
+use Rattle.relations.specs.exchange.Marks.{awaits}
+use Rattle.relations.specs.exchange.Statuses.{statuses_at}
+use Rattle.relations.specs.declared.exchange.statuses.InputStatus.{InputStatus}
+use Rattle.relations.specs.exchange.Received.{behind_frame, received_as}
+use Rattle.relations.specs.exchange.Units.{flow_later, repeated_of, tick_of}
 use Rattle.cyclic_data.specs.Image.{Shown as Image, cell_at, changed, has_size, with_value}
 use Rattle.cyclic_data.specs.declared.place.PlaceKind.TheVariants.{Data as at_data}
 use Rattle.pn_alarms.specs.declared.abort.Abort.TheVariants.{Other}
@@ -93,7 +93,7 @@ use Rattle.module_diff.specs.Plugged.{submodule_ident}
 use Rattle.diagnosis.specs.Existing.{changed as changed_list}
 use Rattle.diagnosis.specs.declared.diagnosis.Change.{Change}
 use Rattle.diagnosis.specs.declared.diagnosis.Diagnosis.{Diagnosis}
-use Rattle.diagnosis_alarms.specs.Alarms.{is_next}
+use Rattle.diagnosis.specs.alarms.Alarms.{is_next}
 use Rattle.rpc_core.specs.Cache.{Kept as Answer, Reported as Looked, new, again, old, kept_of, reported_by, looked}
 use Rattle.std.proofs.lemmas.Bool.{eqb-true}
 use Rattle.std.proofs.lemmas.List.{append-nil}

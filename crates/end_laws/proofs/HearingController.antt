@@ -20,14 +20,14 @@ use Rattle.pn_alarms.specs.declared.fault.AlarmFault.{AlarmFault}
 use Rattle.pn_alarms.specs.declared.pdu.Header.{Header}
 use Rattle.pn_alarms.specs.declared.pdu.PduType.{PduType}
 use Rattle.pn_alarms.specs.declared.pdu.PduType.TheVariants.{Data, Nack, Ack, Error}
-use Rattle.alarm_reports.specs.declared.priority.Priority.{Priority}
-use Rattle.alarm_reports.specs.declared.priority.Priority.TheVariants.{High, Low}
-use Rattle.alarm_reports.specs.Message.{ToController, alarm_of}
-use Rattle.alarm_reports.specs.Priority.{frame_id_at, priority_of}
+use Rattle.diagnosis.specs.declared.reports.priority.Priority.{Priority}
+use Rattle.diagnosis.specs.declared.reports.priority.Priority.TheVariants.{High, Low}
+use Rattle.diagnosis.specs.reports.Message.{ToController, alarm_of}
+use Rattle.diagnosis.specs.reports.Priority.{frame_id_at, priority_of}
 use Rattle.plans.specs.declared.parts.Controller.{Controller}
-use Rattle.controller_frames.specs.Heard.{Alarms, Answers, Calls, Cyclic, Heard, Nothing, Responds, heard_alarm, heard_answer, heard_body, heard_call, heard_content, heard_first, heard_of, heard_read, heard_real_time, heard_refusal, heard_response, is_to}
-use Rattle.controller_frames.specs.Refusal.{refusal_of}
-use Rattle.codec_laws.specs.frames.Sendable.{CanBeSent, IsMac, IsRealTime, IsRealTimeOrNone, IsTag, carrying}
+use Rattle.controller_messages.specs.Heard.{Alarms, Answers, Calls, Cyclic, Heard, Nothing, Responds, heard_alarm, heard_answer, heard_body, heard_call, heard_content, heard_first, heard_of, heard_read, heard_real_time, heard_refusal, heard_response, is_to}
+use Rattle.controller_messages.specs.Refusal.{refusal_of}
+use Rattle.frame_codec.specs.Sendable.{CanBeSent, IsMac, IsRealTime, IsRealTimeOrNone, IsTag, carrying}
 use Rattle.rpc_core.specs.Sendable.{CanBeAnswered, CanBeCalled}
 use Rattle.end_laws.specs.hearing.Hearing.{IsUncalled, mine_hears, mine_reported, padded}
 use Rattle.end_laws.proofs.HearingGiven.{CallsAreNoRefusals, CallsAreNoResponses, CallsAreRead, DataIsAlone, DataIsRead, DatagramsAreRead, DeviceIsMeant, PacketsAreRead, ResponsesAreNoCalls, ResponsesAreRead}

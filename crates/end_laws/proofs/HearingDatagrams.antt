@@ -12,15 +12,15 @@ use Rattle.frame_codec.specs.Meaning.{Meaning, UdpDatagram}
 use Rattle.rpc_core.specs.declared.interface.Interface.TheVariants.{Controller as controllers, Device as devices}
 use Rattle.rpc_core.specs.Call.{Asked as Call, call_bytes}
 use Rattle.rpc_core.specs.Response.{Answered, response_bytes}
-use Rattle.cyclic_exchange.specs.Frames.{plain_frame}
+use Rattle.cyclic_data.specs.exchange.Frames.{plain_frame}
 use Rattle.plans.specs.declared.parts.Controller.{Controller}
 use Rattle.relations.specs.declared.ready.Ready.{Ready}
 use Rattle.device_frames.specs.Heard.{Calls, Garbled, Responds, Unreadable, heard_frame, heard_of as device_hears}
 use Rattle.device_frames.specs.Sent.{ready_frame, response_frame}
-use Rattle.controller_frames.specs.declared.setup.Setup.{Setup}
-use Rattle.controller_frames.specs.Heard.{Calls as Called, Nothing, Responds as Responded, heard_of as controller_hears, heard_read}
-use Rattle.controller_frames.specs.Sent.{answer_frame, call_frame, calls_at}
-use Rattle.codec_laws.specs.frames.Sendable.{CanBeSent, IsEndpoint, IsMac, carrying}
+use Rattle.controller_messages.specs.declared.setup.Setup.{Setup}
+use Rattle.controller_messages.specs.Heard.{Calls as Called, Nothing, Responds as Responded, heard_of as controller_hears, heard_read}
+use Rattle.controller_messages.specs.Sent.{answer_frame, call_frame, calls_at}
+use Rattle.frame_codec.specs.Sendable.{CanBeSent, IsEndpoint, IsMac, carrying}
 use Rattle.rpc_core.specs.Sendable.{CanBeAnswered, CanBeCalled, IsHeader}
 use Rattle.end_laws.specs.hearing.Hearing.{comes, mine_reported, own_reported}
 use Rattle.end_laws.specs.hearing.Stations.{IsAddress, IsCaller, IsDevice, IsSetup, ready_call}

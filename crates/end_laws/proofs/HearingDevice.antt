@@ -19,14 +19,14 @@ use Rattle.rpc_core.specs.Response.{Answered, response_bytes, response_of}
 use Rattle.pn_alarms.specs.declared.fault.AlarmFault.{AlarmFault}
 use Rattle.pn_alarms.specs.declared.pdu.Header.{Header}
 use Rattle.pn_alarms.specs.declared.pdu.PduType.{PduType}
-use Rattle.alarm_reports.specs.declared.priority.Priority.{Priority}
-use Rattle.alarm_reports.specs.declared.priority.Priority.TheVariants.{High, Low}
-use Rattle.alarm_reports.specs.Message.{low_message_of}
-use Rattle.alarm_reports.specs.Priority.{frame_id_at, priority_of}
+use Rattle.diagnosis.specs.declared.reports.priority.Priority.{Priority}
+use Rattle.diagnosis.specs.declared.reports.priority.Priority.TheVariants.{High, Low}
+use Rattle.diagnosis.specs.reports.Message.{low_message_of}
+use Rattle.diagnosis.specs.reports.Priority.{frame_id_at, priority_of}
 use Rattle.pn_alarms.specs.declared.message.Notice.TheVariants as notice
 use Rattle.pn_alarms.specs.Message.{ToDevice, message_of}
 use Rattle.device_frames.specs.Heard.{Calls, Cyclic, Elsewhere, Garbled, Heard, Resolves, Responds, Said, heard_alarm, heard_content, heard_frame, heard_low, heard_of, heard_reply, heard_request, identify_multicast, is_own, is_taken, said_by, said_else, said_first}
-use Rattle.codec_laws.specs.frames.Sendable.{CanBeSent, IsMac, IsRealTime, IsRealTimeOrNone, IsTag, carrying}
+use Rattle.frame_codec.specs.Sendable.{CanBeSent, IsMac, IsRealTime, IsRealTimeOrNone, IsTag, carrying}
 use Rattle.rpc_core.specs.Sendable.{CanBeAnswered, CanBeCalled}
 use Rattle.end_laws.specs.hearing.Hearing.{IsUnreported, all_hears, comes, own_hears, own_reported, padded}
 use Rattle.end_laws.proofs.HearingGiven.{CallsAreNoResponses, CallsAreRead, ControllerIsMeant, DataIsAlone, DataIsRead, DatagramsAreRead, PacketsAreRead, ResponsesAreNoCalls, ResponsesAreRead}

@@ -9,23 +9,23 @@ use Rattle.pn_alarms.specs.declared.pdu.PduType.{PduType}
 use Rattle.pn_alarms.specs.declared.pdu.PduType.TheVariants as pdu
 use Rattle.pn_alarms.specs.Format.{Said, frame_id_of, pdu_bytes}
 use Rattle.pn_alarms.specs.declared.fault.AlarmFault.{AlarmFault}
-use Rattle.alarm_reports.specs.declared.priority.Priority.{Priority}
-use Rattle.alarm_reports.specs.declared.priority.Priority.TheVariants.{High, Low}
+use Rattle.diagnosis.specs.declared.reports.priority.Priority.{Priority}
+use Rattle.diagnosis.specs.declared.reports.priority.Priority.TheVariants.{High, Low}
 use Rattle.pn_alarms.specs.Message.{ToDevice, message_of}
-use Rattle.alarm_reports.specs.Message.{ToController, alarm_of, low_message_of}
+use Rattle.diagnosis.specs.reports.Message.{ToController, alarm_of, low_message_of}
 use Rattle.pn_alarms.specs.declared.message.Notice.TheVariants as notice
 use Rattle.record_blocks.specs.declared.alarm_ack.AlarmAck.{AlarmAck}
-use Rattle.alarm_reports.specs.Priority.{frame_id_at, priority_of}
-use Rattle.cyclic_exchange.specs.declared.route.Route.{Route}
-use Rattle.cyclic_exchange.specs.Frames.{body_at, tagged_frame}
-use Rattle.device_exchange.specs.Frames.{Inputs}
+use Rattle.diagnosis.specs.reports.Priority.{frame_id_at, priority_of}
+use Rattle.cyclic_data.specs.declared.exchange.route.Route.{Route}
+use Rattle.cyclic_data.specs.exchange.Frames.{body_at, tagged_frame}
+use Rattle.relations.specs.exchange.Frames.{Inputs}
 use Rattle.plans.specs.declared.parts.Controller.{Controller}
 use Rattle.device_frames.specs.Heard.{Alarms, Cyclic, LowConfirms, heard_alarm, heard_low, heard_of as device_hears, heard_reply}
 use Rattle.device_frames.specs.Sent.{Exchanges, bytes_of as device_bytes}
 use Rattle.std.specs.Cmp.Lexicographic.{pointwise}
-use Rattle.controller_frames.specs.Heard.{Alarms as Alarmed, Cyclic as Comes, Nothing, heard_of as controller_hears, heard_real_time}
-use Rattle.controller_frames.specs.Sent.{tag_of}
-use Rattle.codec_laws.specs.frames.Sendable.{CanBeSent, IsMac, carrying}
+use Rattle.controller_messages.specs.Heard.{Alarms as Alarmed, Cyclic as Comes, Nothing, heard_of as controller_hears, heard_real_time}
+use Rattle.controller_messages.specs.Sent.{tag_of}
+use Rattle.frame_codec.specs.Sendable.{CanBeSent, IsMac, carrying}
 use Rattle.end_laws.specs.hearing.Hearing.{comes, mine_hears, own_hears, padded}
 use Rattle.end_laws.specs.hearing.Stations.{IsDevice, IsRoute}
 use Rattle.end_laws.proofs.HearingGiven.{DataIsRead, PdusAreLong}

@@ -14,8 +14,8 @@ use Rattle.rpc_core.specs.Response.{Answered, response_bytes, response_of}
 use Rattle.block_codec.specs.declared.block.Block.{Block}
 use Rattle.block_codec.specs.Block.{block_bytes, block_size}
 use Rattle.pn_alarms.specs.Format.{Said, pdu_bytes}
-use Rattle.controller_frames.specs.Refusal.{refusal_of}
-use Rattle.codec_laws.specs.frames.Sendable.{CanBeSent, IsMac, IsRealTimeOrNone, IsTag, carrying}
+use Rattle.controller_messages.specs.Refusal.{refusal_of}
+use Rattle.frame_codec.specs.Sendable.{CanBeSent, IsMac, IsRealTimeOrNone, IsTag, carrying}
 use Rattle.rpc_core.specs.Sendable.{CanBeAnswered, CanBeCalled, IsHeader}
 
 -- ---- of frames

@@ -4,9 +4,9 @@ use Rattle.std.specs.Prelude.{IsErr}
 use Rattle.std.proofs.lemmas.Bool.{false≢true}
 use Rattle.wire.specs.Codec.{◌>>=◌}
 use Rattle.wire.specs.Formats.{framed, number, raw}
-use Rattle.block_fields.specs.declared.fault.BlockFault.{BlockFault}
-use Rattle.block_fields.specs.declared.fault.BlockFault.TheVariants.{Truncated}
-use Rattle.block_fields.specs.Fields.{body, number_bytes, version}
+use Rattle.wire.specs.declared.blocks.fault.BlockFault.{BlockFault}
+use Rattle.wire.specs.declared.blocks.fault.BlockFault.TheVariants.{Truncated}
+use Rattle.wire.specs.blocks.Fields.{body, number_bytes, version}
 use Rattle.record_blocks.specs.declared.alarm_ack.AlarmAck.{AlarmAck}
 use Rattle.record_blocks.specs.AlarmAck.{alarm_ack}
 use Rattle.block_codec.specs.declared.block.Block.{Block}
@@ -16,14 +16,14 @@ use Rattle.pn_alarms.specs.declared.fault.AlarmFault.{AlarmFault}
 use Rattle.pn_alarms.specs.declared.pdu.Header.{Header}
 use Rattle.pn_alarms.specs.declared.pdu.PduType.{PduType}
 use Rattle.pn_alarms.specs.declared.pdu.PduType.TheVariants as pdu
-use Rattle.alarm_reports.specs.declared.priority.Priority.TheVariants.{Low}
+use Rattle.diagnosis.specs.declared.reports.priority.Priority.TheVariants.{Low}
 use Rattle.pn_alarms.specs.Carried.{ack_of, wanted}
 use Rattle.pn_alarms.specs.Format.{Said, is_long, pdu_bytes, pdu_of}
 use Rattle.pn_alarms.specs.declared.message.Notice.TheVariants as notice
 use Rattle.pn_alarms.specs.Message.{ToDevice, message_of, notice_in}
-use Rattle.alarm_reports.specs.Report.{low_ack}
-use Rattle.controller_frames.specs.Sent.{ack_pdu}
-use Rattle.codec_laws.specs.alarms.Sendable.{CanBeSaid, IsHeader}
+use Rattle.diagnosis.specs.reports.Report.{low_ack}
+use Rattle.controller_messages.specs.Sent.{ack_pdu}
+use Rattle.diagnosis.specs.Sendable.{CanBeSaid, IsHeader}
 
 -- a written PDU is read back
 abbrev pub PdusAreRead : Type 0

@@ -20,11 +20,11 @@ use Rattle.dcp_core.specs.Writing.{request_bytes}
 use Rattle.plans.specs.declared.parts.Parts.{Parts}
 use Rattle.plans.specs.Plan.{IsPlan}
 use Rattle.device_frames.specs.Heard.{Asks, Elsewhere, Heard, heard_request, heard_of as device_hears, identify_multicast as cast, is_own}
-use Rattle.controller_frames.specs.declared.request.Request.TheVariants as asks
-use Rattle.controller_frames.specs.declared.setup.Setup.{Setup}
-use Rattle.controller_frames.specs.Requests.{address_asked, identify_asked}
-use Rattle.controller_frames.specs.Sent.{Requests, bytes_of as controller_bytes, identify_multicast}
-use Rattle.codec_laws.specs.frames.Sendable.{CanBeSent, IsMac, carrying}
+use Rattle.controller_messages.specs.declared.request.Request.TheVariants as asks
+use Rattle.controller_messages.specs.declared.setup.Setup.{Setup}
+use Rattle.controller_messages.specs.Requests.{address_asked, identify_asked}
+use Rattle.controller_messages.specs.Sent.{Requests, bytes_of as controller_bytes, identify_multicast}
+use Rattle.frame_codec.specs.Sendable.{CanBeSent, IsMac, carrying}
 use Rattle.dcp_core.specs.Sendable.{CanBeAsked}
 use Rattle.end_laws.specs.hearing.Hearing.{comes, own_hears}
 use Rattle.end_laws.specs.hearing.Stations.{IsSetup}

@@ -4,7 +4,7 @@ use Rattle.std.specs.List.{AllByRecursion, slice_get}
 use Rattle.std.specs.Prelude.{replicate}
 use Rattle.std.proofs.lemmas.Bool.{leb-true}
 use Rattle.std.proofs.lemmas.List.{length-append}
-use Rattle.block_fields.specs.Fields.{body, version}
+use Rattle.wire.specs.blocks.Fields.{body, version}
 use Rattle.connect_blocks.specs.Control.{command, control}
 use Rattle.connect_blocks.specs.ArBlock.{ar_block_req, ar_uuid, initiator_mac}
 use Rattle.connect_blocks.specs.declared.control.ControlBlock.{ControlBlock}
@@ -23,17 +23,17 @@ use Rattle.plans.specs.declared.parts.PlanRecord.{PlanRecord}
 use Rattle.plans.specs.declared.parts.Station.{Station}
 use Rattle.plans.specs.Connect.{ar_block, blocks_of, bytes_of, connect_of, size_of, some_uuid}
 use Rattle.plans.specs.Plan.{AreShort, IsPlan}
-use Rattle.controller_frames.specs.declared.record_request.RecordRequest.{RecordRequest}
-use Rattle.controller_frames.specs.declared.record_request.RecordService.{RecordService}
-use Rattle.controller_frames.specs.declared.record_request.RecordService.TheVariants as service
-use Rattle.controller_frames.specs.declared.request.Request.{Request}
-use Rattle.controller_frames.specs.declared.request.Request.TheVariants as asks
-use Rattle.controller_frames.specs.declared.setup.Setup.{Setup}
-use Rattle.controller_frames.specs.RecordRequests.{read_of, record_blocks, record_call, service_operation, written_of}
-use Rattle.controller_frames.specs.Requests.{blocks_of as blocks_for, call_for, control_of, entries_bytes, entry_bytes, first_of, group_of, header_of, list_blocks, list_of, object_of, operation_of, padding_of, per_call, sequence_of, write_blocks, write_of}
+use Rattle.controller_messages.specs.declared.record_request.RecordRequest.{RecordRequest}
+use Rattle.controller_messages.specs.declared.record_request.RecordService.{RecordService}
+use Rattle.controller_messages.specs.declared.record_request.RecordService.TheVariants as service
+use Rattle.controller_messages.specs.declared.request.Request.{Request}
+use Rattle.controller_messages.specs.declared.request.Request.TheVariants as asks
+use Rattle.controller_messages.specs.declared.setup.Setup.{Setup}
+use Rattle.controller_messages.specs.RecordRequests.{read_of, record_blocks, record_call, service_operation, written_of}
+use Rattle.controller_messages.specs.Requests.{blocks_of as blocks_for, call_for, control_of, entries_bytes, entry_bytes, first_of, group_of, header_of, list_blocks, list_of, object_of, operation_of, padding_of, per_call, sequence_of, write_blocks, write_of}
 use Rattle.relations.specs.declared.ready.Ready.{Ready}
 use Rattle.rpc_core.specs.Call.{Asked as Call}
-use Rattle.controller_frames.specs.Sent.{ready_answer, ready_done}
+use Rattle.controller_messages.specs.Sent.{ready_answer, ready_done}
 use Rattle.rpc_core.specs.Sendable.{CanBeAnswered, CanBeCalled, IsHeader, IsUuid}
 use Rattle.end_laws.specs.hearing.Stations.{IsCalled, IsNumbered, IsRecordCall, IsSetup, ready_call}
 use Rattle.end_laws.proofs.HearingGiven.{BlocksAreLong}

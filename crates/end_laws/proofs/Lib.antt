@@ -28,5 +28,15 @@ mod DeviceConnects
 pub mod DeviceOwing
 pub mod DeviceLists
 pub mod DeviceWalk
+pub mod DeviceExchange
+pub mod DeviceExchangeLaws
 pub mod ControllerTurns
 pub mod TurnsPatience
+pub mod TurnsBelongs
+pub mod TurnsCauses
+pub mod TurnsAgain
+pub mod TurnsInputs
+pub mod AnswersReading
+pub mod AnswersStoring
+pub mod AnswersWalking
+pub mod LogReading

@@ -12,32 +12,32 @@ use Rattle.pn_alarms.specs.declared.receiver.Taken.{Taken}
 use Rattle.pn_alarms.specs.declared.receiver.Taken.TheVariants.{New, Again, Refused}
 use Rattle.pn_alarms.specs.Receiver.{taken_as}
 use Rattle.pn_alarms.specs.Ends.{ControllerEnd}
-use Rattle.alarm_reports.specs.declared.priority.Priority.{Priority}
-use Rattle.alarm_reports.specs.declared.priority.Priority.TheVariants.{High, Low}
-use Rattle.alarm_reports.specs.declared.report.Report.{Report}
-use Rattle.cyclic_exchange.specs.Cyclic.{Cyclic}
-use Rattle.cyclic_exchange.specs.Opening.{begun_of}
-use Rattle.cyclic_exchange.specs.Received.{behind_frame}
-use Rattle.controller_frames.specs.declared.record_request.RecordRequest.{RecordRequest}
-use Rattle.controller_frames.specs.declared.request.Request.{Request}
-use Rattle.controller_frames.specs.declared.request.Request.TheVariants as asks
-use Rattle.controller_frames.specs.declared.setup.Setup.{Setup}
-use Rattle.controller_frames.specs.Heard.{Answers, Calls}
-use Rattle.controller_frames.specs.Requests.{writing_from}
-use Rattle.controller_frames.specs.Sent.{Agrees, ready_answer}
-use Rattle.controller_state.specs.declared.event.Event.{Event}
-use Rattle.controller_state.specs.declared.event.Event.TheVariants.{Frame, Give, Read, Status, Stop, Tick, Write}
-use Rattle.controller_state.specs.declared.state.Cause.{Cause}
-use Rattle.controller_state.specs.declared.state.State.{State}
-use Rattle.controller_state.specs.declared.state.State.TheVariants.{Addressing, Connecting, Ended, Exchanging, Waiting}
-use Rattle.controller_state.specs.State.{Live}
+use Rattle.diagnosis.specs.declared.reports.priority.Priority.{Priority}
+use Rattle.diagnosis.specs.declared.reports.priority.Priority.TheVariants.{High, Low}
+use Rattle.diagnosis.specs.declared.reports.report.Report.{Report}
+use Rattle.cyclic_data.specs.exchange.Cyclic.{Cyclic}
+use Rattle.cyclic_data.specs.exchange.Opening.{begun_of}
+use Rattle.cyclic_data.specs.exchange.Received.{behind_frame}
+use Rattle.controller_messages.specs.declared.record_request.RecordRequest.{RecordRequest}
+use Rattle.controller_messages.specs.declared.request.Request.{Request}
+use Rattle.controller_messages.specs.declared.request.Request.TheVariants as asks
+use Rattle.controller_messages.specs.declared.setup.Setup.{Setup}
+use Rattle.controller_messages.specs.Heard.{Answers, Calls}
+use Rattle.controller_messages.specs.Requests.{writing_from}
+use Rattle.controller_messages.specs.Sent.{Agrees, ready_answer}
+use Rattle.controller_core.specs.declared.stored.event.Event.{Event}
+use Rattle.controller_core.specs.declared.stored.event.Event.TheVariants.{Frame, Give, Read, Status, Stop, Tick, Write}
+use Rattle.controller_core.specs.declared.stored.state.Cause.{Cause}
+use Rattle.controller_core.specs.declared.stored.state.State.{State}
+use Rattle.controller_core.specs.declared.stored.state.State.TheVariants.{Addressing, Connecting, Ended, Exchanging, Waiting}
+use Rattle.controller_core.specs.stored.State.{Live}
 use Rattle.end_laws.specs.turns.Turns.{Came, Hears, IsKind, IsReadied, IsTurn, Kind, Rests, Connects, Addresses, Ends, Releases, Relates, Writes, Skips, Waits, Forgets, Begins, Repeats, Follows, Takes, IsAcked, Asks, IsReplied, Gives, GivesStatus, Flows, Breaks, Idles, came_by, turn_by}
-use Rattle.codec_laws.specs.frames.Sendable.{IsMac}
-use Rattle.connect_answers.specs.Connect.{Chosen}
+use Rattle.frame_codec.specs.Sendable.{IsMac}
+use Rattle.connects.specs.answers.Connect.{Chosen}
 use Rattle.controller_core.specs.Machine.{Turn, accesses_by, acking, acks_in, acks_of, asking, behind_data, brought, confirming, diagnosing, due_frames, end_of, first, flow_later, is_again, keeping, noted, over, pending_by, pending_of, released, requests_of, standing, stays, taken, turn_of, where_due, with_end, writing}
-use Rattle.startup_answers.specs.Requests.{next_sequence}
-use Rattle.controller_state.specs.State.{phase_for}
-use Rattle.controller_state.specs.Alarms.{ack_of}
+use Rattle.controller_core.specs.start_up.Requests.{next_sequence}
+use Rattle.controller_core.specs.stored.State.{phase_for}
+use Rattle.controller_core.specs.stored.Alarms.{ack_of}
 use Rattle.end_laws.specs.hearing.Stations.{IsRecordCall, IsSetup}
 use Rattle.end_laws.specs.sending.Addressed.{IsAimed, IsAimedAt, IsDirection, IsEventFrom, IsHeardFrom}
 use Rattle.end_laws.specs.sending.Sized.{AreFew, IsFew, IsWaiting}

@@ -7,7 +7,7 @@ use Rattle.std.proofs.lemmas.List.{length-append}
 use Rattle.wire.specs.Formats.{big_bytes}
 use Rattle.std.proofs.lemmas.List.FromFn.{length-map-range_with_len}
 use Rattle.std.proofs.Math.Nat.{mod-lt}
-use Rattle.block_fields.specs.Fields.{body, version}
+use Rattle.wire.specs.blocks.Fields.{body, version}
 use Rattle.connect_blocks.specs.Control.{command, control}
 use Rattle.connect_blocks.specs.declared.control.ControlBlock.{ControlBlock}
 use Rattle.block_codec.specs.declared.block.Block.{Block}
@@ -20,18 +20,18 @@ use Rattle.cyclic_data.specs.declared.tail.ShortFrame.{ShortFrame}
 use Rattle.cyclic_data.specs.Image.{Shown, octets_of}
 use Rattle.cyclic_data.specs.Tail.{cyclic_frame, cyclic_of, cyclic_tail}
 use Rattle.pn_alarms.specs.Numbers.{next_number}
-use Rattle.cyclic_exchange.specs.Cyclic.{Cyclic}
-use Rattle.cyclic_exchange.specs.Frames.{cyclic_body}
-use Rattle.cyclic_exchange.specs.Received.{behind_frame, behind_read, is_new, is_of_partner}
+use Rattle.cyclic_data.specs.exchange.Cyclic.{Cyclic}
+use Rattle.cyclic_data.specs.exchange.Frames.{cyclic_body}
+use Rattle.cyclic_data.specs.exchange.Received.{behind_frame, behind_read, is_new, is_of_partner}
 use Rattle.plans.specs.declared.parts.Parts.{Parts}
 use Rattle.plans.specs.Plan.{IsPlan}
-use Rattle.controller_frames.specs.declared.request.Request.{Request}
-use Rattle.controller_frames.specs.declared.request.Request.TheVariants as asks
-use Rattle.controller_frames.specs.Heard.{Heard}
-use Rattle.controller_frames.specs.Requests.{write_count, writing_from}
-use Rattle.controller_frames.specs.Sent.{Sent, ready_answer, ready_done}
-use Rattle.record_access.specs.Access.{call_number}
-use Rattle.startup_answers.specs.Requests.{next_sequence}
+use Rattle.controller_messages.specs.declared.request.Request.{Request}
+use Rattle.controller_messages.specs.declared.request.Request.TheVariants as asks
+use Rattle.controller_messages.specs.Heard.{Heard}
+use Rattle.controller_messages.specs.Requests.{write_count, writing_from}
+use Rattle.controller_messages.specs.Sent.{Sent, ready_answer, ready_done}
+use Rattle.controller_messages.specs.Access.{call_number}
+use Rattle.controller_core.specs.start_up.Requests.{next_sequence}
 use Rattle.controller_core.specs.Machine.{where_due}
 use Rattle.end_laws.specs.turns.Turns.{Came, Hears, Passes, Gets, GetsStatus, AsksRead, AsksWrite, Halts}
 use Rattle.rpc_core.specs.Sendable.{CanBeAnswered, IsHeader}

@@ -8,9 +8,9 @@ use Rattle.pn_alarms.specs.declared.message.Notice.TheVariants as notice
 use Rattle.pn_alarms.specs.Numbers.{ack_number, is_last, next_number, send_number}
 use Rattle.pn_alarms.specs.Sending.{Sending}
 use Rattle.pn_alarms.specs.Ends.{ControllerEnd}
-use Rattle.alarm_reports.specs.declared.priority.Priority.{Priority}
-use Rattle.alarm_reports.specs.declared.priority.Priority.TheVariants.{High, Low}
-use Rattle.alarm_reports.specs.declared.report.Report.{Report}
+use Rattle.diagnosis.specs.declared.reports.priority.Priority.{Priority}
+use Rattle.diagnosis.specs.declared.reports.priority.Priority.TheVariants.{High, Low}
+use Rattle.diagnosis.specs.declared.reports.report.Report.{Report}
 use Rattle.pn_values.specs.declared.mac.Mac.{Mac}
 use Rattle.dcp_core.specs.Response.{Answered}
 use Rattle.rpc_core.specs.Call.{Asked as Call}
@@ -22,32 +22,32 @@ use Rattle.pn_alarms.specs.declared.receiver.Taken.{Taken}
 use Rattle.pn_alarms.specs.declared.receiver.Taken.TheVariants.{New, Again, Refused}
 use Rattle.pn_alarms.specs.Receiver.{taken_as}
 use Rattle.cyclic_data.specs.Image.{Cell}
-use Rattle.cyclic_exchange.specs.Cyclic.{Cyclic}
-use Rattle.cyclic_exchange.specs.Received.{behind_frame}
-use Rattle.controller_frames.specs.declared.record_request.RecordRequest.{RecordRequest}
-use Rattle.controller_frames.specs.declared.request.Request.{Request}
-use Rattle.controller_frames.specs.declared.request.Request.TheVariants as asks
-use Rattle.controller_frames.specs.declared.setup.Setup.{Setup}
-use Rattle.controller_frames.specs.Heard.{Alarms, Answers, Calls, Responds}
-use Rattle.controller_frames.specs.Requests.{writing_from}
-use Rattle.controller_frames.specs.Sent.{Agrees, ready_answer}
-use Rattle.controller_state.specs.declared.event.Event.{Event}
-use Rattle.controller_state.specs.declared.event.Event.TheVariants.{Frame, Give, Read, Status, Stop, Tick, Write}
-use Rattle.record_access.specs.Access.{Accessing}
-use Rattle.controller_state.specs.declared.outputs.OutputMark.{OutputMark}
-use Rattle.controller_state.specs.declared.state.Cause.{Cause}
-use Rattle.controller_state.specs.declared.state.State.{State}
-use Rattle.controller_state.specs.declared.state.State.TheVariants.{Addressing, Connecting, Ended, Exchanging, Waiting}
-use Rattle.controller_state.specs.State.{Live}
+use Rattle.cyclic_data.specs.exchange.Cyclic.{Cyclic}
+use Rattle.cyclic_data.specs.exchange.Received.{behind_frame}
+use Rattle.controller_messages.specs.declared.record_request.RecordRequest.{RecordRequest}
+use Rattle.controller_messages.specs.declared.request.Request.{Request}
+use Rattle.controller_messages.specs.declared.request.Request.TheVariants as asks
+use Rattle.controller_messages.specs.declared.setup.Setup.{Setup}
+use Rattle.controller_messages.specs.Heard.{Alarms, Answers, Calls, Responds}
+use Rattle.controller_messages.specs.Requests.{writing_from}
+use Rattle.controller_messages.specs.Sent.{Agrees, ready_answer}
+use Rattle.controller_core.specs.declared.stored.event.Event.{Event}
+use Rattle.controller_core.specs.declared.stored.event.Event.TheVariants.{Frame, Give, Read, Status, Stop, Tick, Write}
+use Rattle.controller_messages.specs.Access.{Accessing}
+use Rattle.controller_core.specs.declared.stored.outputs.OutputMark.{OutputMark}
+use Rattle.controller_core.specs.declared.stored.state.Cause.{Cause}
+use Rattle.controller_core.specs.declared.stored.state.State.{State}
+use Rattle.controller_core.specs.declared.stored.state.State.TheVariants.{Addressing, Connecting, Ended, Exchanging, Waiting}
+use Rattle.controller_core.specs.stored.State.{Live}
 use Rattle.end_laws.specs.turns.Turns.{Came, Hears, IsKind, IsReadied, IsTurn, Kind, Rests, Connects, Addresses, Ends, Releases, Relates, Writes, Skips, Waits, Forgets, Begins, Repeats, Follows, Takes, IsAcked, Asks, IsReplied, Gives, GivesStatus, Flows, Breaks, Idles, came_by, turn_by}
-use Rattle.codec_laws.specs.frames.Sendable.{IsMac}
-use Rattle.controller_state.specs.Alarms.{ack_of, header_of}
-use Rattle.connect_answers.specs.Connect.{Chosen}
+use Rattle.frame_codec.specs.Sendable.{IsMac}
+use Rattle.controller_core.specs.stored.Alarms.{ack_of, header_of}
+use Rattle.connects.specs.answers.Connect.{Chosen}
 use Rattle.controller_core.specs.Machine.{Turn, accesses_by, acking, acks_in, acks_of, asking, behind_ack, behind_data, brought, confirming, diagnosing, due_frames, end_of, first, flow_later, given, is_again, keeping, later, noted, over, pending_by, pending_of, rated, released, requests_of, standing, stays, taken, turn_of, where_due, with_end, writing}
-use Rattle.startup_answers.specs.Requests.{next_sequence}
-use Rattle.controller_state.specs.State.{phase_for}
-use Rattle.codec_laws.specs.alarms.Sendable.{IsHeader}
-use Rattle.codec_laws.specs.blocks.Writable.{IsAck}
+use Rattle.controller_core.specs.start_up.Requests.{next_sequence}
+use Rattle.controller_core.specs.stored.State.{phase_for}
+use Rattle.diagnosis.specs.Sendable.{IsHeader}
+use Rattle.block_codec.specs.Writable.{IsAck}
 use Rattle.end_laws.specs.hearing.Stations.{IsRecordCall, IsSetup}
 use Rattle.end_laws.specs.sending.Messages.{CanBeSent, IsWay}
 use Rattle.end_laws.specs.sending.Sized.{AreFew, IsAccess, IsAckOrNone, IsFew, IsLive, IsNoted, IsShort, IsSized, IsSizedEnd, IsSizedEvent, IsWaiting}

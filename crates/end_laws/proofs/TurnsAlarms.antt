@@ -10,9 +10,9 @@ use Rattle.record_blocks.specs.declared.alarm_notification.AlarmNotification.{Al
 use Rattle.pn_alarms.specs.declared.abort.Abort.{Abort}
 use Rattle.pn_alarms.specs.declared.message.Notice.TheVariants as notice
 use Rattle.pn_alarms.specs.declared.pdu.Header.{Header}
-use Rattle.alarm_reports.specs.declared.priority.Priority.{Priority}
-use Rattle.alarm_reports.specs.declared.priority.Priority.TheVariants.{High, Low}
-use Rattle.alarm_reports.specs.declared.report.Report.{Report}
+use Rattle.diagnosis.specs.declared.reports.priority.Priority.{Priority}
+use Rattle.diagnosis.specs.declared.reports.priority.Priority.TheVariants.{High, Low}
+use Rattle.diagnosis.specs.declared.reports.report.Report.{Report}
 use Rattle.pn_alarms.specs.declared.receiver.Taken.{Taken}
 use Rattle.pn_alarms.specs.declared.receiver.Taken.TheVariants.{New, Again, Refused}
 use Rattle.pn_alarms.specs.declared.repeats.Due.{Due}
@@ -24,24 +24,24 @@ use Rattle.pn_alarms.specs.Numbers.{send_number}
 use Rattle.pn_alarms.specs.Receiver.{taken_as}
 use Rattle.pn_alarms.specs.Sending.{due, either_due}
 use Rattle.pn_alarms.specs.Sending.{is_again as is_again_due}
-use Rattle.cyclic_exchange.specs.Units.{ending_of, tick_by}
-use Rattle.codec_laws.specs.alarms.World.{Move as Happening}
-use Rattle.codec_laws.specs.alarms.World as happening
-use Rattle.codec_laws.specs.alarms.Taken.{AreAllTaken as AreAllExchanged, AreTakenInOrder as AreExchangedInOrder, LackAtMostTheLast as LackAtMostOne}
-use Rattle.codec_laws.specs.alarms.Line.{Line, empty, more_taken, with_come, with_sent}
-use Rattle.codec_laws.specs.alarms.World.{IsPrefixOf, World, after_alarm, after_confirm, after_confirms, after_raise, behind_all, happens, line_after}
-use Rattle.codec_laws.specs.alarms.World.{start as nothing_happened}
-use Rattle.controller_frames.specs.declared.record_request.RecordService.TheVariants as service
-use Rattle.controller_frames.specs.declared.setup.Setup.{Setup}
-use Rattle.controller_frames.specs.Heard.{Heard, Alarms}
-use Rattle.controller_frames.specs.Sent.{Sent, Confirms}
-use Rattle.controller_state.specs.Alarms.{ack_of, kept_alarm}
+use Rattle.cyclic_data.specs.exchange.Units.{ending_of, tick_by}
+use Rattle.diagnosis.specs.World.{Move as Happening}
+use Rattle.diagnosis.specs.World as happening
+use Rattle.diagnosis.specs.Taken.{AreAllTaken as AreAllExchanged, AreTakenInOrder as AreExchangedInOrder, LackAtMostTheLast as LackAtMostOne}
+use Rattle.diagnosis.specs.Line.{Line, empty, more_taken, with_come, with_sent}
+use Rattle.diagnosis.specs.World.{IsPrefixOf, World, after_alarm, after_confirm, after_confirms, after_raise, behind_all, happens, line_after}
+use Rattle.diagnosis.specs.World.{start as nothing_happened}
+use Rattle.controller_messages.specs.declared.record_request.RecordService.TheVariants as service
+use Rattle.controller_messages.specs.declared.setup.Setup.{Setup}
+use Rattle.controller_messages.specs.Heard.{Heard, Alarms}
+use Rattle.controller_messages.specs.Sent.{Sent, Confirms}
+use Rattle.controller_core.specs.stored.Alarms.{ack_of, kept_alarm}
 use Rattle.controller_core.specs.Machine.{Turn, acked_under, acks_in, acks_of, behind_ack, behind_data, brought, due_frames, end_of, flow_later, flowed, given, gone_on, is_again, is_spent, later, noticed, outputs_of, over, pending_by, quit, rated, requested, requests_of, stays, stopped, taken, turned, where_due, written}
-use Rattle.controller_state.specs.declared.state.Cause.TheVariants.{NoProgress}
-use Rattle.controller_state.specs.declared.state.State.{State}
-use Rattle.controller_state.specs.declared.state.State.TheVariants.{Looking, Addressing, Ended}
-use Rattle.controller_state.specs.Cause.{cause_of}
-use Rattle.controller_state.specs.State.{Live}
+use Rattle.controller_core.specs.declared.stored.state.Cause.TheVariants.{NoProgress}
+use Rattle.controller_core.specs.declared.stored.state.State.{State}
+use Rattle.controller_core.specs.declared.stored.state.State.TheVariants.{Looking, Addressing, Ended}
+use Rattle.controller_core.specs.stored.Cause.{cause_of}
+use Rattle.controller_core.specs.stored.State.{Live}
 use Rattle.end_laws.specs.turns.Alarms.{AreAllTaken, AreTakenInOrder, LackAtMostTheLast, Move, Relation, Raises, PassesAtDevice, ComesToDevice, AckComesToDevice, AlarmComes, Hears, PassesAtController, Gives, GivesStatus, Reads, Writes, Stops, ShowsTheLast, acked_at_device, alarm_comes, behind, behind_one, comes_to_device, hears, is_looked_at, is_priority, last_of, passed_at_device, raised_by, report_as, shown_of, start, turns}
 use Rattle.end_laws.specs.turns.Turns as came
 use Rattle.end_laws.proofs.TurnsInactive.{IsInactive, IsInactiveAt, IsNoAck, IsOneOf, IsThere, at_priority, inactive_stays, no_acks_there, outputs_no_ack, pending_no_ack, requests_no_ack, turn_inactive}

@@ -12,25 +12,25 @@ use Rattle.pn_alarms.specs.declared.receiver.Taken.TheVariants.{New, Again, Refu
 use Rattle.pn_alarms.specs.Numbers.{send_number}
 use Rattle.pn_alarms.specs.Receiver.{taken_as}
 use Rattle.pn_alarms.specs.Sending.{due}
-use Rattle.alarm_reports.specs.declared.priority.Priority.{Priority}
-use Rattle.alarm_reports.specs.declared.priority.Priority.TheVariants.{High, Low}
-use Rattle.alarm_reports.specs.declared.report.Report.{Report}
-use Rattle.codec_laws.specs.alarms.Line.{more_taken, with_come}
-use Rattle.reported_diagnosis.specs.Channel.{channel_report}
-use Rattle.reported_diagnosis.specs.declared.channel.ChannelReport.{ChannelReport}
-use Rattle.reported_diagnosis.specs.Reported.{Reported, after_found, after_report, nothing_reported}
-use Rattle.controller_frames.specs.declared.request.Request.{Request}
-use Rattle.controller_frames.specs.declared.request.Request.TheVariants as asks
-use Rattle.controller_frames.specs.declared.setup.Setup.{Setup}
-use Rattle.controller_frames.specs.Requests.{write_count}
-use Rattle.controller_frames.specs.Heard.{Heard, Alarms}
-use Rattle.controller_frames.specs.Sent.{Sent, Confirms}
-use Rattle.controller_state.specs.Alarms.{is_alarm}
-use Rattle.controller_state.specs.declared.state.State.{State}
-use Rattle.controller_state.specs.declared.state.State.TheVariants.{Looking, Addressing, Connecting}
+use Rattle.diagnosis.specs.declared.reports.priority.Priority.{Priority}
+use Rattle.diagnosis.specs.declared.reports.priority.Priority.TheVariants.{High, Low}
+use Rattle.diagnosis.specs.declared.reports.report.Report.{Report}
+use Rattle.diagnosis.specs.Line.{more_taken, with_come}
+use Rattle.diagnosis.specs.reported.Channel.{channel_report}
+use Rattle.diagnosis.specs.declared.reported.channel.ChannelReport.{ChannelReport}
+use Rattle.diagnosis.specs.reported.Reported.{Reported, after_found, after_report, nothing_reported}
+use Rattle.controller_messages.specs.declared.request.Request.{Request}
+use Rattle.controller_messages.specs.declared.request.Request.TheVariants as asks
+use Rattle.controller_messages.specs.declared.setup.Setup.{Setup}
+use Rattle.controller_messages.specs.Requests.{write_count}
+use Rattle.controller_messages.specs.Heard.{Heard, Alarms}
+use Rattle.controller_messages.specs.Sent.{Sent, Confirms}
+use Rattle.controller_core.specs.stored.Alarms.{is_alarm}
+use Rattle.controller_core.specs.declared.stored.state.State.{State}
+use Rattle.controller_core.specs.declared.stored.state.State.TheVariants.{Looking, Addressing, Connecting}
 use Rattle.controller_core.specs.Machine.{Turn, alarmed, behind_data, end_of, noticed, stays, taken}
-use Rattle.controller_state.specs.State.{phase_for}
-use Rattle.controller_state.specs.State.{Live}
+use Rattle.controller_core.specs.stored.State.{phase_for}
+use Rattle.controller_core.specs.stored.State.{Live}
 use Rattle.end_laws.specs.turns.Alarms.{IsQuiet, ListsWhatIsReported, Move, Relation, Raises, PassesAtDevice, ComesToDevice, AckComesToDevice, AlarmComes, Hears, PassesAtController, Gives, GivesStatus, Reads, Writes, Stops, after_reports, alarm_comes, behind, behind_one, comes_to_device, hears, is_looked_at, is_priority, raised_by, report_as, start, turns}
 use Rattle.end_laws.specs.turns.Turns as came
 use Rattle.end_laws.specs.turns.Turns.{Came, IsKind, Kind, turn_by, turn_for}

@@ -14,40 +14,40 @@ use Rattle.block_codec.specs.Block.{block_of}
 use Rattle.pn_alarms.specs.declared.abort.Abort.{Abort}
 use Rattle.pn_alarms.specs.declared.message.Notice.TheVariants as notice
 use Rattle.pn_alarms.specs.declared.pdu.Header.{Header}
-use Rattle.alarm_reports.specs.declared.priority.Priority.{Priority}
-use Rattle.alarm_reports.specs.Message.{ToController}
+use Rattle.diagnosis.specs.declared.reports.priority.Priority.{Priority}
+use Rattle.diagnosis.specs.reports.Message.{ToController}
 use Rattle.pn_alarms.specs.Sending.{due}
-use Rattle.cyclic_exchange.specs.Received.{behind_frame}
+use Rattle.cyclic_data.specs.exchange.Received.{behind_frame}
 use Rattle.plans.specs.declared.parts.Parts.{Parts}
-use Rattle.controller_frames.specs.declared.record_request.RecordRequest.{RecordRequest}
-use Rattle.controller_frames.specs.declared.record_request.RecordService.{RecordService}
-use Rattle.controller_frames.specs.declared.record_request.RecordService.TheVariants as service
-use Rattle.controller_frames.specs.declared.refusal.Refusal.{Refusal}
-use Rattle.controller_frames.specs.declared.setup.Setup.{Setup}
-use Rattle.controller_frames.specs.declared.request.Request.{Request}
-use Rattle.controller_frames.specs.declared.request.Request.TheVariants as asks
-use Rattle.controller_frames.specs.Heard.{Heard, Nothing, Answers, Responds, Refuses, Calls, Alarms, heard_of}
-use Rattle.controller_frames.specs.Heard.{Cyclic as Comes}
-use Rattle.controller_frames.specs.RecordRequests.{most_record_octets}
-use Rattle.controller_frames.specs.Requests.{first_of}
-use Rattle.controller_frames.specs.Sent.{done as no_error}
-use Rattle.controller_state.specs.declared.event.Event.{Event}
-use Rattle.controller_state.specs.declared.event.Event.TheVariants.{Frame, Tick, Give, Status, Read, Write, Stop}
-use Rattle.controller_state.specs.declared.state.Cause.{Cause}
-use Rattle.controller_state.specs.declared.state.Cause.TheVariants as why
-use Rattle.controller_state.specs.declared.state.State.{State}
-use Rattle.controller_state.specs.declared.state.State.TheVariants.{Looking, Addressing, Ending, Waiting, Exchanging, Ended}
-use Rattle.controller_state.specs.State.{Live, is_limited}
-use Rattle.record_access.specs.Access.{answered_with, is_rejected, is_reply, record_in}
-use Rattle.controller_state.specs.Alarms.{is_alarm}
-use Rattle.startup_answers.specs.Answers.{is_addressed, is_answer, is_found, is_ready, is_refused, is_right, is_set_answer}
-use Rattle.connect_answers.specs.Connect.{Chosen, chosen_of, found_in, is_whole, nothing}
-use Rattle.startup_answers.specs.declared.outcomes.Outcomes.{Outcomes}
-use Rattle.startup_answers.specs.declared.outcomes.Outcomes.TheVariants.{AllWritten, Unreadable}
-use Rattle.startup_answers.specs.declared.outcomes.Outcomes.TheVariants.{Refused as Denied}
-use Rattle.startup_answers.specs.Outcomes.{are_written, is_all_written, outcomes_of}
+use Rattle.controller_messages.specs.declared.record_request.RecordRequest.{RecordRequest}
+use Rattle.controller_messages.specs.declared.record_request.RecordService.{RecordService}
+use Rattle.controller_messages.specs.declared.record_request.RecordService.TheVariants as service
+use Rattle.controller_messages.specs.declared.refusal.Refusal.{Refusal}
+use Rattle.controller_messages.specs.declared.setup.Setup.{Setup}
+use Rattle.controller_messages.specs.declared.request.Request.{Request}
+use Rattle.controller_messages.specs.declared.request.Request.TheVariants as asks
+use Rattle.controller_messages.specs.Heard.{Heard, Nothing, Answers, Responds, Refuses, Calls, Alarms, heard_of}
+use Rattle.controller_messages.specs.Heard.{Cyclic as Comes}
+use Rattle.controller_messages.specs.RecordRequests.{most_record_octets}
+use Rattle.controller_messages.specs.Requests.{first_of}
+use Rattle.controller_messages.specs.Sent.{done as no_error}
+use Rattle.controller_core.specs.declared.stored.event.Event.{Event}
+use Rattle.controller_core.specs.declared.stored.event.Event.TheVariants.{Frame, Tick, Give, Status, Read, Write, Stop}
+use Rattle.controller_core.specs.declared.stored.state.Cause.{Cause}
+use Rattle.controller_core.specs.declared.stored.state.Cause.TheVariants as why
+use Rattle.controller_core.specs.declared.stored.state.State.{State}
+use Rattle.controller_core.specs.declared.stored.state.State.TheVariants.{Looking, Addressing, Ending, Waiting, Exchanging, Ended}
+use Rattle.controller_core.specs.stored.State.{Live, is_limited}
+use Rattle.controller_messages.specs.Access.{answered_with, is_rejected, is_reply, record_in}
+use Rattle.controller_core.specs.stored.Alarms.{is_alarm}
+use Rattle.controller_core.specs.start_up.Answers.{is_addressed, is_answer, is_found, is_ready, is_refused, is_right, is_set_answer}
+use Rattle.connects.specs.answers.Connect.{Chosen, chosen_of, found_in, is_whole, nothing}
+use Rattle.controller_core.specs.declared.start_up.outcomes.Outcomes.{Outcomes}
+use Rattle.controller_core.specs.declared.start_up.outcomes.Outcomes.TheVariants.{AllWritten, Unreadable}
+use Rattle.controller_core.specs.declared.start_up.outcomes.Outcomes.TheVariants.{Refused as Denied}
+use Rattle.controller_core.specs.start_up.Outcomes.{are_written, is_all_written, outcomes_of}
 use Rattle.controller_core.specs.Machine.{Turn, acked_under, after_write, answered, brings, brought, called, can_request, connected, decided, done, failed, flow_later, flowed, gone_on, granted, is_again, is_exchanging, is_spent, handled, later, noticed, quit, readied, past_record, refused, refused_by, rejected, related_by, replied, replied_by, request_for, requested, requests_of, responded, stays, stopped, turn_of, turned, undone, noted, where_due, written}
-use Rattle.startup_answers.specs.Answers.{ready_in}
+use Rattle.controller_core.specs.start_up.Answers.{ready_in}
 use Rattle.end_laws.specs.turns.Turns.{Came, Hears, Passes, Gets, GetsStatus, AsksRead, AsksWrite, Halts, Found, IsGoing, IsGranted, IsKind, IsReadied, IsSought, IsReported, IsTurn, Kind, Rests, Connects, Addresses, Ends, Releases, Relates, Writes, Skips, Waits, Forgets, Begins, Repeats, Follows, Takes, IsAcked, Gives, GivesStatus, Asks, IsReplied, Flows, Breaks, Idles, came_by, chosen_in, turn_by, turn_for}
 
 -- No other phase is an end.

@@ -11,25 +11,25 @@ use Rattle.pn_alarms.specs.Controller.{confirmed, with_ack, with_data}
 use Rattle.pn_alarms.specs.Ends.{ControllerEnd}
 use Rattle.pn_alarms.specs.Receiver.{taken_as}
 use Rattle.pn_alarms.specs.Sending.{due}
-use Rattle.alarm_reports.specs.declared.priority.Priority.{Priority}
-use Rattle.alarm_reports.specs.declared.priority.Priority.TheVariants.{High, Low}
-use Rattle.alarm_reports.specs.declared.report.Report.{Report}
-use Rattle.cyclic_exchange.specs.Units.{Brought}
+use Rattle.diagnosis.specs.declared.reports.priority.Priority.{Priority}
+use Rattle.diagnosis.specs.declared.reports.priority.Priority.TheVariants.{High, Low}
+use Rattle.diagnosis.specs.declared.reports.report.Report.{Report}
+use Rattle.cyclic_data.specs.exchange.Units.{Brought}
 use Rattle.plans.specs.declared.parts.Parts.{Parts}
-use Rattle.controller_frames.specs.declared.setup.ControllerOptions.{ControllerOptions}
-use Rattle.controller_frames.specs.declared.setup.Setup.{Setup}
-use Rattle.controller_frames.specs.declared.request.Request.{Request}
-use Rattle.controller_frames.specs.declared.request.Request.TheVariants as asks
-use Rattle.controller_frames.specs.Requests.{writing_from}
-use Rattle.controller_frames.specs.Sent.{Sent, bytes_of}
-use Rattle.controller_state.specs.declared.event.Event.{Event}
-use Rattle.controller_state.specs.declared.event.Event.TheVariants.{Frame, Tick, Give, Status, Read, Write, Stop}
-use Rattle.controller_state.specs.declared.state.Cause.TheVariants.{NoProgress}
-use Rattle.controller_state.specs.declared.state.State.{State}
-use Rattle.controller_state.specs.declared.state.State.TheVariants.{Looking, Addressing, Connecting, Writing, Ending, Waiting, Exchanging, Ended}
-use Rattle.controller_state.specs.Alarms.{ack_of, kept_alarm}
-use Rattle.controller_state.specs.State.{Controlling, Live, is_limited, is_writing, left_in, patience_in, phase_for}
-use Rattle.controller_core.specs.Machine.{Turn, acking, behind_ack, behind_data, brought, confirming, diagnosing, end_of, exchange_later, flowed, fresh_with, gone_on, is_again, is_spent, keeping, later, quit, requests_of, stays, step_of, taken, ticked, turn_of, where_due, with_end}
+use Rattle.controller_messages.specs.declared.setup.ControllerOptions.{ControllerOptions}
+use Rattle.controller_messages.specs.declared.setup.Setup.{Setup}
+use Rattle.controller_messages.specs.declared.request.Request.{Request}
+use Rattle.controller_messages.specs.declared.request.Request.TheVariants as asks
+use Rattle.controller_messages.specs.Requests.{writing_from}
+use Rattle.controller_messages.specs.Sent.{Sent, bytes_of}
+use Rattle.controller_core.specs.declared.stored.event.Event.{Event}
+use Rattle.controller_core.specs.declared.stored.event.Event.TheVariants.{Frame, Tick, Give, Status, Read, Write, Stop}
+use Rattle.controller_core.specs.declared.stored.state.Cause.TheVariants.{NoProgress}
+use Rattle.controller_core.specs.declared.stored.state.State.{State}
+use Rattle.controller_core.specs.declared.stored.state.State.TheVariants.{Looking, Addressing, Connecting, Writing, Ending, Waiting, Exchanging, Ended}
+use Rattle.controller_core.specs.stored.Alarms.{ack_of, kept_alarm}
+use Rattle.controller_core.specs.stored.State.{Controlling, Live, is_limited, is_writing, left_in, patience_in, phase_for}
+use Rattle.controller_core.specs.Machine.{Turn, acking, behind_ack, behind_data, brought, confirming, end_of, exchange_later, flowed, fresh_with, gone_on, is_again, is_spent, keeping, later, quit, requests_of, step_of, taken, ticked, turn_of, where_due, with_end}
 use Rattle.end_laws.specs.controller.Small.{IsInStep, IsSteady}
 use Rattle.end_laws.specs.turns.Ended.{is_unit, release_in}
 use Rattle.end_laws.specs.turns.Patience.{EndsInTime, HasTimeLeft, IsInformed, NoneLastsLonger, StaysIn, patience_of, units_in}

@@ -4,27 +4,27 @@ use Rattle.std.proofs.Common.{◌≡◌, ◌⊎◌, inl, inr, ◌+◌, ◌++◌,
 use Rattle.record_blocks.specs.declared.alarm_notification.AlarmNotification.{AlarmNotification}
 use Rattle.pn_alarms.specs.declared.receiver.Taken.{Taken}
 use Rattle.pn_alarms.specs.declared.receiver.Taken.TheVariants.{New, Again, Refused}
-use Rattle.alarm_reports.specs.declared.priority.Priority.{Priority}
-use Rattle.alarm_reports.specs.declared.priority.Priority.TheVariants.{High, Low}
-use Rattle.alarm_reports.specs.declared.report.Report.{Report}
+use Rattle.diagnosis.specs.declared.reports.priority.Priority.{Priority}
+use Rattle.diagnosis.specs.declared.reports.priority.Priority.TheVariants.{High, Low}
+use Rattle.diagnosis.specs.declared.reports.report.Report.{Report}
 use Rattle.pn_alarms.specs.Controller.{confirmed, with_ack, with_data}
 use Rattle.pn_alarms.specs.Ends.{ControllerEnd}
 use Rattle.pn_alarms.specs.Receiver.{taken_as}
 use Rattle.plans.specs.declared.parts.Parts.{Parts}
-use Rattle.controller_frames.specs.declared.setup.ControllerOptions.{ControllerOptions}
-use Rattle.controller_frames.specs.declared.setup.Setup.{Setup}
-use Rattle.controller_frames.specs.declared.request.Request.{Request}
-use Rattle.controller_frames.specs.declared.request.Request.TheVariants as asks
-use Rattle.controller_frames.specs.Requests.{writing_from}
-use Rattle.controller_frames.specs.Sent.{Sent}
-use Rattle.controller_state.specs.declared.event.Event.{Event}
-use Rattle.controller_state.specs.declared.state.Cause.{Cause}
-use Rattle.controller_state.specs.declared.state.State.TheVariants.{Ended}
-use Rattle.controller_state.specs.State.{Controlling, Live}
-use Rattle.controller_state.specs.Alarms.{ack_of, kept_alarm}
+use Rattle.controller_messages.specs.declared.setup.ControllerOptions.{ControllerOptions}
+use Rattle.controller_messages.specs.declared.setup.Setup.{Setup}
+use Rattle.controller_messages.specs.declared.request.Request.{Request}
+use Rattle.controller_messages.specs.declared.request.Request.TheVariants as asks
+use Rattle.controller_messages.specs.Requests.{writing_from}
+use Rattle.controller_messages.specs.Sent.{Sent}
+use Rattle.controller_core.specs.declared.stored.event.Event.{Event}
+use Rattle.controller_core.specs.declared.stored.state.Cause.{Cause}
+use Rattle.controller_core.specs.declared.stored.state.State.TheVariants.{Ended}
+use Rattle.controller_core.specs.stored.State.{Controlling, Live}
+use Rattle.controller_core.specs.stored.Alarms.{ack_of, kept_alarm}
 use Rattle.controller_core.specs.Machine.{Turn, acking, behind_ack, behind_data, confirming, diagnosing, end_of, first, flow_later, fresh_with, keeping, noted, over, released, standing, stays, step_of, taken, turn_of, with_end, writing}
-use Rattle.controller_state.specs.Cause.{cause_of}
-use Rattle.controller_state.specs.State.{phase_for}
+use Rattle.controller_core.specs.stored.Cause.{cause_of}
+use Rattle.controller_core.specs.stored.State.{phase_for}
 use Rattle.end_laws.specs.turns.Ended.{HasEnded, may_release}
 use Rattle.end_laws.specs.turns.Runs.{IsReached, behind_all}
 use Rattle.end_laws.specs.turns.Turns.{Came, IsEnd, IsKind, IsReported, Kind, Rests, Connects, Addresses, Ends, Releases, Relates, Writes, Skips, Waits, Forgets, Begins, Repeats, Follows, Takes, IsAcked, Gives, GivesStatus, Asks, IsReplied, Flows, Breaks, Idles, came_by, turn_by}

@@ -4,3 +4,5 @@ pub mod sending
 pub mod both
 pub mod device
 pub mod controller
+pub mod answers
+pub mod log_data

@@ -3,3 +3,7 @@ pub mod Ended
 pub mod Patience
 pub mod Turns
 pub mod Alarms
+pub mod Belongs
+pub mod Again
+pub mod Inputs
+pub mod Causes

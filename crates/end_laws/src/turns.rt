@@ -5,4 +5,7 @@ mod kinds;
 mod law;
 
 pub use kinds::turns_are_of_a_kind;
-pub use law::{alarms_are_taken_in_order, ended_is_kept, no_state_outlasts_its_patience};
+pub use law::{
+    alarms_are_taken_in_order, answers_belong_to_their_requests, each_end_has_its_cause,
+    ended_is_kept, inputs_are_received, no_state_outlasts_its_patience, requests_are_repeated,
+};

@@ -5,3 +5,5 @@ pub mod Layers
 pub mod Datagrams
 pub mod Frames
 pub mod Fitting
+pub mod Fits
+pub mod ReadBack

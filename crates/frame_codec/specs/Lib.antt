@@ -7,3 +7,4 @@ pub mod FrameFault
 pub mod FrameId
 pub mod Outbox
 pub mod Calls
+pub mod Sendable

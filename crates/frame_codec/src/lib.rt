@@ -3,6 +3,8 @@
 //!
 //! `inline(always)` is used where instructions were counted (`bench/figures/exchange.py`): the code for each frame of
 //! an exchange is one piece, and rare cases are outside of it (`inline(never)`).
+//!
+//! Laws of frames: a frame that fits and is written is read back.
 #![tactic(auto)]
 
 mod arp;
@@ -11,6 +13,7 @@ mod fault;
 mod fields;
 mod frame;
 mod frame_id;
+mod frame_law;
 mod internet;
 mod law;
 mod layered;
@@ -29,6 +32,7 @@ pub use frame_id::{
     ALARM_HIGH, ALARM_LOW, DCP_GET_SET, DCP_IDENTIFY_REQUEST, DCP_IDENTIFY_RESPONSE, is_alarm,
     is_cyclic,
 };
+pub use frame_law::frames_are_read;
 pub use law::{fitting_frames_are_read, formats_are_sound};
 pub use layered::{Layered, OpenFrame, Payload, Pieces, RealTimeFrame};
 pub use outbox::Outbox;

@@ -9,7 +9,7 @@ use Rattle.pn_values.specs.declared.im_value.ImValue.TheVariants as im
 use Rattle.pn_values.specs.declared.command.Command.{Command}
 use Rattle.pn_values.specs.declared.command.Command.TheVariants.{SetIm}
 use Rattle.wire.proofs.Fields.{bind_ok, ok_is}
-use Rattle.block_fields.specs.Fields.{number_bytes, octet_bytes, version, body}
+use Rattle.wire.specs.blocks.Fields.{number_bytes, octet_bytes, version, body}
 use Rattle.block_codec.specs.Block.{block_bytes, block, body_of, fields_of}
 use Rattle.block_codec.specs.Kinds.{number_of, type_of}
 use Rattle.record_blocks.specs.Im1.{im1}

@@ -24,7 +24,7 @@ pub(crate) fn put_filter(out: &mut Octets, real: &Real)
 
 /// Appends the block of all submodules that are plugged to an empty list.
 #[inline(never)]
-#[tactic(auto, unfolding(block_codec::specs::Block::block_size, block_codec::specs::Block::fields_of, block_fields::specs::Fields::body, block_fields::specs::Fields::version))]
+#[tactic(auto, unfolding(block_codec::specs::Block::block_size, block_codec::specs::Block::fields_of, wire::specs::blocks::Fields::body, wire::specs::blocks::Fields::version))]
 fn put_all(out: &mut Octets, real: &Real)
     requires { out.old.items ≡ [] }
     ensures octets { out.new.items ≡ block_bytes (is.ImFilterDataSubmodule (all_of real.now)) }
@@ -44,7 +44,7 @@ fn put_all(out: &mut Octets, real: &Real)
 
 /// Appends the block of the submodule that represents the device.
 #[inline(never)]
-#[tactic(auto, unfolding(block_codec::specs::Block::block_size, block_codec::specs::Block::fields_of, block_fields::specs::Fields::body, block_fields::specs::Fields::version))]
+#[tactic(auto, unfolding(block_codec::specs::Block::block_size, block_codec::specs::Block::fields_of, wire::specs::blocks::Fields::body, wire::specs::blocks::Fields::version))]
 fn put_device(out: &mut Octets, real: &Real)
     requires { array_vec_len out.old ≤ 600 }
     ensures { out.new.items ≡ out.old.items ++ block_bytes (is.ImFilterDataDevice (device_of real.now)) }

@@ -103,7 +103,7 @@ fn is_device(slot: u16, subslot: u16) -> bool
 }
 
 /// Puts I&M0 of a device into an empty list.
-#[tactic(auto, unfolding(block_codec::specs::Block::block_size, block_codec::specs::Block::fields_of, block_fields::specs::Fields::body, block_fields::specs::Fields::version, record_blocks::specs::Im0::im0))]
+#[tactic(auto, unfolding(block_codec::specs::Block::block_size, block_codec::specs::Block::fields_of, wire::specs::blocks::Fields::body, wire::specs::blocks::Fields::version, record_blocks::specs::Im0::im0))]
 fn put_im0(out: &mut Octets, identity: &Identity)
     requires { out.old.items ≡ [] }
     ensures { out.new.items ≡ im0_record identity.now }
@@ -123,7 +123,7 @@ fn put_im0(out: &mut Octets, identity: &Identity)
 }
 
 /// Puts I&M1 with this text into an empty list.
-#[tactic(auto, unfolding(block_codec::specs::Block::block_size, block_codec::specs::Block::fields_of, block_fields::specs::Fields::body, block_fields::specs::Fields::version, record_blocks::specs::Im1::im1))]
+#[tactic(auto, unfolding(block_codec::specs::Block::block_size, block_codec::specs::Block::fields_of, wire::specs::blocks::Fields::body, wire::specs::blocks::Fields::version, record_blocks::specs::Im1::im1))]
 fn put_im1(out: &mut Octets, text: &Padded<54>)
     requires { out.old.items ≡ [] }
     ensures { out.new.items ≡ im1_record text.now }
@@ -139,7 +139,7 @@ fn put_im1(out: &mut Octets, text: &Padded<54>)
 }
 
 /// Puts I&M2 with this text into an empty list.
-#[tactic(auto, unfolding(block_codec::specs::Block::block_size, block_codec::specs::Block::fields_of, block_fields::specs::Fields::body, block_fields::specs::Fields::version, record_blocks::specs::Im2::im2))]
+#[tactic(auto, unfolding(block_codec::specs::Block::block_size, block_codec::specs::Block::fields_of, wire::specs::blocks::Fields::body, wire::specs::blocks::Fields::version, record_blocks::specs::Im2::im2))]
 fn put_im2(out: &mut Octets, text: &Padded<16>)
     requires { out.old.items ≡ [] }
     ensures { out.new.items ≡ im2_record text.now }
@@ -150,7 +150,7 @@ fn put_im2(out: &mut Octets, text: &Padded<16>)
 }
 
 /// Puts I&M3 with this text into an empty list.
-#[tactic(auto, unfolding(block_codec::specs::Block::block_size, block_codec::specs::Block::fields_of, block_fields::specs::Fields::body, block_fields::specs::Fields::version, record_blocks::specs::Im3::im3))]
+#[tactic(auto, unfolding(block_codec::specs::Block::block_size, block_codec::specs::Block::fields_of, wire::specs::blocks::Fields::body, wire::specs::blocks::Fields::version, record_blocks::specs::Im3::im3))]
 fn put_im3(out: &mut Octets, text: &Padded<54>)
     requires { out.old.items ≡ [] }
     ensures { out.new.items ≡ im3_record text.now }
@@ -163,7 +163,7 @@ fn put_im3(out: &mut Octets, text: &Padded<54>)
 }
 
 /// Puts I&M4 with this text into an empty list.
-#[tactic(auto, unfolding(block_codec::specs::Block::block_size, block_codec::specs::Block::fields_of, block_fields::specs::Fields::body, block_fields::specs::Fields::version, record_blocks::specs::Im4::im4))]
+#[tactic(auto, unfolding(block_codec::specs::Block::block_size, block_codec::specs::Block::fields_of, wire::specs::blocks::Fields::body, wire::specs::blocks::Fields::version, record_blocks::specs::Im4::im4))]
 fn put_im4(out: &mut Octets, text: &Padded<54>)
     requires { out.old.items ≡ [] }
     ensures { out.new.items ≡ im4_record text.now }

@@ -6,9 +6,9 @@ use Rattle.std.proofs.lemmas.Bool.{lt-ltb}
 use Rattle.std.proofs.lemmas.List.Sums.{sum_by-cons}
 use Rattle.std.proofs.lemmas.List.{append-nil, length-append, length-map}
 use Rattle.pn_values.specs.declared.real.RealModule.{RealModule}
-use Rattle.module_blocks.specs.declared.module_diff.DiffModule.{DiffModule}
-use Rattle.module_blocks.specs.declared.module_diff.DiffSubmodule.{DiffSubmodule}
-use Rattle.module_blocks.specs.ModuleDiff.{own_of}
+use Rattle.connect_blocks.specs.declared.module_diff.DiffModule.{DiffModule}
+use Rattle.connect_blocks.specs.declared.module_diff.DiffSubmodule.{DiffSubmodule}
+use Rattle.connect_blocks.specs.ModuleDiff.{own_of}
 use Rattle.module_diff.specs.Plugged.{is_ident, module_ident}
 use Rattle.module_diff.specs.Diff.{Wanted, differs, is_as_expected, is_proper, listed, module_row, module_rows, row_with, submodule_row, submodule_rows, submodules_of, submodules_of_all}
 use Rattle.module_diff.specs.Rows.{AreRows}

@@ -1,7 +1,7 @@
 -- The number of octets that the rows take.
 use Rattle.std.proofs.Common.{◌≤◌, ◌+◌, ◌*◌, length, arith}
-use Rattle.module_blocks.specs.declared.module_diff.ModuleDiffBlock.{ModuleDiffBlock}
-use Rattle.module_blocks.specs.ModuleDiff.{module_diff}
+use Rattle.connect_blocks.specs.declared.module_diff.ModuleDiffBlock.{ModuleDiffBlock}
+use Rattle.connect_blocks.specs.ModuleDiff.{module_diff}
 
 -- The clause of the format that bounds the size of a ModuleDiffBlock.
 abbrev pub DiffsAreShort : Type 0

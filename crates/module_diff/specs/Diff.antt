@@ -2,13 +2,13 @@
 use Rattle.std.specs.Prelude.{◌==◌, ◌&&◌, ◌||◌, ◌++◌, ℕ, Bool, false, not, List, [], ◌∷◌, map, length, take, drop, Option, Some, None, if◌then◌else◌}
 use Rattle.std.specs.List.{filter, list_any}
 use Rattle.pn_values.specs.declared.real.RealModule.{RealModule}
-use Rattle.block_fields.specs.modules.Lists.{Listed}
-use Rattle.module_blocks.specs.declared.expected.ExpectedModule.{ExpectedModule}
-use Rattle.module_blocks.specs.declared.expected.ExpectedSubmodule.{ExpectedSubmodule}
-use Rattle.module_blocks.specs.declared.module_diff.DiffModule.{DiffModule}
-use Rattle.module_blocks.specs.declared.module_diff.DiffSubmodule.{DiffSubmodule}
-use Rattle.module_blocks.specs.Expected.{own_of}
-use Rattle.module_blocks.specs.ModuleDiff.{own_of as rows_of}
+use Rattle.wire.specs.blocks.modules.Lists.{Listed}
+use Rattle.connect_blocks.specs.declared.expected.ExpectedModule.{ExpectedModule}
+use Rattle.connect_blocks.specs.declared.expected.ExpectedSubmodule.{ExpectedSubmodule}
+use Rattle.connect_blocks.specs.declared.module_diff.DiffModule.{DiffModule}
+use Rattle.connect_blocks.specs.declared.module_diff.DiffSubmodule.{DiffSubmodule}
+use Rattle.connect_blocks.specs.Expected.{own_of}
+use Rattle.connect_blocks.specs.ModuleDiff.{own_of as rows_of}
 use Rattle.module_diff.specs.declared.expected.Expected.{Expected}
 use Rattle.module_diff.specs.Plugged.{is_ident, module_ident, submodule_ident}
 

@@ -1,8 +1,8 @@
 -- The rows of a ModuleDiffBlock.
 use Rattle.std.specs.Prelude.{◌≡◌, ◌≤◌, List, length, sum_by}
-use Rattle.module_blocks.specs.declared.module_diff.DiffModule.{DiffModule}
-use Rattle.module_blocks.specs.declared.module_diff.DiffSubmodule.{DiffSubmodule}
-use Rattle.module_blocks.specs.ModuleDiff.{own_of}
+use Rattle.connect_blocks.specs.declared.module_diff.DiffModule.{DiffModule}
+use Rattle.connect_blocks.specs.declared.module_diff.DiffSubmodule.{DiffSubmodule}
+use Rattle.connect_blocks.specs.ModuleDiff.{own_of}
 
 -- The counts of the modules add up to the number of submodules, and each list has at most 64 entries.
 pub record AreRows (modules : List DiffModule) (submodules : List DiffSubmodule) : Type 0 where

@@ -9,7 +9,7 @@ ghost use Rattle.module_diff.specs.Diff.{wanted_in};
 use crate::plugged::{module_ident, submodule_ident};
 use crate::{DiffRows, Expected};
 use arrayvec::ArrayVec;
-use module_blocks::{DiffModule, DiffSubmodule, ExpectedModule, ExpectedSubmodule};
+use connect_blocks::{DiffModule, DiffSubmodule, ExpectedModule, ExpectedSubmodule};
 use pn_values::Real;
 
 /// ModuleState for an empty slot.

@@ -1,12 +1,12 @@
 //! The rows of a ModuleDiffBlock.
 ghost use Rattle.std.specs.Prelude.{◌≡◌, ◌==◌, ◌≤◌, length};
-ghost use Rattle.module_blocks.specs.ModuleDiff.{IsModuleDiff, module_diff};
+ghost use Rattle.connect_blocks.specs.ModuleDiff.{IsModuleDiff, module_diff};
 ghost use Rattle.module_diff.specs.Diff.{has_subslot, is_listed, lists};
 ghost use Rattle.module_diff.specs.Rows.{AreRows};
 
 use crate::differing::split_own;
 use arrayvec::ArrayVec;
-use module_blocks::{DiffModule, DiffModules, DiffSubmodule, ModuleDiffBlock, diffs_are_short};
+use connect_blocks::{DiffModule, DiffModules, DiffSubmodule, ModuleDiffBlock, diffs_are_short};
 use std::marker::Model;
 
 /// The modules that differ, in the order of the request, each with its listed submodules: at most 64 modules and at most
@@ -18,9 +18,9 @@ pub struct DiffRows {
 }
 
 impl Model for DiffRows {
-    ghost use Rattle.block_fields.specs.modules.Lists.{Listed};
-    ghost use Rattle.module_blocks.specs.declared.module_diff.DiffModule.{DiffModule};
-    ghost use Rattle.module_blocks.specs.declared.module_diff.DiffSubmodule.{DiffSubmodule};
+    ghost use Rattle.wire.specs.blocks.modules.Lists.{Listed};
+    ghost use Rattle.connect_blocks.specs.declared.module_diff.DiffModule.{DiffModule};
+    ghost use Rattle.connect_blocks.specs.declared.module_diff.DiffSubmodule.{DiffSubmodule};
     ghost use Rattle.module_diff.specs.Rows.{AreRows};
 
     ghost Value = { Listed DiffModule DiffSubmodule };

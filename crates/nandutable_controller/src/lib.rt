@@ -4,26 +4,28 @@
 //! Each call is proved down to its raw pointer: the content of the memory before the call, and its content after it.
 #![tactic(auto)]
 
-ghost use Rattle.std.specs.Prelude.{◌≡◌, take, true};
+ghost use Rattle.std.specs.Prelude.{◌≡◌, ◌≢◌, take, true};
 ghost use Rattle.std.specs.Borrow.{full_share};
 ghost use base.Logic.{ex};
 ghost use types.Logic.{sem};
 ghost use denote.RawPtr.{lies_at, room_at};
 ghost use Rattle.controller_station.specs.Served.{begun};
-ghost use Rattle.controller_abi.specs.State.{State, opened};
+ghost use Rattle.controller_abi.specs.State.{IsUnstarted, State, opened};
 ghost use Rattle.controller_abi.specs.contracts.port.Port.{the_row as Row};
 ghost use Rattle.controller_abi.specs.Plans.{fault_of, is_plan, options_in, parts_of, why_not_made};
 ghost use Rattle.controller_abi.specs.Serves.{Serves, operation_of};
 ghost use Rattle.c_layout.specs.Places.{place_in};
 ghost use Rattle.commissioning.specs.Named.{named_by};
-ghost use Rattle.commissioning.specs.Place.{after_frame, place_of};
+ghost use Rattle.commissioning.specs.Place.{IsTidy, after_frame, name_of, place_of};
 ghost use Rattle.commissioning.specs.Record.{record_heard};
-ghost use Rattle.commissioning_abi.specs.Tool.{IsFind, IsName, IsOutcome, IsRead, IsRecord, index_in, tool_in};
+ghost use Rattle.controller_abi.specs.Tool.{IsFind, IsName, IsOutcome, IsRead, IsRecord, index_in, tool_in};
 
 use c_layout::Op;
 use commissioning::Search;
-use commissioning_abi::{WrittenTarget, WrittenTool, find, hear, name, outcome, read, record};
-use controller_abi::{Port, WrittenPlan, fault_in, judge, serve, start, unstarted};
+use controller_abi::{
+    Port, WrittenPlan, WrittenTarget, WrittenTool, fault_in, find, hear, judge, name, outcome,
+    read, record, serve, start, unstarted,
+};
 
 /// Returns the first fault of a plan, with the number that a catalogue with this fault has, or 0.
 #[unsafe(no_mangle)]
@@ -57,7 +59,7 @@ pub unsafe extern "C" fn pn_controller_put(
     activity: &[u8; 16],
 )
     requires* { sem 𝓛 (room_at Row room) ∗ ⌜ is_plan plan.now ≡ true ⌝ }
-    ensures* { ex 𝓤 (λ (port : State). sem 𝓛 (lies_at Row full_share room port) ∗ ⌜ port.controller.setup ≡ record { plan = parts_of plan.now; ar = ar.now; activity = activity.now; options = options_in plan.now } ⌝) }
+    ensures* { ex 𝓤 (λ (port : State). sem 𝓛 (lies_at Row full_share room port) ∗ ⌜ IsUnstarted (record { plan = parts_of plan.now; ar = ar.now; activity = activity.now; options = options_in plan.now }) port ⌝) }
 {
     unsafe { std::ptr::write(room as *mut Port, unstarted(plan, ar, activity)) };
 }
@@ -72,7 +74,8 @@ pub unsafe extern "C" fn pn_controller_begin(room: *mut u8)
     start(unsafe { &mut *(room as *mut Port) });
 }
 
-/// Carries out one operation on the controller in the memory at `room`. Returns 0, or why nothing changed.
+/// Carries out one operation on the controller in the memory at `room`. Returns 0, or why nothing changed. Before
+/// `pn_controller_begin` nothing changes, and it returns 17.
 #[unsafe(no_mangle)]
 pub unsafe extern "C" fn pn_controller_step(room: *mut u8, op: &mut Op, given: &[u8]) -> u32
     ghost port: { State }
@@ -82,26 +85,43 @@ pub unsafe extern "C" fn pn_controller_step(room: *mut u8, op: &mut Op, given: &
     serve(unsafe { &mut *(room as *mut Port) }, op, given)
 }
 
-/// Writes the frame by which a tool asks all stations which one has this name by its place. Returns 0, or why not.
+/// Begins a search: writes the frame by which a tool asks all stations which one has this name by its place, with the tool's next number.
+/// Returns 0, or why not.
 #[unsafe(no_mangle)]
-pub extern "C" fn pn_tool_find(tool: &WrittenTool, op: &mut Op, alias: &[u8]) -> u32
-    ensures { IsFind tool.now alias.now op.old result op.new }
+pub extern "C" fn pn_tool_find(
+    tool: &mut WrittenTool,
+    search: &mut Search,
+    op: &mut Op,
+    alias: &[u8],
+) -> u32
+    ensures { IsFind tool.old search.old alias.now op.old result tool.new search.new op.new }
 {
-    find(tool, alias, op)
+    find(tool, search, alias, op)
 }
 
-/// Hears a received frame: only an answer to that question counts, by the number of the tool's request.
+/// Hears a received frame: only an answer to the question of this search counts, by its number.
 #[unsafe(no_mangle)]
 pub extern "C" fn pn_tool_hear(tool: &WrittenTool, search: &mut Search, given: &[u8])
-    ensures { place_of search.new ≡ after_frame (tool_in tool.now) tool.now.xid (place_of search.old) (take 1519 given.now) }
+    ensures place { place_of search.new ≡ after_frame (tool_in tool.now) search.old.xid (place_of search.old) (take 1519 given.now) }
+    // It goes on to ask by this number.
+    ensures number { search.new.xid ≡ search.old.xid }
+    // A host finds no more than is told.
+    ensures tidy { IsTidy search.old → IsTidy search.new }
+    // After the answer of a second station the name is still that of the first one.
+    ensures kept { search.old.stations ≢ 0 → search.new.stations ≢ 1 → name_of search.new ≡ name_of search.old }
 {
     hear(tool, search, given);
 }
 
-/// Writes the frame by which the station at the place gets this name. Returns 0, or why not.
+/// Writes the frame by which the station at the place gets this name, with the tool's next number. Returns 0, or why not.
 #[unsafe(no_mangle)]
-pub extern "C" fn pn_tool_name(tool: &WrittenTool, search: &Search, op: &mut Op, text: &[u8]) -> u32
-    ensures { IsName tool.now (place_of search.now) text.now op.old result op.new }
+pub extern "C" fn pn_tool_name(
+    tool: &mut WrittenTool,
+    search: &Search,
+    op: &mut Op,
+    text: &[u8],
+) -> u32
+    ensures { IsName tool.old (place_of search.now) text.now op.old result tool.new op.new }
 {
     name(tool, search, text, op)
 }

@@ -5,7 +5,7 @@
 ghost use Rattle.std.specs.Prelude.{◌≡◌, ◌≢◌, ◌≤◌, length};
 ghost use Rattle.configurator.specs.Planned.{IsPlanOf};
 ghost use Rattle.controller_abi.specs.Plans.{parts_of};
-ghost use Rattle.plan_abi.specs.Places.{IsReported};
+ghost use Rattle.plan_abi.specs.Places.{HasNone, IsReported};
 ghost use Rattle.plan_abi.specs.Readings.{IsBlank, IsFault, IsWritten};
 
 use controller_abi::WrittenPlan;
@@ -32,14 +32,16 @@ pub extern "C" fn pn_plan_make(
     read(alloc, text, size, plan)
 }
 
-/// Writes the key at which the first fault of a catalogue is, followed by a zero. Returns 1 if it wrote one, otherwise
-/// 0.
+/// Writes the key at which the first fault of a catalogue is, followed by a zero. Returns 1 if it wrote one, 2 if there is none or no room for
+/// it, and 0 if there was not enough memory, and only then.
 #[unsafe(no_mangle)]
 pub extern "C" fn pn_plan_show(text: &[u8], room: &mut [u8], alloc: Global) -> u32
     ensures length { length room.new ≡ length room.old }
-    ensures kept { result ≡ 0 → room.new ≡ room.old }
-    ensures reported { result ≢ 0 → IsReported text.now room.old room.new }
-    ensures one { result ≤ 1 }
+    ensures kept { result ≢ 1 → room.new ≡ room.old }
+    ensures reported { result ≡ 1 → IsReported text.now room.old room.new }
+    // Nothing is shown only if there is nothing to show.
+    ensures nothing { result ≡ 2 → HasNone text.now room.old }
+    ensures few { result ≤ 2 }
 {
     show(alloc, text, room)
 }

@@ -14,11 +14,11 @@ use Rattle.device_frames.specs.Heard.{Heard, Ticks, Given, Raised, Rated, Met, R
 use Rattle.device_frames.specs.declared.note.Note.{Note}
 use Rattle.device_core.specs.State.{State}
 use Rattle.device_core.specs.Steps.{Steps}
-use Rattle.controller_state.specs.declared.state.State.{State as ControllerState}
-use Rattle.controller_state.specs.declared.state.State.TheVariants.{Looking, Addressing, Connecting, Writing, Ending, Waiting, Exchanging, Ended}
-use Rattle.controller_state.specs.declared.event.Event.{Event as ControllerEvent}
-use Rattle.controller_state.specs.declared.event.Event.TheVariants as controller
-use Rattle.controller_state.specs.State.{Controlling}
+use Rattle.controller_core.specs.declared.stored.state.State.{State as ControllerState}
+use Rattle.controller_core.specs.declared.stored.state.State.TheVariants.{Looking, Addressing, Connecting, Writing, Ending, Waiting, Exchanging, Ended}
+use Rattle.controller_core.specs.declared.stored.event.Event.{Event as ControllerEvent}
+use Rattle.controller_core.specs.declared.stored.event.Event.TheVariants as controller
+use Rattle.controller_core.specs.stored.State.{Controlling}
 use Rattle.controller_core.specs.Machine.{step_of}
 use Rattle.network_world.specs.declared.moves.End.{End}
 use Rattle.network_world.specs.declared.moves.End.TheVariants.{Device, Controller}

@@ -1,13 +1,12 @@
 -- The items at the start of a room are those that were written there.
-use Rattle.std.proofs.Common.{◌≡◌, ◌∙◌, ◌++◌, ◌+◌, ◌<◌, ◌≤◌, ℕ, zero, suc, refl, sym, ap, List, [], ◌∷◌, length, map, take, drop, set, get_or, arith}
+use Rattle.std.proofs.Common.{◌≡◌, ◌∙◌, ◌++◌, ◌<◌, ◌≤◌, ℕ, zero, suc, refl, ap, List, [], ◌∷◌, length, map, take, drop, set, get_or, arith}
 use Rattle.pn_values.specs.declared.real.ParameterRecord.{ParameterRecord}
 use Rattle.pn_values.specs.declared.real.RealModule.{RealModule}
 use Rattle.pn_values.specs.declared.real.RealSubmodule.{RealSubmodule}
 use Rattle.plans.specs.declared.parts.PlanRecord.{PlanRecord}
-use Rattle.c_layout.specs.declared.plugged.Module.{Module}
 use Rattle.c_layout.specs.Modules.{module_of, parameter_of, submodule_of}
 use Rattle.controller_abi.specs.Plans.{record_of}
-use Rattle.plan_abi.specs.Readings.{no_module, no_parameters, no_submodules, over, written_module, written_parameter, written_record, written_submodule}
+use Rattle.plan_abi.specs.Readings.{no_parameters, no_submodules, over, written_module, written_parameter, written_record, written_submodule}
 
 -- one more item is written
 pub laid_more : {A B : Type 0} (f : A → B) (given : List A) (room : List B) (i : ℕ) (x : B) (d : A) → i < length given → length given ≤ length room → x ≡ f (get_or given i d)

@@ -1,1 +1,3 @@
+pub mod KeyLengths
 pub mod Laid
+pub mod Spelling

@@ -6,5 +6,5 @@ mod reading;
 mod spelled;
 mod written;
 
-pub use place::show;
+pub use place::{show, tell};
 pub use reading::read;

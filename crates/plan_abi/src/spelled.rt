@@ -1,39 +1,44 @@
 //! A place in a catalogue as text, as `Project.Slots[1].Slot`.
-ghost use Rattle.std.specs.Prelude.{◌≡◌, ◌++◌, IfOk, OnOk, flat_map};
+ghost use Rattle.std.specs.Prelude.{◌≡◌, ◌≤◌, ◌+◌, ◌*◌, ◌++◌, flat_map, length};
 ghost use Rattle.plan_abi.specs.Places.{spelled_behind, shown};
 
+use arrayvec::ArrayVec;
 use catalogue::Step;
 use itoa::Buffer;
-use std::alloc::{AllocError, Global};
+use wire::append;
 
-/// Appends a step: a dot and a key, or the number of an entry in brackets.
-#[tactic(auto, unfolding(crate::specs::Places::shown))]
-fn push_step(text: &mut Vec<u8>, step: Step) -> Result<(), AllocError>
-    ensures { OnOk result (text.new.items ≡ text.old.items ++ shown step) }
+/// The text of a place: at most eight steps, each with at most 24 octets.
+pub(crate) type Text = ArrayVec<u8, 192>;
+
+/// Appends a step: a dot and a key, or the number of an entry in brackets. At most 24 octets.
+#[tactic(auto, using(crate::proofs::KeyLengths::few_octets), unfolding(crate::specs::Places::shown))]
+fn push_step(text: &mut Text, step: Step)
+    requires { length text.old.items ≤ 168 }
+    ensures value { text.new.items ≡ text.old.items ++ shown step }
+    ensures few { length text.new.items ≤ length text.old.items + 24 }
 {
     match step {
         Step::At(key) => {
-            text.extend_from_slice(b".")?;
-            text.extend_from_slice(key.name().as_bytes())?;
-            Ok(())
+            append(text, b".");
+            append(text, key.name().as_bytes());
         }
         Step::Entry(index) => {
             let mut buffer = Buffer::new();
-            text.extend_from_slice(b"[")?;
-            text.extend_from_slice(buffer.format(index).as_bytes())?;
-            text.extend_from_slice(b"]")?;
-            Ok(())
+            append(text, b"[");
+            append(text, buffer.format(index).as_bytes());
+            append(text, b"]");
         }
     }
 }
 
 /// The steps of a place, one after another. There is a dot before the first key too.
-pub(crate) fn spelled(alloc: Global, steps: &[Step]) -> Result<Vec<u8>, AllocError>
-    ensures { IfOk result (λ text. text.items ≡ spelled_behind steps.now) }
+pub(crate) fn spelled(steps: &[Step]) -> Text
+    requires { length steps.now ≤ 8 }
+    ensures { result.items ≡ spelled_behind steps.now }
 {
-    let mut text = Vec::new(alloc);
+    let mut text = Text::new();
     for step in steps {
-        push_step(&mut text, *step)?;
+        push_step(&mut text, *step);
     }
-    Ok(text)
+    text
 }

@@ -14,8 +14,8 @@ use Rattle.connect_blocks.specs.declared.iocr.IocrType.TheVariants.{Input, Outpu
 use Rattle.connect_blocks.specs.ArBlock.{IsArBlockReq, is_some_uuid}
 use Rattle.connect_blocks.specs.Iocr.{IsIocrBlockReq, is_frame_id}
 use Rattle.connect_blocks.specs.AlarmCr.{IsAlarmCrBlockReq}
-use Rattle.module_blocks.specs.declared.expected.ExpectedSubmodule.{ExpectedSubmodule}
-use Rattle.module_blocks.specs.Expected.{IsExpectedSubmoduleBlockReq, IsShort, own_of}
+use Rattle.connect_blocks.specs.declared.expected.ExpectedSubmodule.{ExpectedSubmodule}
+use Rattle.connect_blocks.specs.Expected.{IsExpectedSubmoduleBlockReq, IsShort, own_of}
 use Rattle.block_codec.specs.declared.block.Block.TheVariants as is
 use Rattle.cyclic_data.specs.declared.place.PlaceKind.TheVariants.{Data}
 use Rattle.cyclic_data.specs.declared.place.ExpectedData.{ExpectedData}

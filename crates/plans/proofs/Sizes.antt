@@ -1,7 +1,7 @@
 -- The length of a Connect.
 use Rattle.std.proofs.Common.{◌≡◌, inl, inr, ℕ, ◌+◌, ◌-◌, ◌≤◌, true, List, [], ◌∷◌, length, nat_le, Some, None, is_some, refl, arith}
 use Rattle.std.proofs.lemmas.Bool.{cases_Bool, leb-true}
-use Rattle.block_fields.specs.Fields.{body, version}
+use Rattle.wire.specs.blocks.Fields.{body, version}
 use Rattle.connect_blocks.specs.ArBlock.{ar_block_req, ar_uuid, initiator_mac}
 use Rattle.connect_blocks.specs.declared.iocr.IocrType.TheVariants.{Input, Output}
 use Rattle.block_codec.specs.declared.block.Block.{Block}

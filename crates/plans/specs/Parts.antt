@@ -4,9 +4,9 @@ use Rattle.std.specs.List.{AllByRecursion}
 use Rattle.pn_values.specs.StationName.{IsStationName}
 use Rattle.pn_values.specs.declared.real.RealModule.{RealModule}
 use Rattle.pn_values.specs.declared.real.RealSubmodule.{RealSubmodule}
-use Rattle.module_blocks.specs.declared.submodule_data.SubmoduleData.{SubmoduleData}
-use Rattle.module_blocks.specs.declared.expected.ExpectedModule.{ExpectedModule}
-use Rattle.module_blocks.specs.declared.expected.ExpectedSubmodule.{ExpectedSubmodule}
+use Rattle.connect_blocks.specs.declared.submodule_data.SubmoduleData.{SubmoduleData}
+use Rattle.connect_blocks.specs.declared.expected.ExpectedModule.{ExpectedModule}
+use Rattle.connect_blocks.specs.declared.expected.ExpectedSubmodule.{ExpectedSubmodule}
 use Rattle.cyclic_data.specs.declared.place.ExpectedData.{ExpectedData}
 use Rattle.plans.specs.declared.parts.Parts.{Parts}
 

@@ -6,7 +6,7 @@ ghost use Rattle.connect_blocks.specs.declared.iocr.IocrType.TheVariants.{Input,
 ghost use Rattle.connect_blocks.specs.ArBlock.{IsArBlockReq};
 ghost use Rattle.connect_blocks.specs.Iocr.{IsIocrBlockReq};
 ghost use Rattle.connect_blocks.specs.AlarmCr.{IsAlarmCrBlockReq};
-ghost use Rattle.module_blocks.specs.Expected.{IsExpectedSubmoduleBlockReq};
+ghost use Rattle.connect_blocks.specs.Expected.{IsExpectedSubmoduleBlockReq};
 ghost use Rattle.block_codec.specs.Block.{block_bytes, block_size};
 ghost use Rattle.plans.specs.Packed.{frame_octets};
 ghost use Rattle.plans.specs.Connect.{IsRead, alarm_block, ar_block, asked_id, bytes_of, does_connect_fit, expected_block, expected_blocks};
@@ -25,9 +25,9 @@ use block_codec::{
     AlarmCrBlockReq, ArBlockReq, Block, ExpectedModule, ExpectedModules, ExpectedSubmoduleBlockReq,
     IoObjects, IocrBlockReq, IocrType, RtClass, block_len, write_block,
 };
-use block_fields::Uuid;
 use cyclic_data::ExpectedData;
 use pn_values::{Mac, RealModule, StationName};
+use wire::Uuid;
 
 /// CMInitiatorObjectUUID: the controller's own, with instance 1, DeviceID 0 and VendorID 0.
 const INITIATOR_OBJECT: [u8; 16] = [

@@ -16,10 +16,10 @@ use crate::parts::{Controller, Parts, PlanRecord, Station, Times};
 use crate::places::{Places, data_length, frame_octets};
 use arrayvec::ArrayVec;
 use block_codec::{IoObjects, IocrType};
-use block_fields::Uuid;
 use cyclic_data::Layout;
 use pn_values::Real;
 use std::marker::Model;
+use wire::Uuid;
 
 /// The plan of a station: parts that are in their ranges, and whose frames and Connect are not too long. A clause sees the parts.
 #[derive(Drop)]

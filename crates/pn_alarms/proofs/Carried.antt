@@ -4,7 +4,7 @@ use Rattle.std.proofs.lemmas.List.{append-nil}
 use Rattle.std.specs.Prelude.{IfOk}
 use Rattle.wire.specs.Checks.{or_fault}
 use Rattle.wire.specs.Codec.{Gives}
-use Rattle.block_fields.specs.declared.fault.BlockFault.{BlockFault}
+use Rattle.wire.specs.declared.blocks.fault.BlockFault.{BlockFault}
 use Rattle.record_blocks.specs.declared.alarm_ack.AlarmAck.{AlarmAck}
 use Rattle.record_blocks.specs.declared.alarm_notification.AlarmNotification.{AlarmNotification}
 use Rattle.block_codec.specs.declared.block.Block.{Block}

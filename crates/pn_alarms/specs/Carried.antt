@@ -1,7 +1,7 @@
 -- The blocks that data of high priority carries: an AlarmNotification to a controller, an AlarmAck to a device.
 use Rattle.std.specs.Prelude.{◌++◌, ℕ, List, Option, Result, Ok, Err}
 use Rattle.wire.specs.Checks.{or_fault}
-use Rattle.block_fields.specs.declared.fault.BlockFault.{BlockFault}
+use Rattle.wire.specs.declared.blocks.fault.BlockFault.{BlockFault}
 use Rattle.record_blocks.specs.declared.alarm_ack.AlarmAck.{AlarmAck}
 use Rattle.record_blocks.specs.declared.alarm_notification.AlarmNotification.{AlarmNotification}
 use Rattle.block_codec.specs.declared.block.Block.{Block}

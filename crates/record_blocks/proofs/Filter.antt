@@ -3,11 +3,11 @@ use Rattle.std.proofs.Common.{ℕ, ◌+◌, ◌*◌, ◌≤◌, List, length, re
 use Rattle.wire.specs.Codec.{IsSound}
 use Rattle.wire.specs.Nested.{FitsNested}
 use Rattle.wire.proofs.Joined.{then_by_sound, seen_sound}
-use Rattle.block_fields.specs.Fields.{body}
-use Rattle.block_fields.proofs.Sound.{numeral_sound, fixed_sound}
-use Rattle.block_fields.proofs.ModulesTaken.{listed_sound, listed_counted}
-use Rattle.block_fields.proofs.ModulesWritten.{modules_few as few, modules_fit as fit}
-use Rattle.block_fields.specs.modules.Lists.{Listed}
+use Rattle.wire.specs.blocks.Fields.{body}
+use Rattle.wire.proofs.BlocksSound.{numeral_sound, fixed_sound}
+use Rattle.wire.proofs.BlocksModulesTaken.{listed_sound, listed_counted}
+use Rattle.wire.proofs.BlocksModulesWritten.{modules_few as few, modules_fit as fit}
+use Rattle.wire.specs.blocks.modules.Lists.{Listed}
 use Rattle.record_blocks.specs.declared.filter_data.FilterModule.{FilterModule}
 use Rattle.record_blocks.specs.declared.filter_data.FilterSubmodule.{FilterSubmodule}
 use Rattle.record_blocks.specs.declared.filter_data.ImFilterData.{ImFilterData}

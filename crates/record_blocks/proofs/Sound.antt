@@ -3,7 +3,7 @@ use Rattle.std.proofs.Common.{refl}
 use Rattle.wire.specs.Codec.{IsSound, IsSoundWhole}
 use Rattle.wire.proofs.Joined.{then_by_sound, seen_sound}
 use Rattle.wire.proofs.Wholes.{everything_sound, ends_by_sound, seen_whole_sound}
-use Rattle.block_fields.proofs.Sound.{numeral_sound, octets_sound, blank_sound, fixed_sound}
+use Rattle.wire.proofs.BlocksSound.{numeral_sound, octets_sound, blank_sound, fixed_sound}
 use Rattle.record_blocks.specs.Im0.{im0, im0_order, im0_revision}
 use Rattle.record_blocks.specs.Im1.{im1}
 use Rattle.record_blocks.specs.Im2.{im2}

@@ -2,8 +2,8 @@
 use Rattle.wire.specs.Codec.{Codec, Whole}
 use Rattle.wire.specs.Formats.{◌⨾◌, seen}
 use Rattle.wire.specs.Whole.{everything, ends_by, seen_whole}
-use Rattle.block_fields.specs.declared.fault.BlockFault.{BlockFault}
-use Rattle.block_fields.specs.Fields.{two, four, fixed}
+use Rattle.wire.specs.declared.blocks.fault.BlockFault.{BlockFault}
+use Rattle.wire.specs.blocks.Fields.{two, four, fixed}
 use Rattle.record_blocks.specs.declared.alarm_notification.AlarmNotification.{AlarmNotification}
 use Rattle.record_blocks.specs.declared.alarm_notification.AlarmPlace.{AlarmPlace}
 use Rattle.record_blocks.specs.declared.alarm_notification.AlarmSubject.{AlarmSubject}

@@ -1,8 +1,8 @@
 -- I&M0 (IEC 61158-6-10, 5.2.3.22).
 use Rattle.wire.specs.Codec.{Codec}
 use Rattle.wire.specs.Formats.{◌⨾◌, seen}
-use Rattle.block_fields.specs.declared.fault.BlockFault.{BlockFault}
-use Rattle.block_fields.specs.Fields.{two, fixed, octets}
+use Rattle.wire.specs.declared.blocks.fault.BlockFault.{BlockFault}
+use Rattle.wire.specs.blocks.Fields.{two, fixed, octets}
 use Rattle.record_blocks.specs.declared.im0.Im0.{Im0}
 use Rattle.record_blocks.specs.declared.im0.Im0Order.{Im0Order}
 use Rattle.record_blocks.specs.declared.im0.Im0Revision.{Im0Revision}

@@ -1,8 +1,8 @@
 -- I&M1 (IEC 61158-6-10, 5.2.3.22).
 use Rattle.wire.specs.Codec.{Codec}
 use Rattle.wire.specs.Formats.{◌⨾◌, seen}
-use Rattle.block_fields.specs.declared.fault.BlockFault.{BlockFault}
-use Rattle.block_fields.specs.Fields.{octets}
+use Rattle.wire.specs.declared.blocks.fault.BlockFault.{BlockFault}
+use Rattle.wire.specs.blocks.Fields.{octets}
 use Rattle.record_blocks.specs.declared.im1.Im1.{Im1}
 
 -- The fields of an I&M1: function and location.

@@ -1,8 +1,8 @@
 -- IODReadReqHeader and IODReadResHeader (IEC 61158-6-10, 5.2.3).
 use Rattle.wire.specs.Codec.{Codec}
 use Rattle.wire.specs.Formats.{◌⨾◌, seen}
-use Rattle.block_fields.specs.declared.fault.BlockFault.{BlockFault}
-use Rattle.block_fields.specs.Fields.{two, octets, blank}
+use Rattle.wire.specs.declared.blocks.fault.BlockFault.{BlockFault}
+use Rattle.wire.specs.blocks.Fields.{two, octets, blank}
 use Rattle.record_blocks.specs.RecordHeader.{record_header}
 use Rattle.record_blocks.specs.declared.read_record.IodReadReq.{IodReadReq}
 use Rattle.record_blocks.specs.declared.read_record.IodReadRes.{IodReadRes}

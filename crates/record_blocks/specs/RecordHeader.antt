@@ -1,8 +1,8 @@
 -- The fields at the start of the four headers of a record (IEC 61158-6-10, 5.2.3).
 use Rattle.wire.specs.Codec.{Codec}
 use Rattle.wire.specs.Formats.{◌⨾◌, seen}
-use Rattle.block_fields.specs.declared.fault.BlockFault.{BlockFault}
-use Rattle.block_fields.specs.Fields.{two, four, octets, blank}
+use Rattle.wire.specs.declared.blocks.fault.BlockFault.{BlockFault}
+use Rattle.wire.specs.blocks.Fields.{two, four, octets, blank}
 use Rattle.record_blocks.specs.declared.record_header.RecordHeader.{RecordHeader}
 
 -- The fields from SeqNumber to RecordDataLength.

@@ -2,11 +2,11 @@
 ghost use Rattle.std.specs.Prelude.{◌≡◌, ◌+◌, ◌≤◌, ◌++◌, List, ℕ};
 ghost use Rattle.arrayvec.specs.ArrayVec.{array_vec_len};
 ghost use Rattle.wire.specs.Codec.{Gives};
-ghost use Rattle.block_fields.specs.Fields.{body};
+ghost use Rattle.wire.specs.blocks.Fields.{body};
 ghost use Rattle.record_blocks.specs.AlarmAck.{alarm_ack};
 
 use arrayvec::ArrayVec;
-use block_fields::{BlockFault, len_fields, put_fields, read_body};
+use wire::{BlockFault, len_fields, put_fields, read_body};
 
 /// 0x8001: AlarmAck (IEC 61158-6-10, 5.2.6): acknowledges an alarm.
 #[derive(Clone, Copy)]
@@ -39,7 +39,7 @@ macro_rules! alarm_ack_fields {
 }
 
 /// Reads the part of an AlarmAck that BlockLength counts: the version and the fields, to the last octet.
-#[tactic(auto, unfolding(block_fields::specs::Fields::body, crate::specs::AlarmAck::alarm_ack))]
+#[tactic(auto, unfolding(wire::specs::blocks::Fields::body, crate::specs::AlarmAck::alarm_ack))]
 pub fn alarm_ack_at(bytes: &[u8]) -> Result<AlarmAck, BlockFault>
     ensures { Gives (λ x. x) result ((body alarm_ack).read bytes.now) }
 {

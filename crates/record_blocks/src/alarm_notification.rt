@@ -2,14 +2,13 @@
 ghost use Rattle.std.specs.Prelude.{◌≡◌, ◌+◌, ◌≤◌, ◌++◌, [], List, ℕ, length, IfOk};
 ghost use Rattle.arrayvec.specs.ArrayVec.{array_vec_len};
 ghost use Rattle.wire.specs.Codec.{Gives};
-ghost use Rattle.block_fields.specs.Fields.{open_body};
+ghost use Rattle.wire.specs.blocks.Fields.{open_body};
 ghost use Rattle.record_blocks.specs.AlarmNotification.{alarm_notification, alarm_place, alarm_subject};
 
 use crate::AlarmData;
 use crate::alarm_data::{alarm_data_len, put_alarm_data};
 use arrayvec::ArrayVec;
-use block_fields::{BlockFault, len_fields, read_fields, version_at};
-use wire::{append, join};
+use wire::{BlockFault, append, join, len_fields, read_fields, version_at};
 
 /// 0x0001: AlarmNotification (IEC 61158-6-10, 5.2.5): reports an event of a submodule. UserStructureIdentifier is 1.
 #[derive(Drop)]
@@ -72,7 +71,7 @@ macro_rules! alarm_subject_fields {
 }
 
 /// Reads the fields from AlarmType to SubslotNumber. Returns them and the rest.
-#[tactic(auto, using(block_fields::proofs::Left::number_left), unfolding(crate::specs::AlarmNotification::alarm_place))]
+#[tactic(auto, using(wire::proofs::BlocksLeft::number_left), unfolding(crate::specs::AlarmNotification::alarm_place))]
 fn alarm_place_at(bytes: &[u8]) -> Result<(AlarmPlace, &[u8]), BlockFault>
     ensures read { Gives (λ x. (x.0, x.1.now)) result (alarm_place.read bytes.now) }
     ensures left { IfOk result (λ x. length bytes.now ≡ 10 + length x.1.now) }
@@ -81,7 +80,7 @@ fn alarm_place_at(bytes: &[u8]) -> Result<(AlarmPlace, &[u8]), BlockFault>
 }
 
 /// Reads the fields from ModuleIdentNumber to UserStructureIdentifier. Returns them and the rest.
-#[tactic(auto, using(block_fields::proofs::Left::number_left, block_fields::proofs::Left::fixed_left), unfolding(crate::specs::AlarmNotification::alarm_subject))]
+#[tactic(auto, using(wire::proofs::BlocksLeft::number_left, wire::proofs::BlocksLeft::fixed_left), unfolding(crate::specs::AlarmNotification::alarm_subject))]
 fn alarm_subject_at(bytes: &[u8]) -> Result<(AlarmSubject, &[u8]), BlockFault>
     ensures read { Gives (λ x. (x.0, x.1.now)) result (alarm_subject.read bytes.now) }
     ensures left { IfOk result (λ x. length bytes.now ≡ 12 + length x.1.now) }
@@ -90,7 +89,7 @@ fn alarm_subject_at(bytes: &[u8]) -> Result<(AlarmSubject, &[u8]), BlockFault>
 }
 
 /// Reads the part of an AlarmNotification that BlockLength counts, to the last octet. There are at most 65,535 octets.
-#[tactic(auto, using(block_fields::proofs::Left::version_left), unfolding(block_fields::specs::Fields::open_body, crate::specs::AlarmNotification::alarm_notification))]
+#[tactic(auto, using(wire::proofs::BlocksLeft::version_left), unfolding(wire::specs::blocks::Fields::open_body, crate::specs::AlarmNotification::alarm_notification))]
 pub fn alarm_notification_at(bytes: &[u8]) -> Result<AlarmNotification<'_>, BlockFault>
     requires { length bytes.now ≤ 65535 }
     ensures { Gives (λ x. x) result ((open_body alarm_notification).read bytes.now) }
@@ -111,7 +110,7 @@ pub fn alarm_notification_at(bytes: &[u8]) -> Result<AlarmNotification<'_>, Bloc
 }
 
 /// The octets from AlarmType to SubslotNumber.
-#[tactic(auto, unfolding(block_fields::specs::Fields::number_bytes, crate::specs::AlarmNotification::alarm_place))]
+#[tactic(auto, unfolding(wire::specs::blocks::Fields::number_bytes, crate::specs::AlarmNotification::alarm_place))]
 #[inline(always)]
 fn place_octets(place: &AlarmPlace) -> [u8; 10]
     ensures items { result ≡ alarm_place.write place.now [] }
@@ -127,7 +126,7 @@ fn place_octets(place: &AlarmPlace) -> [u8; 10]
 }
 
 /// The octets from ModuleIdentNumber to UserStructureIdentifier.
-#[tactic(auto, unfolding(block_fields::specs::Fields::number_bytes, crate::specs::AlarmNotification::alarm_subject))]
+#[tactic(auto, unfolding(wire::specs::blocks::Fields::number_bytes, crate::specs::AlarmNotification::alarm_subject))]
 #[inline(always)]
 fn subject_octets(subject: &AlarmSubject) -> [u8; 12]
     ensures items { result ≡ alarm_subject.write subject.now [] }

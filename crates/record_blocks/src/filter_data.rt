@@ -2,13 +2,13 @@
 ghost use Rattle.std.specs.Prelude.{◌≡◌, ◌+◌, ◌*◌, ◌<◌, ◌≤◌, ◌++◌, List, ℕ, length, OnOk};
 ghost use Rattle.arrayvec.specs.ArrayVec.{array_vec_len};
 ghost use Rattle.wire.specs.Codec.{Gives};
-ghost use Rattle.block_fields.specs.Fields.{body};
-ghost use Rattle.block_fields.specs.modules.Lists.{flat_alike};
+ghost use Rattle.wire.specs.blocks.Fields.{body};
+ghost use Rattle.wire.specs.blocks.modules.Lists.{flat_alike};
 ghost use Rattle.record_blocks.specs.FilterData.{filter_data, filter_module, filter_modules, filter_submodule, own_of, IsCounted};
 ghost use Rattle.record_blocks.specs.FilterData.{IsFilterData};
 
 use arrayvec::ArrayVec;
-use block_fields::{
+use wire::{
     BlockFault, Entry, Module, Modules, Put, len_fields, modules_len, put_fields, put_modules,
     read_body, read_fields,
 };
@@ -141,7 +141,7 @@ fn filter_modules_at(bytes: &[u8]) -> Result<(FilterModules<'_>, &[u8]), BlockFa
 }
 
 /// Reads the part of an I&M0FilterData that BlockLength counts: the version and the fields, to the last octet.
-#[tactic(auto, unfolding(block_fields::specs::Fields::body, crate::specs::FilterData::filter_data))]
+#[tactic(auto, unfolding(wire::specs::blocks::Fields::body, crate::specs::FilterData::filter_data))]
 pub fn filter_data_at(bytes: &[u8]) -> Result<ImFilterData<'_>, BlockFault>
     ensures { Gives (λ x. x) result ((body filter_data).read bytes.now) }
 {

@@ -2,11 +2,11 @@
 ghost use Rattle.std.specs.Prelude.{◌≡◌, ◌+◌, ◌≤◌, ◌++◌, List, ℕ};
 ghost use Rattle.arrayvec.specs.ArrayVec.{array_vec_len};
 ghost use Rattle.wire.specs.Codec.{Gives};
-ghost use Rattle.block_fields.specs.Fields.{body};
+ghost use Rattle.wire.specs.blocks.Fields.{body};
 ghost use Rattle.record_blocks.specs.Im0.{im0, im0_order, im0_revision};
 
 use arrayvec::ArrayVec;
-use block_fields::{BlockFault, ended, len_fields, put_fields, read_fields, version_at};
+use wire::{BlockFault, ended, len_fields, put_fields, read_fields, version_at};
 
 /// 0x0020: I&M0 (IEC 61158-6-10, 5.2.3.22), with IM_RevisionCounter 0, IM_Version 1.1 and an IM_Supported of I&M1 to
 /// I&M4.
@@ -86,7 +86,7 @@ fn im0_revision_at(bytes: &[u8]) -> Result<(Im0Revision, &[u8]), BlockFault>
 }
 
 /// Reads the part of an I&M0 that BlockLength counts: the version and the fields, to the last octet.
-#[tactic(auto, unfolding(block_fields::specs::Fields::body, crate::specs::Im0::im0))]
+#[tactic(auto, unfolding(wire::specs::blocks::Fields::body, crate::specs::Im0::im0))]
 pub fn im0_at(bytes: &[u8]) -> Result<Im0, BlockFault>
     ensures { Gives (λ x. x) result ((body im0).read bytes.now) }
 {

@@ -2,11 +2,11 @@
 ghost use Rattle.std.specs.Prelude.{◌≡◌, ◌+◌, ◌≤◌, ◌++◌, List, ℕ};
 ghost use Rattle.arrayvec.specs.ArrayVec.{array_vec_len};
 ghost use Rattle.wire.specs.Codec.{Gives};
-ghost use Rattle.block_fields.specs.Fields.{body};
+ghost use Rattle.wire.specs.blocks.Fields.{body};
 ghost use Rattle.record_blocks.specs.Im1.{im1};
 
 use arrayvec::ArrayVec;
-use block_fields::{BlockFault, len_fields, put_fields, read_body};
+use wire::{BlockFault, len_fields, put_fields, read_body};
 
 /// 0x0021: I&M1 (IEC 61158-6-10, 5.2.3.22).
 #[derive(Clone, Copy)]
@@ -27,7 +27,7 @@ macro_rules! im1_fields {
 }
 
 /// Reads the part of an I&M1 that BlockLength counts: the version and the fields, to the last octet.
-#[tactic(auto, unfolding(block_fields::specs::Fields::body, crate::specs::Im1::im1))]
+#[tactic(auto, unfolding(wire::specs::blocks::Fields::body, crate::specs::Im1::im1))]
 pub fn im1_at(bytes: &[u8]) -> Result<Im1, BlockFault>
     ensures { Gives (λ x. x) result ((body im1).read bytes.now) }
 {

@@ -2,11 +2,11 @@
 ghost use Rattle.std.specs.Prelude.{◌≡◌, ◌+◌, ◌≤◌, ◌++◌, List, ℕ};
 ghost use Rattle.arrayvec.specs.ArrayVec.{array_vec_len};
 ghost use Rattle.wire.specs.Codec.{Gives};
-ghost use Rattle.block_fields.specs.Fields.{body};
+ghost use Rattle.wire.specs.blocks.Fields.{body};
 ghost use Rattle.record_blocks.specs.Im2.{im2};
 
 use arrayvec::ArrayVec;
-use block_fields::{BlockFault, len_fields, put_fields, read_body};
+use wire::{BlockFault, len_fields, put_fields, read_body};
 
 /// 0x0022: I&M2 (IEC 61158-6-10, 5.2.3.22).
 #[derive(Clone, Copy)]
@@ -24,7 +24,7 @@ macro_rules! im2_fields {
 }
 
 /// Reads the part of an I&M2 that BlockLength counts: the version and the fields, to the last octet.
-#[tactic(auto, unfolding(block_fields::specs::Fields::body, crate::specs::Im2::im2))]
+#[tactic(auto, unfolding(wire::specs::blocks::Fields::body, crate::specs::Im2::im2))]
 pub fn im2_at(bytes: &[u8]) -> Result<Im2, BlockFault>
     ensures { Gives (λ x. x) result ((body im2).read bytes.now) }
 {

@@ -2,11 +2,11 @@
 ghost use Rattle.std.specs.Prelude.{◌≡◌, ◌+◌, ◌≤◌, ◌++◌, List, ℕ};
 ghost use Rattle.arrayvec.specs.ArrayVec.{array_vec_len};
 ghost use Rattle.wire.specs.Codec.{Gives};
-ghost use Rattle.block_fields.specs.Fields.{body};
+ghost use Rattle.wire.specs.blocks.Fields.{body};
 ghost use Rattle.record_blocks.specs.Im4.{im4};
 
 use arrayvec::ArrayVec;
-use block_fields::{BlockFault, len_fields, put_fields, read_body};
+use wire::{BlockFault, len_fields, put_fields, read_body};
 
 /// 0x0024: I&M4 (IEC 61158-6-10, 5.2.3.22).
 #[derive(Clone, Copy)]
@@ -24,7 +24,7 @@ macro_rules! im4_fields {
 }
 
 /// Reads the part of an I&M4 that BlockLength counts: the version and the fields, to the last octet.
-#[tactic(auto, unfolding(block_fields::specs::Fields::body, crate::specs::Im4::im4))]
+#[tactic(auto, unfolding(wire::specs::blocks::Fields::body, crate::specs::Im4::im4))]
 pub fn im4_at(bytes: &[u8]) -> Result<Im4, BlockFault>
     ensures { Gives (λ x. x) result ((body im4).read bytes.now) }
 {

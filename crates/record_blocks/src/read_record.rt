@@ -2,13 +2,13 @@
 ghost use Rattle.std.specs.Prelude.{◌≡◌, ◌+◌, ◌≤◌, ◌++◌, List, ℕ};
 ghost use Rattle.arrayvec.specs.ArrayVec.{array_vec_len};
 ghost use Rattle.wire.specs.Codec.{Gives};
-ghost use Rattle.block_fields.specs.Fields.{body};
+ghost use Rattle.wire.specs.blocks.Fields.{body};
 ghost use Rattle.record_blocks.specs.ReadRecord.{iod_read_req, iod_read_res};
 
 use crate::RecordHeader;
 use crate::record_header::{put_record_header, read_headed, record_header_at, record_header_len};
 use arrayvec::ArrayVec;
-use block_fields::{BlockFault, Uuid, len_fields, put_fields, read_fields, version_at};
+use wire::{BlockFault, Uuid, len_fields, put_fields, read_fields, version_at};
 
 /// 0x0009: IODReadReqHeader (IEC 61158-6-10, 5.2.3): requests a record.
 #[derive(Clone, Copy)]
@@ -30,7 +30,7 @@ macro_rules! iod_read_req_fields {
 }
 
 /// Reads the part of an IODReadReqHeader that BlockLength counts: the version and the fields, to the last octet.
-#[tactic(auto, unfolding(block_fields::specs::Fields::body, crate::specs::ReadRecord::iod_read_req))]
+#[tactic(auto, unfolding(wire::specs::blocks::Fields::body, crate::specs::ReadRecord::iod_read_req))]
 pub fn iod_read_req_at(bytes: &[u8]) -> Result<IodReadReq, BlockFault>
     ensures { Gives (λ x. x) result ((body iod_read_req).read bytes.now) }
 {
@@ -80,7 +80,7 @@ macro_rules! iod_read_res_fields {
 }
 
 /// Reads the part of an IODReadResHeader that BlockLength counts: the version and the fields, to the last octet.
-#[tactic(auto, unfolding(block_fields::specs::Fields::body, crate::specs::ReadRecord::iod_read_res))]
+#[tactic(auto, unfolding(wire::specs::blocks::Fields::body, crate::specs::ReadRecord::iod_read_res))]
 pub fn iod_read_res_at(bytes: &[u8]) -> Result<IodReadRes, BlockFault>
     ensures { Gives (λ x. x) result ((body iod_read_res).read bytes.now) }
 {

@@ -5,7 +5,7 @@ ghost use Rattle.wire.specs.Codec.{Gives};
 ghost use Rattle.record_blocks.specs.RecordHeader.{record_header};
 
 use arrayvec::ArrayVec;
-use block_fields::{BlockFault, Uuid, len_fields, put_fields, read_fields};
+use wire::{BlockFault, Uuid, len_fields, put_fields, read_fields};
 
 /// The fields at the start of each of the four headers (IEC 61158-6-10, 5.2.3): the record, its submodule, the relation
 /// and the call.

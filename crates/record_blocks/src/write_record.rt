@@ -2,13 +2,13 @@
 ghost use Rattle.std.specs.Prelude.{◌≡◌, ◌+◌, ◌≤◌, ◌++◌, List, ℕ};
 ghost use Rattle.arrayvec.specs.ArrayVec.{array_vec_len};
 ghost use Rattle.wire.specs.Codec.{Gives};
-ghost use Rattle.block_fields.specs.Fields.{body};
+ghost use Rattle.wire.specs.blocks.Fields.{body};
 ghost use Rattle.record_blocks.specs.WriteRecord.{iod_write_req, iod_write_res};
 
 use crate::RecordHeader;
 use crate::record_header::{put_record_header, read_headed, record_header_at, record_header_len};
 use arrayvec::ArrayVec;
-use block_fields::{BlockFault, len_fields, put_fields, read_fields, version_at};
+use wire::{BlockFault, len_fields, put_fields, read_fields, version_at};
 
 /// 0x0008: IODWriteReqHeader (IEC 61158-6-10, 5.2.3). The record follows it.
 #[derive(Clone, Copy)]
@@ -27,7 +27,7 @@ macro_rules! iod_write_req_fields {
 }
 
 /// Reads the part of an IODWriteReqHeader that BlockLength counts: the version and the fields, to the last octet.
-#[tactic(auto, unfolding(block_fields::specs::Fields::body, crate::specs::WriteRecord::iod_write_req))]
+#[tactic(auto, unfolding(wire::specs::blocks::Fields::body, crate::specs::WriteRecord::iod_write_req))]
 pub fn iod_write_req_at(bytes: &[u8]) -> Result<IodWriteReq, BlockFault>
     ensures { Gives (λ x. x) result ((body iod_write_req).read bytes.now) }
 {
@@ -80,7 +80,7 @@ macro_rules! iod_write_res_fields {
 }
 
 /// Reads the part of an IODWriteResHeader that BlockLength counts: the version and the fields, to the last octet.
-#[tactic(auto, unfolding(block_fields::specs::Fields::body, crate::specs::WriteRecord::iod_write_res))]
+#[tactic(auto, unfolding(wire::specs::blocks::Fields::body, crate::specs::WriteRecord::iod_write_res))]
 pub fn iod_write_res_at(bytes: &[u8]) -> Result<IodWriteRes, BlockFault>
     ensures { Gives (λ x. x) result ((body iod_write_res).read bytes.now) }
 {

@@ -6,13 +6,13 @@ use Rattle.std.proofs.lemmas.Bool.Decides.{nat_tests}
 use Rattle.pn_alarms.specs.declared.abort.Abort.{Abort}
 use Rattle.pn_alarms.specs.declared.abort.Abort.TheVariants.{DataHold, Other}
 use Rattle.pn_alarms.specs.Sending.{Sending, due_behind, either_due, waiting_behind}
-use Rattle.device_exchange.specs.Flow.{Flow}
+use Rattle.relations.specs.exchange.Flow.{Flow}
 use Rattle.pn_alarms.specs.declared.repeats.Due.{Due}
 use Rattle.pn_alarms.specs.declared.repeats.Due.TheVariants.{Nothing, Again, Spent}
-use Rattle.cyclic_exchange.specs.Cyclic.{Cyclic}
-use Rattle.cyclic_exchange.specs.Units.{ending_by, tick_by}
-use Rattle.device_exchange.specs.Units.{alarm_due}
-use Rattle.device_exchange.specs.Units.{ending_of as exchange_ending}
+use Rattle.cyclic_data.specs.exchange.Cyclic.{Cyclic}
+use Rattle.cyclic_data.specs.exchange.Units.{ending_by, tick_by}
+use Rattle.relations.specs.exchange.Units.{alarm_due}
+use Rattle.relations.specs.exchange.Units.{ending_of as exchange_ending}
 use Rattle.relations.specs.declared.phase.Phase.TheVariants.{Exchanging}
 use Rattle.relations.specs.declared.farewell.Farewell.{Farewell}
 use Rattle.relations.specs.declared.phase.Phase.{Phase}

@@ -1,7 +1,7 @@
 -- Units of time, one by one.
 use Rattle.std.proofs.Common.{◌≡◌, ◌+◌, ◌*◌, ◌%◌, ◌<◌, ◌≤◌, ◌==◌, ℕ, zero, suc, true, false, nat_le, refl, ap, ◌∙◌, arith, add-one, Option, Some, None, if◌then◌else◌}
 use Rattle.std.proofs.lemmas.Bool.Decides.{nat_tests}
-use Rattle.connect_requests.specs.Request.{Request}
+use Rattle.connects.specs.requests.Request.{Request}
 use Rattle.relations.specs.declared.phase.Phase.{Phase}
 use Rattle.relations.specs.declared.phase.Phase.TheVariants.{Started, Preparing, Awaiting, Exchanging}
 use Rattle.pn_alarms.specs.declared.abort.Abort.{Abort}

@@ -6,10 +6,10 @@ use Rattle.std.proofs.lemmas.Bool.Decides.{nat_tests}
 use Rattle.pn_alarms.specs.declared.abort.Abort.{Abort}
 use Rattle.pn_alarms.specs.declared.abort.Abort.TheVariants.{Activity}
 use Rattle.pn_alarms.specs.Leaps.{after}
-use Rattle.cyclic_exchange.specs.Units.{Brought}
-use Rattle.device_exchange.specs.Flow.{Flow}
-use Rattle.device_exchange.specs.Leaps.{BringNothing, nothing_brought}
-use Rattle.device_exchange.specs.Units.{flow_later, repeated_of, tick_of}
+use Rattle.cyclic_data.specs.exchange.Units.{Brought}
+use Rattle.relations.specs.exchange.Flow.{Flow}
+use Rattle.relations.specs.exchange.Leaps.{BringNothing, nothing_brought}
+use Rattle.relations.specs.exchange.Units.{flow_later, repeated_of, tick_of}
 use Rattle.relations.specs.declared.phase.Phase.{Phase}
 use Rattle.relations.specs.declared.phase.Phase.TheVariants.{Started, Preparing, Awaiting, Exchanging}
 use Rattle.relations.specs.RelationState.{HasBegunIn, RelationState, is_awaiting}

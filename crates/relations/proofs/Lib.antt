@@ -4,3 +4,7 @@ mod Moves
 mod Own
 mod Waiting
 pub mod Leaps
+mod ExchangeAwaited
+pub mod ExchangeKept
+pub mod ExchangeInputs
+pub mod ExchangeLeaps

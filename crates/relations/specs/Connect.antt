@@ -5,20 +5,20 @@ use Rattle.pn_values.specs.declared.mac.Mac.{Mac}
 use Rattle.pn_values.specs.declared.identity.Identity.{Identity}
 use Rattle.pn_values.specs.declared.real.Real.{Real}
 use Rattle.wire.specs.Codec.{◌>>=◌}
-use Rattle.block_fields.specs.modules.Lists.{Listed}
-use Rattle.module_blocks.specs.declared.module_diff.DiffModule.{DiffModule}
-use Rattle.module_blocks.specs.declared.module_diff.DiffSubmodule.{DiffSubmodule}
+use Rattle.wire.specs.blocks.modules.Lists.{Listed}
+use Rattle.connect_blocks.specs.declared.module_diff.DiffModule.{DiffModule}
+use Rattle.connect_blocks.specs.declared.module_diff.DiffSubmodule.{DiffSubmodule}
 use Rattle.module_diff.specs.Diff.{diff_of}
 use Rattle.block_codec.specs.declared.block.Block.TheVariants as is
 use Rattle.block_codec.specs.Block.{block_bytes}
 use Rattle.records.specs.declared.status.call_fault.CallFault.{CallFault}
 use Rattle.records.specs.declared.status.call_fault.CallFault.TheVariants as fault
-use Rattle.connect_requests.specs.declared.parts.Iocr.{Iocr}
-use Rattle.connect_requests.specs.Request.{Request}
-use Rattle.connect_requests.specs.Handled.{asked_initiator, request_of, request_within}
+use Rattle.connects.specs.declared.requests.parts.Iocr.{Iocr}
+use Rattle.connects.specs.requests.Request.{Request}
+use Rattle.connects.specs.requests.Handled.{asked_initiator, request_of, request_within}
 use Rattle.relations.specs.declared.options.DeviceOptions.{DeviceOptions}
 use Rattle.relations.specs.declared.phase.Partner.{Partner}
-use Rattle.device_exchange.specs.Marks.{Starting}
+use Rattle.relations.specs.exchange.Marks.{Starting}
 use Rattle.relations.specs.RelationState.{RelationState, uuid_of}
 use Rattle.relations.specs.Phases.{Handled, Made, Unmoved, differing_octets}
 

@@ -7,9 +7,9 @@ use Rattle.pn_alarms.specs.declared.device.PduFate.{PduFate}
 use Rattle.pn_alarms.specs.declared.device.PduFate.TheVariants.{Ignored}
 use Rattle.pn_alarms.specs.Device.{heard_as}
 use Rattle.pn_alarms.specs.Message.{ToDevice}
-use Rattle.diagnosis_alarms.specs.Alarms.{is_next}
-use Rattle.diagnosis_alarms.specs.Own.{is_own}
-use Rattle.device_exchange.specs.Diagnosis.{begins_with_one, behind_low, diagnosed, diagnoses_begun, is_diagnosed, is_full, next_reported}
+use Rattle.diagnosis.specs.alarms.Alarms.{is_next}
+use Rattle.diagnosis.specs.alarms.Own.{is_own}
+use Rattle.relations.specs.exchange.Diagnosis.{begins_with_one, behind_low, diagnosed, diagnoses_begun, is_diagnosed, is_full, next_reported}
 use Rattle.relations.specs.RelationState.{RelationState}
 use Rattle.relations.specs.Phases.{Handled, Exchanged, Unmoved}
 

@@ -4,8 +4,8 @@ use Rattle.pn_alarms.specs.Abort.{abort_of}
 use Rattle.pn_alarms.specs.Format.{Said}
 use Rattle.pn_alarms.specs.declared.pdu.Header.{Header}
 use Rattle.pn_alarms.specs.declared.pdu.PduType.TheVariants.{Error}
-use Rattle.connect_requests.specs.Request.{Request}
-use Rattle.device_exchange.specs.Notices.{header_of}
+use Rattle.connects.specs.requests.Request.{Request}
+use Rattle.relations.specs.exchange.Notices.{header_of}
 use Rattle.relations.specs.declared.farewell.Farewell.{Farewell}
 use Rattle.relations.specs.RelationState.{RelationState}
 

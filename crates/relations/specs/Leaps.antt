@@ -2,7 +2,7 @@
 use Rattle.std.specs.Prelude.{◌≡◌, ◌<◌, ◌+◌, ◌-◌, ℕ, max, min, Option, Some, None, if◌then◌else◌}
 use Rattle.pn_alarms.specs.Leaps.{never}
 use Rattle.relations.specs.declared.phase.Phase.{Phase}
-use Rattle.device_exchange.specs.Leaps.{flow_due_in}
+use Rattle.relations.specs.exchange.Leaps.{flow_due_in}
 use Rattle.relations.specs.RelationState.{RelationState, is_awaiting}
 use Rattle.relations.specs.Timers.{due_of, is_timed, limit_of, nothing}
 use Rattle.relations.specs.Runs.{units_over}

@@ -12,3 +12,4 @@ pub mod Leaps
 pub mod Exchanged
 pub mod Diagnosed
 pub mod Outputs
+pub mod exchange

@@ -5,7 +5,7 @@ use Rattle.rpc_core.specs.declared.interface.Interface.TheVariants.{Controller}
 use Rattle.rpc_core.specs.declared.header.CallHeader.{CallHeader}
 use Rattle.rpc_core.specs.Interface.{interface_uuid}
 use Rattle.rpc_core.specs.Response.{Answered, is_done}
-use Rattle.block_fields.specs.declared.fault.BlockFault.{BlockFault}
+use Rattle.wire.specs.declared.blocks.fault.BlockFault.{BlockFault}
 use Rattle.block_codec.specs.declared.block.Block.{Block}
 use Rattle.block_codec.specs.Block.{block_of, in_application_ready_res}
 use Rattle.connect_blocks.specs.declared.control.ControlBlock.{ControlBlock}

@@ -3,10 +3,10 @@ use Rattle.std.specs.Prelude.{◌≡◌, ◌==◌, ◌&&◌, ◌||◌, ℕ, Bool
 use Rattle.std.specs.Cmp.Lexicographic.{pointwise}
 use Rattle.pn_values.specs.declared.mac.Mac.{Mac}
 use Rattle.records.specs.calls.Naming.{is_relation}
-use Rattle.connect_requests.specs.Request.{Request}
+use Rattle.connects.specs.requests.Request.{Request}
 use Rattle.records.specs.declared.writes.taken.TakenRecord.{TakenRecord}
-use Rattle.cyclic_exchange.specs.Cyclic.{Cyclic}
-use Rattle.device_exchange.specs.Flow.{Flow}
+use Rattle.cyclic_data.specs.exchange.Cyclic.{Cyclic}
+use Rattle.relations.specs.exchange.Flow.{Flow}
 use Rattle.relations.specs.declared.options.DeviceOptions.{DeviceOptions}
 use Rattle.relations.specs.declared.phase.Phase.{Phase}
 use Rattle.relations.specs.declared.phase.Phase.TheVariants.{Started, Preparing, Awaiting, Exchanging}

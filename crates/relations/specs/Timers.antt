@@ -2,8 +2,8 @@
 use Rattle.std.specs.Prelude.{◌≡◌, ◌⊎◌, ◌==◌, ◌+◌, ◌*◌, ◌&&◌, ℕ, Bool, true, false, nat_le, not, Option, Some, None, is_none, option_map, if◌then◌else◌}
 use Rattle.relations.specs.declared.phase.Phase.{Phase}
 use Rattle.relations.specs.declared.phase.Phase.TheVariants.{Started, Preparing, Awaiting, Exchanging}
-use Rattle.device_exchange.specs.Units.{flow_later, repeated_in, repeated_of, tick_of}
-use Rattle.device_exchange.specs.declared.cyclic.Repeated.{Repeated}
+use Rattle.relations.specs.exchange.Units.{flow_later, repeated_in, repeated_of, tick_of}
+use Rattle.relations.specs.declared.exchange.cyclic.Repeated.{Repeated}
 use Rattle.pn_alarms.specs.declared.abort.Abort.{Abort}
 use Rattle.pn_alarms.specs.declared.abort.Abort.TheVariants.{Activity, DataHold, Other}
 use Rattle.cyclic_data.specs.Timing.{held_on}

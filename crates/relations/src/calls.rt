@@ -72,7 +72,7 @@ impl Relation {
     /// Handles PrmEnd, the block of a Control (operation 4): all parameters of a relation in `Started` are written. Then
     /// ApplicationReady must be sent, unless the application says when it is ready (`by_application`). Writes the block of
     /// the answer into an empty list, or returns why the call is refused.
-    #[tactic(auto, unfolding(crate::specs::Calls::prm_end_of, block_codec::specs::Block::block_size, block_codec::specs::Block::fields_of, block_fields::specs::Fields::body, block_fields::specs::Fields::version))]
+    #[tactic(auto, unfolding(crate::specs::Calls::prm_end_of, block_codec::specs::Block::block_size, block_codec::specs::Block::fields_of, wire::specs::blocks::Fields::body, wire::specs::blocks::Fields::version))]
     pub fn control<const N: usize>(
         &mut self,
         by_application: bool,
@@ -105,7 +105,7 @@ impl Relation {
 
     /// Handles Release (operation 1): the controller ends the relation, in any phase. Writes the block of the answer
     /// into an empty list, or returns why the call is refused.
-    #[tactic(auto, unfolding(crate::specs::Calls::release_of, block_codec::specs::Block::block_size, block_codec::specs::Block::fields_of, block_fields::specs::Fields::body, block_fields::specs::Fields::version))]
+    #[tactic(auto, unfolding(crate::specs::Calls::release_of, block_codec::specs::Block::block_size, block_codec::specs::Block::fields_of, wire::specs::blocks::Fields::body, wire::specs::blocks::Fields::version))]
     pub fn release<const N: usize>(
         &mut self,
         blocks: &[u8],

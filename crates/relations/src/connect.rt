@@ -1,17 +1,18 @@
 //! Connect (IEC 61158-6-10, 5.2.4.1 to 5.2.4.11).
 ghost use Rattle.std.specs.Prelude.{◌≡◌, ◌+◌, ◌≤◌, ◌++◌, [], length, None, IfErr, IfOk, Err, Ok};
 ghost use Rattle.arrayvec.specs.ArrayVec.{array_vec_len};
-ghost use Rattle.connect_requests.specs.Handled.{asked_initiator};
+ghost use Rattle.connects.specs.requests.Handled.{asked_initiator};
 ghost use Rattle.relations.specs.Connect.{connect_answer, connect_blocks, connect_within, iocr_answer, iocrs_answer, is_foreign, is_other, making};
 ghost use Rattle.relations.specs.Phases.{differing_octets, updated};
 
+use crate::exchange::Starting;
 use crate::{Application, DeviceOptions, Partner, Phase, Relation};
 use arrayvec::ArrayVec;
 use block_codec::{AlarmCrBlockRes, ArBlockRes, Block, IocrBlockRes, write_block};
-use connect_blocks::{alarm_cr_block_res_len, ar_block_res_len, iocr_block_res_len};
-use connect_requests::{ConnectRequest, Iocr, asked_initiator, refuse};
-use device_exchange::Starting;
-use module_blocks::module_diff_len;
+use connect_blocks::{
+    alarm_cr_block_res_len, ar_block_res_len, iocr_block_res_len, module_diff_len,
+};
+use connects::{ConnectRequest, Iocr, asked_initiator, refuse};
 use module_diff::{DiffRows, diff};
 use pn_values::{Identity, Mac, Real};
 use records::CallFault;
@@ -43,7 +44,7 @@ fn is_foreign(options: &DeviceOptions, source: &Mac, blocks: &[u8]) -> bool
 }
 
 /// Replaces the ModuleDiffBlock by one with these rows; it is empty if no module differs.
-#[tactic(auto, unfolding(block_codec::specs::Block::block_size, block_codec::specs::Block::fields_of, block_fields::specs::Fields::body, block_fields::specs::Fields::version))]
+#[tactic(auto, unfolding(block_codec::specs::Block::block_size, block_codec::specs::Block::fields_of, wire::specs::blocks::Fields::body, wire::specs::blocks::Fields::version))]
 fn put_differing(octets: &mut ArrayVec<u8, 1166>, rows: &DiffRows)
     ensures { octets.new.items ≡ differing_octets rows.now }
 {
@@ -58,7 +59,7 @@ fn put_differing(octets: &mut ArrayVec<u8, 1166>, rows: &DiffRows)
 }
 
 /// Appends the IOCRBlockRes of a communication relation, 12 octets. There must be room.
-#[tactic(auto, unfolding(block_codec::specs::Block::block_size, block_codec::specs::Block::fields_of, block_fields::specs::Fields::body, block_fields::specs::Fields::version))]
+#[tactic(auto, unfolding(block_codec::specs::Block::block_size, block_codec::specs::Block::fields_of, wire::specs::blocks::Fields::body, wire::specs::blocks::Fields::version))]
 fn put_iocr<const N: usize>(answer: &mut ArrayVec<u8, N>, iocr_type: u16, iocr: &Iocr)
     requires { array_vec_len answer.old + 12 ≤ N }
     ensures items { answer.new.items ≡ answer.old.items ++ iocr_answer iocr_type iocr.now }
@@ -91,7 +92,7 @@ fn put_iocrs<const N: usize>(answer: &mut ArrayVec<u8, N>, request: &ConnectRequ
 
 /// Writes the blocks of the answer to a Connect into an empty list: ARBlockRes, both IOCRBlockRes, AlarmCRBlockRes, and
 /// `differing`.
-#[tactic(auto, unfolding(crate::specs::Connect::connect_blocks, block_codec::specs::Block::block_size, block_codec::specs::Block::fields_of, block_fields::specs::Fields::body, block_fields::specs::Fields::version))]
+#[tactic(auto, unfolding(crate::specs::Connect::connect_blocks, block_codec::specs::Block::block_size, block_codec::specs::Block::fields_of, wire::specs::blocks::Fields::body, wire::specs::blocks::Fields::version))]
 fn put_answer<const N: usize>(
     answer: &mut ArrayVec<u8, N>,
     identity: &Identity,

@@ -7,8 +7,8 @@ ghost use Rattle.relations.specs.Phases.{updated};
 ghost use Rattle.relations.specs.Diagnosed.{begin_one, beginning, diagnose_one, diagnosing, has_sent_low, heard_low, hearing_low, is_full_in, owns_in, report_one, reporting};
 
 use crate::Relation;
-use cyclic_exchange::{ProviderStatus, Received};
-use device_exchange::DataExchange;
+use crate::exchange::DataExchange;
+use cyclic_data::{ProviderStatus, Received};
 use diagnosis::{Change, Diagnoses};
 use pn_alarms::{Message, PduFate};
 use pn_values::{Mac, Real};

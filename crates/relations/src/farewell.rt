@@ -3,8 +3,8 @@ ghost use Rattle.std.specs.Prelude.{◌≡◌, length, true};
 ghost use Rattle.pn_alarms.specs.Format.{is_long, said};
 ghost use Rattle.relations.specs.Farewells.{farewell_by, said_by};
 
-use connect_requests::ConnectRequest;
-use device_exchange::OWN_REFERENCE;
+use crate::exchange::OWN_REFERENCE;
+use connects::ConnectRequest;
 use pn_alarms::{Abort, Header, Pdu};
 use pn_values::Mac;
 use uuid::Uuid;

@@ -7,6 +7,7 @@
 
 mod calls;
 mod connect;
+mod exchange;
 mod exchanged;
 mod farewell;
 mod hearing;
@@ -19,7 +20,11 @@ mod ready;
 mod relation;
 mod time;
 
-pub use cyclic_exchange::ProviderStatus;
+pub use cyclic_data::ProviderStatus;
+pub use exchange::{
+    DataExchange, InputStatus, Mark, OWN_REFERENCE, Repeated, Starting, exchange_is_kept, is_bad,
+    is_plugged, put_status,
+};
 pub use farewell::Farewell;
 pub use hearing::ReadyAnswer;
 pub use laws::{phases_are_kept, time_is_kept};

@@ -1,5 +1,5 @@
 //! What the application of a device decides where the device is made.
-use device_exchange::InputStatus;
+use crate::exchange::InputStatus;
 use diagnosis::Diagnoses;
 
 /// What a relation of a device begins with: what its application says, which are its options and the statuses that it gave to

@@ -33,7 +33,7 @@ pub struct Ready {
 
 impl Ready {
     /// Appends the block of the call, 32 octets. There must be room.
-    #[tactic(auto, unfolding(block_codec::specs::Block::block_size, block_codec::specs::Block::fields_of, block_fields::specs::Fields::body, block_fields::specs::Fields::version))]
+    #[tactic(auto, unfolding(block_codec::specs::Block::block_size, block_codec::specs::Block::fields_of, wire::specs::blocks::Fields::body, wire::specs::blocks::Fields::version))]
     pub fn put_blocks<const N: usize>(&self, blocks: &mut ArrayVec<u8, N>)
         requires { array_vec_len blocks.old + 32 ≤ N }
         ensures { blocks.new.items ≡ blocks.old.items ++ block_bytes (ApplicationReady self.now.block) }

@@ -4,12 +4,12 @@ ghost use Rattle.relations.specs.Phases.{Ended, Named, Unmoved, answered, keepin
 ghost use Rattle.relations.specs.Farewells.{farewell_of};
 ghost use Rattle.relations.specs.RelationState.{IsInStep, differing_in, is_alarm_of, is_alive_by, is_named, is_parameterized, parts_of, passed_of, passes_on_in, phase_of, taken_of, uuid_of};
 
+use crate::exchange::{DataExchange, OWN_REFERENCE};
 use crate::passed::PassedRecords;
 use crate::{DeviceOptions, Farewell, Partner, Phase};
 use arrayvec::ArrayVec;
-use connect_requests::ConnectRequest;
-use cyclic_exchange::CyclicExchange;
-use device_exchange::{DataExchange, OWN_REFERENCE};
+use connects::ConnectRequest;
+use cyclic_data::CyclicExchange;
 use pn_alarms::{Abort, PduType};
 use pn_values::Mac;
 use records::{CallFault, TakenRecord, TakenRecords, is_relation};

@@ -14,10 +14,10 @@ ghost use Rattle.relations.specs.Ready.{ready_of};
 ghost use Rattle.relations.specs.Runs.{units_over};
 ghost use Rattle.relations.specs.Leaps.{NothingDueFor, due_within, inactive_by, inactive_in, ready_in, waited_by};
 
+use crate::exchange::Repeated;
 use crate::{Phase, Relation};
-use connect_requests::ConnectRequest;
-use cyclic_exchange::Tick;
-use device_exchange::Repeated;
+use connects::ConnectRequest;
+use cyclic_data::Tick;
 use pn_alarms::{Abort, NEVER};
 
 /// 100 ms, in units of 31.25 microseconds: what CMInitiatorActivityTimeoutFactor counts.

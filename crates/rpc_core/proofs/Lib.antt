@@ -4,3 +4,4 @@ pub mod Cached
 pub mod Faithful
 pub mod Fits
 pub mod Heads
+pub mod CallHeadersCalls

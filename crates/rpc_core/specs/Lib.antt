@@ -10,3 +10,4 @@ pub mod Cache
 pub mod Slots
 pub mod Reported
 pub mod Sendable
+pub mod call_headers

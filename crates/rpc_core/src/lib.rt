@@ -5,6 +5,7 @@
 
 mod cache;
 mod call;
+mod call_headers;
 mod fault;
 mod fields;
 mod header;
@@ -16,6 +17,11 @@ mod writing;
 
 pub use cache::{CallCache, Looked};
 pub use call::{Call, read_call};
+pub use call_headers::{
+    Extent, Head, Names, Opening, Refusal, Refused, Rejection, Turn, answer_head, head_at,
+    is_little, is_read, names_mapper, put_head, put_long, put_short, refusal_bytes, sent_uuid,
+    unserved_answer,
+};
 pub use fault::RpcFault;
 pub use header::CallHeader;
 pub use interface::Interface;

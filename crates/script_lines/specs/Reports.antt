@@ -3,13 +3,13 @@ use Rattle.std.specs.Prelude.{ℕ, List, [], ◌∷◌, ◌++◌, length, ◌==�
 use Rattle.hex.specs.Hex.{encode_lower}
 use Rattle.rpc_core.specs.declared.response.Status.{Status}
 use Rattle.rpc_core.specs.Response.{is_done}
-use Rattle.alarm_reports.specs.declared.priority.Priority.{Priority}
-use Rattle.alarm_reports.specs.declared.priority.Priority.TheVariants.{High, Low}
-use Rattle.alarm_reports.specs.declared.report.Report.{Report}
-use Rattle.controller_frames.specs.declared.record_request.RecordRequest.{RecordRequest}
-use Rattle.controller_frames.specs.declared.record_request.RecordService.{RecordService}
-use Rattle.controller_frames.specs.declared.record_request.RecordService.TheVariants.{Read, Write}
-use Rattle.record_access.specs.declared.access.Answer.{Answer}
+use Rattle.diagnosis.specs.declared.reports.priority.Priority.{Priority}
+use Rattle.diagnosis.specs.declared.reports.priority.Priority.TheVariants.{High, Low}
+use Rattle.diagnosis.specs.declared.reports.report.Report.{Report}
+use Rattle.controller_messages.specs.declared.record_request.RecordRequest.{RecordRequest}
+use Rattle.controller_messages.specs.declared.record_request.RecordService.{RecordService}
+use Rattle.controller_messages.specs.declared.record_request.RecordService.TheVariants.{Read, Write}
+use Rattle.controller_messages.specs.declared.access.Answer.{Answer}
 use Rattle.script_lines.specs.Text.{printed}
 
 -- Octets in hex; '-' if there are none.

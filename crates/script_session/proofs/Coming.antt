@@ -8,8 +8,8 @@ use Rattle.configurator.specs.declared.fault.PlanFault.TheVariants.{OutOfMemory}
 use Rattle.configurator.specs.Planned.{IsPlanOf, IsRefused}
 use Rattle.device_frames.specs.declared.note.Note.TheVariants.{Done}
 use Rattle.device_frames.specs.declared.event.Event.TheVariants as event
-use Rattle.controller_state.specs.declared.event.Event.{Event as ControllerEvent}
-use Rattle.controller_state.specs.State.{Controlling}
+use Rattle.controller_core.specs.declared.stored.event.Event.{Event as ControllerEvent}
+use Rattle.controller_core.specs.stored.State.{Controlling}
 use Rattle.script_lines.specs.Show.{controller_shown}
 use Rattle.script_lines.specs.Text.{moved_line, note_line, printed}
 use Rattle.script_session.specs.declared.power.Power.{Power}

@@ -9,8 +9,8 @@ use Rattle.device_core.specs.Leaps.{Leapt, and_then, then_leap, ticks_of}
 use Rattle.station.specs.Serving.{Serving}
 use Rattle.station.specs.State.{Frames, in_order}
 use Rattle.station.specs.Leaps.{Leapt as BothLeapt, then_leap as both_then, tick_of as both_tick, ticks_of as both_ticks_of, told_at, told_if}
-use Rattle.controller_state.specs.declared.event.Event.TheVariants as heard
-use Rattle.controller_state.specs.State.{Controlling}
+use Rattle.controller_core.specs.declared.stored.event.Event.TheVariants as heard
+use Rattle.controller_core.specs.stored.State.{Controlling}
 use Rattle.controller_core.specs.Machine.{Stepped as ControllerRun, step_of as controller_step}
 use Rattle.controller_core.specs.Leaps.{and_then as and_heard, ticks_of as controller_ticks_of}
 use Rattle.script_session.specs.Ends.{Running, Station, Other, DeviceRun, controller_run, device_run, printed_for, with_sent}

@@ -6,3 +6,4 @@ pub mod Ticking
 pub mod Begins
 pub mod Leaping
 pub mod Stepping
+pub mod AnyFlash

@@ -9,8 +9,8 @@ use Rattle.plans.specs.declared.parts.Parts.{Parts}
 use Rattle.plans.specs.declared.plan.TooLong.{TooLong}
 use Rattle.plans.specs.declared.plan.TooLong.TheVariants as long
 use Rattle.plans.specs.Plan.{plan_of}
-use Rattle.catalogue_keys.specs.declared.fault.CatalogueFault.TheVariants as reading
-use Rattle.catalogue_keys.specs.declared.fault.PlacedFault.{PlacedFault}
+use Rattle.catalogue.specs.declared.keys.fault.CatalogueFault.TheVariants as reading
+use Rattle.catalogue.specs.declared.keys.fault.PlacedFault.{PlacedFault}
 use Rattle.catalogue.specs.Catalogues.{Catalogue, Found, Refuses, catalogue}
 use Rattle.catalogue.specs.Projects.{Project}
 use Rattle.configurator.specs.declared.fault.PlanFault.{PlanFault}

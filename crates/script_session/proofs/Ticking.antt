@@ -4,9 +4,9 @@ use Rattle.std.proofs.lemmas.Grind.{flat_map-append}
 use Rattle.std.proofs.lemmas.List.{drop_all}
 use Rattle.arrayvec.specs.ArrayVec.{ArrayVec}
 use Rattle.device_frames.specs.declared.event.Event.{Event}
-use Rattle.controller_state.specs.declared.event.Event.{Event as ControllerEvent}
+use Rattle.controller_core.specs.declared.stored.event.Event.{Event as ControllerEvent}
 use Rattle.controller_core.specs.Machine.{Stepped as ControllerRun, step_of as controller_step}
-use Rattle.controller_state.specs.State.{Controlling}
+use Rattle.controller_core.specs.stored.State.{Controlling}
 use Rattle.script_lines.specs.Reports.{told_line}
 use Rattle.script_session.specs.Ends.{Station, Running, station_step, Other, DeviceRun, IsRun, alarms_in, controller_run, device_run, frames_for_device, kept, news_of, octets_of, printed_for, with_sent}
 use Rattle.script_session.specs.Power.{Runs}

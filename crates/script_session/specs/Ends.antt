@@ -9,6 +9,7 @@ use Rattle.device_frames.specs.declared.event.Event.{Event}
 use Rattle.device_frames.specs.declared.event.Event.TheVariants as event
 use Rattle.device_core.specs.State.{Station as Device, State, Live}
 use Rattle.flash_model.specs.declared.memory.MemoryFlash.{MemoryFlash}
+use Rattle.settings_journal.specs.settings_store.Machine.{Outcome}
 use Rattle.device_core.specs.Leaps.{live_due_in}
 use Rattle.device_core.specs.Machine.{Stepped, step_of}
 use Rattle.device_frames.specs.declared.note.Note.{Note}
@@ -16,13 +17,13 @@ use Rattle.pn_values.specs.declared.settings.Settings.{Settings}
 use Rattle.station.specs.Serving.{Serving, serving_at}
 use Rattle.station.specs.Beside.{beside, joined_beside}
 use Rattle.station.specs.Leaps.{due_beside, told_at}
-use Rattle.controller_state.specs.declared.event.Event.{Event as ControllerEvent}
-use Rattle.controller_state.specs.declared.event.Event.TheVariants as heard
-use Rattle.controller_state.specs.State.{Controlling}
+use Rattle.controller_core.specs.declared.stored.event.Event.{Event as ControllerEvent}
+use Rattle.controller_core.specs.declared.stored.event.Event.TheVariants as heard
+use Rattle.controller_core.specs.stored.State.{Controlling}
 use Rattle.pn_alarms.specs.Numbers.{is_last}
-use Rattle.alarm_reports.specs.declared.priority.Priority.{Priority}
-use Rattle.alarm_reports.specs.declared.priority.Priority.TheVariants.{High, Low}
-use Rattle.alarm_reports.specs.declared.report.Report.{Report}
+use Rattle.diagnosis.specs.declared.reports.priority.Priority.{Priority}
+use Rattle.diagnosis.specs.declared.reports.priority.Priority.TheVariants.{High, Low}
+use Rattle.diagnosis.specs.declared.reports.report.Report.{Report}
 use Rattle.controller_core.specs.Machine.{Stepped as ControllerRun, step_of as controller_step, can_request, end_of, fresh, opening_of, report_in}
 use Rattle.relations.specs.Options.{default_options}
 use Rattle.relations.specs.declared.options.DeviceOptions.{DeviceOptions}
@@ -48,27 +49,36 @@ pub record Turned : Type 0 where
   pub frames : List (List ℕ)
   pub note : Note
 
--- After a step the device is given the call that the services joined, if they did, in a step of its own.
+-- After a step the device is given the call that the services joined, if they did, in a step of its own. These are the outcomes
+-- of the calls of its flash then.
+abbrev pub given_for : List Outcome → Device → Option Event → Stepped → Stepped
+given_for outcomes device None step = step
+given_for outcomes device (Some call) step = step_of outcomes device step.live call
+
+-- The same over a flash that never fails.
 abbrev pub given : Device → Option Event → Stepped → Stepped
-given device None step = step
-given device (Some call) step = step_of [] device step.live call
+given device joined step = given_for [] device joined step
 
 -- A step of the device, what the services do beside it, and the step of a call that the event completed. The fixed part of the
--- device stays, and the services' frames follow the device's.
-abbrev pub turned : Option Serving → Device → Event → Stepped → Turned
-turned None device event step = record {
+-- device stays, and the services' frames follow the device's. The outcomes are those of the flash in the last one.
+abbrev pub turned_for : List Outcome → Option Serving → Device → Event → Stepped → Turned
+turned_for outcomes None device event step = record {
   station = record { device = device; live = step.live; services = None };
   frames = step.frames;
   note = step.note;
 }
-turned (Some state) device event step =
+turned_for outcomes (Some state) device event step =
     let after = beside device.identity state step.live.values step.note event in
-    let last = given device (joined_beside state step.live.values step.note event) step in
+    let last = given_for outcomes device (joined_beside state step.live.values step.note event) step in
     record {
       station = record { device = device; live = last.live; services = Some after.services };
       frames = last.frames ++ after.sent;
       note = after.note;
     }
+
+-- The same over a flash that never fails.
+abbrev pub turned : Option Serving → Device → Event → Stepped → Turned
+turned had device event step = turned_for [] had device event step
 
 -- The number of units up to and with the next one that brings something to the station.
 abbrev pub due_with : Option Serving → Live → ℕ
@@ -86,6 +96,12 @@ ready_with (Some state) device live =
 
 abbrev pub ready_of : Station → Station
 ready_of station = ready_with station.services station.device station.live
+
+-- A step of the station, for these outcomes of the calls of its flash: those of the event, and those of the call that the event
+-- completed.
+abbrev pub step_for : List Outcome → List Outcome → Station → Event → Turned
+step_for outcomes later station event =
+    let ready = ready_of station in turned_for later ready.services ready.device event (step_of outcomes ready.device ready.live event)
 
 -- A step of the station, whose flash never fails.
 abbrev pub station_step : Station → Event → Turned
@@ -139,6 +155,10 @@ pub record Running : Type 0 where
   pub station : Device
   pub live : Live
   pub services : Option Serving
+
+-- The same without its flash.
+abbrev pub station_in : Running → Station
+station_in device = record { device = device.station; live = device.live; services = device.services }
 
 -- The station of a device that starts, with services that begin with it or without any.
 abbrev pub begun : Bool → State (MemoryFlash 4096) → Running

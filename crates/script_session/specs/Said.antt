@@ -14,12 +14,12 @@ use Rattle.device_frames.specs.declared.event.Event.TheVariants as event
 use Rattle.device_frames.specs.declared.note.Note.TheVariants.{Done}
 use Rattle.device_frames.specs.declared.note.Note.TheVariants.{Refused as Declined}
 use Rattle.device_core.specs.Cycle.{started}
-use Rattle.controller_state.specs.declared.event.Event.{Event as ControllerEvent}
-use Rattle.controller_state.specs.declared.event.Event.TheVariants as heard
+use Rattle.controller_core.specs.declared.stored.event.Event.{Event as ControllerEvent}
+use Rattle.controller_core.specs.declared.stored.event.Event.TheVariants as heard
 use Rattle.controller_core.specs.Machine.{step_of as controller_step}
-use Rattle.controller_state.specs.State.{Controlling}
-use Rattle.record_access.specs.Access.{record_of}
-use Rattle.controller_frames.specs.RecordRequests.{most_record_octets}
+use Rattle.controller_core.specs.stored.State.{Controlling}
+use Rattle.controller_messages.specs.Access.{record_of}
+use Rattle.controller_messages.specs.RecordRequests.{most_record_octets}
 use Rattle.script_session.specs.Demo.{demo_device}
 use Rattle.script_session.specs.Ends.{Station, Turned, due_of, serving, services_at, station_step, Other, Network, DeviceRun, with_ends, arrived_at, chosen, cleared, device_run, frames_for_device, may_request, nobody, printed_for, ticked_by, with_fresh, with_plan, with_run, with_sent}
 use Rattle.station.specs.Serving.{Serving}

@@ -8,7 +8,10 @@ use Rattle.configurator.specs.Planned.{IsRefused}
 use Rattle.device_frames.specs.declared.note.Note.{Note}
 use Rattle.station.specs.State.{Frames, in_order}
 use Rattle.script_lines.specs.Line.{Config, Line, Asks}
-use Rattle.script_session.specs.Ends.{DeviceRun, IsRightFor, Network, Other, Running, Turned, octets_of, printed_for, with_sent}
+use Rattle.script_lines.specs.Text.{note_line}
+use Rattle.device_frames.specs.declared.event.Event.{Event}
+use Rattle.settings_journal.specs.settings_store.Machine.{Outcome as Stored}
+use Rattle.script_session.specs.Ends.{DeviceRun, IsRightFor, Network, Other, Running, Station, Turned, octets_of, printed_for, station_in, step_for, with_sent}
 use Rattle.script_session.specs.Power.{Held, IsRunning, Runs}
 use Rattle.script_session.specs.Said.{Answer, Outcome, Answers, Refuses, HasNoPlan, handed_over}
 
@@ -52,6 +55,20 @@ pub record IsStepped (step : Turned) (device : Running) (outbox : Frames) (note 
   pub runs : Runs step.station device
   pub frames : in_order outbox ≡ step.frames
   pub note_is : note ≡ step.note
+
+-- A step was made, whatever the flash did: for some outcomes of its calls, which it chose, the device and the services are as
+-- the step leaves them, the outbox holds the frames that it sends, and the note is the result of the event.
+pub record IsStepFor (before : Station) (event : Event) (device : Running) (outbox : Frames) (note : Note) : Type 0 where
+  pub outcomes : List Stored
+  pub later : List Stored
+  pub station_is : station_in device ≡ (step_for outcomes later before event).station
+  pub frames : in_order outbox ≡ (step_for outcomes later before event).frames
+  pub note_is : note ≡ (step_for outcomes later before event).note
+
+-- What a step returned is told: the frames that it sends are rendered or wait, and then its note is rendered.
+pub record IsTold (far : Other) (frames : List (List ℕ)) (note : Note) (other : Other) (before now : List ℕ) : Type 0 where
+  pub waits : other ≡ with_sent far frames
+  pub text : now ≡ before ++ (printed_for far.controller frames ++ note_line note)
 
 -- Several units of time passed at once: the device runs on, and the outbox holds the frames that it sends.
 pub record IsLeapt (run : DeviceRun) (device : Running) (outbox : Frames) : Type 0 where

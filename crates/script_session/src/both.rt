@@ -1,13 +1,15 @@
 // The effect of a line at both ends.
-ghost use Rattle.std.specs.Prelude.{◌≡◌, ◌≤◌, ◌++◌, true, OnOk, replicate};
+ghost use Rattle.std.specs.Prelude.{◌≡◌, ◌≤◌, ◌++◌, false, true, OnOk, replicate};
 ghost use Rattle.flash_model.specs.Memory.{is_powerless};
 ghost use Rattle.device_frames.specs.declared.event.Event.TheVariants as event;
 ghost use Rattle.script_lines.specs.Text.{lost_line};
-ghost use Rattle.script_session.specs.Ends.{Network, Station, device_run, due_with, station_step};
+ghost use Rattle.device_frames.specs.declared.note.Note.{Note};
+ghost use Rattle.station.specs.State.{in_order};
+ghost use Rattle.script_session.specs.Ends.{Network, Station, device_run, due_with, station_in, station_step};
 ghost use Rattle.script_session.specs.Said.{deliver_answer, event_answer};
 ghost use Rattle.script_session.specs.Off.{Delivers};
 ghost use Rattle.script_session.specs.Power.{Runs};
-ghost use Rattle.script_session.specs.Session.{IsDone, IsRunOf, IsTurned};
+ghost use Rattle.script_session.specs.Session.{IsDone, IsRunOf, IsStepFor, IsTold, IsTurned};
 
 use crate::other_end::OtherEnd;
 use crate::power::DemoStation;
@@ -30,6 +32,10 @@ pub(crate) fn respond(
         OnOk result (IsDone (event_answer network event.now) device.new other.new text.old.items text.new.items) }
     ensures lost { is_powerless device.new.flash ≡ true →
         OnOk result ((text.new.items ≡ text.old.items ++ lost_line) × (other.new ≡ other.old)) }
+    // Whatever the flash does: what is told is what the step returned.
+    ensures told { is_powerless device.new.flash ≡ false →
+        (note : Note) × IsStepFor (station_in device.old) event.now device.new outbox.new note
+        × OnOk result (IsTold other.old (in_order outbox.new) note other.new text.old.items text.new.items) }
     ensures same { device.new.station ≡ device.old.station }
 {
     let note = device.step(event, outbox);

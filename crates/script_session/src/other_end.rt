@@ -3,7 +3,7 @@
 ghost use Rattle.std.specs.Prelude.{◌≡◌, ◌≤◌, ◌++◌, OnOk, IfOk, flat_map, replicate};
 ghost use Rattle.controller_core.specs.Leaps.{live_due_in};
 ghost use Rattle.controller_core.specs.Machine.{end_of, report_in, step_of};
-ghost use Rattle.controller_state.specs.declared.event.Event.TheVariants as event;
+ghost use Rattle.controller_core.specs.declared.stored.event.Event.TheVariants as event;
 ghost use Rattle.script_lines.specs.Reports.{told_line};
 ghost use Rattle.script_session.specs.Ends.{IsRun, Station, alarms_in, controller_run, device_run, frames_for_controller, frames_for_device};
 ghost use Rattle.script_session.specs.Ends.{news_by, news_of, octets_of};

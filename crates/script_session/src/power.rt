@@ -50,10 +50,10 @@ impl<'a> DemoStation<'a> {
     ghost use Rattle.flash_model.specs.Calls.{Arms};
     ghost use Rattle.std.specs.Prelude.{replicate};
     ghost use Rattle.device_frames.specs.declared.event.Event.TheVariants as event;
-    ghost use Rattle.script_session.specs.Ends.{Station, begun, device_run, due_with, station_step};
+    ghost use Rattle.script_session.specs.Ends.{Station, begun, device_run, due_with, station_in, station_step};
     ghost use Rattle.script_session.specs.Power.{Runs};
     ghost use Rattle.script_session.specs.Said.{served};
-    ghost use Rattle.script_session.specs.Session.{IsLeapt, IsStepped};
+    ghost use Rattle.script_session.specs.Session.{IsLeapt, IsStepFor, IsStepped};
 
     /// The station of a device that starts, with services that begin with it or without any.
     fn begin(device: DemoDevice<'a>, serves: bool) -> DemoStation<'a>
@@ -70,6 +70,8 @@ impl<'a> DemoStation<'a> {
     /// Makes a step.
     pub(crate) fn step(&mut self, event: &Event, outbox: &mut StationOutbox) -> Note
         ensures steps { (station : Station) → Runs station self.old → IsStepped (station_step station event.now) self.new outbox.new result }
+        // Whatever the flash does.
+        ensures any { IsStepFor (station_in self.old) event.now self.new outbox.new result }
         ensures same { self.new.station ≡ self.old.station }
     {
         match &mut self.services {

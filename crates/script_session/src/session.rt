@@ -1,6 +1,6 @@
 //! The state of a run from line to line.
 ghost use Rattle.std.specs.Prelude.{◌≡◌, ◌++◌, IfOk, IsErr, MatchResult, OnOk, Ok, true};
-ghost use Rattle.controller_state.specs.declared.event.Event.TheVariants as heard;
+ghost use Rattle.controller_core.specs.declared.stored.event.Event.TheVariants as heard;
 ghost use Rattle.device_frames.specs.declared.event.Event.TheVariants as event;
 ghost use Rattle.configurator.specs.declared.fault.PlanFault.TheVariants as plan_fault;
 ghost use Rattle.script_lines.specs.Read.{line_read};

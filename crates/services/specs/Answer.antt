@@ -13,7 +13,7 @@ use Rattle.frame_codec.specs.declared.fault.FrameFault.{FrameFault}
 use Rattle.frame_codec.specs.Meaning.{Meaning, Content, RealTime, ArpPacket, UdpDatagram}
 use Rattle.frame_codec.specs.declared.udp.Endpoint.{Endpoint}
 use Rattle.frame_codec.specs.Calls.{call_port, calls_at}
-use Rattle.call_headers.specs.Unserved.{unserved_answer}
+use Rattle.rpc_core.specs.call_headers.Unserved.{unserved_answer}
 use Rattle.frame_codec.specs.Frame.{frame_bytes, frame_of}
 use Rattle.services.specs.declared.announcement.Role.{Role}
 use Rattle.services.specs.declared.announcement.Role.TheVariants.{Device, Controller}

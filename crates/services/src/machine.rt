@@ -17,11 +17,11 @@ use crate::address::{BROADCAST, is_group, is_host, is_same, is_zero};
 use crate::echo::{EchoRequest, request_at};
 use crate::reply::{arp_reply, call_reply, echo_reply, put_announcement};
 use crate::{Announcement, Called, Role};
-use call_headers::unserved_answer;
 use frame_codec::{
     Arp, ArpOperation, Endpoint, Frame, Holder, Layered, Outbox, Payload, RPC_PORT, Udp, read,
 };
 use pn_values::Mac;
+use rpc_core::unserved_answer;
 use std::marker::Model;
 
 /// The least time between two defences of the address, in ticks: 10 seconds (RFC 5227, DEFEND_INTERVAL).

@@ -11,3 +11,8 @@ pub mod Slots
 pub mod Starting
 pub mod Storing
 pub mod Writes
+pub mod SettingsStoreCrash
+pub mod SettingsStoreFaults
+pub mod SettingsStoreMachine
+pub mod SettingsStorePlaced
+pub mod SettingsStoreSteps

@@ -10,3 +10,4 @@ pub mod Start
 pub mod State
 pub mod Store
 pub mod Writes
+pub mod settings_store

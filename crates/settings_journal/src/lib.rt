@@ -12,9 +12,11 @@ mod base;
 mod fill;
 mod head;
 mod journal;
+mod settings_store;
 mod slot;
 mod start;
 mod store;
 
 pub use fill::Fill;
 pub use journal::{BootFault, CommitFault, Journal};
+pub use settings_store::Store;

@@ -10,8 +10,8 @@ use Rattle.services.specs.Leaps as ip_leaps
 use Rattle.lldp.specs.Announcement.{announcement}
 use Rattle.lldp.specs.State as near
 use Rattle.lldp.specs.Leaps as near_leaps
-use Rattle.call_pieces.specs.State as calls
-use Rattle.call_pieces.specs.Leaps as call_leaps
+use Rattle.rpc_services.specs.pieces.State as calls
+use Rattle.rpc_services.specs.pieces.Leaps as call_leaps
 use Rattle.station.specs.Serving.{NoNews, NoneSends, Serving, announces, due_in, said_of, sent_by_tick, serving_ticks, ticked}
 
 abbrev with_all : Serving → ip.State → near.State → calls.State → Serving

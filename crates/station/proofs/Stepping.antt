@@ -1,7 +1,7 @@
 -- A step of a station, of the step of its device and what the services do beside it.
 use Rattle.std.proofs.Common.{◌≡◌, ◌≢◌, ℕ, Bool, true, false, Option, Some, None, List, [], ◌∷◌, map, refl, sym, ap, subst, ◌∙◌}
 use Rattle.std.specs.Prelude.{if◌then◌else◌}
-use Rattle.settings_store.specs.State.{Values}
+use Rattle.settings_journal.specs.settings_store.State.{Values}
 use Rattle.flash_model.specs.declared.flash.Flash.{Ghosts as Flash}
 use Rattle.pn_values.specs.declared.identity.Identity.{Identity}
 use Rattle.device_frames.specs.declared.event.Event.{Event}

@@ -1,7 +1,7 @@
 -- The step in which the device is told of its neighbour.
 use Rattle.std.proofs.Common.{◌≡◌, ℕ, suc, Bool, true, false, Option, option_map, List, [], refl, sym, ap, subst, ◌∙◌, arith}
 use Rattle.flash_model.specs.declared.flash.Flash.{Ghosts as Flash}
-use Rattle.settings_store.specs.Machine.{Outcome}
+use Rattle.settings_journal.specs.settings_store.Machine.{Outcome}
 use Rattle.lldp.specs.declared.neighbour.Neighbour.{Neighbour}
 use Rattle.lldp.specs.Peer.{Peer}
 use Rattle.device_frames.specs.declared.event.Event.{Event}

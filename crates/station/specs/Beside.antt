@@ -1,8 +1,8 @@
 -- The services beside one step of the device.
 use Rattle.std.specs.Prelude.{◌≡◌, ◌||◌, ◌&&◌, ⊤, ℕ, Bool, true, false, List, [], ◌∷◌, Option, None, is_some, if◌then◌else◌}
 use Rattle.pn_values.specs.declared.identity.Identity.{Identity}
-use Rattle.settings_store.specs.State.{Values}
-use Rattle.settings_store.specs.Machine.{Outcome}
+use Rattle.settings_journal.specs.settings_store.State.{Values}
+use Rattle.settings_journal.specs.settings_store.Machine.{Outcome}
 use Rattle.device_core.specs.Machine.{step_of}
 use Rattle.device_core.specs.State.{Live, Station}
 use Rattle.device_frames.specs.declared.event.Event.{Event}

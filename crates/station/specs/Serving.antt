@@ -9,14 +9,14 @@ use Rattle.services.specs.State as ip
 use Rattle.services.specs.Answer as ip_answer
 use Rattle.services.specs.Leaps as ip_leaps
 use Rattle.services.specs.declared.announcement.Role.TheVariants as role
-use Rattle.call_headers.specs.Unserved.{unserved_answer}
-use Rattle.endpoint_mapper.specs.Mapper as mapper
+use Rattle.rpc_core.specs.call_headers.Unserved.{unserved_answer}
+use Rattle.rpc_services.specs.endpoint_mapper.Mapper as mapper
 use Rattle.device_frames.specs.declared.event.Event.{Event}
 use Rattle.device_frames.specs.declared.event.Event.TheVariants.{Call as Joined, Neighbour as Met}
 use Rattle.frame_codec.specs.declared.udp.Caller.{Caller}
 use Rattle.frame_codec.specs.Frame.{frame_bytes}
-use Rattle.call_pieces.specs.declared.piece.Kind.TheVariants.{Calls}
-use Rattle.call_pieces.specs.State as calls
+use Rattle.rpc_services.specs.declared.pieces.piece.Kind.TheVariants.{Calls}
+use Rattle.rpc_services.specs.pieces.State as calls
 use Rattle.lldp.specs.declared.neighbour.Neighbour.{Neighbour}
 use Rattle.lldp.specs.declared.station.Link.{Link}
 use Rattle.lldp.specs.declared.machine.Heard.{Heard}

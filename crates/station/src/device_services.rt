@@ -16,13 +16,12 @@ ghost use Rattle.std.specs.Cmp.Lexicographic.{pointwise};
 ghost use Rattle.station.specs.Serving.{aged, met, overheard, said_of, sent_by_tick, serving_at, serving_ticks, ticked, told};
 
 use crate::JoinedCall;
-use call_headers::unserved_answer;
-use call_pieces::{Heard as Pieced, Joiner, Kind};
 use device_core::{Caller, Event, Note};
-use endpoint_mapper::mapped_frame;
 use frame_codec::{Frame, Outbox};
 use lldp::{Heard, Link, Neighbours, announcement};
 use pn_values::{Identity, Settings, StationName};
+use rpc_core::unserved_answer;
+use rpc_services::{Heard as Pieced, Joiner, Kind, mapped_frame};
 use services::{Called, Role, Services, only_conflicts_are_counted};
 use std::marker::Model;
 

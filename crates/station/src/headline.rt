@@ -3,7 +3,7 @@ ghost use Rattle.std.specs.Prelude.{◌≡◌, ℕ, List, IsOk, IfOk, IfErr};
 ghost use Rattle.pn_values.specs.declared.settings.Settings.{Settings};
 ghost use Rattle.settings_journal.specs.Image.{StartsWith, LeftByDevice};
 ghost use Rattle.device_core.specs.Cycle.{IsStarted, IsStartedFrom, RefusesAfter, Restarts};
-ghost use Rattle.device_core.specs.State.{State, plain};
+ghost use Rattle.device_core.specs.State.{State, Station, plain, station_with};
 ghost use Rattle.device_core.specs.Steps.{Runs};
 ghost use Rattle.station.specs.Runs.{IsStationRefused, StationRestarts, ServesFrom};
 
@@ -12,6 +12,7 @@ use crate::station::services_of;
 use device_core::{Device, Event, Sink, restart};
 use flash_model::Flash;
 use pn_values::{Identity, Real};
+use relations::DeviceOptions;
 use settings_journal::BootFault;
 
 /// Runs a cycle of a station and the start after it: boots a device, runs the events with the services beside it, and
@@ -44,7 +45,47 @@ pub fn cycle<F: Flash<S>, const S: usize, K: Sink, P: FnOnce(F) -> F>(
     // The services of the restarted station begin again.
     ensures services { IfOk result (λ station. ServesFrom station.device station.services) }
 {
-    let device = Device::boot(identity, real, flash)?;
+    cycle_with(
+        identity,
+        real,
+        DeviceOptions::default(),
+        flash,
+        events,
+        sink,
+        power_up,
+    )
+}
+
+/// The same for a device with these options.
+pub fn cycle_with<F: Flash<S>, const S: usize, K: Sink, P: FnOnce(F) -> F>(
+    identity: Identity,
+    real: Real,
+    options: DeviceOptions,
+    flash: F,
+    events: &[Event],
+    sink: &mut K,
+    power_up: P,
+) -> Result<IoStation<F, S>, (BootFault, F)>
+    // Restoring the power changes no byte.
+    requires powers { P.IsAlwaysCallable power_up }
+    requires keeps { (lost flash : F) → P.post power_up lost flash → F.image flash ≡ F.image lost }
+
+    // What `device_core::cycle_with` says of a device holds of the station's device and flash, word for word: the services store
+    // nothing and make no flash call. The frames of the cycle are those of the device; the sink also accepted those of the
+    // services.
+    ensures headline { LeftByDevice (F.image flash) → (first : Settings) (room : ℕ) → StartsWith (F.image flash) first room →
+        IfOk result (λ station. StationRestarts F.Flash (P.post power_up) (station_with identity real options) flash
+        first room events.now (K.taken sink.old) (K.taken sink.new) station) }
+    ensures fresh { IfOk result (λ station. IsStarted F.Flash (station_with identity real options) station.device) }
+    ensures left { LeftByDevice (F.image flash) → IfErr result (λ refused. refused.0 ≡ BootFault.FlashFault) }
+    ensures refused { IfErr result (λ refused. IsStationRefused F.Flash (P.post power_up)
+        (station_with identity real options) flash events.now (K.taken sink.old) (K.taken sink.new) refused.0 refused.1) }
+    ensures reliable { F.is_reliable flash → ((lost flash : F) → P.post power_up lost flash → F.is_reliable lost → F.is_reliable flash) →
+        LeftByDevice (F.image flash) → IsOk result }
+    // The services of the restarted station begin again.
+    ensures services { IfOk result (λ station. ServesFrom station.device station.services) }
+{
+    let device = Device::boot_with(identity, real, options, flash)?;
     let services = services_of(&device);
     let mut station = IoStation { device, services };
     station.run(events, sink);
@@ -52,26 +93,26 @@ pub fn cycle<F: Flash<S>, const S: usize, K: Sink, P: FnOnce(F) -> F>(
 }
 
 impl<F: Flash<S>, const S: usize> IoStation<F, S> {
-    /// Restores the power of the flash, and starts the station again from what its device left there, with all options at
-    /// their defaults. A refused start returns the flash.
+    /// Restores the power of the flash, and starts the station again from what its device left there, with the same
+    /// options. A refused start returns the flash.
     pub fn restart<P: FnOnce(F) -> F>(self, power_up: P) -> Result<IoStation<F, S>, (BootFault, F)>
         // Restoring the power changes no byte.
         requires powers { P.IsAlwaysCallable power_up }
         requires keeps { (lost flash : F) → P.post power_up lost flash → F.image flash ≡ F.image lost }
 
         // What `device_core::restart` says of a device holds of the station's device, word for word.
-        ensures headline { (identity : Identity) (real : Real) (flash : F) (first : Settings) (room : ℕ) (begun : State F)
+        ensures headline { (station : Station) (flash : F) (first : Settings) (room : ℕ) (begun : State F)
             (events : List Event) (before now : List (List ℕ)) → LeftByDevice (F.image flash) → StartsWith (F.image flash) first room →
-            IsStartedFrom F.Flash (plain identity real) flash begun → Runs F.Flash begun events before now self.device →
-            IfOk result (λ again. Restarts F.Flash (P.post power_up) (plain identity real) flash first room events before now
+            IsStartedFrom F.Flash station flash begun → Runs F.Flash begun events before now self.device →
+            IfOk result (λ again. Restarts F.Flash (P.post power_up) station flash first room events before now
             again.device) }
-        ensures refused { (identity : Identity) (real : Real) (flash : F) (begun : State F)
+        ensures refused { (station : Station) (flash : F) (begun : State F)
             (events : List Event) (before now : List (List ℕ)) →
-            IsStartedFrom F.Flash (plain identity real) flash begun → Runs F.Flash begun events before now self.device →
-            IfErr result (λ refused. RefusesAfter F.Flash (P.post power_up) (plain identity real) flash events before now
+            IsStartedFrom F.Flash station flash begun → Runs F.Flash begun events before now self.device →
+            IfErr result (λ refused. RefusesAfter F.Flash (P.post power_up) station flash events before now
             refused.0 refused.1) }
-        ensures fresh { (identity : Identity) (real : Real) → self.device.station ≡ plain identity real →
-            IfOk result (λ again. IsStarted F.Flash (plain identity real) again.device) }
+        ensures fresh { (station : Station) → self.device.station ≡ station →
+            IfOk result (λ again. IsStarted F.Flash station again.device) }
         ensures left { LeftByDevice (F.image self.device.flash) → IfErr result (λ refused. refused.0 ≡ BootFault.FlashFault) }
         ensures reliable { F.is_reliable self.device.flash → ((lost flash : F) → P.post power_up lost flash → F.is_reliable lost → F.is_reliable flash) →
             LeftByDevice (F.image self.device.flash) → IsOk result }

@@ -3,10 +3,10 @@ ghost use Rattle.std.specs.Prelude.{◌≡◌};
 ghost use Rattle.arrayvec.specs.ArrayVec.{array_vec_len};
 ghost use Rattle.device_frames.specs.declared.event.Event.TheVariants.{Call};
 
-use call_pieces::WholeCall;
 use device_core::Caller;
 use frame_codec::Endpoint;
 use pn_values::Mac;
+use rpc_services::WholeCall;
 use std::marker::Model;
 
 /// The place of a call that the services beside a device joined from its fragments. Clauses see it as the event of that call.

@@ -8,7 +8,7 @@ use Rattle.flash_model.specs.Calls.{Call, Programs, Erases, Arms}
 use Rattle.flash_model.specs.declared.flash.Sector.{Sector}
 use Rattle.flash_model.specs.declared.flash.Sector.TheVariants.{First, Second}
 use Rattle.pn_values.specs.declared.settings.Settings.{Settings}
-use Rattle.cyclic_exchange.specs.declared.exchange.ProviderStatus.{ProviderStatus}
+use Rattle.cyclic_data.specs.declared.exchange.exchange.ProviderStatus.{ProviderStatus}
 use Rattle.lldp.specs.declared.station.Link.{Link}
 use Rattle.records.specs.declared.writes.taken.TakenRecord.{TakenRecord}
 use Rattle.relations.specs.declared.phase.Phase.{Phase}

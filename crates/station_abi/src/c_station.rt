@@ -20,7 +20,7 @@ use station_port::ServedPort;
 const ABI: u32 = 4;
 
 /// The number of octets of the memory for a port.
-const ROOM: usize = 102400;
+const ROOM: usize = 88064;
 
 /// The number of octets of an operation.
 const OP_SIZE: usize = 1568;

@@ -2,6 +2,7 @@
 ghost use Rattle.std.specs.Prelude.{◌≡◌, ℕ, Ok, Option, Some, [], min, slice_get, take, true};
 ghost use Rattle.device_frames.specs.declared.event.Event.TheVariants.{Frame as Framed, Ready as IsReady};
 ghost use Rattle.device_abi.specs.recorded.Entry.{call_of};
+ghost use Rattle.device_abi.specs.recorded.Fits.{fits_in};
 ghost use Rattle.relations.specs.Exchanged.{provider_in};
 ghost use Rattle.relations.specs.RelationState.{passed_of, phase_of, taken_of};
 ghost use Rattle.std.specs.Prelude.{⊤};
@@ -408,8 +409,9 @@ fn tell_frame<'a>(frame: &'a Frame, op: &mut Op) -> &'a [u8]
 
 // Reports a flash call, and returns the octets that it programs.
 #[inline(never)]
-fn tell_call<'a>(call: &'a Recorded, op: &mut Op) -> &'a [u8]
-    ensures { IsCall (call_of call.now) op.old result.now op.new }
+fn tell_call<'a>(call: Recorded<'a>, op: &mut Op) -> &'a [u8]
+    requires { fits_in 4096 (call_of call) ≡ true }
+    ensures { IsCall (call_of call.entry) op.old result.now op.new }
 {
     match call {
         Recorded::Program {
@@ -418,14 +420,14 @@ fn tell_call<'a>(call: &'a Recorded, op: &mut Op) -> &'a [u8]
             bytes,
         } => {
             op.work = 1;
-            op.sector = sector_number(*sector);
-            op.place = *place;
+            op.sector = sector_number(sector);
+            op.place = place;
             op.length = bytes.len() as u32;
-            bytes.as_slice()
+            bytes
         }
         Recorded::Erase { sector } => {
             op.work = 2;
-            op.sector = sector_number(*sector);
+            op.sector = sector_number(sector);
             op.length = 0;
             &[]
         }

@@ -1,8 +1,8 @@
 -- What the functions of a port with services do, put together from their parts.
 use Rattle.std.proofs.Common.{◌≡◌, ◌-◌, ◌<◌, ◌≤◌, ℕ, zero, suc, Bool, true, false, List, [], Option, Some, None, Result, Ok, Err, refl, sym, ap, subst, ◌∙◌, arith, inr}
 use Rattle.arrayvec.specs.ArrayVec.{ArrayVec}
-use Rattle.settings_store.specs.Machine.{Accepted}
-use Rattle.settings_store.specs.State.{Values}
+use Rattle.settings_journal.specs.settings_store.Machine.{Accepted}
+use Rattle.settings_journal.specs.settings_store.State.{Values}
 use Rattle.device_core.specs.Leaps.{live_due_in}
 use Rattle.device_core.specs.State.{Station}
 use Rattle.device_frames.specs.declared.event.Event.{Event}

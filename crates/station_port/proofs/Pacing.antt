@@ -1,12 +1,13 @@
 -- Units of time that are counted for services, and what is due then.
 use Rattle.std.proofs.Common.{◌≡◌, ◌+◌, ◌-◌, ◌<◌, ◌≤◌, ℕ, zero, suc, Bool, true, false, List, [], Option, Some, None, refl, sym, ap, subst, ◌∙◌, arith, inl, inr}
-use Rattle.std.specs.Prelude.{if◌then◌else◌}
-use Rattle.settings_store.specs.State.{Values}
+use Rattle.std.specs.Prelude.{if◌then◌else◌, is_some}
+use Rattle.settings_journal.specs.settings_store.State.{Values}
 use Rattle.services.specs.Leaps.{never}
 use Rattle.device_core.specs.Leaps.{live_due_in}
 use Rattle.device_core.specs.State.{Live}
 use Rattle.station.specs.Leaps.{QuietUnitsAreTicks, QuietUnitsBringNoNews, QuietUnitsCount, QuietUnitsCountDown, services_due}
 use Rattle.station.specs.Serving.{Serving, due_in, knows, serving_ticks, ticked}
+use Rattle.device_abi.specs.declared.port.refusal.Refusal.{Refusal}
 use Rattle.device_abi.specs.port.State.{State, has_some}
 use Rattle.device_abi.specs.port.Steps.{Ticks}
 use Rattle.station_port.specs.Pace.{AreCalm, Calm, HasNoNews, IsBehind, IsKnown, IsPaced, Known, Resting, caught_up, soonest}
@@ -147,3 +148,13 @@ some_paced rest limit values services frames after some (inr resting) = cc (sym 
 pub some_known : (due rest : ℕ) (port : State) (frames after : List (List ℕ)) → has_some frames ≡ true → IsKnown due rest port frames → IsKnown due rest port after
 some_known due rest port frames after some (inl none) = inl none
 some_known due rest port frames after some (inr known) = cc (sym (ap has_some known.fetched) ∙ some)
+
+-- ---- what is due of the services is known again
+
+pub renewed : (rest : ℕ) (values : Values) (services : Option Serving) (frames : List (List ℕ)) → frames ≡ [] → (0 < rest → AreCalm rest values services) → IsPaced rest rest values services frames
+renewed zero values services frames fetched calm = inl (refl, refl)
+renewed (suc rest) values services frames fetched calm = inr (record { some = omega arith; inside = omega arith; fetched = fetched; calm = calm (omega arith) })
+
+pub none_of : (why : Option Refusal) → is_some why ≡ false → why ≡ None
+none_of None none = refl
+none_of (Some refusal) none = cc none

@@ -1,16 +1,16 @@
 -- Which steps of a device keep its settings.
 use Rattle.std.proofs.Common.{◌≡◌, ◌++◌, ℕ, Bool, true, false, List, [], ◌∷◌, Option, Some, None, map, refl, sym, ap, ◌∙◌}
 use Rattle.std.specs.Prelude.{if◌then◌else◌}
-use Rattle.settings_store.specs.Machine.{carried}
+use Rattle.settings_journal.specs.settings_store.Machine.{carried}
 use Rattle.diagnosis.specs.Existing.{changed}
 use Rattle.diagnosis.specs.declared.diagnosis.Change.{Change}
 use Rattle.diagnosis.specs.declared.diagnosis.Diagnosis.{Diagnosis as Channel}
 use Rattle.lldp.specs.declared.neighbour.Neighbour.{Neighbour as Peer}
 use Rattle.relations.specs.Exchanged.{given_to, raised_to}
-use Rattle.device_exchange.specs.Statuses.{statuses_at}
+use Rattle.relations.specs.exchange.Statuses.{statuses_at}
 use Rattle.relations.specs.RelationState.{is_preparing, phase_of}
-use Rattle.device_exchange.specs.Flow.{Flow}
-use Rattle.device_exchange.specs.declared.statuses.InputStatus.{InputStatus}
+use Rattle.relations.specs.exchange.Flow.{Flow}
+use Rattle.relations.specs.declared.exchange.statuses.InputStatus.{InputStatus}
 use Rattle.device_frames.specs.Heard.{heard_of}
 use Rattle.device_frames.specs.Sent.{Sent, bytes_of}
 use Rattle.device_frames.specs.declared.event.Event.{Event}

@@ -3,7 +3,7 @@ use Rattle.std.proofs.Common.{◌≡◌, ℕ, zero, suc, Bool, true, false, List
 use Rattle.std.specs.Prelude.{if◌then◌else◌}
 use Rattle.std.specs.Option.{option_map}
 use Rattle.lldp.specs.declared.neighbour.Neighbour.{Neighbour as Peer}
-use Rattle.settings_store.specs.Machine.{Accepted}
+use Rattle.settings_journal.specs.settings_store.Machine.{Accepted}
 use Rattle.device_frames.specs.declared.event.Event.{Event}
 use Rattle.device_frames.specs.declared.event.Event.TheVariants.{Neighbour, Tick}
 use Rattle.device_frames.specs.declared.note.Note.{Note}

@@ -1,7 +1,7 @@
 -- Units of time that are counted for services, which are told of them later.
 use Rattle.std.specs.Prelude.{◌≡◌, ◌-◌, ◌<◌, ◌≤◌, ◌⊎◌, ⊤, ℕ, min, true, false, List, [], Option, Some, None}
 use Rattle.std.specs.Option.{option_map}
-use Rattle.settings_store.specs.State.{Values}
+use Rattle.settings_journal.specs.settings_store.State.{Values}
 use Rattle.services.specs.Leaps.{never}
 use Rattle.device_core.specs.Leaps.{live_due_in}
 use Rattle.pn_values.specs.declared.identity.Identity.{Identity}

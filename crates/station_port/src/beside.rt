@@ -1,5 +1,5 @@
 //! The services beside the port of a device: what they do with what happens at it.
-ghost use Rattle.std.specs.Prelude.{◌≡◌, ◌<◌, ◌≤◌, [], None, Some, true};
+ghost use Rattle.std.specs.Prelude.{◌≡◌, ◌<◌, ◌≤◌, ℕ, [], None, Some, true};
 ghost use Rattle.frame_codec.specs.Outbox.{boxed};
 ghost use Rattle.device_frames.specs.declared.event.Event.TheVariants.{Frame as Framed};
 ghost use Rattle.device_abi.specs.port.State.{barred};
@@ -152,7 +152,8 @@ pub(crate) fn due_of(port: &Port, services: &Option<DeviceServices>) -> u32
 // The unit of this number is the next one with which something is due of services that have no frames, and they have nothing to see or
 // to tell before; 0 if that is not known.
 pub(crate) fn rest_of(port: &Port, services: &Option<DeviceServices>) -> u32
-    ensures { 0 < result → AreCalm result port.now.device.live.values services.now }
+    ensures calm { 0 < result → AreCalm result port.now.device.live.values services.now }
+    ensures known { (limit : ℕ) → 1 < limit → AreCalm limit port.now.device.live.values services.now → 1 < result }
 {
     match services {
         Some(services) => rest_beside(port.device(), services),
@@ -162,7 +163,8 @@ pub(crate) fn rest_of(port: &Port, services: &Option<DeviceServices>) -> u32
 
 // The same of services that there are.
 fn rest_beside(device: &Device<RecordedFlash<4096>, 4096>, services: &DeviceServices) -> u32
-    ensures { 0 < result → Calm result device.now.live.values services.now }
+    ensures calm { 0 < result → Calm result device.now.live.values services.now }
+    ensures known { (limit : ℕ) → 1 < limit → Calm limit device.now.live.values services.now → 1 < result }
 {
     if device.is_lost() || services.has_news() || !services.knows(device.running()) {
         return 0;

@@ -1,9 +1,10 @@
 //! A port of a device with the services beside it, and the work of their last step that the host has not fetched yet.
-ghost use Rattle.std.specs.Prelude.{◌≡◌, ◌==◌, ◌<◌, ◌≤◌, [], None, Some, MatchResult, is_none, take, true};
+ghost use Rattle.std.specs.Prelude.{◌≡◌, ◌≢◌, ◌==◌, ◌<◌, ◌≤◌, ℕ, [], None, Some, IsSome, MatchResult, false, is_none, take, true};
 ghost use Rattle.std.specs.Option.{option_map};
 ghost use Rattle.device_abi.specs.port.State.{closed, has_some, has_work as is_left, waiting as waiting_in};
 ghost use Rattle.device_abi.specs.declared.port.stage.Stage.TheVariants.{Booted, Made};
 ghost use Rattle.device_frames.specs.declared.event.Event.TheVariants.{Alarm, Diagnosis, Frame as Framed, Input, Ready, Status};
+ghost use Rattle.station_port.specs.Pace.{AreCalm};
 ghost use Rattle.station_port.specs.State.{IsFetched, barred_both, conflicts_of, due_both, frames_of, linked_both, lost_both, or_own as kind_or_own, waiting_both};
 ghost use Rattle.station_port.specs.Steps.{AnswersBoth, HearsBoth, KnowsBothOrNot, PassesBothOrNot, PassesOneOrNot, PreparesOrNot, Settles, SkipsOrNot};
 ghost use Rattle.station_port.specs.Steps.{StartsBothOrNot, StepsOrNot, TellsBoth, TicksBoth};
@@ -74,6 +75,7 @@ impl ServedPort {
     ghost use types.Logic.{sem};
     ghost use denote.Follow.{follows_so};
     ghost use Rattle.device_abi.specs.recorded.Entry.{call_of};
+    ghost use Rattle.device_abi.specs.recorded.Fits.{fits_in};
     ghost use Rattle.station_port.specs.contracts.served.ServedPort.{the_row};
     ghost use Rattle.station_port.specs.State.{FetchesBoth, FetchesCallBoth};
 
@@ -330,9 +332,15 @@ impl ServedPort {
     /// of the device are work then. `None` if it did not pass.
     #[inline(always)]
     pub fn unit(&mut self) -> Option<u32>
-        ensures { PassesOneOrNot self.old result self.new }
+        ensures passes { PassesOneOrNot self.old result self.new }
+        // It passes if no work remains, and something is due of the services only after it.
+        ensures done { barred_both self.old ≡ None → (limit : ℕ) → 1 < limit → AreCalm limit self.old.port.device.live.values self.old.services →
+            IsSome result }
     {
-        if self.rest <= 1 || !self.port.is_counted() {
+        if self.rest <= 1 {
+            return self.unit_again();
+        }
+        if !self.is_open() {
             return None;
         }
         quiet_units_are_ticks();
@@ -345,6 +353,36 @@ impl ServedPort {
             due.min(self.rest)
         };
         Some(soonest(due, self.rest, &self.services))
+    }
+
+    // The same if it is not known whether the services have a part in it, or they have one.
+    #[inline(never)]
+    fn unit_again(&mut self) -> Option<u32>
+        ensures passes { PassesOneOrNot self.old result self.new }
+        ensures done { barred_both self.old ≡ None → (limit : ℕ) → 1 < limit → AreCalm limit self.old.port.device.live.values self.old.services →
+            IsSome result }
+    {
+        if self.barred().is_some() {
+            return None;
+        }
+        catch_up(&mut self.services, self.limit - self.rest);
+        let rest = rest_of(&self.port, &self.services);
+        self.due = 0;
+        self.rest = rest;
+        self.limit = rest;
+        if rest <= 1 {
+            return None;
+        }
+        quiet_units_are_ticks();
+        let due = self.port.unit();
+        // The services are not told of it yet.
+        self.rest = rest - 1;
+        self.due = if self.port.has_frames() {
+            0
+        } else {
+            due.min(rest - 1)
+        };
+        Some(soonest(due, rest - 1, &self.services))
     }
 
     /// Lets units of time pass, up to the first that sends something. Returns how many remain, and what is due then.
@@ -425,9 +463,11 @@ impl ServedPort {
     }
 
     /// Takes the next flash call, which is then fetched, and says the kind of the piece of work after it.
-    pub fn fetch_call(&mut self, more: &mut u32) -> &Recorded
+    pub fn fetch_call(&mut self, more: &mut u32) -> Recorded<'_>
         requires { has_some self.old.port.calls ≡ true }
-        ensures* { sem 𝓛 (follows_so the_row the_row self.entry.ghost_name none (λ _ _. ⊤) (λ new. FetchesCallBoth self.old (call_of result.now) more.new new)) }
+        ensures* fetches { sem 𝓛 (follows_so the_row the_row self.entry.ghost_name none (λ _ _. ⊤) (λ new. FetchesCallBoth self.old (call_of result) more.new new)) }
+        // It lies in its sector, and programs at most 437 octets.
+        ensures fits { fits_in 4096 (call_of result) ≡ true }
     {
         let own = self.waiting_own();
         let call = self.port.fetch_call(more);
@@ -521,6 +561,19 @@ impl ServedPort {
             None if self.has_work() => Some(Refusal::HasWork),
             None => None,
         }
+    }
+
+    // Whether events are accepted, if the services have no frames.
+    #[inline(always)]
+    fn is_open(&self) -> bool
+        requires { self.now.frames ≡ [] }
+        ensures open { result ≡ true → barred_both self.now ≡ None }
+        ensures barred { result ≡ false → barred_both self.now ≢ None }
+    {
+        if self.port.is_counted() {
+            return true;
+        }
+        self.barred().is_none()
     }
 
     // Whether work of the last step remains.

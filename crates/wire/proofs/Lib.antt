@@ -7,3 +7,7 @@ pub mod Handled
 pub mod Counts
 pub mod Nesting
 pub mod Kept
+pub mod BlocksSound
+pub mod BlocksLeft
+pub mod BlocksModulesTaken
+pub mod BlocksModulesWritten

@@ -6,3 +6,4 @@ pub mod Checks
 pub mod Counted
 pub mod Nested
 pub mod Kept
+pub mod blocks

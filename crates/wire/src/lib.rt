@@ -113,8 +113,15 @@
 //! instead: their sizes are known, so no room is checked and nothing is counted.
 #![tactic(auto)]
 
+pub mod blocks;
 mod reading;
 mod writing;
 
+pub use blocks::{
+    BlockFault, Entry, Module, Modules, Put, append_zeros, blank_at, ended, fixed_at,
+    fixed_four_at, fixed_one_at, len_of, mac_at, modules_len, put_modules, put_version, ranged_at,
+    slice_at, unchecked_at, version_at,
+};
 pub use reading::{at_most, front, octets_at, skip, split, u8_at, u16_at, u32_at};
+pub use uuid::Uuid;
 pub use writing::{append, append_u8, append_u16, append_u32, join};

@@ -1,11 +1,11 @@
 //! The alarms of low priority of a device: changes of diagnosis, one active at a time, the others waiting. The octets of the first alarm
 //! are those of a reference model that shares no line with the sources; tshark read them.
 
-use alarm_reports::{Priority, read_low_message, read_report};
+use diagnosis::{Priority, read_low_message, read_report};
 use block_codec::AlarmAck;
 use diagnosis::{Change, Diagnoses, Diagnosis};
-use diagnosis_alarms::{DiagnosisAlarms, Terms};
-use module_blocks::{ExpectedModule, ExpectedSubmodule};
+use diagnosis::{DiagnosisAlarms, Terms};
+use connect_blocks::{ExpectedModule, ExpectedSubmodule};
 use module_diff::{Expected, diff};
 use pn_alarms::{Due, Message, PduFate, PduType, Taken, read_message, read_pdu};
 use pn_values::{Real, demo_modules};

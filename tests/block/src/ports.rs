@@ -4,7 +4,7 @@
 use arrayvec::ArrayVec;
 use lldp::Neighbour;
 use pn_values::{IpSuite, Mac, Real, Settings, demo_identity, demo_modules};
-use port_records::{put_interface, put_network, put_port};
+use device_records::{put_interface, put_network, put_port};
 use station_names::check;
 
 /// PDPortDataReal without a neighbour.

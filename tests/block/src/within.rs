@@ -2,7 +2,7 @@
 
 use super::reads::{Asked, GOOD, plugged, sent};
 use super::records::settings;
-use block_fields::Uuid;
+use wire::Uuid;
 use pn_values::{Identity, Real, Settings, demo_identity};
 use records::{
     Blocks, CallFault, Operation, listing_of, names_relation, read_request, request_within, serve, serve_listing,

@@ -4,7 +4,7 @@ use super::reads::{Asked, plugged};
 use super::records::IM2;
 use super::statuses::told;
 use arrayvec::ArrayVec;
-use block_fields::Uuid;
+use wire::Uuid;
 use pn_values::{Command, Settings};
 use records::{
     CallFault, Effect, Operation, TakenRecord, TakenRecords, Write, Writing, judge_write,

@@ -5,7 +5,7 @@ use super::operations::asked;
 use super::served::{padded, spelled};
 use c_layout::Op;
 use commissioning::Search;
-use commissioning_abi::{WrittenTarget, WrittenTool, find, hear, name, outcome, read, record};
+use controller_abi::{WrittenTarget, WrittenTool, find, hear, name, outcome, read, record};
 
 /// A station without a name answers.
 const NAMELESS: &str = "0200000000020200000000018892feff05014e414d450000001002020002000002030006000001230456000000\
@@ -47,10 +47,13 @@ const REFUSAL: &str = "020000000002020000000001080045000080000040004011b919c0a80
     6a6b6c6d6e6f70710000000000000001000000000005ffffffff001400000000de80b000000000000000055c00\
     00000000000000";
 
-/// The tool as it searches.
+/// The tool as it has asked for a place.
 const TOOL: WrittenTool = with_number(0x4E41_4D45);
 
-/// The tool as it sets the name.
+/// The tool before it sets the name.
+const ALMOST: WrittenTool = with_number(0x7C5E_1A92);
+
+/// The tool after it.
 const SETS: WrittenTool = with_number(0x7C5E_1A93);
 
 /// The tool with a number of its request.
@@ -79,25 +82,57 @@ fn told(op: &Op) -> &[u8] {
 
 /// A search that heard these frames.
 fn search(frames: &[&str]) -> Search {
-    let mut search = Search::new();
+    let mut search = Search::new(TOOL.xid);
     for digits in frames {
         hear(&TOOL, &mut search, &spelled(digits));
     }
     search
 }
 
+/// What a host finds in a search: how many stations, whether a name is told, its octets, and the number.
+fn seen(search: &Search) -> (u32, u32, u32, u32) {
+    (search.stations, search.is_told, search.length, search.xid)
+}
+
 #[test]
 fn a_name_by_the_place_is_asked_for() {
     let mut op = asked(0);
-    assert_eq!(find(&TOOL, b"port-003.switch-a", &mut op), 0);
+    let mut tool = with_number(TOOL.xid - 1);
+    let mut found = search(&[NAMED, OTHER]);
+    assert_eq!(find(&mut tool, &mut found, b"port-003.switch-a", &mut op), 0);
     let wanted = "010ecf00000002000000000288 92fefe05004e414d4500010016 02060011706f72742d3030332e7377697463682d6100";
     assert_eq!(told(&op), padded(&wanted.replace(' ', "")));
-    assert_eq!(find(&TOOL, &[b'x'; 511], &mut op), 0);
-    assert_eq!(op.length, 14 + 12 + 4 + 512);
+    assert_eq!((tool.xid, seen(&found)), (TOOL.xid, (0, 0, 0, TOOL.xid)));
+    assert_eq!(find(&mut tool, &mut found, &[b'x'; 511], &mut op), 0);
+    assert_eq!((op.length, tool.xid, found.xid), (14 + 12 + 4 + 512, TOOL.xid + 1, TOOL.xid + 1));
     op.length = 5;
-    assert_eq!(find(&TOOL, &[b'x'; 512], &mut op), 8);
-    assert_eq!(find(&TOOL, b"", &mut op), 8);
-    assert_eq!(op.length, 5);
+    assert_eq!(find(&mut tool, &mut found, &[b'x'; 512], &mut op), 8);
+    assert_eq!(find(&mut tool, &mut found, b"", &mut op), 8);
+    assert_eq!((op.length, tool.xid, found.xid), (5, TOOL.xid + 1, TOOL.xid + 1));
+    // After the last number comes 0.
+    tool.xid = u32::MAX;
+    assert_eq!(find(&mut tool, &mut found, b"x", &mut op), 0);
+    assert_eq!((tool.xid, found.xid, &told(&op)[18..22]), (0, 0, &[0; 4][..]));
+}
+
+#[test]
+fn a_late_answer_to_another_search_changes_nothing() {
+    let mut op = asked(0);
+    let mut tool = with_number(TOOL.xid - 1);
+    // The station at the first place answers only after the tool has asked for the second one.
+    let (mut first, mut second) = (search(&[]), search(&[]));
+    assert_eq!(find(&mut tool, &mut first, b"port-001.switch-a", &mut op), 0);
+    assert_eq!(find(&mut tool, &mut second, b"port-002.switch-a", &mut op), 0);
+    hear(&tool, &mut second, &spelled(NAMELESS));
+    assert_eq!(seen(&second), (0, 0, 0, TOOL.xid + 1));
+    assert_eq!(name(&mut tool, &second, b"pump-1", &mut op), 28);
+    // It is the answer to the first one.
+    hear(&tool, &mut first, &spelled(NAMELESS));
+    assert_eq!((seen(&first), first.first), ((1, 1, 0, TOOL.xid), [2, 0, 0, 0, 0, 1]));
+    // Asked for again, in the same memory, it does not count either.
+    assert_eq!(find(&mut tool, &mut first, b"port-001.switch-a", &mut op), 0);
+    hear(&tool, &mut first, &spelled(NAMELESS));
+    assert_eq!(seen(&first), (0, 0, 0, TOOL.xid + 2));
 }
 
 #[test]
@@ -112,7 +147,9 @@ fn the_only_nameless_station_gets_the_name() {
     let mut found = search(&[NAMELESS, NAMELESS, DONE, ANSWER]);
     hear(&TOOL, &mut found, &to_another);
     hear(&TOOL, &mut found, &of_another_request);
-    assert_eq!(name(&SETS, &found, b"pump-1", &mut op), 0);
+    let mut tool = ALMOST;
+    assert_eq!(name(&mut tool, &found, b"pump-1", &mut op), 0);
+    assert_eq!(tool.xid, SETS.xid);
     assert_eq!(told(&op), padded(&wanted.replace(' ', "")));
     for (frame, answer, error) in [(DONE, 0, 0), (FAILED, 0, 5), (NAMELESS, 27, 9)] {
         op.note = 9;
@@ -160,16 +197,23 @@ fn no_other_station_gets_it() {
         (search(&[NAMELESS, NAMED]), 30),
         (coy, 31),
     ] {
-        let mut op = asked(0);
+        let (mut op, mut tool) = (asked(0), TOOL);
         op.length = 5;
-        assert_eq!(name(&TOOL, &search, b"pump-1", &mut op), why);
-        assert_eq!(op.length, 5);
+        assert_eq!(name(&mut tool, &search, b"pump-1", &mut op), why);
+        assert_eq!((op.length, tool.xid), (5, TOOL.xid));
     }
     let mut op = asked(0);
     let found = search(&[NAMELESS]);
     for text in [&b""[..], b"Pump", &[b'a'; 241]] {
-        assert_eq!(name(&TOOL, &found, text, &mut op), 41);
+        let mut tool = TOOL;
+        assert_eq!((name(&mut tool, &found, text, &mut op), tool.xid), (41, TOOL.xid));
     }
+    // What a host finds: of a station that told a name and then none it finds none, and after a second station the name of the first one.
+    assert_eq!(seen(&search(&[NAMED])), (1, 1, 6, TOOL.xid));
+    assert_eq!(seen(&search(&[NAMED, OTHER, OTHER])), (2, 1, 6, TOOL.xid));
+    let mut silent = search(&[NAMED]);
+    hear(&TOOL, &mut silent, &untold);
+    assert_eq!(seen(&silent), (1, 0, 0, TOOL.xid));
     let named = search(&[NAMED]);
     assert_eq!(&named.name[..named.length as usize], b"pump-1");
     let both = search(&[NAMELESS, OTHER]);

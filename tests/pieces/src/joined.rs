@@ -2,7 +2,7 @@
 
 use super::writer::{Packet, fragment};
 use super::{Did, body_of, calls, did, octets};
-use call_pieces::{Joiner, Kind};
+use rpc_services::{Joiner, Kind};
 
 /// The headers of three fragments of 1,392, 1,392 and 216 octets, that of the whole, and that of an acknowledgement, by Scapy: in
 /// big endian, and in little endian.
@@ -43,6 +43,13 @@ fn fragments_of_scapy_are_joined() {
             assert_eq!(fack.len(), 96);
             assert_eq!(fack[..76], header[..76]);
             assert_eq!(usize::from(fack[76]) + usize::from(fack[77]), number);
+            // tshark reads such a body: version 0, a window of 4, datagrams and fragments of 1,472 octets, serial number 0, and no list.
+            let body = if headers[0].starts_with("04002400000") {
+                "00000004000005c0000005c000000000"
+            } else {
+                "00000400c0050000c005000000000000"
+            };
+            assert_eq!(fack[80..], octets(body));
         }
         let whole = [octets(headers[3]), body.clone()].concat();
         assert_eq!(did(&mut joiner, &part(2)), Did::Joined(whole));

@@ -1,8 +1,8 @@
-//! Tests of the public calls of `call_pieces`. Headers come from Scapy (`DceRpc4`) or from a writer of this test, which shares no
+//! Tests of the public calls of `rpc_services`. Headers come from Scapy (`DceRpc4`) or from a writer of this test, which shares no
 //! line with the product.
 #![cfg(test)]
 
-use call_pieces::{Heard, Joiner, Kind, WholeCall};
+use rpc_services::{Heard, Joiner, Kind, WholeCall};
 
 mod device;
 mod joined;

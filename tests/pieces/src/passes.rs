@@ -2,7 +2,7 @@
 
 use super::writer::{Packet, fragment};
 use super::{Did, body_of, calls, did};
-use connect_requests::ConnectRequest;
+use connects::ConnectRequest;
 use rpc_core::{Interface, read_call};
 
 /// Numbers of two octets, the highest octet first.

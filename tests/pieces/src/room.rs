@@ -2,7 +2,7 @@
 
 use super::writer::{Packet, fragment};
 use super::{Did, calls, did};
-use call_pieces::Joiner;
+use rpc_services::Joiner;
 
 /// A fragment of a call of two, whose octets are its activity and its number.
 fn part(activity: u8, number: u16) -> Packet {

@@ -2,8 +2,8 @@
 
 use super::writer::{DEVICE, Packet};
 use super::{Did, body_of, calls, did};
-use call_headers::{Extent, Head, Names, Opening, Turn};
-use call_pieces::{pieces_in, put_piece};
+use rpc_core::{Extent, Head, Names, Opening, Turn};
+use rpc_services::{pieces_in, put_piece};
 use rpc_core::Datagram;
 
 /// A header of a call.

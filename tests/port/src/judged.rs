@@ -52,7 +52,7 @@ fn station() -> Station {
 fn fault(change: fn(&mut Station)) -> u32 {
     let mut station = station();
     change(&mut station);
-    judge(102400, 4, 1568, &station)
+    judge(88064, 4, 1568, &station)
 }
 
 #[test]
@@ -103,7 +103,7 @@ fn each_fault_has_its_number() {
 #[test]
 fn another_header_or_a_small_room() {
     let station = station();
-    for (size, abi, op_size, wanted) in [(102400, 3, 1568, 2), (102400, 5, 1568, 2), (102400, 4, 1564, 2), (102399, 4, 1568, 3)] {
+    for (size, abi, op_size, wanted) in [(88064, 3, 1568, 2), (88064, 5, 1568, 2), (88064, 4, 1564, 2), (88063, 4, 1568, 3)] {
         assert_eq!(judge(size, abi, op_size, &station), wanted);
     }
 }

@@ -1,7 +1,7 @@
 //! PDUs of alarms: the octets are worked out by hand from the formats, and those of the first alarm are a worked frame's.
 
 use super::blocks::with;
-use alarm_reports::{Priority, read_report};
+use diagnosis::{Priority, read_report};
 use arrayvec::ArrayVec;
 use block_codec::{AlarmAck, AlarmNotification};
 use pn_alarms::{

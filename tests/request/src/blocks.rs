@@ -1,7 +1,7 @@
 //! A Connect as a controller sends it, block by block.
 
 use arrayvec::ArrayVec;
-use connect_requests::ConnectRequest;
+use connects::ConnectRequest;
 use records::CallFault;
 
 /// The blocks of a call.

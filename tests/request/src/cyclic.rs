@@ -6,7 +6,7 @@ use cyclic_data::{
     Consumer, CyclicTail, DataStatus, ExpectedData, Image, Layout, LayoutFault, Place, PlaceKind,
     Provider, ReceivedImage, ShortFrame, put_cyclic, read_cyclic,
 };
-use module_blocks::SubmoduleData;
+use connect_blocks::SubmoduleData;
 
 /// The access point with its two ports, an input of two octets in slot 1 and an output of two octets in slot 2.
 const EXPECTED: [(u16, u16, Option<u16>, Option<u16>); 5] = [

@@ -4,7 +4,7 @@ use super::blocks::{
     ALARM, AR, Blocks, EXPECTED_0, EXPECTED_1, EXPECTED_2, INPUT, OUTPUT, all, joined, request_of,
     with,
 };
-use connect_requests::refuse;
+use connects::refuse;
 use records::CallFault;
 use uuid::Uuid;
 

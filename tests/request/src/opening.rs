@@ -1,7 +1,7 @@
 //! What the numbers of a Connect that was read are for: each call that asks for a range takes them as they are.
 
 use super::blocks::{all, request_of};
-use connect_requests::ConnectRequest;
+use connects::ConnectRequest;
 use cyclic_data::{Consumer, Provider};
 use pn_alarms::{Alarm, DeviceAlarms, Due};
 

@@ -4,7 +4,7 @@ use super::blocks::{
     ALARM, AR, EXPECTED_0, EXPECTED_1, EXPECTED_2, INPUT, OUTPUT, all, joined, request_of, with,
 };
 use arrayvec::ArrayVec;
-use connect_requests::{ConnectRequest, Iocr};
+use connects::{ConnectRequest, Iocr};
 use cyclic_data::{Place, PlaceKind};
 use records::CallFault;
 

@@ -2,7 +2,7 @@
 //! sources, in Python's `struct`; tshark 4.0 reads each answer as one of EPM, with the annotation, the tower and the address.
 
 use super::octets;
-use endpoint_mapper::mapped;
+use rpc_services::mapped;
 use pn_values::{Identity, Mac, demo_identity};
 
 /// A station with another text and other numbers in each field of the entry.

@@ -4,7 +4,7 @@ mod calls;
 mod stations;
 
 pub use calls::{
-    CONNECT, CONTROL, END, PRM_END, READ, RELEASE, WRITE, call, mend, response, set, shortened,
+    BLOCKS, CONNECT, CONTROL, END, PRM_END, READ, RELEASE, WRITE, call, mend, response, set, shortened,
 };
 pub use stations::{
     DONE, IDENTIFY, PUMP_1, SET, Station, UNNAMED, addressed, frame, is_filled, is_padded,

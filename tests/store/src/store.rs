@@ -4,7 +4,7 @@ use arrayvec::ArrayVec;
 use flash_model::{Lent, MemoryFlash, Order};
 use pn_values::{BlockError, Command, ImValue, Padded, SetItem};
 use settings_journal::BootFault;
-use settings_store::Store;
+use settings_journal::Store;
 
 /// The smallest size: room for one slot.
 const SIZE: usize = 768;

@@ -71,11 +71,12 @@ fn row(catalogue: &str) -> String {
 fn place(catalogue: &str) -> String {
     let mut room = [0xFF; 128];
     match show(Global, catalogue.as_bytes(), &mut room) {
-        0 => String::new(),
-        _ => {
+        1 => {
             let end = room.iter().position(|octet| *octet == 0).expect("a zero");
             String::from_utf8(room[..end].to_vec()).expect("text")
         }
+        2 => String::new(),
+        other => panic!("there is memory, and {other} says that there is none"),
     }
 }
 

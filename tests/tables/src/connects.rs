@@ -8,7 +8,7 @@
 //! by offsets; it shares no line with the crates.
 
 use crate::{hex, is_same, octets};
-use connect_requests::{ConnectRequest, refuse};
+use connects::{ConnectRequest, refuse};
 use records::{CallFault, Operation};
 use uuid::Uuid;
 

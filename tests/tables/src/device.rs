@@ -1,9 +1,9 @@
 //! What serves the calls of a relation.
 
-use device_log::Log;
+use device_records::Log;
 use diagnosis::Diagnoses;
 use pn_values::{Command, Identity, Mac, Real, Settings};
-use relation_records::{Sources, read_implicit, read_within};
+use device_records::{Sources, read_implicit, read_within};
 use records::{
     Blocks, CallFault, Effect, Operation, Write, Writing, judge_write, names_relation, put_write_answer,
 };

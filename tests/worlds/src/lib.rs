@@ -1,12 +1,17 @@
 //! Rows of moves that were worked out by hand, each frame by its number, and that a world begins as the laws of both ends ask.
 #![cfg(test)]
 
+mod alarms;
 mod diagnosis;
 mod lists;
+mod memory;
+mod octets;
 mod otherwise;
 mod patience;
 mod played;
 mod requests;
+mod shown;
+mod witness;
 
 use controller_core::{Cause, State};
 use pn_values::demo_identity;

@@ -17,7 +17,7 @@ const TWO: &str = r#"{"Subslot":1,"Index":1,"Data":"00000064"},{"Subslot":1,"Ind
 const MOST_FRAMES: usize = 100;
 
 /// The same catalogue with the key for lists.
-fn listing() -> String {
+pub(crate) fn listing() -> String {
     RECORDS.replace(
         r#""MinDeviceInterval":32,"#,
         r#""MinDeviceInterval":32,"MultipleWriteSupported":true,"#,
@@ -52,7 +52,7 @@ fn controller(catalogue: &str) -> Controller {
 }
 
 /// The station in which this is plugged, and the controller of a catalogue.
-fn world(real: Real, catalogue: &str) -> Net {
+pub(crate) fn world(real: Real, catalogue: &str) -> Net {
     World::new(Global, station(real), controller(catalogue))
 }
 

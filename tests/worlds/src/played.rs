@@ -1,17 +1,17 @@
 //! Worlds that are begun and played in one call (`play_both_ends`), over a network that loses frames. Each frame has its number among all
 //! that were sent; a frame that is not delivered is lost. What both ends must show was worked out by hand.
 use crate::otherwise::{RECORDS, as_planned, station, station_with};
-use exchange_laws::play_both_ends;
+use both_ends::play_both_ends;
 use configurator::plan_from_json;
 use controller_core::{Cause, State};
-use controller_frames::{ControllerOptions, Setup};
+use controller_messages::{ControllerOptions, Setup};
 use pn_values::{ParameterRecord, Real, demo_identity};
 use network_world::{End, Move};
 use rattle_std::alloc::Global;
 use relations::{DeviceOptions, Phase};
 use test_stations::{Station, octets};
 use uuid::Uuid;
-use startup_law::can_meet;
+use both_ends::can_meet;
 use world_monitor::{Kind, Net};
 
 /// Units of time after which the controller sends a request again: one second.

@@ -5,8 +5,8 @@ use Rattle.flash_model.specs.Calls.{Call}
 use Rattle.flash_model.specs.Image.{Image, IsImage}
 use Rattle.settings_journal.specs.Cut.{CutOff, IsCutShort, all_carried_out, carried_out}
 use Rattle.settings_journal.specs.Image.{BootsTo, LeftByDevice, StartsWith}
-use Rattle.settings_store.specs.Legal.{made_of}
-use Rattle.settings_store.specs.Machine.{Accepted}
+use Rattle.settings_journal.specs.settings_store.Legal.{made_of}
+use Rattle.settings_journal.specs.settings_store.Machine.{Accepted}
 use Rattle.device_abi.specs.recorded.Record.{image_of}
 use Rattle.device_frames.specs.declared.event.Event.{Event}
 use Rattle.device_frames.specs.declared.note.Note.{Note}

@@ -3,6 +3,7 @@ use Rattle.std.specs.Prelude.{◌≡◌, ◌<◌, Bool, true, false, ℕ, List, 
 use Rattle.flash_model.specs.Calls.{Call, Programs, Erases, Arms}
 use Rattle.device_abi.specs.declared.recorded.flash.RecordedFlash.{RecordedFlash}
 use Rattle.device_abi.specs.recorded.Entry.{call_of}
+use Rattle.device_abi.specs.recorded.Fits.{fits_in}
 use Rattle.device_core.specs.Leaps.{live_due_in}
 use Rattle.device_core.specs.State as device
 use Rattle.device_core.specs.State.{Live}
@@ -80,10 +81,11 @@ barred_by Lost is_left = Some refusal.PowerLost
 abbrev pub barred : State → Option Refusal
 barred port = barred_by port.stage (has_work port.calls port.frames)
 
--- The next piece of work: a flash call if one remains, a frame only if no call remains, and nothing if no work remains.
+-- The next piece of work: a flash call if one remains, which lies in its sector, a frame only if no call remains, and nothing
+-- if no work remains.
 abbrev pub IsNext : State → Work → Type 0
 IsNext port Nothing = IsIdle port
-IsNext port (Carry call) = (rest : List Call) × (port.calls ≡ call_of call.now ∷ rest)
+IsNext port (Carry call) = (rest : List Call) × (port.calls ≡ call_of call ∷ rest) × (fits_in 4096 (call_of call) ≡ true)
 IsNext port (Send frame) = (port.calls ≡ []) × ((rest : List (List ℕ)) × (port.frames ≡ frame.now.items ∷ rest))
 
 -- The first piece of work is fetched.
@@ -97,7 +99,7 @@ advanced port = advanced_by port port.calls
 -- The kind of a piece of work.
 abbrev pub work_kind : Work → ℕ
 work_kind Nothing = 0
-work_kind (Carry call) = kind_of (call_of call.now)
+work_kind (Carry call) = kind_of (call_of call)
 work_kind (Send frame) = 3
 
 -- The first of these, or none if there are none.

@@ -1,11 +1,11 @@
 -- The contents of a recorded flash, and the effect of calls on them.
-use Rattle.std.specs.Prelude.{◌≡◌, ◌+◌, ◌%◌, ◌^◌, ℕ, List, [], ◌∷◌, ◌++◌, length, map, drop, if◌then◌else◌, nat_lt}
+use Rattle.std.specs.Prelude.{◌≡◌, ◌+◌, ◌%◌, ◌^◌, ℕ, List, [], ◌∷◌}
 use Rattle.flash_model.specs.Calls.{Call}
 use Rattle.flash_model.specs.Image.{Image, with_sector, programmed, erased}
 use Rattle.flash_model.specs.declared.flash.Sector.{Sector}
 use Rattle.flash_model.specs.Memory as memory
 use Rattle.settings_journal.specs.Cut.{AreWrites, carried_out}
-use Rattle.device_abi.specs.recorded.Entry.{call_of}
+use Rattle.device_abi.specs.recorded.Pushed.{pushed}
 use Rattle.device_abi.specs.declared.recorded.flash.RecordedFlash.{RecordedFlash}
 
 -- the bytes of both sectors, the last calls, the oldest of them first, and a number that grows by one with each call,
@@ -21,15 +21,11 @@ image_of flash = memory.image_of flash.memory
 
 -- the record of a flash
 abbrev pub record_of : {S : ℕ} → RecordedFlash S → Record
-record_of flash = record { image = image_of flash; recent = map call_of flash.calls.items; count = flash.count }
+record_of flash = record { image = image_of flash; recent = flash.calls; count = flash.count }
 
 -- the record with these bytes in a sector that was erased
 abbrev pub filled : ℕ → Record → Sector → List ℕ → Record
 filled size before sector bytes = record before { image = with_sector before.image sector (programmed (erased size) 0 bytes) }
-
--- a call after others: at most 48 are stored, and the oldest one is dropped
-abbrev pub pushed : List Call → Call → List Call
-pushed recent call = if nat_lt (length recent) 48 then recent ++ call ∷ [] else drop 1 recent ++ call ∷ []
 
 -- the record after a call, which is carried out on the image
 abbrev pub after_one : Record → Call → Record

@@ -7,8 +7,8 @@ use Rattle.flash_model.specs.Image.{Image, IsImage}
 use Rattle.settings_journal.specs.Calls.{CommitCalls}
 use Rattle.settings_journal.specs.Cut.{CutOff, all_carried_out}
 use Rattle.settings_journal.specs.Image.{BootsTo, LeftByDevice, StartsWith}
-use Rattle.settings_store.specs.Legal.{LegalEnd, made_of}
-use Rattle.settings_store.specs.Machine.{Accepted}
+use Rattle.settings_journal.specs.settings_store.Legal.{LegalEnd, made_of}
+use Rattle.settings_journal.specs.settings_store.Machine.{Accepted}
 
 -- The calls of accepted commands on an image that is read as these settings, with room for this many commits: those of
 -- each commit, in order, on the image that the commands before it left. A start on the last image gives the settings

@@ -6,6 +6,7 @@ ghost use types.Logic.{sem};
 ghost use denote.Follow.{follows_so};
 ghost use Rattle.flash_model.specs.Image.{erased};
 ghost use Rattle.device_abi.specs.recorded.Entry.{call_of};
+ghost use Rattle.device_abi.specs.recorded.Fits.{fits_in};
 ghost use Rattle.device_abi.specs.recorded.Record.{image_of, record_of};
 ghost use Rattle.device_frames.specs.declared.event.Event.TheVariants.{Alarm, Call as Joined, Diagnosis, Frame as Framed, Input, Ready, Status};
 ghost use Rattle.relations.specs.Exchanged.{output_in, provider_in};
@@ -87,7 +88,7 @@ pub enum Work<'a> {
     /// No work remains.
     Nothing,
     /// A flash call.
-    Carry(&'a Recorded),
+    Carry(Recorded<'a>),
     /// A frame to be sent.
     Send(&'a Frame),
 }
@@ -168,7 +169,7 @@ impl Port {
     pub fn has_calls(&self) -> bool
         ensures { result ≡ has_some self.now.calls }
     {
-        self.calls_past < self.device.flash().recent().len()
+        self.calls_past < self.device.flash().stored()
     }
 
     /// Whether frames of the last step remain.
@@ -319,7 +320,7 @@ impl Port {
         if let Some(refusal) = why_closed(self.stage) {
             return Err(refusal);
         }
-        self.calls_past = self.device.flash().recent().len();
+        self.calls_past = self.device.flash().stored();
         self.frames_past = self.outbox.len();
         self.stage = Stage::Lost;
         self.due = None;
@@ -343,9 +344,9 @@ impl Port {
     pub(crate) fn next(&self) -> Work<'_>
         ensures { IsNext self.now result }
     {
-        let recent = self.device.flash().recent();
-        if self.calls_past < recent.len() {
-            return Work::Carry(&recent[self.calls_past]);
+        let flash = self.device.flash();
+        if self.calls_past < flash.stored() {
+            return Work::Carry(flash.call(self.calls_past));
         }
         if self.frames_past < self.outbox.len() {
             return Work::Send(&self.outbox.as_slice()[self.frames_past]);
@@ -357,7 +358,7 @@ impl Port {
     pub fn advance(&mut self)
         ensures { self.new ≡ advanced self.old }
     {
-        if self.calls_past < self.device.flash().recent().len() {
+        if self.calls_past < self.device.flash().stored() {
             self.calls_past += 1;
         } else if self.frames_past < self.outbox.len() {
             self.frames_past += 1;
@@ -365,16 +366,18 @@ impl Port {
     }
 
     /// Takes the next flash call, which is then fetched, and says the kind of the piece of work after it.
-    pub fn fetch_call(&mut self, more: &mut u32) -> &Recorded
+    pub fn fetch_call(&mut self, more: &mut u32) -> Recorded<'_>
         requires { has_some self.old.calls ≡ true }
-        ensures* { sem 𝓛 (follows_so the_row the_row self.entry.ghost_name none (λ _ _. ⊤) (λ new. FetchesCall self.old (call_of result.now) more.new new)) }
+        ensures* fetches { sem 𝓛 (follows_so the_row the_row self.entry.ghost_name none (λ _ _. ⊤) (λ new. FetchesCall self.old (call_of result) more.new new)) }
+        // It lies in its sector, and programs at most 437 octets.
+        ensures fits { fits_in 4096 (call_of result) ≡ true }
     {
         let past = self.calls_past;
         // One remains, so the next position is a length of the record at most.
-        let _ = self.device.flash().recent().len();
+        let _ = self.device.flash().stored();
         self.calls_past = past + 1;
         *more = self.waiting();
-        &self.device.flash().recent()[past]
+        self.device.flash().call(past)
     }
 
     /// Takes the next frame once no flash call remains. It is then fetched. Says the kind of the piece of work after it.
@@ -552,6 +555,7 @@ impl Port {
     // ---- one step
 
     // Why no event is accepted now.
+    #[inline(always)]
     fn barred(&self) -> Option<Refusal>
         ensures { result ≡ barred self.now }
     {
@@ -774,7 +778,7 @@ fn older(before: u32, flash: &RecordedFlash<4096>) -> usize
         result ≡ length (record_of flash.now).recent - calls }
 {
     let newer = flash.count().wrapping_sub(before) as usize;
-    flash.recent().len().saturating_sub(newer)
+    flash.stored().saturating_sub(newer)
 }
 
 // The kind of a piece of work.
@@ -790,7 +794,7 @@ fn kind(work: &Work<'_>) -> u32
 
 // The kind of a flash call.
 #[inline(never)]
-fn call_kind(call: &Recorded) -> u32
+fn call_kind(call: &Recorded<'_>) -> u32
     ensures { result ≡ kind_of (call_of call.now) }
 {
     match call {

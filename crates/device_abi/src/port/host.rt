@@ -1,12 +1,15 @@
 //! A host: it hands in events, carries out the flash calls on its chip, and then sends the frames.
-ghost use Rattle.std.specs.Prelude.{◌≡◌, List, [], ◌∷◌, OnOk};
+ghost use Rattle.std.specs.Prelude.{◌≡◌, List, [], ◌∷◌, IsOk, OnErr, OnOk, true};
+ghost use Rattle.flash_model.specs.Torn.{HasCause};
 ghost use Rattle.device_abi.specs.recorded.Entry.{call_of};
+ghost use Rattle.device_abi.specs.recorded.Fits.{fits_in};
 ghost use Rattle.device_frames.specs.declared.event.Event.{Event};
 ghost use Rattle.device_abi.specs.port.Host.{Begun, Carries, EndsBy, GoesOn, HandsIn, IsFresh, Performs, Settles, Stands, begun_by, events_of};
+ghost use Rattle.device_abi.specs.port.Plays.{Plays, point, settled};
 ghost use Rattle.device_abi.specs.port.State.{advanced};
 
 use crate::Recorded;
-use crate::port::{Port, SECTOR_SIZE, Stage, Work};
+use crate::port::{Port, Stage, Work};
 use device_core::{Event, Sink};
 use flash_model::{Flash, FlashFault};
 
@@ -30,6 +33,15 @@ pub fn play<C: Flash<4096>, K: Sink>(
     requires { IsFresh port.old (C.image chip.old) }
     ensures ends { EndsBy result (begun_by port.old (K.taken sink.old)) (events_of operations.now) (K.taken sink.new) port.new
         (C.image chip.new) }
+    // If no call of the chip failed, these operations were done, one piece of work for each `Works`.
+    ensures plays { OnOk result (Plays operations.now (point port.old (C.image chip.old) (K.taken sink.old))
+        (point port.new (C.image chip.new) (K.taken sink.new))) }
+    // It fails only because a call of the chip failed.
+    ensures cause { HasCause (C.failures chip.old) (C.failures chip.new) result }
+    // Then the port is lost: it hands out nothing more.
+    ensures lost { OnErr result (port.new.stage ≡ Stage.Lost) }
+    // Over a chip whose calls succeed it succeeds.
+    ensures reliable { C.is_reliable chip.old → IsOk result × C.is_reliable chip.new }
 {
     for operation in operations {
         go_on(port, chip, operation, sink)?;
@@ -44,8 +56,13 @@ fn go_on<C: Flash<4096>, K: Sink>(
     operation: &Operation,
     sink: &mut K,
 ) -> Result<(), FlashFault>
-    ensures { (begun : Begun) (events : List Event) → Stands begun events (K.taken sink.old) port.old (C.image chip.old) →
+    ensures ends { (begun : Begun) (events : List Event) → Stands begun events (K.taken sink.old) port.old (C.image chip.old) →
         GoesOn result begun events (events_of (operation.now ∷ [])) (K.taken sink.new) port.new (C.image chip.new) }
+    ensures plays { port.old.stage ≡ Stage.Booted → OnOk result (Plays (operation.now ∷ []) (point port.old (C.image chip.old) (K.taken sink.old))
+        (point port.new (C.image chip.new) (K.taken sink.new)) × (port.new.stage ≡ Stage.Booted)) }
+    ensures cause { HasCause (C.failures chip.old) (C.failures chip.new) result }
+    ensures lost { port.old.stage ≡ Stage.Booted → OnErr result (port.new.stage ≡ Stage.Lost) }
+    ensures reliable { C.is_reliable chip.old → IsOk result × C.is_reliable chip.new }
 {
     match operation {
         Operation::Happens(event) => {
@@ -63,8 +80,13 @@ fn settle<C: Flash<4096>, K: Sink>(
     chip: &mut C,
     sink: &mut K,
 ) -> Result<(), FlashFault>
-    ensures { (begun : Begun) (events : List Event) → Stands begun events (K.taken sink.old) port.old (C.image chip.old) →
+    ensures ends { (begun : Begun) (events : List Event) → Stands begun events (K.taken sink.old) port.old (C.image chip.old) →
         Settles result begun events (K.taken sink.new) port.new (C.image chip.new) }
+    ensures settled { port.old.stage ≡ Stage.Booted → OnOk result (point port.new (C.image chip.new) (K.taken sink.new)
+        ≡ settled (point port.old (C.image chip.old) (K.taken sink.old))) }
+    ensures cause { HasCause (C.failures chip.old) (C.failures chip.new) result }
+    ensures lost { port.old.stage ≡ Stage.Booted → OnErr result (port.new.stage ≡ Stage.Lost) }
+    ensures reliable { C.is_reliable chip.old → IsOk result × C.is_reliable chip.new }
 {
     while port.has_work() {
         work(port, chip, sink)?;
@@ -88,6 +110,9 @@ fn work<C: Flash<4096>, K: Sink>(
     ensures performs { port.old.stage ≡ Stage.Booted →
         Performs port.old.calls port.old.frames (C.image chip.old) (K.taken sink.old) result (C.image chip.new) (K.taken sink.new) }
     ensures advanced { OnOk result (port.new ≡ advanced port.old) }
+    ensures cause { HasCause (C.failures chip.old) (C.failures chip.new) result }
+    ensures lost { port.old.stage ≡ Stage.Booted → OnErr result (port.new.stage ≡ Stage.Lost) }
+    ensures reliable { C.is_reliable chip.old → IsOk result × C.is_reliable chip.new }
 {
     match perform(port, chip, sink) {
         Ok(()) => {
@@ -107,11 +132,13 @@ fn perform<C: Flash<4096>, K: Sink>(
     chip: &mut C,
     sink: &mut K,
 ) -> Result<(), FlashFault>
-    ensures { port.now.stage ≡ Stage.Booted →
+    ensures performs { port.now.stage ≡ Stage.Booted →
         Performs port.now.calls port.now.frames (C.image chip.old) (K.taken sink.old) result (C.image chip.new) (K.taken sink.new) }
+    ensures cause { HasCause (C.failures chip.old) (C.failures chip.new) result }
+    ensures reliable { C.is_reliable chip.old → IsOk result × C.is_reliable chip.new }
 {
     match port.work() {
-        Ok(Work::Carry(call)) => carry(chip, call),
+        Ok(Work::Carry(call)) => carry(chip, &call),
         Ok(Work::Send(frame)) => {
             sink.take(frame);
             Ok(())
@@ -121,22 +148,18 @@ fn perform<C: Flash<4096>, K: Sink>(
 }
 
 // Carries out a call on the chip.
-fn carry<C: Flash<4096>>(chip: &mut C, call: &Recorded) -> Result<(), FlashFault>
-    ensures { Carries (C.image chip.old) (call_of call.now) result (C.image chip.new) }
+fn carry<C: Flash<4096>>(chip: &mut C, call: &Recorded<'_>) -> Result<(), FlashFault>
+    requires { fits_in 4096 (call_of call.now) ≡ true }
+    ensures carries { Carries (C.image chip.old) (call_of call.now) result (C.image chip.new) }
+    ensures cause { HasCause (C.failures chip.old) (C.failures chip.new) result }
+    ensures reliable { C.is_reliable chip.old → IsOk result × C.is_reliable chip.new }
 {
     match call {
         Recorded::Program {
             sector,
             place,
             bytes,
-        } => {
-            let place = *place as usize;
-            // A call past the end of a sector cannot be carried out.
-            if place + bytes.len() > SECTOR_SIZE {
-                return Err(FlashFault);
-            }
-            chip.program(*sector, place, bytes.as_slice())
-        }
+        } => chip.program(*sector, *place as usize, bytes),
         Recorded::Erase { sector } => chip.erase(*sector),
     }
 }

@@ -1,25 +1,40 @@
-// The record of a call.
-ghost use Rattle.std.specs.Prelude.{◌≡◌, ◌<◌, length, MatchOption};
-ghost use Rattle.flash_model.specs.Calls.{Programs};
-ghost use Rattle.device_abi.specs.recorded.Entry.{call_of};
+// A recorded call, and how it is stored.
 
-use arrayvec::ArrayVec;
 use flash_model::Sector;
 
-/// How many calls are stored: those of a Set of 16 commands, three for each.
+/// The maximum number of calls that are stored: those of a Set of 16 commands, three for each.
 pub const MOST_CALLS: usize = 48;
 
 /// The maximum number of bytes of a program call that is recorded: those of a base.
 pub const MOST_BYTES: usize = 437;
 
-/// A call that was recorded.
+/// The maximum number of bytes of all stored program calls together: those of a Set of 16 commands, a base and a gate for
+/// each.
+pub const MOST_OCTETS: usize = 7008;
+
+/// A call that was recorded. Its bytes lie in the record.
 #[derive(Drop)]
-pub enum Recorded {
+pub enum Recorded<'a> {
     /// Bytes programmed from a position in a sector on.
     Program {
         sector: Sector,
         place: u32,
-        bytes: ArrayVec<u8, 437>,
+        bytes: &'a [u8],
+    },
+    /// A sector erased.
+    Erase {
+        sector: Sector,
+    },
+}
+
+/// A stored call. The bytes of a program call follow those of the program calls before it.
+#[derive(Clone, Copy)]
+pub enum Entry {
+    /// That many bytes programmed from a position in a sector on.
+    Program {
+        sector: Sector,
+        place: u32,
+        length: u16,
     },
     /// A sector erased.
     Erase {
@@ -28,25 +43,10 @@ pub enum Recorded {
 }
 
 // The value of an entry that is not in use. It is never seen.
-impl Default for Recorded {
+impl Default for Entry {
     fn default() -> Self {
-        Recorded::Erase {
+        Entry::Erase {
             sector: Sector::First,
         }
-    }
-}
-
-// The entry of a program call, or `None` if its bytes have no room.
-pub(crate) fn entry_of(sector: Sector, place: u32, bytes: &[u8]) -> Option<Recorded>
-    ensures { MatchOption result (437 < length bytes.now) (λ call. call_of call ≡ Programs sector place bytes.now) }
-{
-    let mut kept = ArrayVec::new();
-    match kept.try_extend_from_slice(bytes) {
-        Ok(()) => Some(Recorded::Program {
-            sector,
-            place,
-            bytes: kept,
-        }),
-        Err(_) => None,
     }
 }

@@ -1,28 +1,32 @@
 // A flash in memory, whose calls are recorded.
-ghost use Rattle.std.specs.Prelude.{◌≡◌, ◌≢◌, ◌+◌, ◌-◌, ◌^◌, ◌<◌, ◌≤◌, ◌↔◌, Option, None, Some, true, false, [], ◌∷◌, ℕ, length, map};
-ghost use Rattle.std.specs.Prelude.{slice_range, IsOk, OnOk, OnErr};
+ghost use Rattle.std.specs.Prelude.{◌≡◌, ◌≢◌, ◌+◌, ◌-◌, ◌^◌, ◌<◌, ◌≤◌, ◌↔◌, Option, None, Some, true, false, [], ◌∷◌, ℕ, length};
+ghost use Rattle.std.specs.Prelude.{slice_get, slice_range, IsOk, OnOk, OnErr};
+ghost use Rattle.std.specs.List.{list_all};
 ghost use Rattle.std.proofs.Props.{props};
-ghost use Rattle.flash_model.specs.Calls.{Programs, Arms};
+ghost use Rattle.flash_model.specs.Calls.{Programs, Erases, Arms};
 ghost use Rattle.flash_model.specs.Image.{IsSectorSize, sector_of, with_sector, programmed, erased};
 ghost use Rattle.flash_model.specs.Memory.{IsReliable};
 ghost use Rattle.flash_model.specs.Torn.{Torn, HasCause, StaysLost};
+ghost use Rattle.device_abi.specs.recorded.Fits.{fits_in};
 
-use crate::recorded::entry::{Recorded, entry_of};
-use arrayvec::ArrayVec;
+use crate::recorded::calls::Calls;
+use crate::recorded::entry::{MOST_BYTES, Recorded};
 use flash_model::{Flash, FlashFault, MemoryFlash, Order, Sector};
 
 /// Both sectors in memory, and the last calls that changed them. No call fails. Orders are ignored.
 #[derive(Drop)]
 pub struct RecordedFlash<const S: usize> {
     memory: MemoryFlash<S>,
-    calls: ArrayVec<Recorded, 48>,
+    calls: Calls,
     count: u32,
     ghost reliable: { IsReliable memory } by { Prim.hlevel props },
+    ghost fits: { list_all (fits_in S) calls ≡ true } by { Prim.hlevel props },
 }
 
 impl<const S: usize> RecordedFlash<S> {
     ghost use Rattle.device_abi.specs.recorded.Entry.{call_of};
-    ghost use Rattle.device_abi.specs.recorded.Record.{image_of, record_of, pushed, after_one, filled};
+    ghost use Rattle.device_abi.specs.recorded.Pushed.{pushed};
+    ghost use Rattle.device_abi.specs.recorded.Record.{image_of, record_of, after_one, filled};
 
     /// A flash with both sectors erased and no recorded call. The count begins at the maximum: only its growth has a
     /// meaning.
@@ -32,8 +36,8 @@ impl<const S: usize> RecordedFlash<S> {
     {
         RecordedFlash {
             memory: MemoryFlash::blank(),
-            calls: ArrayVec::new(),
-            // With a zero here, the empty list of 21,696 octets would be copied from the stack when a flash is made.
+            calls: Calls::new(),
+            // With a zero here, the empty list of 7,008 octets would be copied from the stack when a flash is made.
             count: u32::MAX,
         }
     }
@@ -69,23 +73,41 @@ impl<const S: usize> RecordedFlash<S> {
         self.count
     }
 
-    /// The last calls, the oldest of them first.
-    pub fn recent(&self) -> &[Recorded]
-        ensures { map call_of result.now ≡ (record_of self.now).recent }
+    /// How many calls are stored: the last ones.
+    pub fn stored(&self) -> usize
+        ensures { result ≡ length (record_of self.now).recent }
     {
-        self.calls.as_slice()
+        self.calls.len()
     }
 
-    /// Appends a call, and drops the oldest one if there is no room.
-    fn push(&mut self, call: Recorded)
-        ensures memory { self.new.memory ≡ self.old.memory }
-        ensures recent { (record_of self.new).recent ≡ pushed (record_of self.old).recent (call_of call) }
-        ensures count { (record_of self.new).count ≡ (after_one (record_of self.old) (call_of call)).count }
+    /// The stored call at this position. The oldest one is first.
+    pub fn call(&self, index: usize) -> Recorded<'_>
+        requires { index < length (record_of self.now).recent }
+        ensures at { slice_get (record_of self.now).recent index ≡ Some (call_of result) }
+        // It lies in its sector, and programs at most 437 bytes.
+        ensures fits { fits_in S (call_of result) ≡ true }
     {
-        if self.calls.is_full() {
-            self.calls.remove(0);
-        }
-        self.calls.push(call);
+        self.calls.get(index)
+    }
+
+    // Records a program call.
+    fn record_program(&mut self, sector: Sector, place: u32, bytes: &[u8])
+        requires { fits_in S (Programs sector place bytes.now) ≡ true }
+        ensures memory { self.new.memory ≡ self.old.memory }
+        ensures recent { (record_of self.new).recent ≡ pushed (record_of self.old).recent (Programs sector place bytes.now) }
+        ensures count { (record_of self.new).count ≡ (after_one (record_of self.old) (Programs sector place bytes.now)).count }
+    {
+        self.calls.push_program(sector, place, bytes);
+        self.count = self.count.wrapping_add(1);
+    }
+
+    // Records an erase call.
+    fn record_erase(&mut self, sector: Sector)
+        ensures memory { self.new.memory ≡ self.old.memory }
+        ensures recent { (record_of self.new).recent ≡ pushed (record_of self.old).recent (Erases sector) }
+        ensures count { (record_of self.new).count ≡ (after_one (record_of self.old) (Erases sector)).count }
+    {
+        self.calls.push_erase(sector);
         self.count = self.count.wrapping_add(1);
     }
 }
@@ -128,8 +150,8 @@ impl<const S: usize> Flash<S> for RecordedFlash<S> {
         ensures unrecorded { 437 < length bytes.now → record_of self.new ≡ record (record_of self.old) { image = image_of self.new } }
     {
         self.memory.program(sector, place, bytes)?;
-        if let Some(call) = entry_of(sector, place as u32, bytes) {
-            self.push(call);
+        if bytes.len() <= MOST_BYTES {
+            self.record_program(sector, place as u32, bytes);
         }
         Ok(())
     }
@@ -137,7 +159,7 @@ impl<const S: usize> Flash<S> for RecordedFlash<S> {
     /// Sets every bit of a sector to 1, and records the call.
     fn erase(&mut self, sector: Sector) -> Result<(), FlashFault> {
         self.memory.erase(sector)?;
-        self.push(Recorded::Erase { sector });
+        self.record_erase(sector);
         Ok(())
     }
 

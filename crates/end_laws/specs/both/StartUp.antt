@@ -3,7 +3,7 @@ use Rattle.std.specs.Prelude.{◌≡◌, ℕ, false, List, ◌∷◌, ◌++◌, 
 use Rattle.std.specs.List.{AllByRecursion}
 use Rattle.end_laws.specs.both.Small.{Readies, Rules, Awaiting, RelationState, Seeking, Exchanges, World, Move, ComesToController, ComesToDevice, IsByController, IsByDevice}
 use Rattle.end_laws.specs.both.Runs.{AreSteps, end_of}
-use Rattle.end_laws.specs.both.Steps.{IsDull, Steps, records_of}
+use Rattle.end_laws.specs.both.Steps.{IsDull, IsPart, Steps, records_of}
 
 module _ {T Q : Type 0} where
   -- a run, with the world after each move: each move is a step from the world after the move before it
@@ -24,7 +24,7 @@ module _ {T Q : Type 0} where
 
   -- The device sent this ApplicationReady with one of its moves. At that point it had accepted the request of the
   -- Connect. If the controller does not go on after a record that was refused, the device had accepted the records in
-  -- order, each once.
+  -- order, each once. In any case the records that it had accepted are a part of these, in order, each once.
   pub record WasSent (rules : Rules T Q) (first : World T Q) (run : List (Move × World T Q)) (frame : List ℕ) : Type 0 where
     pub before : List (Move × World T Q)
     pub move : Move
@@ -44,6 +44,7 @@ module _ {T Q : Type 0} where
     pub awaits : link.phase ≡ Awaiting
     pub accepted : link.request ≡ rules.request
     pub taken : rules.skips ≡ false → link.taken ≡ records_of rules
+    pub part : IsPart link.taken (records_of rules)
 
   -- The controller received an ApplicationReady, after which it exchanges data. It received it at an earlier point, and
   -- the device had sent it before that.

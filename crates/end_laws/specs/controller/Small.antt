@@ -5,22 +5,22 @@ use Rattle.std.specs.Cmp.Lexicographic.{pointwise}
 use Rattle.connect_blocks.specs.declared.control.ControlBlock.{ControlBlock}
 use Rattle.rpc_core.specs.Response.{Answered as Response, is_done}
 use Rattle.plans.specs.declared.parts.Parts.{Parts}
-use Rattle.controller_frames.specs.declared.record_request.RecordRequest.{RecordRequest}
-use Rattle.controller_frames.specs.declared.setup.Setup.{Setup}
-use Rattle.controller_frames.specs.declared.request.Request.{Request}
-use Rattle.controller_frames.specs.declared.request.Request.TheVariants as asks
-use Rattle.controller_frames.specs.Heard.{Heard, Nothing, Answers, Responds, Refuses, Calls, Cyclic, Alarms}
-use Rattle.controller_frames.specs.Requests.{sequence_of, write_count}
-use Rattle.controller_frames.specs.Sent.{Sent, Requests, Accesses, Agrees, Cycles, Confirms, Replies, Ends}
-use Rattle.controller_state.specs.declared.state.State.{State}
-use Rattle.controller_state.specs.declared.state.State.TheVariants.{Looking, Addressing, Connecting, Writing, Ending, Waiting, Exchanging, Ended}
-use Rattle.controller_state.specs.declared.event.Event.{Event}
-use Rattle.controller_state.specs.declared.event.Event.TheVariants.{Frame, Tick, Give, Status, Read, Write, Stop}
-use Rattle.controller_state.specs.State.{Live}
-use Rattle.startup_answers.specs.Answers.{is_ready}
-use Rattle.startup_answers.specs.Outcomes.{are_written}
+use Rattle.controller_messages.specs.declared.record_request.RecordRequest.{RecordRequest}
+use Rattle.controller_messages.specs.declared.setup.Setup.{Setup}
+use Rattle.controller_messages.specs.declared.request.Request.{Request}
+use Rattle.controller_messages.specs.declared.request.Request.TheVariants as asks
+use Rattle.controller_messages.specs.Heard.{Heard, Nothing, Answers, Responds, Refuses, Calls, Cyclic, Alarms}
+use Rattle.controller_messages.specs.Requests.{sequence_of, write_count}
+use Rattle.controller_messages.specs.Sent.{Sent, Requests, Accesses, Agrees, Cycles, Confirms, Replies, Ends}
+use Rattle.controller_core.specs.declared.stored.state.State.{State}
+use Rattle.controller_core.specs.declared.stored.state.State.TheVariants.{Looking, Addressing, Connecting, Writing, Ending, Waiting, Exchanging, Ended}
+use Rattle.controller_core.specs.declared.stored.event.Event.{Event}
+use Rattle.controller_core.specs.declared.stored.event.Event.TheVariants.{Frame, Tick, Give, Status, Read, Write, Stop}
+use Rattle.controller_core.specs.stored.State.{Live}
+use Rattle.controller_core.specs.start_up.Answers.{is_ready}
+use Rattle.controller_core.specs.start_up.Outcomes.{are_written}
 use Rattle.controller_core.specs.Machine.{Turn}
-use Rattle.startup_answers.specs.Answers.{ready_in}
+use Rattle.controller_core.specs.start_up.Answers.{ready_in}
 use Rattle.end_laws.specs.both.Small as small
 use Rattle.end_laws.specs.both.Small.{Controller, ToController, ToDevice}
 use Rattle.end_laws.specs.both.Steps.{Moves, SaysToDevice}

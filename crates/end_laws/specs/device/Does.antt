@@ -6,7 +6,7 @@ use Rattle.frame_codec.specs.declared.udp.Caller.{Caller}
 use Rattle.rpc_core.specs.Cache.{Kept, kept_more, kept_of, looked, new}
 use Rattle.rpc_core.specs.Call.{Asked as Call}
 use Rattle.rpc_core.specs.Sendable.{IsStatus}
-use Rattle.connect_requests.specs.Request.{Request}
+use Rattle.connects.specs.requests.Request.{Request}
 use Rattle.records.specs.declared.status.call_fault.CallFault.{CallFault}
 use Rattle.records.specs.declared.status.operation.Operation.{Operation}
 use Rattle.records.specs.declared.status.operation.Operation.TheVariants as operation
@@ -27,7 +27,7 @@ use Rattle.relations.specs.declared.ready.Ready.{Ready}
 use Rattle.relations.specs.Connect.{connect_blocks, connect_of, differing_of, rows_of}
 use Rattle.relations.specs.Phases.{Named, Records, exchanging_from, keeping, made_of, parameterized_from, restarted, updated, with_records}
 use Rattle.relations.specs.RelationState.{RelationState, uuid_of}
-use Rattle.device_exchange.specs.Marks.{Starting}
+use Rattle.relations.specs.exchange.Marks.{Starting}
 use Rattle.device_frames.specs.Heard.{Heard, Calls, Reported}
 use Rattle.device_frames.specs.Sent.{Sent, CallAnswer, Again, Exchanges, ReadyCall}
 use Rattle.pn_values.specs.declared.set_item.BlockError.{BlockError}

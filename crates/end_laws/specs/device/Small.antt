@@ -14,8 +14,8 @@ use Rattle.block_codec.specs.Block.{block_of}
 use Rattle.records.specs.declared.status.operation.Operation.{Operation}
 use Rattle.records.specs.declared.status.operation.Operation.TheVariants as operation
 use Rattle.records.specs.status.Operation.{operation_of}
-use Rattle.connect_requests.specs.Request.{Request}
-use Rattle.connect_requests.specs.Handled.{request_of}
+use Rattle.connects.specs.requests.Request.{Request}
+use Rattle.connects.specs.requests.Handled.{request_of}
 use Rattle.records.specs.declared.writes.taken.TakenRecord.{TakenRecord}
 use Rattle.records.specs.declared.writes.write.Effect.TheVariants.{Keeps}
 use Rattle.records.specs.declared.writes.write.Write.{Write}

@@ -9,13 +9,13 @@ use Rattle.frame_codec.specs.declared.udp.Caller.{Caller}
 use Rattle.rpc_core.specs.Cache.{Kept, kept_more, looked, new}
 use Rattle.rpc_core.specs.Call.{Asked as Call}
 use Rattle.rpc_core.specs.Response.{Answered as Response}
-use Rattle.block_fields.specs.modules.Lists.{Listed}
-use Rattle.module_blocks.specs.declared.module_diff.DiffModule.{DiffModule}
-use Rattle.module_blocks.specs.declared.module_diff.DiffSubmodule.{DiffSubmodule}
+use Rattle.wire.specs.blocks.modules.Lists.{Listed}
+use Rattle.connect_blocks.specs.declared.module_diff.DiffModule.{DiffModule}
+use Rattle.connect_blocks.specs.declared.module_diff.DiffSubmodule.{DiffSubmodule}
 use Rattle.record_blocks.specs.declared.alarm_ack.AlarmAck.{AlarmAck}
 use Rattle.records.specs.declared.status.operation.Operation.TheVariants as operation
 use Rattle.records.specs.status.Operation.{operation_of}
-use Rattle.connect_requests.specs.Request.{Request}
+use Rattle.connects.specs.requests.Request.{Request}
 use Rattle.pn_alarms.specs.declared.abort.Abort.{Abort}
 use Rattle.pn_alarms.specs.declared.message.Notice.TheVariants as notice
 use Rattle.pn_alarms.specs.declared.pdu.Header.{Header}
@@ -25,17 +25,17 @@ use Rattle.pn_alarms.specs.Receiver.{taken_as}
 use Rattle.diagnosis.specs.Existing.{changed}
 use Rattle.diagnosis.specs.declared.diagnosis.Change.{Change}
 use Rattle.diagnosis.specs.declared.diagnosis.Diagnosis.{Diagnosis}
-use Rattle.diagnosis_alarms.specs.Alarms.{Low, is_next}
+use Rattle.diagnosis.specs.alarms.Alarms.{Low, is_next}
 use Rattle.cyclic_data.specs.Image.{Shown as Image}
-use Rattle.cyclic_exchange.specs.declared.received.Received.TheVariants as received
-use Rattle.cyclic_exchange.specs.declared.route.Route.{Route}
-use Rattle.device_exchange.specs.Flow.{Flow}
-use Rattle.device_exchange.specs.Diagnosis.{begins_with_one, behind_low, diagnoses_begun, next_reported}
-use Rattle.device_exchange.specs.Frames.{Inputs, Notifies, Replies, Reports, RepliesLow}
-use Rattle.device_exchange.specs.Marks.{Starting}
-use Rattle.device_exchange.specs.Notices.{behind_message, raised_at}
-use Rattle.device_exchange.specs.Received.{behind_frame, received_as}
-use Rattle.device_exchange.specs.Units.{flow_later, repeated_of, tick_of}
+use Rattle.cyclic_data.specs.declared.exchange.received.Received.TheVariants as received
+use Rattle.cyclic_data.specs.declared.exchange.route.Route.{Route}
+use Rattle.relations.specs.exchange.Flow.{Flow}
+use Rattle.relations.specs.exchange.Diagnosis.{begins_with_one, behind_low, diagnoses_begun, next_reported}
+use Rattle.relations.specs.exchange.Frames.{Inputs, Notifies, Replies, Reports, RepliesLow}
+use Rattle.relations.specs.exchange.Marks.{Starting}
+use Rattle.relations.specs.exchange.Notices.{behind_message, raised_at}
+use Rattle.relations.specs.exchange.Received.{behind_frame, received_as}
+use Rattle.relations.specs.exchange.Units.{flow_later, repeated_of, tick_of}
 use Rattle.relations.specs.declared.options.DeviceOptions.{DeviceOptions}
 use Rattle.relations.specs.declared.phase.Partner.{Partner}
 use Rattle.relations.specs.declared.phase.Phase.TheVariants.{Awaiting}

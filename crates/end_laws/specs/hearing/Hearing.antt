@@ -10,9 +10,9 @@ use Rattle.device_frames.specs.declared.event.Event.{Event}
 use Rattle.device_frames.specs.declared.event.Event.TheVariants.{Frame}
 use Rattle.device_frames.specs.Heard.{Heard, Said, is_own}
 use Rattle.device_frames.specs.Heard as device
-use Rattle.controller_frames.specs.Heard as controller
+use Rattle.controller_messages.specs.Heard as controller
 use Rattle.plans.specs.declared.parts.Controller.{Controller}
-use Rattle.codec_laws.specs.frames.Sendable.{carrying}
+use Rattle.frame_codec.specs.Sendable.{carrying}
 
 -- the event that octets arrive from the network
 abbrev pub comes : List ℕ → Event

@@ -6,14 +6,14 @@ use Rattle.frame_codec.specs.FrameId.{is_cyclic}
 use Rattle.rpc_core.specs.Call.{Asked as Call}
 use Rattle.block_codec.specs.declared.block.Block.TheVariants as is
 use Rattle.block_codec.specs.Block.{block_bytes}
-use Rattle.cyclic_exchange.specs.declared.route.Route.{Route}
+use Rattle.cyclic_data.specs.declared.exchange.route.Route.{Route}
 use Rattle.plans.specs.Plan.{IsPlan}
 use Rattle.relations.specs.declared.ready.Ready.{Ready}
-use Rattle.controller_frames.specs.declared.record_request.RecordRequest.{RecordRequest}
-use Rattle.controller_frames.specs.declared.request.Request.{Request}
-use Rattle.controller_frames.specs.declared.request.Request.TheVariants as asks
-use Rattle.controller_frames.specs.declared.setup.Setup.{Setup}
-use Rattle.codec_laws.specs.frames.Sendable.{IsEndpoint, IsMac}
+use Rattle.controller_messages.specs.declared.record_request.RecordRequest.{RecordRequest}
+use Rattle.controller_messages.specs.declared.request.Request.{Request}
+use Rattle.controller_messages.specs.declared.request.Request.TheVariants as asks
+use Rattle.controller_messages.specs.declared.setup.Setup.{Setup}
+use Rattle.frame_codec.specs.Sendable.{IsEndpoint, IsMac}
 use Rattle.rpc_core.specs.Sendable.{IsUuid}
 
 -- an IPv4 address

@@ -1,14 +1,14 @@
 -- Which messages of a controller can be sent.
 use Rattle.std.specs.Prelude.{◌≡◌, ◌⊎◌, ◌≤◌, ◌<◌, length}
 use Rattle.pn_alarms.specs.declared.pdu.PduType.TheVariants.{Ack, Data, Nack}
-use Rattle.cyclic_exchange.specs.declared.route.Route.{Route}
-use Rattle.cyclic_exchange.specs.Frames.{cyclic_body}
-use Rattle.controller_frames.specs.declared.setup.Setup.{Setup}
-use Rattle.controller_frames.specs.Sent.{Sent, Requests, Accesses, Agrees, Cycles, Confirms, Replies, Ends}
-use Rattle.codec_laws.specs.frames.Sendable.{IsMac}
+use Rattle.cyclic_data.specs.declared.exchange.route.Route.{Route}
+use Rattle.cyclic_data.specs.exchange.Frames.{cyclic_body}
+use Rattle.controller_messages.specs.declared.setup.Setup.{Setup}
+use Rattle.controller_messages.specs.Sent.{Sent, Requests, Accesses, Agrees, Cycles, Confirms, Replies, Ends}
+use Rattle.frame_codec.specs.Sendable.{IsMac}
 use Rattle.rpc_core.specs.Sendable.{CanBeAnswered}
-use Rattle.codec_laws.specs.blocks.Writable.{IsAck}
-use Rattle.codec_laws.specs.alarms.Sendable.{IsHeader}
+use Rattle.block_codec.specs.Writable.{IsAck}
+use Rattle.diagnosis.specs.Sendable.{IsHeader}
 use Rattle.end_laws.specs.hearing.Stations.{IsCaller, IsNumbered, IsRecordCall}
 
 -- A route whose fields have their sizes. The device chooses the FrameID, so whether it is a cyclic one depends on the

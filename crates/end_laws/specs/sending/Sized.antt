@@ -4,20 +4,20 @@ use Rattle.record_blocks.specs.declared.alarm_ack.AlarmAck.{AlarmAck}
 use Rattle.record_blocks.specs.declared.alarm_notification.AlarmNotification.{AlarmNotification}
 use Rattle.pn_alarms.specs.declared.message.Notice.TheVariants as notice
 use Rattle.pn_alarms.specs.Ends.{ControllerEnd}
-use Rattle.alarm_reports.specs.Message.{ToController}
-use Rattle.controller_frames.specs.declared.record_request.RecordRequest.{RecordRequest}
-use Rattle.controller_frames.specs.declared.request.Request.{Request}
-use Rattle.controller_frames.specs.declared.request.Request.TheVariants as asks
-use Rattle.controller_frames.specs.declared.setup.Setup.{Setup}
-use Rattle.controller_frames.specs.Heard.{Heard, Nothing, Answers, Responds, Refuses, Calls, Cyclic, Alarms, heard_of}
-use Rattle.controller_state.specs.declared.event.Event.{Event}
-use Rattle.controller_state.specs.declared.event.Event.TheVariants.{Frame, Tick, Give, Status, Read, Write, Stop}
-use Rattle.record_access.specs.Access.{Accessing}
-use Rattle.connect_answers.specs.Connect.{Chosen, chosen_of, found_in, nothing}
-use Rattle.controller_state.specs.State.{Live}
-use Rattle.codec_laws.specs.frames.Sendable.{IsMac}
+use Rattle.diagnosis.specs.reports.Message.{ToController}
+use Rattle.controller_messages.specs.declared.record_request.RecordRequest.{RecordRequest}
+use Rattle.controller_messages.specs.declared.request.Request.{Request}
+use Rattle.controller_messages.specs.declared.request.Request.TheVariants as asks
+use Rattle.controller_messages.specs.declared.setup.Setup.{Setup}
+use Rattle.controller_messages.specs.Heard.{Heard, Nothing, Answers, Responds, Refuses, Calls, Cyclic, Alarms, heard_of}
+use Rattle.controller_core.specs.declared.stored.event.Event.{Event}
+use Rattle.controller_core.specs.declared.stored.event.Event.TheVariants.{Frame, Tick, Give, Status, Read, Write, Stop}
+use Rattle.controller_messages.specs.Access.{Accessing}
+use Rattle.connects.specs.answers.Connect.{Chosen, chosen_of, found_in, nothing}
+use Rattle.controller_core.specs.stored.State.{Live}
+use Rattle.frame_codec.specs.Sendable.{IsMac}
 use Rattle.rpc_core.specs.Sendable.{IsHeader}
-use Rattle.codec_laws.specs.blocks.Writable.{IsAck}
+use Rattle.block_codec.specs.Writable.{IsAck}
 use Rattle.end_laws.specs.hearing.Stations.{IsCaller, IsRecordCall}
 use Rattle.end_laws.specs.sending.Messages.{IsWay}
 

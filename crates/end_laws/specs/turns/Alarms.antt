@@ -10,20 +10,20 @@ use Rattle.pn_alarms.specs.Device.{end_behind, end_later, end_with, idle}
 use Rattle.pn_alarms.specs.Ends.{DeviceEnd}
 use Rattle.pn_alarms.specs.Numbers.{send_number}
 use Rattle.pn_alarms.specs.Sending.{due}
-use Rattle.alarm_reports.specs.declared.priority.Priority.{Priority}
-use Rattle.alarm_reports.specs.declared.priority.Priority.TheVariants.{High, Low}
-use Rattle.alarm_reports.specs.declared.report.Report.{Report}
-use Rattle.codec_laws.specs.alarms.Line.{Line, empty, with_come, with_sent}
-use Rattle.codec_laws.specs.alarms.World.{IsPrefixOf, line_after}
-use Rattle.reported_diagnosis.specs.Channel.{channel_report}
-use Rattle.reported_diagnosis.specs.Reported.{Reported, after_report, nothing_reported}
-use Rattle.controller_frames.specs.declared.record_request.RecordService.TheVariants as service
-use Rattle.controller_frames.specs.declared.setup.Setup.{Setup}
-use Rattle.controller_frames.specs.Heard.{Heard, Alarms}
-use Rattle.controller_frames.specs.Sent.{Sent, Confirms}
-use Rattle.controller_state.specs.Alarms.{is_alarm, kept_alarm}
+use Rattle.diagnosis.specs.declared.reports.priority.Priority.{Priority}
+use Rattle.diagnosis.specs.declared.reports.priority.Priority.TheVariants.{High, Low}
+use Rattle.diagnosis.specs.declared.reports.report.Report.{Report}
+use Rattle.diagnosis.specs.Line.{Line, empty, with_come, with_sent}
+use Rattle.diagnosis.specs.World.{IsPrefixOf, line_after}
+use Rattle.diagnosis.specs.reported.Channel.{channel_report}
+use Rattle.diagnosis.specs.reported.Reported.{Reported, after_report, nothing_reported}
+use Rattle.controller_messages.specs.declared.record_request.RecordService.TheVariants as service
+use Rattle.controller_messages.specs.declared.setup.Setup.{Setup}
+use Rattle.controller_messages.specs.Heard.{Heard, Alarms}
+use Rattle.controller_messages.specs.Sent.{Sent, Confirms}
+use Rattle.controller_core.specs.stored.Alarms.{is_alarm, kept_alarm}
 use Rattle.controller_core.specs.Machine.{Turn, alarmed, end_of, first, given, rated, requested, stays, stopped, ticked, turned, written}
-use Rattle.controller_state.specs.State.{Live}
+use Rattle.controller_core.specs.stored.State.{Live}
 
 -- ---- priorities
 

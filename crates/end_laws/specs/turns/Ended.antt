@@ -4,19 +4,19 @@ use Rattle.std.specs.List.{AllByRecursion}
 use Rattle.pn_values.specs.declared.mac.Mac.{Mac}
 use Rattle.rpc_core.specs.Response.{Answered as Response}
 use Rattle.plans.specs.declared.parts.Parts.{Parts}
-use Rattle.controller_frames.specs.declared.setup.Setup.{Setup}
-use Rattle.controller_frames.specs.declared.request.Request.{Request}
-use Rattle.controller_frames.specs.declared.request.Request.TheVariants as asks
-use Rattle.controller_frames.specs.declared.refusal.Refusal.{Refusal}
-use Rattle.controller_frames.specs.Heard.{Heard, Refuses, Responds, heard_of}
-use Rattle.controller_frames.specs.Sent.{Requests, bytes_of}
-use Rattle.controller_state.specs.declared.event.Event.{Event}
-use Rattle.controller_state.specs.declared.event.Event.TheVariants.{Frame, Tick, Give, Status, Read, Write, Stop}
-use Rattle.controller_state.specs.declared.state.Cause.{Cause}
-use Rattle.controller_state.specs.declared.state.Cause.TheVariants as why
-use Rattle.controller_state.specs.declared.state.State.TheVariants.{Ended}
-use Rattle.controller_state.specs.State.{Controlling, Live, with_live}
-use Rattle.startup_answers.specs.Answers.{is_answer, is_refused}
+use Rattle.controller_messages.specs.declared.setup.Setup.{Setup}
+use Rattle.controller_messages.specs.declared.request.Request.{Request}
+use Rattle.controller_messages.specs.declared.request.Request.TheVariants as asks
+use Rattle.controller_messages.specs.declared.refusal.Refusal.{Refusal}
+use Rattle.controller_messages.specs.Heard.{Heard, Refuses, Responds, heard_of}
+use Rattle.controller_messages.specs.Sent.{Requests, bytes_of}
+use Rattle.controller_core.specs.declared.stored.event.Event.{Event}
+use Rattle.controller_core.specs.declared.stored.event.Event.TheVariants.{Frame, Tick, Give, Status, Read, Write, Stop}
+use Rattle.controller_core.specs.declared.stored.state.Cause.{Cause}
+use Rattle.controller_core.specs.declared.stored.state.Cause.TheVariants as why
+use Rattle.controller_core.specs.declared.stored.state.State.TheVariants.{Ended}
+use Rattle.controller_core.specs.stored.State.{Controlling, Live, with_live}
+use Rattle.controller_core.specs.start_up.Answers.{is_answer, is_refused}
 use Rattle.controller_core.specs.Machine.{is_again, later, step_of}
 use Rattle.end_laws.specs.turns.Runs.{IsReached, behind_all, frames_of}
 

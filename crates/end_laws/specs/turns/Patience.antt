@@ -1,11 +1,11 @@
 -- How long a state of a controller lasts.
 use Rattle.std.specs.Prelude.{◌≡◌, ◌≢◌, ◌<◌, ◌≤◌, ℕ, suc, true, List, [], ◌∷◌, if◌then◌else◌, Option, Some, None}
-use Rattle.controller_state.specs.declared.event.Event.{Event}
-use Rattle.controller_state.specs.declared.event.Event.TheVariants.{Tick}
-use Rattle.controller_state.specs.declared.state.Cause.TheVariants.{NoProgress}
-use Rattle.controller_state.specs.declared.state.State.{State}
-use Rattle.controller_state.specs.declared.state.State.TheVariants.{Addressing, Ended}
-use Rattle.controller_state.specs.State.{Controlling, is_limited, patience_in}
+use Rattle.controller_core.specs.declared.stored.event.Event.{Event}
+use Rattle.controller_core.specs.declared.stored.event.Event.TheVariants.{Tick}
+use Rattle.controller_core.specs.declared.stored.state.Cause.TheVariants.{NoProgress}
+use Rattle.controller_core.specs.declared.stored.state.State.{State}
+use Rattle.controller_core.specs.declared.stored.state.State.TheVariants.{Addressing, Ended}
+use Rattle.controller_core.specs.stored.State.{Controlling, is_limited, patience_in}
 use Rattle.controller_core.specs.Machine.{step_of}
 use Rattle.end_laws.specs.turns.Ended.{is_unit, release_of}
 use Rattle.end_laws.specs.turns.Runs.{IsReached}

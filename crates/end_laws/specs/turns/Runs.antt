@@ -1,9 +1,9 @@
 -- A controller over any events.
 use Rattle.std.specs.Prelude.{◌≡◌, ℕ, List, [], ◌∷◌, ◌++◌}
 use Rattle.plans.specs.declared.parts.Parts.{Parts}
-use Rattle.controller_frames.specs.declared.setup.ControllerOptions.{ControllerOptions}
-use Rattle.controller_state.specs.declared.event.Event.{Event}
-use Rattle.controller_state.specs.State.{Controlling}
+use Rattle.controller_messages.specs.declared.setup.ControllerOptions.{ControllerOptions}
+use Rattle.controller_core.specs.declared.stored.event.Event.{Event}
+use Rattle.controller_core.specs.stored.State.{Controlling}
 use Rattle.controller_core.specs.Machine.{fresh_with, step_of}
 
 -- The controller after events, one after the other.

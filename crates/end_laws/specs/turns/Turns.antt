@@ -10,35 +10,35 @@ use Rattle.connect_blocks.specs.declared.control.ControlBlock.{ControlBlock}
 use Rattle.pn_alarms.specs.declared.abort.Abort.{Abort}
 use Rattle.pn_alarms.specs.declared.message.Notice.TheVariants as notice
 use Rattle.pn_alarms.specs.declared.pdu.Header.{Header}
-use Rattle.alarm_reports.specs.declared.priority.Priority.{Priority}
-use Rattle.alarm_reports.specs.declared.report.Report.{Report}
+use Rattle.diagnosis.specs.declared.reports.priority.Priority.{Priority}
+use Rattle.diagnosis.specs.declared.reports.report.Report.{Report}
 use Rattle.pn_alarms.specs.Receiver.{taken_as}
 use Rattle.pn_alarms.specs.Sending.{due}
 use Rattle.pn_alarms.specs.Sending.{is_again as is_repeated}
-use Rattle.cyclic_exchange.specs.Opening.{begun_of}
-use Rattle.cyclic_exchange.specs.Received.{behind_frame}
+use Rattle.cyclic_data.specs.exchange.Opening.{begun_of}
+use Rattle.cyclic_data.specs.exchange.Received.{behind_frame}
 use Rattle.plans.specs.declared.parts.Parts.{Parts}
-use Rattle.controller_frames.specs.declared.record_request.RecordRequest.{RecordRequest}
-use Rattle.controller_frames.specs.declared.record_request.RecordService.TheVariants as service
-use Rattle.controller_frames.specs.declared.setup.Setup.{Setup}
-use Rattle.controller_frames.specs.declared.request.Request.{Request}
-use Rattle.controller_frames.specs.declared.request.Request.TheVariants as asks
-use Rattle.controller_frames.specs.Heard.{Heard, Answers, Responds, Calls, Alarms, heard_of}
-use Rattle.controller_frames.specs.RecordRequests.{most_record_octets}
-use Rattle.controller_frames.specs.Requests.{writing_from}
-use Rattle.controller_frames.specs.Sent.{Agrees, ready_answer}
-use Rattle.controller_state.specs.declared.event.Event.{Event}
-use Rattle.controller_state.specs.declared.event.Event.TheVariants.{Frame, Tick, Give, Status as Rate, Read, Write, Stop}
-use Rattle.controller_state.specs.declared.state.Cause.{Cause}
-use Rattle.controller_state.specs.declared.state.State.TheVariants.{Looking, Addressing, Connecting, Ending, Waiting, Exchanging, Ended}
-use Rattle.controller_state.specs.declared.state.RefusedRecord.{RefusedRecord}
-use Rattle.controller_state.specs.State.{Live}
-use Rattle.record_access.specs.Access.{Accessing, call_number}
-use Rattle.startup_answers.specs.Answers.{is_answer, is_ready}
-use Rattle.startup_answers.specs.Outcomes.{are_written}
-use Rattle.connect_answers.specs.Connect.{Chosen, chosen_of, found_in, nothing}
+use Rattle.controller_messages.specs.declared.record_request.RecordRequest.{RecordRequest}
+use Rattle.controller_messages.specs.declared.record_request.RecordService.TheVariants as service
+use Rattle.controller_messages.specs.declared.setup.Setup.{Setup}
+use Rattle.controller_messages.specs.declared.request.Request.{Request}
+use Rattle.controller_messages.specs.declared.request.Request.TheVariants as asks
+use Rattle.controller_messages.specs.Heard.{Heard, Answers, Responds, Calls, Alarms, heard_of}
+use Rattle.controller_messages.specs.RecordRequests.{most_record_octets}
+use Rattle.controller_messages.specs.Requests.{writing_from}
+use Rattle.controller_messages.specs.Sent.{Agrees, ready_answer}
+use Rattle.controller_core.specs.declared.stored.event.Event.{Event}
+use Rattle.controller_core.specs.declared.stored.event.Event.TheVariants.{Frame, Tick, Give, Status as Rate, Read, Write, Stop}
+use Rattle.controller_core.specs.declared.stored.state.Cause.{Cause}
+use Rattle.controller_core.specs.declared.stored.state.State.TheVariants.{Looking, Addressing, Connecting, Ending, Waiting, Exchanging, Ended}
+use Rattle.controller_core.specs.declared.stored.state.RefusedRecord.{RefusedRecord}
+use Rattle.controller_core.specs.stored.State.{Live}
+use Rattle.controller_messages.specs.Access.{Accessing, call_number}
+use Rattle.controller_core.specs.start_up.Answers.{is_answer, is_ready}
+use Rattle.controller_core.specs.start_up.Outcomes.{are_written}
+use Rattle.connects.specs.answers.Connect.{Chosen, chosen_of, found_in, nothing}
 use Rattle.controller_core.specs.Machine.{Turn, accessing, acked_under, asking, behind_ack, behind_data, brought, due_frames, end_of, ended_by, flow_later, given, is_again, later, noted, over, rated, released, requested, requests_of, standing, stays, stopped, taken, ticked, turned, where_due, writing, written}
-use Rattle.startup_answers.specs.Answers.{ready_in}
+use Rattle.controller_core.specs.start_up.Answers.{ready_in}
 use Rattle.end_laws.specs.turns.Ended.{IsReleased, may_release}
 
 -- ---- what comes

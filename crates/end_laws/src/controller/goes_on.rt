@@ -1,10 +1,10 @@
 //! A controller refines its small machine.
 ghost use Rattle.std.specs.Prelude.{◌≡◌, List, ℕ};
 ghost use Rattle.plans.specs.declared.parts.Parts.{Parts};
-ghost use Rattle.controller_frames.specs.declared.setup.Setup.{Setup};
-ghost use Rattle.controller_frames.specs.Heard.{heard_of};
-ghost use Rattle.controller_state.specs.declared.event.Event.{Event};
-ghost use Rattle.controller_state.specs.State.{Live};
+ghost use Rattle.controller_messages.specs.declared.setup.Setup.{Setup};
+ghost use Rattle.controller_messages.specs.Heard.{heard_of};
+ghost use Rattle.controller_core.specs.declared.stored.event.Event.{Event};
+ghost use Rattle.controller_core.specs.stored.State.{Live};
 ghost use Rattle.controller_core.specs.Machine.{first, turn_of};
 ghost use Rattle.end_laws.specs.both.Small.{Seeking};
 ghost use Rattle.end_laws.specs.controller.Small.{GoesOn, IsSteady, said_in, small_of};

@@ -1,8 +1,8 @@
 //! Where the messages of a device come from.
 ghost use Rattle.std.specs.Prelude.{List, ℕ};
 ghost use Rattle.std.specs.List.{AllByRecursion};
-ghost use Rattle.settings_store.specs.Machine.{Outcome};
-ghost use Rattle.connect_requests.specs.Request.{Request};
+ghost use Rattle.settings_journal.specs.settings_store.Machine.{Outcome};
+ghost use Rattle.connects.specs.requests.Request.{Request};
 ghost use Rattle.records.specs.declared.writes.taken.TakenRecord.{TakenRecord};
 ghost use Rattle.device_frames.specs.Heard.{Heard};
 ghost use Rattle.device_core.specs.State.{Station, Live};

@@ -9,28 +9,27 @@ ghost use Rattle.pn_alarms.specs.declared.abort.Abort.{Abort};
 ghost use Rattle.pn_alarms.specs.declared.message.Notice.TheVariants as notice;
 ghost use Rattle.pn_alarms.specs.declared.pdu.Header.{Header};
 ghost use Rattle.pn_alarms.specs.declared.pdu.PduType.TheVariants as pdu;
-ghost use Rattle.alarm_reports.specs.declared.priority.Priority.{Priority};
-ghost use Rattle.alarm_reports.specs.declared.priority.Priority.TheVariants.{High, Low};
-ghost use Rattle.alarm_reports.specs.Report.{diagnosed, ours};
-ghost use Rattle.cyclic_exchange.specs.declared.route.Route.{Route};
-ghost use Rattle.device_exchange.specs.Frames.{Notifies, Replies as Answers, Reports, RepliesLow};
+ghost use Rattle.diagnosis.specs.declared.reports.priority.Priority.{Priority};
+ghost use Rattle.diagnosis.specs.declared.reports.priority.Priority.TheVariants.{High, Low};
+ghost use Rattle.diagnosis.specs.reports.Report.{diagnosed, ours};
+ghost use Rattle.cyclic_data.specs.declared.exchange.route.Route.{Route};
+ghost use Rattle.relations.specs.exchange.Frames.{Notifies, Replies as Answers, Reports, RepliesLow};
 ghost use Rattle.plans.specs.declared.parts.Controller.{Controller};
 ghost use Rattle.relations.specs.declared.farewell.Farewell.{Farewell};
 ghost use Rattle.relations.specs.Farewells.{said_by};
 ghost use Rattle.device_frames.specs.Heard.{Alarms, LowConfirms, heard_of as device_hears, heard_reply};
 ghost use Rattle.device_frames.specs.Sent.{Ends as Farewells, Exchanges, bytes_of as device_bytes};
-ghost use Rattle.controller_frames.specs.declared.setup.Setup.{Setup};
-ghost use Rattle.controller_frames.specs.Heard.{Alarms as Alarmed, Nothing, heard_of as controller_hears};
-ghost use Rattle.controller_frames.specs.Sent.{Confirms, Ends, Replies, bytes_of as controller_bytes, end_pdu};
-ghost use Rattle.codec_laws.specs.frames.Sendable.{IsMac};
-ghost use Rattle.codec_laws.specs.alarms.Sendable.{IsHeader};
-ghost use Rattle.codec_laws.specs.blocks.Writable.{IsAck, IsAlarm};
+ghost use Rattle.controller_messages.specs.declared.setup.Setup.{Setup};
+ghost use Rattle.controller_messages.specs.Heard.{Alarms as Alarmed, Nothing, heard_of as controller_hears};
+ghost use Rattle.controller_messages.specs.Sent.{Confirms, Ends, Replies, bytes_of as controller_bytes, end_pdu};
+ghost use Rattle.frame_codec.specs.Sendable.{IsMac};
+ghost use Rattle.diagnosis.specs.Sendable.{IsHeader};
+ghost use Rattle.block_codec.specs.Writable.{IsAck, IsAlarm};
 ghost use Rattle.end_laws.specs.hearing.Hearing.{comes, mine_hears, own_hears};
 ghost use Rattle.end_laws.specs.hearing.Stations.{IsDevice, IsRoute, IsSetup};
 
-use codec_laws::{
-    acks_are_read, alarms_are_read, ends_are_read, frames_are_read, pdus_are_read, replies_are_read,
-};
+use diagnosis::{acks_are_read, alarms_are_read, ends_are_read, pdus_are_read, replies_are_read};
+use frame_codec::frames_are_read;
 
 /// What the controller hears of an alarm, and of the reply to an AlarmAck. These are laws of the definitions.
 pub fn alarms_are_heard()

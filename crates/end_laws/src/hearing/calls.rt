@@ -14,20 +14,21 @@ ghost use Rattle.plans.specs.declared.parts.Controller.{Controller};
 ghost use Rattle.relations.specs.declared.ready.Ready.{Ready};
 ghost use Rattle.device_frames.specs.Heard.{Calls, Garbled, Responds, Unreadable, heard_of as device_hears};
 ghost use Rattle.device_frames.specs.Sent.{ready_frame, response_frame};
-ghost use Rattle.controller_frames.specs.declared.record_request.RecordRequest.{RecordRequest};
-ghost use Rattle.controller_frames.specs.declared.request.Request.{Request};
-ghost use Rattle.controller_frames.specs.declared.setup.Setup.{Setup};
-ghost use Rattle.controller_frames.specs.Heard.{Calls as Called, Nothing, Responds as Responded, heard_of as controller_hears};
-ghost use Rattle.controller_frames.specs.RecordRequests.{record_call};
-ghost use Rattle.controller_frames.specs.Requests.{call_for};
-ghost use Rattle.controller_frames.specs.Sent.{answer_frame, call_frame, calls_at, ready_answer};
-ghost use Rattle.codec_laws.specs.frames.Sendable.{IsMac, IsTag, carrying};
+ghost use Rattle.controller_messages.specs.declared.record_request.RecordRequest.{RecordRequest};
+ghost use Rattle.controller_messages.specs.declared.request.Request.{Request};
+ghost use Rattle.controller_messages.specs.declared.setup.Setup.{Setup};
+ghost use Rattle.controller_messages.specs.Heard.{Calls as Called, Nothing, Responds as Responded, heard_of as controller_hears};
+ghost use Rattle.controller_messages.specs.RecordRequests.{record_call};
+ghost use Rattle.controller_messages.specs.Requests.{call_for};
+ghost use Rattle.controller_messages.specs.Sent.{answer_frame, call_frame, calls_at, ready_answer};
+ghost use Rattle.frame_codec.specs.Sendable.{IsMac, IsTag, carrying};
 ghost use Rattle.rpc_core.specs.Sendable.{CanBeAnswered, CanBeCalled, IsHeader, IsUuid};
 ghost use Rattle.end_laws.specs.hearing.Hearing.{IsUncalled, IsUnreported, comes, mine_reported, own_reported};
 ghost use Rattle.end_laws.specs.hearing.Stations.{IsAddress, IsCalled, IsCaller, IsDevice, IsNumbered, IsRecordCall, IsSetup, ready_call};
 
-use codec_laws::{blocks_are_read, frames_are_read};
-use controller_frames::calls_are_no_refusals;
+use block_codec::blocks_are_read;
+use controller_messages::calls_are_no_refusals;
+use frame_codec::frames_are_read;
 use rpc_core::{
     calls_and_responses_differ, calls_are_read, calls_name_their_interface, responses_are_read,
 };

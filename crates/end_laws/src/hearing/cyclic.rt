@@ -2,17 +2,17 @@
 ghost use Rattle.std.specs.Prelude.{◌≡◌, ◌≤◌, ℕ, Bool, length, Some};
 ghost use Rattle.pn_values.specs.declared.identity.Identity.{Identity};
 ghost use Rattle.cyclic_data.specs.Image.{Shown};
-ghost use Rattle.cyclic_exchange.specs.declared.route.Route.{Route};
-ghost use Rattle.cyclic_exchange.specs.Frames.{body_at};
-ghost use Rattle.device_exchange.specs.Frames.{Inputs};
+ghost use Rattle.cyclic_data.specs.declared.exchange.route.Route.{Route};
+ghost use Rattle.cyclic_data.specs.exchange.Frames.{body_at};
+ghost use Rattle.relations.specs.exchange.Frames.{Inputs};
 ghost use Rattle.plans.specs.declared.parts.Controller.{Controller};
 ghost use Rattle.device_frames.specs.Heard.{Cyclic, heard_of as device_hears};
 ghost use Rattle.device_frames.specs.Sent.{Exchanges, bytes_of as device_bytes};
-ghost use Rattle.controller_frames.specs.Heard.{Cyclic as Comes, heard_of as controller_hears};
+ghost use Rattle.controller_messages.specs.Heard.{Cyclic as Comes, heard_of as controller_hears};
 ghost use Rattle.end_laws.specs.hearing.Hearing.{comes, mine_hears, own_hears, padded};
 ghost use Rattle.end_laws.specs.hearing.Stations.{IsDevice, IsRoute};
 
-use codec_laws::frames_are_read;
+use frame_codec::frames_are_read;
 
 /// What is heard of a frame of inputs. These are laws of the definitions.
 pub fn inputs_are_heard()

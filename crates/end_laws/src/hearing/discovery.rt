@@ -14,17 +14,17 @@ ghost use Rattle.dcp_core.specs.Reported.{get_said, identify_said, set_said};
 ghost use Rattle.plans.specs.declared.parts.Controller.{Controller};
 ghost use Rattle.device_frames.specs.Heard.{Asks, Resolves, heard_of as device_hears};
 ghost use Rattle.device_frames.specs.Sent.{ArpReply, GetAnswer, IdentifyAnswer, SetAnswer, bytes_of as device_bytes};
-ghost use Rattle.controller_frames.specs.declared.request.Request.TheVariants as asks;
-ghost use Rattle.controller_frames.specs.declared.setup.Setup.{Setup};
-ghost use Rattle.controller_frames.specs.Heard.{Answers, Nothing, heard_of as controller_hears};
-ghost use Rattle.controller_frames.specs.Requests.{address_asked, identify_asked};
-ghost use Rattle.controller_frames.specs.Sent.{Requests, bytes_of as controller_bytes};
-ghost use Rattle.codec_laws.specs.frames.Sendable.{IsHolder, IsMac};
+ghost use Rattle.controller_messages.specs.declared.request.Request.TheVariants as asks;
+ghost use Rattle.controller_messages.specs.declared.setup.Setup.{Setup};
+ghost use Rattle.controller_messages.specs.Heard.{Answers, Nothing, heard_of as controller_hears};
+ghost use Rattle.controller_messages.specs.Requests.{address_asked, identify_asked};
+ghost use Rattle.controller_messages.specs.Sent.{Requests, bytes_of as controller_bytes};
+ghost use Rattle.frame_codec.specs.Sendable.{IsHolder, IsMac};
 ghost use Rattle.end_laws.specs.hearing.Hearing.{all_hears, comes, mine_hears, own_hears};
 ghost use Rattle.end_laws.specs.hearing.Stations.{IsAddress, IsDevice, IsSetup};
 
-use codec_laws::frames_are_read;
 use dcp_core::{answers_are_read, requests_are_read};
+use frame_codec::frames_are_read;
 
 /// What a device hears of the controller's DCP requests. These are laws of the definitions.
 pub fn requests_are_heard()

@@ -1,9 +1,9 @@
 //! The stations that exist.
-ghost use Rattle.codec_laws.specs.frames.Sendable.{IsMac};
+ghost use Rattle.frame_codec.specs.Sendable.{IsMac};
 ghost use Rattle.rpc_core.specs.Sendable.{IsUuid};
 ghost use Rattle.end_laws.specs.hearing.Stations.{IsAddress, IsDevice, IsSetup};
 
-use controller_frames::Setup;
+use controller_messages::Setup;
 use pn_values::{Identity, Mac};
 use uuid::Uuid;
 

@@ -1,15 +1,15 @@
 //! The destinations of the messages of a controller.
 ghost use Rattle.std.specs.List.{AllByRecursion};
 ghost use Rattle.pn_values.specs.declared.mac.Mac.{Mac};
-ghost use Rattle.controller_frames.specs.declared.setup.Setup.{Setup};
-ghost use Rattle.controller_state.specs.declared.event.Event.{Event};
+ghost use Rattle.controller_messages.specs.declared.setup.Setup.{Setup};
+ghost use Rattle.controller_core.specs.declared.stored.event.Event.{Event};
 ghost use Rattle.controller_core.specs.Machine.{first, turn_of};
-ghost use Rattle.controller_state.specs.State.{Live};
+ghost use Rattle.controller_core.specs.stored.State.{Live};
 ghost use Rattle.end_laws.specs.hearing.Stations.{IsSetup};
 ghost use Rattle.end_laws.specs.sending.Addressed.{IsAimed, IsAimedAt, IsEventFrom};
 
 use crate::turns_are_of_a_kind;
-use codec_laws::blocks_are_read;
+use block_codec::blocks_are_read;
 
 /// Each message of a controller goes to a station, whatever frames of data and alarms it hears. These are laws of the
 /// definitions.

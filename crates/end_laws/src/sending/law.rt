@@ -1,17 +1,17 @@
 //! The laws of what a controller sends.
 ghost use Rattle.std.specs.Prelude.{◌≡◌, map};
 ghost use Rattle.std.specs.List.{AllByRecursion};
-ghost use Rattle.controller_frames.specs.declared.setup.Setup.{Setup};
-ghost use Rattle.controller_frames.specs.Sent.{bytes_of};
-ghost use Rattle.controller_state.specs.declared.event.Event.{Event};
+ghost use Rattle.controller_messages.specs.declared.setup.Setup.{Setup};
+ghost use Rattle.controller_messages.specs.Sent.{bytes_of};
+ghost use Rattle.controller_core.specs.declared.stored.event.Event.{Event};
 ghost use Rattle.controller_core.specs.Machine.{first, step_of, turn_of};
-ghost use Rattle.controller_state.specs.State.{Controlling, Live};
+ghost use Rattle.controller_core.specs.stored.State.{Controlling, Live};
 ghost use Rattle.end_laws.specs.hearing.Stations.{IsSetup};
 ghost use Rattle.end_laws.specs.sending.Messages.{CanBeSent};
 ghost use Rattle.end_laws.specs.sending.Sized.{IsLive, IsSizedEvent};
 
 use crate::turns_are_of_a_kind;
-use codec_laws::blocks_are_read;
+use block_codec::blocks_are_read;
 
 /// Each frame that a controller sends is one of its messages. This is a law of the definitions.
 pub fn frames_are_messages()

@@ -1,8 +1,8 @@
 //! The turns of a controller.
-ghost use Rattle.controller_frames.specs.declared.setup.Setup.{Setup};
-ghost use Rattle.controller_state.specs.declared.event.Event.{Event};
+ghost use Rattle.controller_messages.specs.declared.setup.Setup.{Setup};
+ghost use Rattle.controller_core.specs.declared.stored.event.Event.{Event};
 ghost use Rattle.controller_core.specs.Machine.{turn_of};
-ghost use Rattle.controller_state.specs.State.{Live};
+ghost use Rattle.controller_core.specs.stored.State.{Live};
 ghost use Rattle.end_laws.specs.turns.Turns.{Came, IsTurn, came_by, turn_for};
 
 /// Each turn of a controller's machine is of one of 22 kinds. Each kind says what the next state is, what is

@@ -1,6 +1,10 @@
 //! The laws of a controller.
 ghost use Rattle.end_laws.specs.turns.Alarms.{AreAllTaken, AreTakenInOrder, LackAtMostTheLast, ListsWhatIsReported, ShowsTheLast};
+ghost use Rattle.end_laws.specs.turns.Again.{AsksEachSecond};
+ghost use Rattle.end_laws.specs.turns.Belongs.{AreNumberedApart, AreNumberedLater, DropsAnswersToOthers, WaitsForWhatIsSent};
+ghost use Rattle.end_laws.specs.turns.Causes.{EachCauseEnds, EachEndHasItsCause, EachRunHasItsCause};
 ghost use Rattle.end_laws.specs.turns.Ended.{CountsUnits, DropsWhatComes, IsSilent, KeepsItsCause, RepeatsItsRelease};
+ghost use Rattle.end_laws.specs.turns.Inputs.{ShowsNothingWithout, ShowsWhatCame};
 ghost use Rattle.end_laws.specs.turns.Patience.{EndsInTime, HasTimeLeft, NoneLastsLonger};
 
 /// What remains of a controller that ended, for any events after its end. These are laws of the definition that
@@ -50,5 +54,56 @@ pub fn alarms_are_taken_in_order()
     // While its relation is established, its list of diagnoses is what the accepted changes report.
     ensures listed { ListsWhatIsReported }
 {
-    codec_laws::alarms_are_taken_in_order();
+    diagnosis::alarms_are_taken_in_order();
 }
+
+/// An answer belongs to its request, of a controller of any plan and with any options. These are laws of the definition that
+/// specifies `Controller::step`; the function has no code.
+pub fn answers_belong_to_their_requests()
+    // In any state, a frame changes nothing, and nothing is sent, if it is a response, a reject or a fault of another activity or
+    // with another number than the call that waits, or if no call waits: for Connect, each Write, PrmEnd, the Release, and the
+    // Reads and Writes of the application. The same holds for an answer by DCP with another service or another Xid than the
+    // request that waits.
+    ensures dropped { DropsAnswersToOthers }
+    // Each call that a controller sends, with any event after any others, is the call that waits from then on.
+    ensures waiting { WaitsForWhatIsSent }
+    // Two calls of a start-up with the same number are the same call.
+    ensures apart { AreNumberedApart }
+    // Below 2^32 calls, each call of the application has a greater number than those before it, also those of the start-up, and
+    // a Release has a greater number than the call that was active before it.
+    ensures later { AreNumberedLater }
+{}
+
+/// Why a controller ends, of any plan and with any options. These are laws of the definition that specifies
+/// `Controller::step`; the function has no code.
+pub fn each_end_has_its_cause()
+    // The event with which a controller ends, in any state, is that of its cause: 1, an answer to its Identify from a station with
+    // the plan's name and another VendorID or DeviceID; 2, a refusal of its address, or of the call that waits, by a response, a
+    // reject or a fault; 3, a response to its Connect that lists a wrong module; 4, the unit that completes the data hold time; 5,
+    // an ERR of its relation; 6, the unit with which an AlarmAck is given up; 7, a stop by the application; 8, the last unit of
+    // the patience. With it the device is told of causes 4 and 6 by one ERR, with the reason, and of causes 3, 7 and 8, from the
+    // Connect on, by one Release; of 2 by a Release only if the plan says so; and nothing else is sent.
+    ensures ends { EachEndHasItsCause }
+    // Each of these events, except a refusal, ends a controller that had not ended for its cause, in any state.
+    ensures causes { EachCauseEnds }
+    // For any events of a new controller, at the end of which it has ended: one of them ended it, and is that of its cause.
+    ensures run { EachRunHasItsCause }
+{}
+
+/// A controller asks again until it is answered, of any plan and with any options. This is a law of the definition that specifies
+/// `Controller::step`; the function has no code.
+pub fn requests_are_repeated()
+    // From when a request of the start-up or a Release was sent on, and as long as it is active, for any events between: a request
+    // is sent with each 32,000th unit, and with no other unit. It is the one that is active.
+    ensures each { AsksEachSecond }
+{}
+
+/// The inputs that a controller shows, of any plan and with any options, over any events. These are laws of the definition that
+/// specifies `Controller::step`; the function has no code.
+pub fn inputs_are_received()
+    // All inputs are zeros, or all of them come from one frame that it received while its relation was established: a cyclic frame
+    // of the station that answered its Connect, under the FrameID of the plan's inputs, newer than the one accepted before it.
+    ensures one { ShowsWhatCame }
+    // Without an established relation, before the answer to its Connect and after its end, they are zeros.
+    ensures none { ShowsNothingWithout }
+{}

@@ -1,7 +1,7 @@
 -- The single block of every call but Connect (IEC 61158-6-10, 5.2).
 use Rattle.std.specs.Prelude.{◌==◌, ℕ, not, List, [], ◌∷◌, length, nat_lt, Result, Ok, Err}
 use Rattle.wire.specs.Formats.{big_number}
-use Rattle.block_fields.specs.declared.fault.BlockFault.{BlockFault}
+use Rattle.wire.specs.declared.blocks.fault.BlockFault.{BlockFault}
 use Rattle.block_codec.specs.declared.block.Block.{Block}
 use Rattle.block_codec.specs.declared.block_type.BlockType.{BlockType}
 use Rattle.block_codec.specs.Kinds.{number_of}

@@ -1,6 +1,6 @@
 -- Several records in one Write (MultipleWrite, index 0xE040; IEC 61158-6-10, 5.2.3).
 use Rattle.std.specs.Prelude.{◌+◌, ◌*◌, ◌/◌, ◌==◌, ◌&&◌, ℕ, zero, suc, Bool, true, false, List, [], ◌∷◌, length, take, drop, nat_lt, Option, Some, None, Result, Ok, Err, if◌then◌else◌}
-use Rattle.block_fields.specs.declared.fault.BlockFault.{BlockFault}
+use Rattle.wire.specs.declared.blocks.fault.BlockFault.{BlockFault}
 use Rattle.block_codec.specs.declared.block.Block.{Block}
 use Rattle.block_codec.specs.Block.{block_of, in_iod_write_req}
 use Rattle.record_blocks.specs.declared.write_record.IodWriteReq.{IodWriteReq}

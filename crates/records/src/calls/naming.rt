@@ -4,7 +4,7 @@ ghost use Rattle.std.specs.Option.{option_map};
 ghost use Rattle.records.specs.calls.Naming.{in_relation, is_relation};
 
 use crate::CallFault;
-use block_fields::Uuid;
+use wire::Uuid;
 
 /// Whether this is the ARUUID of the active relation; false if there is none. `standing` is the ARUUID of the active
 /// relation.

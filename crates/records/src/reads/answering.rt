@@ -18,7 +18,7 @@ fn cut_to(octets: &[u8], most: u32) -> &[u8]
 
 /// Appends the response to a Read: the IODReadResHeader of 64 octets, and the octets of the record, cut to the
 /// RecordDataLength of the request. There must be room for the whole record.
-#[tactic(auto, unfolding(crate::specs::reads::Answer::answer_of, block_codec::specs::Block::block_size, block_codec::specs::Block::fields_of, block_fields::specs::Fields::body, block_fields::specs::Fields::version, record_blocks::specs::RecordHeader::record_header, record_blocks::specs::ReadRecord::iod_read_res))]
+#[tactic(auto, unfolding(crate::specs::reads::Answer::answer_of, block_codec::specs::Block::block_size, block_codec::specs::Block::fields_of, wire::specs::blocks::Fields::body, wire::specs::blocks::Fields::version, record_blocks::specs::RecordHeader::record_header, record_blocks::specs::ReadRecord::iod_read_res))]
 pub fn put_read_answer<const N: usize>(
     answer: &mut ArrayVec<u8, N>,
     request: &IodReadReq,

@@ -5,7 +5,7 @@ ghost use Rattle.records.specs.reads.Within.{names_relation};
 
 use crate::is_relation;
 use crate::reads::judging::read_request;
-use block_fields::Uuid;
+use wire::Uuid;
 
 /// Whether the ARUUID of a Read is that of the active relation. A Read Implicit does not need it, but it shows the device
 /// that the controller is still there.

@@ -9,9 +9,9 @@ use crate::reads::judging::{check_place, read_request};
 use crate::reads::serving::{Blocks, serve};
 use crate::{CallFault, check_relation};
 use block_codec::IodReadReq;
-use block_fields::Uuid;
 use im_records::is_module_diff;
 use pn_values::{Identity, Real, Settings};
+use wire::Uuid;
 
 /// Reads the IODReadReqHeader of a Read of the controller, and checks that it names the active relation. `standing` is the
 /// ARUUID of that, if there is one.

@@ -23,7 +23,7 @@ pub fn put_write_answer<const N: usize>(answer: &mut ArrayVec<u8, N>, request: &
 
 /// Appends the outcome of one record of several: its IODWriteResHeader of 64 octets, with its own PNIOStatus. There must
 /// be room.
-#[tactic(auto, unfolding(crate::specs::writes::Answer::outcome_of, block_codec::specs::Block::block_size, block_codec::specs::Block::fields_of, block_fields::specs::Fields::body, block_fields::specs::Fields::version, record_blocks::specs::RecordHeader::record_header, record_blocks::specs::WriteRecord::iod_write_res))]
+#[tactic(auto, unfolding(crate::specs::writes::Answer::outcome_of, block_codec::specs::Block::block_size, block_codec::specs::Block::fields_of, wire::specs::blocks::Fields::body, wire::specs::blocks::Fields::version, record_blocks::specs::RecordHeader::record_header, record_blocks::specs::WriteRecord::iod_write_res))]
 pub fn put_write_outcome<const N: usize>(
     answer: &mut ArrayVec<u8, N>,
     request: &IodWriteReq,

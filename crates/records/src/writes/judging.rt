@@ -10,9 +10,9 @@ use crate::writes::{Effect, Entries, TakenRecord, Write, Writing};
 use crate::{CallFault, check_place, check_relation, parameter_length, single_block};
 use arrayvec::ArrayVec;
 use block_codec::{Block, BlockType, IodWriteReq};
-use block_fields::Uuid;
 use im_records::{is_read_only, is_writable, read_write};
 use pn_values::{Command, Real};
+use wire::Uuid;
 
 /// Returns what a Write asks for, or why it is refused. `standing` is the ARUUID of the active relation, if there is one.
 /// The first fault in the order of the checks is reported.

@@ -1,7 +1,7 @@
 -- The header and the fields, followed by the data, are the octets of the block.
 use Rattle.std.proofs.Common.{◌≡◌, ℕ, ◌+◌, List, ◌++◌, ◌∷◌, arith, lit<, refl, sym, ap, ◌∙◌}
 use Rattle.wire.specs.Formats.{big_bytes}
-use Rattle.block_fields.specs.Fields.{number_bytes, open_body, version}
+use Rattle.wire.specs.blocks.Fields.{number_bytes, open_body, version}
 use Rattle.record_blocks.specs.AlarmNotification.{alarm_notification}
 use Rattle.block_codec.specs.declared.block.Block.TheVariants.{AlarmNotification}
 use Rattle.block_codec.specs.declared.block_type.BlockType.TheVariants as kind

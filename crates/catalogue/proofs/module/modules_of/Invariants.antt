@@ -1,7 +1,7 @@
 use Rattle.std.proofs.Common.{◌≡◌, ℕ, List, [], drop}
 use Rattle.std.specs.BTreeMap.{get_by_text}
 use Rattle.serde_json.specs.View.{items_view}
-use Rattle.catalogue_keys.specs.Reader.{each}
+use Rattle.catalogue.specs.keys.Reader.{each}
 use Rattle.catalogue.specs.Modules.{module_item, place_of}
 use Rattle.catalogue.proofs.module.modules_of.Given as goal
 

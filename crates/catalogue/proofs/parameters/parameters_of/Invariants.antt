@@ -2,7 +2,7 @@ use Rattle.std.proofs.Common.{◌≡◌, ℕ, [], drop}
 use Rattle.std.specs.Ordering.{nat_cmp}
 use Rattle.std.specs.BTreeMap.{get}
 use Rattle.serde_json.specs.View.{items_view}
-use Rattle.catalogue_keys.specs.Reader.{each}
+use Rattle.catalogue.specs.keys.Reader.{each}
 use Rattle.catalogue.specs.Submodules.{parameter}
 use Rattle.catalogue.specs.Slots.{length_of}
 use Rattle.catalogue.proofs.parameters.parameters_of.Given as goal

@@ -2,7 +2,7 @@ use Rattle.std.proofs.Common.{◌≡◌, ℕ, [], drop}
 use Rattle.std.specs.Ordering.{nat_cmp}
 use Rattle.std.specs.BTreeMap.{get}
 use Rattle.serde_json.specs.View.{items_view}
-use Rattle.catalogue_keys.specs.Reader.{each}
+use Rattle.catalogue.specs.keys.Reader.{each}
 use Rattle.catalogue.specs.Submodules.{place_of, submodule}
 use Rattle.catalogue.proofs.submodules.submodules_of.Given as goal
 

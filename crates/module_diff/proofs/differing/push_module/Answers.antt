@@ -1,7 +1,7 @@
 -- The rows that are listed for one module.
 use Rattle.std.proofs.Common.{List, [], ◌∷◌, ◌++◌, ◌||◌, Bool, not, cond, nat_lt, ap, ◌∙◌}
-use Rattle.module_blocks.specs.declared.module_diff.DiffModule.{DiffModule}
-use Rattle.module_blocks.specs.declared.module_diff.DiffSubmodule.{DiffSubmodule}
+use Rattle.connect_blocks.specs.declared.module_diff.DiffModule.{DiffModule}
+use Rattle.connect_blocks.specs.declared.module_diff.DiffSubmodule.{DiffSubmodule}
 use Rattle.module_diff.specs.Diff.{Wanted}
 use Rattle.module_diff.proofs.Listed.{one_module, one_list}
 use Rattle.module_diff.proofs.differing.push_module.Goals as goal

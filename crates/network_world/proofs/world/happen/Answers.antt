@@ -1,9 +1,9 @@
 use Rattle.std.proofs.Common.{◌≡◌, ◌++◌, ℕ, List, Option, refl, subst, ◌∙◌}
 use Rattle.lldp.specs.Peer.{Peer}
 use Rattle.device_frames.specs.Heard.{Given, Met, Raised, heard_of}
-use Rattle.controller_state.specs.declared.event.Event.{Event as ControllerEvent}
-use Rattle.controller_state.specs.declared.event.Event.TheVariants as controller
-use Rattle.controller_state.specs.State.{Controlling}
+use Rattle.controller_core.specs.declared.stored.event.Event.{Event as ControllerEvent}
+use Rattle.controller_core.specs.declared.stored.event.Event.TheVariants as controller
+use Rattle.controller_core.specs.stored.State.{Controlling}
 use Rattle.controller_core.specs.Machine.{step_of}
 use Rattle.network_world.specs.World.{IsHeard, World, at_controller, world_of}
 use Rattle.network_world.proofs.world.happen.Goals as goal

@@ -1,4 +1,4 @@
-use Rattle.std.proofs.Common.{◌≡◌, ◌∙◌, ap, rules, arith, add-one}
+use Rattle.std.proofs.Common.{rules, arith, add-one}
 use Rattle.std.proofs.lemmas.Grind.{common_steps}
 use Rattle.c_layout.specs.Modules.{parameter_of}
 use Rattle.plan_abi.specs.Readings.{written_parameter}

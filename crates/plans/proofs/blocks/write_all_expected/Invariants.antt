@@ -1,7 +1,7 @@
 -- the octets so far, and those of the remaining modules
 use Rattle.std.proofs.Common.{◌≡◌, ◌+◌, ◌≤◌, ◌++◌, drop, length, take}
 use Rattle.std.specs.List.{AllByRecursion}
-use Rattle.module_blocks.specs.Expected.{IsExpectedSubmoduleBlockReq}
+use Rattle.connect_blocks.specs.Expected.{IsExpectedSubmoduleBlockReq}
 use Rattle.plans.specs.Connect.{IsRead, bytes_of, expected_block, expected_blocks, size_of}
 use Rattle.plans.proofs.blocks.write_all_expected.Given as goal
 

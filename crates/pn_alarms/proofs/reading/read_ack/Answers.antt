@@ -1,7 +1,7 @@
 -- The number that was read is the number at the start.
 use Rattle.std.proofs.Common.{sym, ◌∙◌}
 use Rattle.wire.proofs.Fields.{number_in_front}
-use Rattle.block_fields.specs.declared.fault.BlockFault.TheVariants.{Truncated}
+use Rattle.wire.specs.declared.blocks.fault.BlockFault.TheVariants.{Truncated}
 use Rattle.block_codec.specs.Kinds.{number_of}
 use Rattle.pn_alarms.proofs.reading.read_ack.Goals as goal
 

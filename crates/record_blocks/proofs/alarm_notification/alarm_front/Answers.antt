@@ -1,6 +1,6 @@
 -- The two parts followed by the data are the octets that are written.
 use Rattle.std.proofs.Common.{refl}
-use Rattle.block_fields.specs.Fields.{number_bytes}
+use Rattle.wire.specs.blocks.Fields.{number_bytes}
 use Rattle.record_blocks.specs.AlarmNotification.{alarm_notification, alarm_place, alarm_subject}
 use Rattle.record_blocks.proofs.alarm_notification.alarm_front.Goals as goal
 

@@ -1,6 +1,6 @@
 use Rattle.std.proofs.Common.{◌≡◌, ◌≤◌, replicate, arith, ap, subst}
-use Rattle.controller_state.specs.declared.event.Event.{Event}
-use Rattle.controller_state.specs.declared.event.Event.TheVariants as event
+use Rattle.controller_core.specs.declared.stored.event.Event.{Event}
+use Rattle.controller_core.specs.declared.stored.event.Event.TheVariants as event
 use Rattle.script_session.specs.Ends.{controller_run}
 use Rattle.script_session.proofs.Ticking.{IsHearing, hearing_first, hearing_run, heard_all, parted}
 use Rattle.script_session.proofs.other_end.leaps.Goals as goal

@@ -1,5 +1,5 @@
 use Rattle.std.proofs.Common.{replicate}
-use Rattle.controller_state.specs.declared.event.Event.TheVariants as event
+use Rattle.controller_core.specs.declared.stored.event.Event.TheVariants as event
 use Rattle.script_session.specs.Ends.{controller_run}
 use Rattle.script_session.proofs.Ticking.{IsHearing}
 use Rattle.script_session.proofs.other_end.ticks.Given as goal

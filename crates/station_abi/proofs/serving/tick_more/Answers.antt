@@ -11,7 +11,7 @@ pub returns-after-has_frames : goal.returns-after-has_frames
 returns-after-has_frames c =
     let old = c.args.port.now in
     let new = c.unit.new.self in
-    let s = c.in-Some.ensures in
+    let s = c.in-Some.ensures.passes in
     let one : 1 ≡ c.args.op.now.units = sym c.if-op-ne1.false in
     let only = waiting_only new.port.calls new.port.frames new.frames s.3 s.4 in
     let waits : c.if-has_frames.work ≡ waiting_both new =
@@ -24,4 +24,4 @@ returns-after-has_frames c =
 
 pub returns-in-None : goal.returns-in-None
 returns-in-None c =
-    subst (λ (s : Served). IsTick s c.args.op.now c.tick_all-in-None.result c.tick_all-in-None.new.port c.tick_all-in-None.new.op) c.in-None.ensures c.tick_all-in-None.ensures
+    subst (λ (s : Served). IsTick s c.args.op.now c.tick_all-in-None.result c.tick_all-in-None.new.port c.tick_all-in-None.new.op) c.in-None.ensures.passes c.tick_all-in-None.ensures

@@ -1,7 +1,7 @@
 -- At most as many units pass as are due of the services.
 use Rattle.std.proofs.Common.{◌≡◌, ◌∙◌, Bool, ap, arith}
 use Rattle.pn_values.specs.declared.settings.Settings.{Settings}
-use Rattle.settings_store.specs.State.{Values}
+use Rattle.settings_journal.specs.settings_store.State.{Values}
 use Rattle.station.specs.Leaps.{due_at, services_due}
 use Rattle.station_port.proofs.Ticking.{ticks_kept}
 use Rattle.station_port.proofs.beside.pass_beside.Goals as goal

@@ -3,7 +3,7 @@ use Rattle.std.proofs.Common.{◌≡◌, ℕ, List, [], ◌∷◌, length, None,
 use Rattle.std.proofs.lemmas.Grind.{common_steps}
 use Rattle.std.proofs.lemmas.Bool.Decides.{nat_tests}
 use Rattle.std.proofs.lemmas.List.{nil_from_length}
-use Rattle.block_fields.specs.declared.fault.BlockFault.TheVariants.{Truncated}
+use Rattle.wire.specs.declared.blocks.fault.BlockFault.TheVariants.{Truncated}
 use Rattle.block_codec.specs.declared.block.Block.{Block}
 use Rattle.block_codec.specs.Block.{block, IsBlock, block_of, front}
 use Rattle.block_codec.specs.Reader.{Reader, AreBlocks, GivesNext}

@@ -1,6 +1,6 @@
 -- More units pass, or the rest of them remains.
 use Rattle.std.proofs.Common.{◌≡◌, ◌+◌, ◌-◌, ℕ, Bool, true, refl, sym, ap, subst, ◌∙◌, arith}
-use Rattle.controller_state.specs.State.{Controlling}
+use Rattle.controller_core.specs.stored.State.{Controlling}
 use Rattle.controller_abi.specs.State.{is_over, is_stopped}
 use Rattle.controller_abi.specs.Steps.{Ticks}
 use Rattle.controller_abi.proofs.Leaps.{idle_of, ticks_on}

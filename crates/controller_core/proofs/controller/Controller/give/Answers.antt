@@ -1,9 +1,9 @@
 -- An output is set: with the first value its IOPS follows.
 use Rattle.std.proofs.Common.{List, ap, ◌∙◌}
 use Rattle.controller_core.specs.contracts.controller.Controller.{the_view}
-use Rattle.controller_state.specs.declared.outputs.OutputMark.{OutputMark}
-use Rattle.controller_state.specs.Outputs.{awaits}
-use Rattle.controller_state.specs.State.{with_live}
+use Rattle.controller_core.specs.declared.stored.outputs.OutputMark.{OutputMark}
+use Rattle.controller_core.specs.stored.Outputs.{awaits}
+use Rattle.controller_core.specs.stored.State.{with_live}
 use Rattle.controller_core.proofs.OutputsGiven.{first_given, next_given, none_given}
 use Rattle.controller_core.proofs.controller.Controller.give.Goals as goal
 use Rattle.controller_core.proofs.controller.Controller.give.Goals.{else-give-via-then-give+else-awaits, else-give-via-else-give}

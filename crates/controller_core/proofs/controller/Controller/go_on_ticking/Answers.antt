@@ -1,8 +1,8 @@
 -- A unit with which the request is due again.
 use Rattle.std.proofs.Common.{◌≡◌, Bool, true, List, ℕ, map, sym, ap, ◌∙◌}
-use Rattle.controller_frames.specs.Sent.{bytes_of}
+use Rattle.controller_messages.specs.Sent.{bytes_of}
 use Rattle.controller_core.specs.Machine.{gone_on, later}
-use Rattle.controller_state.specs.State.{Controlling}
+use Rattle.controller_core.specs.stored.State.{Controlling}
 use Rattle.controller_core.proofs.controller.Controller.go_on_ticking.Goals as goal
 
 pub returns-then-pass-clause-frames : goal.returns-then-pass-clause-frames

@@ -2,10 +2,10 @@
 use Rattle.std.proofs.Common.{◌≡◌, ◌+◌, ◌<◌, ◌≤◌, true, false, refl, sym, subst, ◌∙◌}
 use Rattle.pn_alarms.specs.Controller.{controller_later}
 use Rattle.pn_alarms.specs.Leaps.{NothingDue, ack_due}
-use Rattle.cyclic_exchange.specs.Leaps.{IsQuietFor}
+use Rattle.cyclic_data.specs.exchange.Leaps.{IsQuietFor}
 use Rattle.controller_core.specs.Leaps.{access_due_in, exchange_due_in, live_due_in}
 use Rattle.controller_core.proofs.Leaping.{below_left, below_right, brings_nothing, exchange_below, off_ends, off_sends, off_state, on_ends, on_sends, on_state}
-use Rattle.controller_state.specs.State.{Controlling}
+use Rattle.controller_core.specs.stored.State.{Controlling}
 use Rattle.controller_core.proofs.Nearer.{off_nearer, on_nearer}
 use Rattle.controller_core.proofs.controller.Controller.leap.Goals as goal
 

@@ -1,7 +1,7 @@
 -- The marks of an output change, and its IOPS follows.
 use Rattle.std.proofs.Common.{◌≡◌, List, refl, ap, ◌∙◌}
-use Rattle.controller_state.specs.declared.outputs.OutputMark.{OutputMark}
-use Rattle.controller_state.specs.Outputs.{iops_of, mark_at}
+use Rattle.controller_core.specs.declared.stored.outputs.OutputMark.{OutputMark}
+use Rattle.controller_core.specs.stored.Outputs.{iops_of, mark_at}
 use Rattle.controller_core.proofs.controller.Controller.remark.Goals as goal
 
 pub returns : goal.returns

@@ -1,15 +1,12 @@
--- An output that is set, and its status.
-use Rattle.std.proofs.Common.{ℕ, List, ap, ◌∙◌}
-use Rattle.controller_core.specs.Machine.{given, step_of}
-use Rattle.controller_state.specs.State.{with_live}
+-- Data is exchanged from exactly the step that answers an ApplicationReady of the relation.
+use Rattle.controller_core.specs.Machine.{step_of}
+use Rattle.controller_core.proofs.ExchangeBegins.{step_begins, step_exchanges}
 use Rattle.controller_core.proofs.controller.Controller.step.Goals as goal
 
-pub returns-in-Give-clause-state : goal.returns-in-Give-clause-state
+pub returns-clause-exchanging : goal.returns-clause-exchanging
 unfolding step_of
-returns-in-Give-clause-state c =
-    rw c.in-Give.is (c.give.ensures
-    ∙ ap (λ (value : List ℕ). with_live c.args.self.now (given c.args.self.now.live c.in-Give.slot c.in-Give.subslot value)) c.as_slice.ensures.value)
+returns-clause-exchanging c = step_begins c.args.self.now _ c.args.event.now _ c.handle.ensures.state c.handle.ensures.frames
 
-pub returns-in-Status-clause-state : goal.returns-in-Status-clause-state
+pub returns-clause-answered : goal.returns-clause-answered
 unfolding step_of
-returns-in-Status-clause-state c = rw c.in-Status.is c.rate.ensures
+returns-clause-answered c = step_exchanges c.args.self.now _ c.args.event.now _ c.handle.ensures.state c.handle.ensures.frames

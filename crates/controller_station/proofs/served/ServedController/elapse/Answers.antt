@@ -1,8 +1,8 @@
 -- Units keep the plan's addresses as those of the services.
 use Rattle.std.proofs.Common.{sym, ap, ◌∙◌}
 use Rattle.plans.specs.declared.parts.Controller.{Controller}
-use Rattle.controller_frames.specs.declared.setup.Setup.{Setup}
-use Rattle.controller_state.specs.State.{Controlling}
+use Rattle.controller_messages.specs.declared.setup.Setup.{Setup}
+use Rattle.controller_core.specs.stored.State.{Controlling}
 use Rattle.controller_station.specs.Beside.{Beside}
 use Rattle.controller_station.proofs.Leaping.{setup_kept, ticks_keep}
 use Rattle.controller_station.proofs.served.ServedController.elapse.Goals as goal

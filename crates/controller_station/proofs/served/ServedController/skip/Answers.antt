@@ -1,8 +1,8 @@
 -- Units with which nothing is due, at both.
 use Rattle.std.proofs.Common.{sym, ap, ◌∙◌}
 use Rattle.plans.specs.declared.parts.Controller.{Controller}
-use Rattle.controller_frames.specs.declared.setup.Setup.{Setup}
-use Rattle.controller_state.specs.State.{Controlling}
+use Rattle.controller_messages.specs.declared.setup.Setup.{Setup}
+use Rattle.controller_core.specs.stored.State.{Controlling}
 use Rattle.controller_station.specs.Beside.{Beside}
 use Rattle.controller_station.specs.contracts.served.ServedController.{the_view}
 use Rattle.controller_station.proofs.Leaping.{none_sent, setup_kept, ticks_keep}

@@ -1,9 +1,9 @@
 -- The plan's addresses stay those of the services, and the services answer what the controller drops.
 use Rattle.std.proofs.Common.{sym, ap, ◌∙◌}
 use Rattle.plans.specs.declared.parts.Controller.{Controller}
-use Rattle.controller_frames.specs.declared.setup.Setup.{Setup}
+use Rattle.controller_messages.specs.declared.setup.Setup.{Setup}
 use Rattle.controller_core.specs.Machine.{step_of}
-use Rattle.controller_state.specs.State.{Controlling}
+use Rattle.controller_core.specs.stored.State.{Controlling}
 use Rattle.controller_station.specs.Beside.{Beside}
 use Rattle.controller_station.specs.contracts.served.ServedController.{the_view}
 use Rattle.controller_station.proofs.Besides.{alone_sent, arp_answered, arp_dropped, few_beside, plan_kept, sent_for, step_keeps}

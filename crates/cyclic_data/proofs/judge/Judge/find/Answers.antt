@@ -1,6 +1,6 @@
 -- The search starts after the last submodule only if that finds the first one.
 use Rattle.std.proofs.Common.{◌≡◌, ◌⊎◌, inl, inr, ℕ, true, Option, Some, sym, ap, ◌∙◌}
-use Rattle.module_blocks.specs.declared.submodule_data.SubmoduleData.{SubmoduleData}
+use Rattle.connect_blocks.specs.declared.submodule_data.SubmoduleData.{SubmoduleData}
 use Rattle.cyclic_data.specs.Rising.{rises}
 use Rattle.cyclic_data.proofs.Rising.{found_so}
 use Rattle.cyclic_data.proofs.judge.Judge.find.Goals as goal

@@ -5,7 +5,7 @@ use Rattle.device_core.specs.State.{store_of}
 use Rattle.device_frames.specs.declared.event.Event.{Event}
 use Rattle.device_frames.specs.declared.event.Event.TheVariants.{Frame}
 use Rattle.device_frames.specs.Heard.{heard_of}
-use Rattle.settings_store.specs.Carries.{OneByOne, Stretch}
+use Rattle.settings_journal.specs.settings_store.Carries.{OneByOne, Stretch}
 use Rattle.device_abi.proofs.RecordingOneStep.{step_records}
 use Rattle.device_abi.proofs.RecordingPlaced.{as_recorded}
 use Rattle.device_abi.proofs.recording.recorded_step.step_frame.Goals as goal

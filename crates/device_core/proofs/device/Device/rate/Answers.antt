@@ -1,6 +1,6 @@
 -- A status is kept, and the relation follows, or it is refused.
 use Rattle.std.proofs.Common.{◌≡◌, true, false, is_some, refl, sym, ◌∙◌}
-use Rattle.device_exchange.specs.Statuses.{statuses_at}
+use Rattle.relations.specs.exchange.Statuses.{statuses_at}
 use Rattle.device_core.proofs.Rated.{kept_note, kept_rest, refused_note, refused_rest}
 use Rattle.device_core.proofs.device.Device.rate.Goals as goal
 

@@ -1,12 +1,12 @@
 -- A unit of time is a move, and so are inputs, alarms and the word of the application that it is ready.
 use Rattle.std.proofs.Common.{[], ap, map, option_map, refl, rules, subst, sym, ◌∙◌}
 use Rattle.device_frames.specs.Sent.{bytes_of}
-use Rattle.settings_store.specs.Carries.{Holds}
+use Rattle.settings_journal.specs.settings_store.Carries.{Holds}
 use Rattle.lldp.specs.Views.{peer_as}
 use Rattle.relations.specs.Exchanged.{given_to, raised_to}
 use Rattle.device_frames.specs.declared.event.Event.TheVariants.{Frame, Call as Joined}
 use Rattle.device_frames.specs.Heard.{Ticks, Given, Raised, Rated, Met, Diagnosed, Readied, heard_of}
-use Rattle.device_exchange.specs.Statuses.{statuses_at}
+use Rattle.relations.specs.exchange.Statuses.{statuses_at}
 use Rattle.diagnosis.specs.declared.diagnosis.Change.{Change}
 use Rattle.device_core.specs.Handled.{handled_diagnosed, handled_given, handled_raised, handled_rated, handled_ready}
 use Rattle.device_core.specs.Steps.{Steps}

@@ -1,6 +1,6 @@
 -- The clauses on the event of a joined call, from what its step does.
 use Rattle.std.proofs.Common.{refl, rules, subst, ◌∙◌}
-use Rattle.settings_store.specs.Carries.{Holds}
+use Rattle.settings_journal.specs.settings_store.Carries.{Holds}
 use Rattle.device_frames.specs.declared.event.Event.{Event}
 use Rattle.device_frames.specs.declared.event.Event.TheVariants.{Call as Joined}
 use Rattle.device_frames.specs.Heard.{heard_of}

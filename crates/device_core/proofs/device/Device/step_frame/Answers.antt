@@ -1,6 +1,6 @@
 -- The clauses on the event of the octets, from what its step does.
 use Rattle.std.proofs.Common.{refl, rules, subst, ◌∙◌}
-use Rattle.settings_store.specs.Carries.{Holds}
+use Rattle.settings_journal.specs.settings_store.Carries.{Holds}
 use Rattle.device_frames.specs.declared.event.Event.{Event}
 use Rattle.device_frames.specs.declared.event.Event.TheVariants.{Frame}
 use Rattle.device_core.proofs.Runs.{step_quietly, step_finely}

@@ -1,5 +1,5 @@
 use Rattle.std.proofs.Common.{subst}
-use Rattle.settings_store.specs.Carries.{Holds}
+use Rattle.settings_journal.specs.settings_store.Carries.{Holds}
 use Rattle.device_core.proofs.device.Device.stored.Goals as goal
 
 pub returns-clause-holds : goal.returns-clause-holds

@@ -1,17 +1,17 @@
 -- This follows from the laws of the crates below.
 use Rattle.std.proofs.Common.{◌∙◌, ap, arith}
 use Rattle.pn_alarms.specs.declared.pdu.PduType.{PduType}
-use Rattle.alarm_reports.specs.declared.priority.Priority.{Priority}
+use Rattle.diagnosis.specs.declared.reports.priority.Priority.{Priority}
 use Rattle.pn_alarms.specs.Format.{frame_id_of}
-use Rattle.alarm_reports.specs.Priority.{priority_of}
-use Rattle.alarm_reports.specs.declared.priority.Priority.TheVariants.{High, Low}
-use Rattle.alarm_reports.specs.Report.{diagnosed, diagnosis_pdu, ours}
-use Rattle.controller_frames.specs.Heard.{Alarms}
+use Rattle.diagnosis.specs.reports.Priority.{priority_of}
+use Rattle.diagnosis.specs.declared.reports.priority.Priority.TheVariants.{High, Low}
+use Rattle.diagnosis.specs.reports.Report.{diagnosed, diagnosis_pdu, ours}
+use Rattle.controller_messages.specs.Heard.{Alarms}
 use Rattle.end_laws.specs.hearing.Hearing.{mine_hears}
 use Rattle.pn_alarms.specs.declared.message.Notice.TheVariants as notice
 use Rattle.pn_alarms.specs.declared.pdu.PduType.TheVariants as pdu
 use Rattle.pn_alarms.specs.Carried.{alarm_pdu}
-use Rattle.codec_laws.specs.alarms.Sendable.{empty_pdu}
+use Rattle.diagnosis.specs.Sendable.{empty_pdu}
 use Rattle.end_laws.proofs.HearingExchanges.{pdu_at_controller}
 use Rattle.end_laws.proofs.hearing.alarms.alarms_are_heard.Goals as goal
 

@@ -1,13 +1,13 @@
 -- This follows from the laws of the crates below.
 use Rattle.std.proofs.Common.{◌∙◌, inl, ap, arith}
 use Rattle.pn_alarms.specs.declared.message.Notice.TheVariants as notice
-use Rattle.alarm_reports.specs.declared.priority.Priority.{Priority}
-use Rattle.alarm_reports.specs.declared.priority.Priority.TheVariants.{High, Low}
-use Rattle.alarm_reports.specs.Priority.{frame_id_at, priority_of}
-use Rattle.codec_laws.specs.alarms.Sendable.{ack_pdu, empty_pdu, low_ack_pdu}
+use Rattle.diagnosis.specs.declared.reports.priority.Priority.{Priority}
+use Rattle.diagnosis.specs.declared.reports.priority.Priority.TheVariants.{High, Low}
+use Rattle.diagnosis.specs.reports.Priority.{frame_id_at, priority_of}
+use Rattle.diagnosis.specs.Sendable.{ack_pdu, empty_pdu, low_ack_pdu}
 use Rattle.plans.specs.Connect.{alarm_block}
 use Rattle.device_frames.specs.Heard.{Heard, heard_reply}
-use Rattle.controller_frames.specs.Sent.{tag_of}
+use Rattle.controller_messages.specs.Sent.{tag_of}
 use Rattle.end_laws.specs.hearing.Hearing.{own_hears}
 use Rattle.end_laws.proofs.HearingExchanges.{data_as, low_at_device, nack_as, pdu_at_device, pdu_unheard, reply_under, tag_small}
 use Rattle.end_laws.proofs.HearingLow.{low_long, low_unread}

@@ -3,10 +3,10 @@ use Rattle.std.proofs.Common.{arith}
 use Rattle.pn_alarms.specs.Abort.{status_of}
 use Rattle.pn_alarms.specs.declared.message.Notice.TheVariants as notice
 use Rattle.pn_alarms.specs.declared.pdu.PduType.TheVariants as pdu
-use Rattle.alarm_reports.specs.declared.priority.Priority.TheVariants.{High}
+use Rattle.diagnosis.specs.declared.reports.priority.Priority.TheVariants.{High}
 use Rattle.plans.specs.Connect.{alarm_block}
 use Rattle.relations.specs.Farewells.{said_by}
-use Rattle.controller_frames.specs.Sent.{end_pdu}
+use Rattle.controller_messages.specs.Sent.{end_pdu}
 use Rattle.end_laws.proofs.HearingExchanges.{pdu_at_controller, pdu_at_device}
 use Rattle.end_laws.proofs.hearing.alarms.ends_are_heard.Goals as goal
 

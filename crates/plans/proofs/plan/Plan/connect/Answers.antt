@@ -2,7 +2,7 @@
 use Rattle.std.proofs.Common.{List, subst}
 use Rattle.std.specs.List.{AllByRecursion}
 use Rattle.pn_values.specs.declared.real.RealModule.{RealModule}
-use Rattle.module_blocks.specs.Expected.{IsExpectedSubmoduleBlockReq}
+use Rattle.connect_blocks.specs.Expected.{IsExpectedSubmoduleBlockReq}
 use Rattle.plans.specs.declared.parts.Parts.{Parts}
 use Rattle.plans.specs.Connect.{IsRead, blocks_of, expected_block, expected_blocks}
 use Rattle.plans.proofs.Accepted.{all_read}

@@ -3,7 +3,7 @@ use Rattle.services.specs.State as ip
 use Rattle.services.specs.Leaps as ip_leaps
 use Rattle.lldp.specs.State as near
 use Rattle.lldp.specs.Leaps as near_leaps
-use Rattle.call_pieces.specs.State as calls
+use Rattle.rpc_services.specs.pieces.State as calls
 use Rattle.station.specs.Serving.{NoNews, NoneSends, Serving, serving_ticks}
 use Rattle.station.proofs.ServingTicks.{no_news, none_sends, ticks_of_all}
 use Rattle.station.proofs.device_services.DeviceServices.pass.Goals as goal

@@ -7,20 +7,20 @@ use Rattle.station.specs.State.{State as Whole}
 use Rattle.station.proofs.station.IoStation.restart.Goals as goal
 
 pub returns-in-Ok-clause-headline : goal.returns-in-Ok-clause-headline
-returns-in-Ok-clause-headline g c = λ identity real flash first room begun events before now left starts begins runs.
+returns-in-Ok-clause-headline g c = λ station flash first room begun events before now left starts begins runs.
     let same = ap (λ (s : Whole g.row.F.Denot). s.device) c.self.view_is in
-    c.in-Ok.ensures.headline identity real flash first room begun events before now left starts begins
+    c.in-Ok.ensures.headline station flash first room begun events before now left starts begins
     (subst (λ (d : State g.row.F.Denot). Runs g.F.Flash begun events before now d) (sym same) runs)
 
 pub returns-in-Ok-clause-fresh : goal.returns-in-Ok-clause-fresh
-returns-in-Ok-clause-fresh g c = λ identity real is.
+returns-in-Ok-clause-fresh g c = λ station is.
     let same = ap (λ (s : Whole g.row.F.Denot). s.device) c.self.view_is in
-    c.in-Ok.ensures.fresh identity real (ap (λ (d : State g.row.F.Denot). d.station) same ∙ is)
+    c.in-Ok.ensures.fresh station (ap (λ (d : State g.row.F.Denot). d.station) same ∙ is)
 
 pub returns-in-Err-clause-refused : goal.returns-in-Err-clause-refused
-returns-in-Err-clause-refused g c = λ identity real flash begun events before now begins runs.
+returns-in-Err-clause-refused g c = λ station flash begun events before now begins runs.
     let same = ap (λ (s : Whole g.row.F.Denot). s.device) c.self.view_is in
-    c.in-Err.ensures.refused identity real flash begun events before now begins
+    c.in-Err.ensures.refused station flash begun events before now begins
     (subst (λ (d : State g.row.F.Denot). Runs g.F.Flash begun events before now d) (sym same) runs)
 
 pub returns-in-Err-clause-left : goal.returns-in-Err-clause-left

@@ -1,5 +1,5 @@
 -- Units pass in which the services have no part.
-use Rattle.std.proofs.Common.{◌-◌, ◌∙◌, ◌<◌, drop, refl, arith, inl, inr}
+use Rattle.std.proofs.Common.{◌-◌, ◌∙◌, ◌<◌, drop, arith, inr}
 use Rattle.frame_codec.specs.Outbox.{boxed}
 use Rattle.station_port.specs.Pace.{caught_up}
 use Rattle.station_port.proofs.Barring.{barred_alone, waits_free}

@@ -1,13 +1,20 @@
 -- A unit passes in which the services have no part.
-use Rattle.std.proofs.Common.{◌-◌, ◌∙◌, ◌<◌, drop, refl, sym, arith, inl, inr}
+use Rattle.std.proofs.Common.{◌-◌, ◌∙◌, ◌<◌, drop, sym, ap, arith, inl, inr}
 use Rattle.frame_codec.specs.Outbox.{boxed}
-use Rattle.station_port.specs.Pace.{caught_up}
-use Rattle.station_port.proofs.Barring.{barred_alone, free_by}
+use Rattle.station_port.specs.State.{Served, barred_both}
+use Rattle.station_port.proofs.Barring.{free_by}
 use Rattle.station_port.proofs.Composed.{due_calm, passed_paced, passes_calm}
 use Rattle.station_port.proofs.Pacing.{resting_of}
-use Rattle.station_port.proofs.Ticking.{at}
 use Rattle.station_port.proofs.served.ServedPort.unit.Goals.{then-has_frames, else-has_frames}
 use Rattle.station_port.proofs.served.ServedPort.unit.Goals as goal
+
+pub is_open-requires : goal.is_open-requires
+is_open-requires c =
+    let all = c.self.inside in
+    let frames = drop all.frames_past (boxed all.outbox) in
+    let few : 1 < all.rest = omega (arith, c.if-self-le1.false) in
+    let fetched = (resting_of all.rest all.limit all.port.device.live.values all.services frames (omega (arith, few)) c.self.invariant.0).fetched in
+    sym (ap (λ (s : Served). s.frames) c.self.view_is) ∙ fetched
 
 pub invariant_of-self : goal.invariant_of-self
 invariant_of-self c =
@@ -28,8 +35,8 @@ invariant_of-self c =
       ],
     )
 
-pub returns : goal.returns
-returns c =
+pub returns-clause-passes : goal.returns-clause-passes
+returns-clause-passes c =
     let all = c.self.inside in
     let frames = drop all.frames_past (boxed all.outbox) in
     let laws = c.quiet_units_are_ticks.ensures in
@@ -38,7 +45,7 @@ returns c =
     let fetched = (resting_of all.rest all.limit all.port.device.live.values all.services frames (omega (arith, few)) c.self.invariant.0).fetched in
     let paced = passed_paced 1 all.rest all.limit all.port new all.services frames few c.self.invariant.0 c.unit-due.ensures.ticks in
     rw (← c.self.view_is) (
-      barred_alone (at all.serves all.port (caught_up (all.limit - all.rest) all.services) frames) fetched ∙ c.is_counted.ensures c.if-not-is_counted.false,
+      ap barred_both c.self.view_is ∙ c.is_open.ensures.open c.if-not-is_open.false,
       passes_calm laws.ticks laws.count laws.news 1 all.rest all.limit all.serves all.port new all.services frames few c.self.invariant.0 c.unit-due.ensures.ticks,
       due_calm laws.count laws.down laws.news c.soonest.result c.unit-due.result (all.rest - 1) all.limit new all.services frames c.soonest.ensures c.unit-due.ensures.due (omega (arith, few)) paced,
       c.unit-due.ensures.quiet,

@@ -1,7 +1,6 @@
 -- A piece of work is fetched.
 use Rattle.std.proofs.Common.{◌<◌, ℕ, List, length, map, refl, sym, ap, ◌∙◌, arith}
 use Rattle.std.proofs.lemmas.List.{length-map}
-use Rattle.device_abi.specs.recorded.Entry.{call_of}
 use Rattle.device_abi.specs.recorded.Record.{record_of}
 use Rattle.device_abi.specs.port.State.{advanced}
 use Rattle.device_abi.specs.contracts.port.device.Port.{the_view}
@@ -11,10 +10,8 @@ use Rattle.device_abi.proofs.port.device.Port.advance.Goals as goal
 pub invariant_of-self : goal.invariant_of-self
 invariant_of-self c =
     let port = c.self.inside in
-    let same = c.recent.ensures ∙ ap (λ f. (record_of f).recent) c.flash.ensures in
-    let long = length-map c.recent.result.now call_of in
-    let all = ap length same in
-    let some : port.calls_past < length (record_of port.device.flash).recent = omega (arith, c.if-self-recent.true, long, all) in
+    let all = ap (λ f. length (record_of f).recent) c.flash.ensures in
+    let some : port.calls_past < length (record_of port.device.flash).recent = omega (arith, c.if-self-stored.true, c.stored.ensures, all) in
     (omega (arith, some), c.self.invariant.1, steady_call port.stage port.device.live.values.has_failed port.calls_past (record_of port.device.flash).recent _ some c.self.invariant.2, counted_call port.due port.device.live port.stage port.calls_past (record_of port.device.flash).recent some c.self.invariant.3)
 
 pub invariant_of-self-then-self-len : goal.invariant_of-self-then-self-len
@@ -25,19 +22,15 @@ invariant_of-self-then-self-len c =
     let some : port.frames_past < length frames = omega (arith, c.if-self-len.true, c.len.ensures.value, long) in
     (c.self.invariant.0, omega (arith, some, long), steady_frame port.stage port.device.live.values.has_failed port.frames_past _ frames some c.self.invariant.2, c.self.invariant.3)
 
-pub returns-then-self-recent : goal.returns-then-self-recent
-returns-then-self-recent c =
+pub returns-then-self-stored : goal.returns-then-self-stored
+returns-then-self-stored c =
     let port = c.self.inside in
-    let same = c.recent.ensures ∙ ap (λ f. (record_of f).recent) c.flash.ensures in
-    let long = length-map c.recent.result.now call_of in
-    let all = ap length same in
-    sym (call_taken (the_view port) port.calls_past (record_of port.device.flash).recent (omega (arith, c.if-self-recent.true, long, all))) ∙ ap advanced c.self.view_is
+    let all = ap (λ f. length (record_of f).recent) c.flash.ensures in
+    sym (call_taken (the_view port) port.calls_past (record_of port.device.flash).recent (omega (arith, c.if-self-stored.true, c.stored.ensures, all))) ∙ ap advanced c.self.view_is
 
 pub returns-then-self-len : goal.returns-then-self-len
 returns-then-self-len c =
     let port = c.self.inside in
-    let same = c.recent.ensures ∙ ap (λ f. (record_of f).recent) c.flash.ensures in
-    let long = length-map c.recent.result.now call_of in
-    let all = ap length same in
+    let all = ap (λ f. length (record_of f).recent) c.flash.ensures in
     sym (frame_taken (the_view port) port.calls_past port.frames_past (record_of port.device.flash).recent (map (λ frame. frame.items) port.outbox.items)
-    (omega (arith, c.if-self-recent.false, long, all)) refl) ∙ ap advanced c.self.view_is
+    (omega (arith, c.if-self-stored.false, c.stored.ensures, all)) refl) ∙ ap advanced c.self.view_is

@@ -1,4 +1,0 @@
-pub mod Sound
-pub mod Left
-pub mod ModulesTaken
-pub mod ModulesWritten

@@ -1,7 +1,0 @@
-use Rattle.std.proofs.Common.{rules, sym, ◌∙◌, arith}
-use Rattle.block_fields.proofs.ModulesTaken.{submodules_fail}
-use Rattle.block_fields.proofs.modules.reading.submodules_at.Goals as goal
-
-pub returns-in_err-entry : goal.returns-in_err-entry
-returns-in_err-entry g c =
-    let e = sym c.loop-turn.invariant.read ∙ submodules_fail g.S.Entry.format _ _ _ _ _ (omega arith) c.in_err-entry.ensures.read in search rules

@@ -1,0 +1,371 @@
+-- Each turn of a device, as far as its outputs are concerned.
+use Rattle.std.proofs.Common.{◌≡◌, ◌⊎◌, inl, inr, ℕ, Bool, true, false, cond, List, [], ◌∷◌, map, Option, Some, None, option_map, Result, Ok, Err, refl, sym, ap, subst, ◌∙◌}
+use Rattle.std.specs.Prelude.{is_some, nat_eq}
+use Rattle.std.specs.List.{AllByRecursion}
+use Rattle.std.specs.Cmp.Lexicographic.{pointwise}
+use Rattle.wire.specs.Codec.{IsSound}
+use Rattle.frame_codec.specs.Frame.{ethernet}
+use Rattle.pn_values.specs.declared.mac.Mac.{Mac}
+use Rattle.rpc_core.specs.Cache.{Kept as Answer}
+use Rattle.module_diff.specs.Plugged.{module_ident, submodule_ident}
+use Rattle.connects.specs.requests.Request.{Request}
+use Rattle.pn_alarms.specs.Device.{end_with}
+use Rattle.pn_alarms.specs.Sender.{notice_of}
+use Rattle.cyclic_data.specs.declared.tail.CyclicTail.{CyclicTail}
+use Rattle.cyclic_data.specs.declared.tail.ShortFrame.{ShortFrame}
+use Rattle.cyclic_data.specs.Image.{Cell, Shown as Image, cell_of, with_frame}
+use Rattle.cyclic_data.specs.Tail.{cyclic_of}
+use Rattle.cyclic_data.specs.Timing.{Hearing, held_on}
+use Rattle.cyclic_data.specs.declared.exchange.received.Received.TheVariants as received
+use Rattle.cyclic_data.specs.declared.exchange.route.Route.{Route}
+use Rattle.cyclic_data.specs.exchange.Cyclic.{Cyclic}
+use Rattle.cyclic_data.specs.exchange.Received.{behind_read, is_new, is_of_partner, received_in}
+use Rattle.relations.specs.exchange.Flow.{Flow}
+use Rattle.relations.specs.exchange.Notices.{may_raise, raised_by}
+use Rattle.diagnosis.specs.declared.diagnosis.Diagnosis.{Diagnosis}
+use Rattle.relations.specs.Diagnosed.{diagnosing}
+use Rattle.relations.specs.RelationState.{RelationState}
+use Rattle.relations.specs.Exchanged.{hearing}
+use Rattle.both_ends.specs.startup.request.Request.{request_for}
+use Rattle.device_frames.specs.Heard.{Heard, Cyclic as Comes}
+use Rattle.device_frames.specs.Sent.{Sent, CallAnswer, Again, bytes_of}
+use Rattle.device_frames.specs.Sendable.{AreSendable}
+use Rattle.device_core.specs.State.{Station, Rest, Live}
+use Rattle.settings_journal.specs.settings_store.Machine.{Outcome, carried}
+use Rattle.device_core.specs.Handled.{kept_for, handled}
+use Rattle.device_core.specs.Machine.{finished, items_in, handled_step, heard_step}
+use Rattle.end_laws.specs.both.Outputs.{BringsNone, Outputs}
+use Rattle.end_laws.specs.device.Small.{IsPlanned}
+use Rattle.controller_messages.specs.declared.setup.Setup.{Setup}
+use Rattle.both_ends.specs.startup.View.{rules_of}
+use Rattle.end_laws.specs.device.Turn.{Answers, IsSameOr, IsTurn, Makes, Standing, Takes, Turn, standing_of}
+use Rattle.end_laws.specs.device.Owed.{IsOwed}
+use Rattle.both_ends.proofs.ExchangeOutputsBrings.{IsKnown, message_silent}
+use Rattle.both_ends.specs.exchange.Shown.{accepted_in, brought_in, image_in, octets_in, outputs_of, route_for, zeros_for}
+use Rattle.rpc_core.specs.Cache.{is_of, kept_of, without, kept_more}
+use Rattle.wire.specs.Codec.{◌>>=◌}
+use Rattle.connects.specs.requests.Pieces.{Piece, pieces_of}
+use Rattle.connects.specs.requests.Handled.{admitted, ar_in, request_behind, request_in, request_of}
+use Rattle.records.specs.declared.status.call_fault.CallFault.{CallFault}
+use Rattle.records.specs.declared.status.operation.Operation.{Operation}
+use Rattle.records.specs.declared.status.operation.Operation.TheVariants as operation
+use Rattle.relations.specs.Connect.{connect_of}
+use Rattle.relations.specs.Phases.{made_of, with_flow, updated}
+use Rattle.relations.specs.Timers.{unit_later}
+use Rattle.end_laws.specs.device.Small.{IsPlannedAs, IsPlannedCall}
+use Rattle.std.proofs.Common.{zero, suc, take}
+
+-- ---- an end of cyclic data
+
+-- the accepted image, its source and its counter are unchanged
+record IsSame (before after : Cyclic) : Type 0 where
+  route : after.route ≡ before.route
+  last : after.hearing.last ≡ before.hearing.last
+  taken : after.taken ≡ before.taken
+
+same : (cyclic : Cyclic) → IsSame cyclic cyclic
+same cyclic = record { route = refl; last = refl; taken = refl }
+
+-- a frame followed by another one has the same effect as the second one
+cells_again : (octets others : List ℕ) (cells : List Cell) → map (λ (cell : Cell). cell_of octets cell.place) (map (λ (cell : Cell). cell_of others cell.place) cells) ≡ map (λ (cell : Cell). cell_of octets cell.place) cells
+cells_again octets others [] = refl
+cells_again octets others (cell ∷ cells) = ap (λ (more : List Cell). cell_of octets cell.place ∷ more) (cells_again octets others cells)
+
+frame_again : (octets others : List ℕ) (image : Image) → with_frame octets (with_frame others image) ≡ with_frame octets image
+frame_again octets others image = ap (λ (cells : List Cell). record { data_length = image.data_length; cells = cells }) (cells_again octets others image.cells)
+
+held_last : (begun : Bool) (hearing : Hearing) → (cond begun (held_on hearing) hearing).last ≡ hearing.last
+held_last true hearing = refl
+held_last false hearing = refl
+
+-- ---- a relation
+
+-- the relation ends, or what it accepts is unchanged
+abbrev IsSameIn : Option RelationState → RelationState → Type 0
+IsSameIn None after = ⊥
+IsSameIn (Some before) after = IsSame before.flow.cyclic after.flow.cyclic
+
+abbrev Stays : Option RelationState → Option RelationState → Type 0
+Stays before None = Unit {0}
+Stays before (Some after) = IsSameIn before after
+
+some_is : {A : Type 0} (x y : A) → Some x ≡ Some y → x ≡ y
+some_is x y e = cc
+
+standing_same : (before after : Option RelationState) → option_map standing_of after ≡ option_map standing_of before → Stays before after
+standing_same before None e = tt
+standing_same None (Some after) e = absurd cc
+standing_same (Some before) (Some after) e =
+    let same = some_is (standing_of after) (standing_of before) e in
+    record { route = ap (λ (s : Standing). s.route) same; last = ap (λ (s : Standing). s.last) same; taken = ap (λ (s : Standing). s.outputs) same }
+
+stays_by : (before after : Option RelationState) → IsSameOr before after → Stays before after
+stays_by before after (inl same) = standing_same before after same
+stays_by before after (inr ends) = subst (λ (l : Option RelationState). Stays before l) (sym ends) tt
+
+-- the relation became this
+becomes_so : (before after : Option RelationState) (link now : RelationState) → before ≡ Some link → after ≡ Some now → IsSame link.flow.cyclic now.flow.cyclic → Stays before after
+becomes_so before after link now was is same = subst (λ (l : Option RelationState). Stays l after) (sym was) (subst (λ (l : Option RelationState). Stays (Some link) l) (sym is) same)
+
+-- an alarm does not change the outputs
+abbrev IsSameFlow : RelationState → Option Flow → Type 0
+IsSameFlow link None = Unit {0}
+IsSameFlow link (Some flow) = IsSame link.flow.cyclic flow.cyclic
+
+raised_if : (link : RelationState) (may : Bool) (flow : Flow) → IsSame link.flow.cyclic flow.cyclic → IsSameFlow link (cond may (Some flow) None)
+raised_if link true flow is = is
+raised_if link false flow is = tt
+
+raised_same : (link : RelationState) (slot subslot : ℕ) (octets : List ℕ) (ident part : Option ℕ) → IsSameFlow link (raised_by link.flow slot subslot octets ident part)
+raised_same link slot subslot octets (Some ident) (Some part) =
+    raised_if link (may_raise link.flow octets)
+    (record link.flow { alarms = end_with link.flow.alarms (notice_of link.flow.alarms.sender.specifier slot subslot ident part octets) }) (same link.flow.cyclic)
+raised_same link slot subslot octets (Some ident) None = tt
+raised_same link slot subslot octets None part = tt
+
+-- ---- what a Connect asks for
+
+bind_ok : {A B : Type 0} (r : Result A CallFault) (f : A → Result B CallFault) (y : B) → (r >>= f) ≡ Ok y → (x : A) × (r ≡ Ok x) × (f x ≡ Ok y)
+bind_ok (Ok x) f y e = (x, refl, e)
+bind_ok (Err why) f y e = absurd cc
+
+same_ok : {A B : Type 0} (x y : A) → ◌≡◌ {A = Result A B} (Ok x) (Ok y) → x ≡ y
+same_ok x y e = cc
+
+-- no relation is made while another exists
+none_beside : (standing : List ℕ) (pieces : List Piece) (request : Request) → request_in (Some standing) pieces ≡ Ok request → ⊥
+unfolding request_in
+none_beside standing [] request e = absurd cc
+none_beside standing (piece ∷ pieces) request e =
+    let first = bind_ok (ar_in piece) (λ ar. admitted (Some standing) ar >>= λ _. request_behind ar pieces) request e in
+    refused first.2
+  where
+    refused : {why : CallFault} → ◌≡◌ {A = Result Request CallFault} (Err why) (Ok request) → ⊥
+    refused f = absurd cc
+
+made_from : (link : Option RelationState) (blocks : List ℕ) (request asked : Request) → connect_of link blocks ≡ Ok request → request_of None blocks ≡ Ok asked → request ≡ asked
+unfolding request_of
+made_from None blocks request asked is reads = same_ok request asked (sym is ∙ reads)
+made_from (Some link) blocks request asked is reads = absurd (none_beside link.request.ar.uuid (pieces_of blocks) request is)
+
+-- ---- responses that are stored
+
+all_taken : {A : Type 0} (P : A → Type 0) (count : ℕ) (xs : List A) → AllByRecursion P xs → AllByRecursion P (take count xs)
+all_taken P zero xs all = tt
+all_taken P (suc count) [] all = tt
+all_taken P (suc count) (x ∷ xs) all = (all.0, all_taken P count xs all.1)
+
+module _ (P : List ℕ → Type 0) where
+  -- a property of each response that is stored
+  abbrev AreKept : List Answer → Type 0
+  AreKept calls = AllByRecursion (λ (kept : Answer). P kept.frame) calls
+
+  without_kept : (activity : List ℕ) (calls : List Answer) → AreKept calls → AreKept (without activity calls)
+  without_kept activity [] all = tt
+  without_kept activity (kept ∷ calls) all = by_name (is_of activity kept) (without_kept activity calls all.1)
+    where
+      by_name : (b : Bool) → AreKept (without activity calls) → AreKept (cond b calls (kept ∷ without activity calls))
+      by_name true others = all.1
+      by_name false others = (all.0, others)
+
+  more_kept : (answer : Answer) (calls : List Answer) → P answer.frame → AreKept calls → AreKept (kept_more 4 answer calls)
+  more_kept answer calls one all = (one, all_taken (λ (kept : Answer). P kept.frame) 3 (without answer.activity calls) (without_kept answer.activity calls all))
+
+  kept_at : (activity : List ℕ) (calls : List Answer) → AreKept calls → (kept : Answer) → kept_of activity calls ≡ Some kept → P kept.frame
+  kept_at activity [] all kept is = absurd cc
+  kept_at activity (other ∷ calls) all kept is = by_name (is_of activity other) is (λ there. kept_at activity calls all.1 kept there)
+    where
+      by_name : (b : Bool) → cond b (Some other) (kept_of activity calls) ≡ Some kept → (kept_of activity calls ≡ Some kept → P kept.frame) → P kept.frame
+      by_name true e others = subst (λ (k : Answer). P k.frame) (same_some other kept e) all.0
+        where
+          same_some : (x y : Answer) → Some x ≡ Some y → x ≡ y
+          same_some x y f = cc
+      by_name false e others = others e
+
+-- ---- steps
+
+module _ (setup : Setup) (station : Station) where
+  abbrev rules : Outputs Image Image
+  rules = outputs_of setup station.identity
+
+  -- what is accepted is of the plan
+  pub record IsOurs (cyclic : Cyclic) : Type 0 where
+    pub route : cyclic.route ≡ route_for setup
+    pub size : cyclic.taken.data_length ≡ (zeros_for setup).data_length
+    pub places : (octets : List ℕ) → with_frame octets cyclic.taken ≡ with_frame octets (zeros_for setup)
+
+  abbrev pub IsOursIn : Option RelationState → Type 0
+  IsOursIn None = Unit {0}
+  IsOursIn (Some link) = IsOurs link.flow.cyclic
+
+  -- the responses that are stored bring no outputs
+  abbrev pub AreKeptSilent : List Answer → Type 0
+  AreKeptSilent calls = AreKept (BringsNone rules) calls
+
+  -- a frame that brings these octets is accepted
+  pub record Accepts (brought : Option (List ℕ)) (after : Option RelationState) : Type 0 where
+    pub octets : List ℕ
+    pub brings : brought ≡ Some octets
+    pub accepted : accepted_in after ≡ true
+    pub shown : image_in setup after ≡ with_frame octets (zeros_for setup)
+
+  abbrev pub ShowsIn : Option (List ℕ) → Option RelationState → Option RelationState → Type 0
+  ShowsIn brought before after =
+      ((accepted_in after ≡ accepted_in before) × (image_in setup after ≡ image_in setup before))
+      ⊎ (((accepted_in after ≡ false) × (image_in setup after ≡ zeros_for setup)) ⊎ Accepts brought after)
+
+  stays_shows : (brought : Option (List ℕ)) (before after : Option RelationState) → Stays before after → ShowsIn brought before after
+  stays_shows brought before None stays = inr (inl (refl, refl))
+  stays_shows brought None (Some after) stays = absurd stays
+  stays_shows brought (Some before) (Some after) stays = inl (ap (λ (last : Option ℕ). is_some last) stays.last, stays.taken)
+
+  stays_ours : (before after : Option RelationState) → Stays before after → IsOursIn before → IsOursIn after
+  stays_ours before None stays ours = tt
+  stays_ours None (Some after) stays ours = absurd stays
+  stays_ours (Some before) (Some after) stays ours = record {
+    route = stays.route ∙ ours.route;
+    size = ap (λ (image : Image). image.data_length) stays.taken ∙ ours.size;
+    places = λ octets. ap (λ (image : Image). with_frame octets image) stays.taken ∙ ours.places octets;
+  }
+
+  -- the effect of a step to which these octets are brought
+  pub record Goes (brought : Option (List ℕ)) (before after : Rest) (sent : List Sent) : Type 0 where
+    pub shows : ShowsIn brought before.link after.link
+    pub ours : IsOursIn after.link
+    pub calls : AreSendable station.identity sent → AreKeptSilent after.calls
+    pub known : AllByRecursion (IsKnown rules) sent
+
+  module _ (sound : IsSound ethernet) (apart : pointwise nat_eq station.identity.mac.octets setup.plan.controller.mac.octets ≡ false) where
+    all_silent : (sent : List Sent) → AreSendable station.identity sent → AllByRecursion (IsKnown rules) sent → AllByRecursion (BringsNone rules) (map (bytes_of station.identity) sent)
+    all_silent [] can known = tt
+    all_silent (message ∷ sent) can known = (message_silent setup station.identity sound apart message can.0 known.0, all_silent sent can.1 known.1)
+
+    -- ---- a cyclic frame
+
+    module _ (source : Mac) (frame_id : ℕ) (body : List ℕ) where
+      -- a frame that is accepted
+      abbrev Shows_by : RelationState → Option RelationState → Type 0
+      Shows_by link after = ShowsIn (brought_in setup (Comes source frame_id body)) (Some link) after × IsOursIn after
+
+      brought_is : (link : RelationState) (x : List ℕ × CyclicTail) → IsOurs link.flow.cyclic → is_of_partner link.flow.cyclic.route source frame_id ≡ true
+          → cyclic_of link.flow.cyclic.taken.data_length body ≡ Ok x → brought_in setup (Comes source frame_id body) ≡ Some x.0
+      brought_is link x is partner read =
+          ap (λ (b : Bool). cond b (octets_in (cyclic_of (zeros_for setup).data_length body)) None)
+          (ap (λ (r : Route). is_of_partner r source frame_id) (sym is.route) ∙ partner)
+          ∙ ap (λ (r : Result (List ℕ × CyclicTail) ShortFrame). octets_in r) (ap (λ (n : ℕ). cyclic_of n body) (sym is.size) ∙ read)
+
+      new_as : (link : RelationState) (x : List ℕ × CyclicTail) → IsOurs link.flow.cyclic → brought_in setup (Comes source frame_id body) ≡ Some x.0 → (b : Bool)
+          → cond b received.Taken received.Stale ≡ received.Taken
+          → Shows_by link (Some (record link {
+            flow = record link.flow {
+              cyclic = cond b (record link.flow.cyclic {
+                hearing = cond b (record { last = Some x.1.counter; held = 0; limit = link.flow.cyclic.hearing.limit }) link.flow.cyclic.hearing;
+                taken = with_frame x.0 link.flow.cyclic.taken;
+                data_status = x.1.data_status.0;
+              }) link.flow.cyclic;
+            };
+          }))
+      new_as link x is brings true e = (
+        inr (inr (record { octets = x.0; brings = brings; accepted = refl; shown = is.places x.0 })),
+        record { route = is.route; size = is.size; places = λ octets. frame_again octets x.0 link.flow.cyclic.taken ∙ is.places octets },
+      )
+      new_as link x is brings false e = absurd cc
+
+      read_as : (link : RelationState) → IsOurs link.flow.cyclic → is_of_partner link.flow.cyclic.route source frame_id ≡ true
+          → (read : Result (List ℕ × CyclicTail) ShortFrame) → cyclic_of link.flow.cyclic.taken.data_length body ≡ read
+          → received_in link.flow.cyclic read ≡ received.Taken → Shows_by link (Some (record link { flow = record link.flow { cyclic = behind_read link.flow.cyclic read } }))
+      read_as link is partner (Ok x) reads e = new_as link x is (brought_is link x is partner reads) (is_new link.flow.cyclic x.1) e
+      read_as link is partner (Err short) reads e = absurd cc
+
+      partner_as : (link : RelationState) → IsOurs link.flow.cyclic → (b : Bool) → is_of_partner link.flow.cyclic.route source frame_id ≡ b
+          → cond b (received_in link.flow.cyclic (cyclic_of link.flow.cyclic.taken.data_length body)) received.Foreign ≡ received.Taken
+          → Shows_by link (Some (record link { flow = record link.flow { cyclic = cond b (behind_read link.flow.cyclic (cyclic_of link.flow.cyclic.taken.data_length body)) link.flow.cyclic } }))
+      partner_as link is true partner e = read_as link is partner (cyclic_of link.flow.cyclic.taken.data_length body) refl e
+      partner_as link is false partner e = absurd cc
+
+    -- ---- a turn
+
+    module _ (live : Live) (heard : Heard) (ours : IsOursIn live.rest.link) (silent : AreKeptSilent live.rest.calls)
+        (planned : IsPlanned (rules_of setup station) setup.activity station.real heard) where
+      -- what is shown after a turn, and that it is of the plan
+      abbrev ShowsSo : Option RelationState → Type 0
+      ShowsSo after = ShowsIn (brought_in setup heard) live.rest.link after × IsOursIn after
+
+      stays_so : (after : Option RelationState) → Stays live.rest.link after → ShowsSo after
+      stays_so after stays = (stays_shows (brought_in setup heard) live.rest.link after stays, stays_ours live.rest.link after stays ours)
+
+      -- a relation that is made is that of the plan
+      makes_so : (after : Option RelationState) (sent : List Sent) → Makes live.rest.calls live.rest.link heard after sent → ShowsSo after
+      makes_so after sent makes =
+          let plan : IsPlannedCall (rules_of setup station) setup.activity station.real makes.call =
+          subst (λ (h : Heard). IsPlanned (rules_of setup station) setup.activity station.real h) makes.is planned in
+          let asks : IsPlannedAs (rules_of setup station) station.real makes.call.header.sequence plan.blocks (Some operation.Connect) =
+          subst (λ (o : Option Operation). IsPlannedAs (rules_of setup station) station.real makes.call.header.sequence plan.blocks o) makes.connects plan.asks in
+          let same : plan.blocks ≡ makes.blocks = some_is plan.blocks makes.blocks (sym plan.counted ∙ makes.counted) in
+          let request : makes.request ≡ request_for setup.plan setup.ar =
+          made_from live.rest.link makes.blocks makes.request (request_for setup.plan setup.ar) makes.read (ap (λ (b : List ℕ). request_of None b) (sym same) ∙ asks) in
+          subst (λ (l : Option RelationState). ShowsSo l) (sym (makes.made ∙ ap (λ (r : Request). Some (made_of r makes.partner makes.rows makes.options makes.starting)) request))
+          (inr (inl (refl, refl)), record { route = refl; size = refl; places = λ octets. refl })
+
+      takes_so : (after : Option RelationState) (sent : List Sent) → Takes live.rest.link heard after sent → ShowsSo after
+      takes_so after sent takes =
+          let link = takes.link in
+          let here : IsOursIn (Some link) = subst (λ (l : Option RelationState). IsOursIn l) takes.was ours in
+          subst (λ (h : Heard). ShowsIn (brought_in setup h) live.rest.link after × IsOursIn after) (sym takes.is)
+          (subst (λ (l : Option RelationState). ShowsIn (brought_in setup (Comes takes.source takes.frame_id takes.body)) l after × IsOursIn after) (sym takes.was)
+          (subst (λ (l : Option RelationState). Shows_by takes.source takes.frame_id takes.body link l) (sym takes.becomes)
+          (partner_as takes.source takes.frame_id takes.body link here (is_of_partner link.flow.cyclic.route takes.source takes.frame_id) refl takes.taken)))
+
+      link_shows : (later : List Diagnosis) (after : Option RelationState) (sent : List Sent) → IsTurn station.real.modules.items live.rest.calls live.rest.diagnoses later live.rest.link heard after sent → ShowsSo after
+      link_shows later after sent (inl stays) = stays_so after (stays_by live.rest.link after stays.link)
+      link_shows later after sent (inr (inl makes)) = makes_so after sent makes
+      link_shows later after sent (inr (inr (inl raises))) =
+          let link = raises.link in
+          let ident = module_ident station.real.modules.items raises.slot in
+          let part = submodule_ident station.real.modules.items raises.slot raises.subslot in
+          stays_so after (becomes_so live.rest.link after link (with_flow raises.flow link) raises.was raises.becomes
+          (subst (λ (flow : Option Flow). IsSameFlow link flow) raises.raised (raised_same link raises.slot raises.subslot raises.octets ident part)))
+      link_shows later after sent (inr (inr (inr (inl acked)))) = stays_so after (becomes_so live.rest.link after acked.link _ acked.was acked.becomes (same acked.link.flow.cyclic))
+      link_shows later after sent (inr (inr (inr (inr (inl came))))) = stays_so after (becomes_so live.rest.link after came.link _ came.was came.becomes (same came.link.flow.cyclic))
+      link_shows later after sent (inr (inr (inr (inr (inr (inl passes)))))) =
+          let cyclic = passes.link.flow.cyclic in
+          stays_so after (becomes_so live.rest.link after passes.link (unit_later passes.link) passes.was passes.becomes
+          (record { route = refl; last = held_last cyclic.begun cyclic.hearing; taken = refl }))
+      link_shows later after sent (inr (inr (inr (inr (inr (inr (inl takes))))))) = takes_so after sent takes
+      link_shows later after sent (inr (inr (inr (inr (inr (inr (inr (inl acked)))))))) = stays_so after (becomes_so live.rest.link after acked.link _ acked.was acked.becomes (same acked.link.flow.cyclic))
+      link_shows later after sent (inr (inr (inr (inr (inr (inr (inr (inr (inl came))))))))) = stays_so after (becomes_so live.rest.link after came.link _ came.was came.becomes (same came.link.flow.cyclic))
+      link_shows later after sent (inr (inr (inr (inr (inr (inr (inr (inr (inr (inl begins)))))))))) =
+          stays_so after (becomes_so live.rest.link after begins.link _ begins.was begins.becomes (record { route = refl; last = refl; taken = refl }))
+      link_shows later after sent (inr (inr (inr (inr (inr (inr (inr (inr (inr (inr changes)))))))))) = stays_so after (by_link live.rest.link changes.becomes)
+        where
+          by_link : (link : Option RelationState) → after ≡ updated (diagnosing station.real.modules.items changes.change later link) link → Stays link after
+          by_link None becomes = subst (λ (l : Option RelationState). Stays None l) (sym becomes) tt
+          by_link (Some link) becomes = becomes_so (Some link) after link _ refl becomes (same link.flow.cyclic)
+
+      calls_silent : (after : List Answer) (sent : List Sent) → (after ≡ live.rest.calls) ⊎ Answers station.identity live.rest.calls after sent → AreSendable station.identity sent → AreKeptSilent after
+      calls_silent after sent (inl same) can = subst (λ (c : List Answer). AreKeptSilent c) (sym same) silent
+      calls_silent after sent (inr answers) can =
+          let answer = CallAnswer answers.caller answers.address answers.answer in
+          let first : AreSendable station.identity (answer ∷ answers.others) = subst (λ (messages : List Sent). AreSendable station.identity messages) answers.sends can in
+          subst (λ (c : List Answer). AreKeptSilent c) (sym answers.keeps)
+          (more_kept (BringsNone rules) (kept_for station.identity answers.call answer) live.rest.calls (message_silent setup station.identity sound apart answer first.0 tt) silent)
+
+      owed_known : (message : Sent) → IsOwed heard live message → IsKnown rules message
+      owed_known (Again frame) owed =
+          subst (λ (f : List ℕ). BringsNone rules f) owed.same (kept_at (BringsNone rules) owed.call.header.activity live.rest.calls silent owed.kept owed.there)
+      owed_known other owed = tt
+
+      all_known : (sent : List Sent) → AllByRecursion (IsOwed heard live) sent → AllByRecursion (IsKnown rules) sent
+      all_known [] owed = tt
+      all_known (message ∷ sent) owed = (owed_known message owed.0, all_known sent owed.1)
+
+      pub turn_shows : (after : Rest) (sent : List Sent) → Turn station live heard after sent → Goes (brought_in setup heard) live.rest after sent
+      turn_shows after sent turn =
+          let shows = link_shows after.diagnoses after.link sent turn.is in
+          record { shows = shows.0; ours = shows.1; calls = calls_silent after.calls sent turn.answers; known = all_known sent turn.owed }
+
+    pub frames_silent : (outcomes : List Outcome) (live : Live) (heard : Heard) → AreSendable station.identity (heard_step outcomes station live heard).sent
+        → AllByRecursion (IsKnown rules) (heard_step outcomes station live heard).sent → AllByRecursion (BringsNone rules) (heard_step outcomes station live heard).frames
+    unfolding heard_step handled_step
+    frames_silent outcomes live heard silent known =
+        all_silent (finished station.identity live.rest (handled station live heard) (carried outcomes live.values (items_in (handled station live heard))).answers).sent silent known

@@ -1,0 +1,202 @@
+-- The effect of a response on a controller; its FrameID counts if it is the response to a Connect.
+use Rattle.std.proofs.Common.{◌≡◌, ◌<◌, ◌≤◌, ◌+◌, ◌/◌, ℕ, Bool, true, false, cond, List, length, Option, Some, None, refl, sym, ap, subst, ◌∙◌, arith}
+use Rattle.std.proofs.Math.Nat.{mod-lt}
+use Rattle.std.specs.Prelude.{nat_lt}
+use Rattle.std.specs.List.{AllByRecursion}
+use Rattle.std.proofs.lemmas.Bool.{ltb-true}
+use Rattle.rpc_core.specs.declared.response.Status.{Status}
+use Rattle.rpc_core.specs.Response.{Answered as Response, is_done}
+use Rattle.plans.specs.Plan.{IsPlan}
+use Rattle.plans.specs.declared.parts.Parts.{Parts}
+use Rattle.block_codec.specs.Block.{block_of}
+use Rattle.controller_messages.specs.declared.record_request.RecordRequest.{RecordRequest}
+use Rattle.controller_messages.specs.declared.record_request.RecordService.{RecordService}
+use Rattle.controller_messages.specs.declared.record_request.RecordService.TheVariants as service
+use Rattle.controller_messages.specs.declared.request.Request.{Request}
+use Rattle.controller_messages.specs.declared.request.Request.TheVariants as asks
+use Rattle.controller_messages.specs.declared.setup.Setup.{Setup}
+use Rattle.controller_messages.specs.Heard.{Responds}
+use Rattle.controller_messages.specs.Requests.{first_of, write_count, writing_from}
+use Rattle.controller_core.specs.declared.stored.state.Cause.{Cause}
+use Rattle.controller_core.specs.declared.stored.state.Cause.TheVariants as cause
+use Rattle.controller_core.specs.declared.stored.state.State.{State}
+use Rattle.controller_core.specs.declared.stored.state.State.TheVariants.{Ended, Waiting}
+use Rattle.controller_messages.specs.Access.{Accessing, is_reply, record_in}
+use Rattle.controller_core.specs.start_up.Answers.{is_answer}
+use Rattle.connects.specs.answers.Connect.{Chosen, chosen_of, found_in, is_whole, nothing}
+use Rattle.controller_core.specs.declared.start_up.outcomes.Outcomes.{Outcomes}
+use Rattle.controller_core.specs.declared.start_up.outcomes.Outcomes.TheVariants.{AllWritten, Unreadable}
+use Rattle.controller_core.specs.declared.start_up.outcomes.Outcomes.TheVariants.{Refused as Denied}
+use Rattle.controller_core.specs.start_up.Outcomes.{outcomes_of}
+use Rattle.controller_core.specs.Machine.{Turn, after_write, asking, past_record, brings, connected, decided, denied, done, failed, granted, handled, noted, over, related_by, released, replied, replied_by, responded, standing, stays, undone, writing}
+use Rattle.controller_core.specs.start_up.Requests.{next_sequence}
+use Rattle.controller_core.specs.stored.State.{phase_for}
+use Rattle.controller_core.specs.stored.State.{Live}
+use Rattle.end_laws.specs.hearing.Stations.{IsNumbered, IsSetup}
+use Rattle.end_laws.specs.sending.Messages.{CanBeSent}
+use Rattle.end_laws.specs.sending.Sized.{AreFew, Found, IsFew, IsLive, IsWaiting}
+use Rattle.both_ends.specs.exchange.Sized.{IsChosenWell}
+use Rattle.both_ends.proofs.ExchangeReported.{IsWell}
+
+-- the state has its sizes, and so has what the controller sends
+abbrev pub IsRight : Setup → Turn → Type 0
+IsRight setup turn = IsLive turn.live × AllByRecursion (CanBeSent setup) turn.sent
+
+module _ (setup : Setup) (good : IsSetup setup) where
+  either : (b : Bool) (x y : Turn) → (b ≡ true → IsRight setup x) → (b ≡ false → IsRight setup y) → IsRight setup (cond b x y)
+  either true x y one other = one refl
+  either false x y one other = other refl
+
+  stays_right : (live : Live) → IsLive live → IsRight setup (stays live)
+  stays_right live is = (is, tt)
+
+  numbered : (request : Request) → IsFew request → IsNumbered request
+  numbered (asks.Write number) few = omega (arith, few)
+  numbered (asks.Release sequence) few = few
+  numbered other few = tt
+
+  asking_right : (phase : State) (request : Request) (live : Live) → IsLive live → IsFew request → IsRight setup (asking setup phase request live)
+  asking_right phase request live is few = (
+    record { device = is.device; asked = few; way = is.way; few = is.few; high = is.high; low = is.low; access = is.access },
+    ((is.device, numbered request few), tt),
+  )
+
+  unasked : (live : Live) (phase : State) (left : ℕ) → IsLive live → IsLive (record live { phase = phase; asked = None; left = left })
+  unasked live phase left is = record { device = is.device; asked = tt; way = is.way; few = is.few; high = is.high; low = is.low; access = is.access }
+
+  over_live : (why : Cause) (live : Live) → IsLive live → IsLive (over why live)
+  over_live why live is = record { device = is.device; asked = tt; way = is.way; few = is.few; high = is.high; low = is.low; access = tt }
+
+  sequence_few : (plan : Parts) (calls : ℕ) (asked : Option Request) → AreFew asked → next_sequence plan calls asked < 4294967296
+  sequence_few plan calls (Some asks.Connect) few = omega arith
+  sequence_few plan calls (Some (asks.Write number)) few = omega (arith, few)
+  sequence_few plan calls other few = mod-lt (write_count plan + 2 + calls) (omega arith)
+
+  released_right : (why : Cause) (live : Live) → IsLive live → IsRight setup (released setup why live)
+  released_right why live is =
+      asking_right (Ended why) (asks.Release (next_sequence setup.plan live.access.calls live.asked)) (over why live) (over_live why live is) (sequence_few setup.plan live.access.calls live.asked is.asked)
+
+  -- the next request is a Write, or PrmEnd
+  picked_few : (number : ℕ) (b : Bool) → (b ≡ true → number < 32) → IsFew (cond b (asks.Write number) asks.PrmEnd)
+  picked_few number true few = few refl
+  picked_few number false few = tt
+
+  few_by : (is_list : Bool) (count : ℕ) → count ≤ 32 → cond is_list ((count + 9) / 10) count ≤ 32
+  few_by true count few = omega (arith, few)
+  few_by false count few = few
+
+  writing_few : (plan : Parts) (number : ℕ) → IsPlan plan → IsFew (writing_from plan number)
+  writing_few plan number is =
+      picked_few number (nat_lt number (write_count plan))
+      (λ e. let below = ltb-true number (write_count plan) e in omega (arith, below, few_by plan.multiple_write (length plan.records.items) is.few_records))
+
+  writing_right : (number : ℕ) (live : Live) → IsLive live → IsRight setup (writing setup (writing_from setup.plan number) live)
+  writing_right number live is = asking_right (phase_for (writing_from setup.plan number)) (writing_from setup.plan number) live is (writing_few setup.plan number good.plan)
+
+  stands_live : (live : Live) (chosen : Chosen) → IsLive live → (chosen.frame_id < 65536) × (chosen.reference < 65536) → IsLive (standing setup live chosen)
+  stands_live live chosen is small = record {
+    device = is.device;
+    asked = is.asked;
+    way = record { partner = is.device; sent_id = small.0; sent_tag = omega arith; alarm_tag = omega arith; reference = small.1 };
+    few = is.few;
+    high = is.high;
+    low = is.low;
+    access = is.access;
+  }
+
+  related_right : (live : Live) (found : Option Chosen) → IsLive live → ((chosen : Chosen) → found ≡ Some chosen → (chosen.frame_id < 65536) × (chosen.reference < 65536))
+      → IsRight setup (related_by setup live found)
+  related_right live (Some chosen) is small = writing_right 0 (standing setup live chosen) (stands_live live chosen is (small chosen refl))
+  related_right live None is small = stays_right live is
+
+  connected_right : (live : Live) (blocks : List ℕ) (read : Option Found) → found_in 400 blocks nothing ≡ read → IsLive live → IsChosenWell blocks → IsRight setup (connected setup live read)
+  connected_right live blocks (Some found) e is well =
+      either (is_whole found) _ _
+      (λ whole. either found.differs _ _ (λ differs. released_right cause.ModuleDiff live is)
+      (λ same. related_right live (chosen_of found) is (λ chosen there. let all = well found e whole same chosen there in (all.0, all.1))))
+      (λ lacks. stays_right live is)
+  connected_right live blocks None e is well = stays_right live is
+
+  noted_live : (status : Status) (number : ℕ) (live : Live) → IsLive live → IsLive (noted status number live)
+  noted_live status number live is =
+      record { device = is.device; asked = is.asked; way = is.way; few = is.few; high = is.high; low = is.low; access = is.access }
+
+  -- a record is refused: the next Write, or the end
+  passed_right : (live : Live) (number refused : ℕ) (status : Status) → IsLive live → IsRight setup (past_record setup number (noted status refused live))
+  passed_right live number refused status is =
+      either setup.plan.continue_on_refused_record _ _
+      (λ goes. writing_right (number + 1) (noted status refused live) (noted_live status refused live is))
+      (λ ends. either setup.plan.release_on_refused_record _ _
+      (λ informs. released_right cause.Refused (noted status refused live) (noted_live status refused live is))
+      (λ silent. stays_right (over cause.Refused (noted status refused live)) (over_live cause.Refused (noted status refused live) (noted_live status refused live is))))
+
+  wrote_right : (live : Live) (number : ℕ) (outcomes : Outcomes) → IsLive live → IsRight setup (after_write setup live number outcomes)
+  wrote_right live number AllWritten is = writing_right (number + 1) live is
+  wrote_right live number (Denied place status) is = passed_right live number (first_of setup.plan number + place) status is
+  wrote_right live number Unreadable is = stays_right live is
+
+  done_right : (live : Live) (blocks : List ℕ) (request : Request) → IsLive live → (request ≡ asks.Connect → IsChosenWell blocks) → IsRight setup (done setup live blocks request)
+  done_right live blocks asks.Identify is well = stays_right live is
+  done_right live blocks asks.Address is well = stays_right live is
+  done_right live blocks asks.Connect is well = connected_right live blocks (found_in 400 blocks nothing) refl is (well refl)
+  done_right live blocks (asks.Write number) is well = wrote_right live number (outcomes_of setup.plan number blocks) is
+  done_right live blocks asks.PrmEnd is well = stays_right _ (unasked live Waiting setup.options.waiting_patience is)
+  done_right live blocks (asks.Release sequence) is well = stays_right _ (unasked live live.phase live.left is)
+
+  undone_right : (live : Live) (status : Status) (request : Request) → IsLive live → IsRight setup (undone setup live status request)
+  undone_right live status (asks.Write number) is = passed_right live number (first_of setup.plan number) status is
+  undone_right live status request is =
+      stays_right (denied status live) (record { device = is.device; asked = tt; way = is.way; few = is.few; high = is.high; low = is.low; access = tt })
+
+  handled_right : (live : Live) (response : Response) (request : Request) → IsLive live → (request ≡ asks.Connect → is_done response.status ≡ true → IsChosenWell response.blocks)
+      → IsRight setup (handled setup live response request)
+  handled_right live response request is well =
+      either (is_done response.status) _ _ (λ positive. done_right live response.blocks request is (λ connects. well connects positive))
+      (λ negative. undone_right live response.status request is)
+
+  decided_right : (live : Live) (response : Response) (request : Request) → IsLive live → (request ≡ asks.Connect → is_done response.status ≡ true → IsChosenWell response.blocks)
+      → IsRight setup (decided setup live response request)
+  decided_right live response asks.Identify is well = handled_right live response asks.Identify is well
+  decided_right live response asks.Address is well = handled_right live response asks.Address is well
+  decided_right live response asks.Connect is well = handled_right live response asks.Connect is well
+  decided_right live response (asks.Write number) is well = handled_right live response (asks.Write number) is well
+  decided_right live response asks.PrmEnd is well = handled_right live response asks.PrmEnd is well
+  decided_right live response (asks.Release sequence) is well = stays_right _ (unasked live live.phase live.left is)
+
+  -- the answer to a request of the application
+  answered_live : (live : Live) (refusal : Option Status) (access : Accessing) → access.waiting ≡ None → IsLive live → IsLive (record live { refusal = refusal; access = access })
+  answered_live live refusal access e is = record {
+    device = is.device;
+    asked = is.asked;
+    way = is.way;
+    few = is.few;
+    high = is.high;
+    low = is.low;
+    access = subst (λ (w : Option RecordRequest). IsWaiting w access.octets) (sym e) tt;
+  }
+
+  live_if : (b : Bool) (x y : Live) → IsLive x → IsLive y → IsLive (cond b x y)
+  live_if true x y one other = one
+  live_if false x y one other = other
+
+  brings_live : (request : RecordRequest) (read : Option (List ℕ)) (live : Live) → IsLive live → IsLive (brings request read live)
+  brings_live request (Some octets) live is = answered_live live live.refusal _ refl is
+  brings_live request None live is = is
+
+  granted_live : (request : RecordRequest) (blocks : List ℕ) (asked : RecordService) (live : Live) → IsLive live → IsLive (granted request blocks asked live)
+  granted_live request blocks service.Read live is = brings_live request (record_in (block_of blocks)) live is
+  granted_live request blocks service.Write live is = answered_live live live.refusal _ refl is
+
+  replied_live : (live : Live) (response : Response) (waiting : Option RecordRequest) → IsLive live → IsLive (replied setup live response waiting)
+  replied_live live response (Some request) is =
+      live_if (is_reply setup request response.header) (replied_by live response request) live
+      (live_if (is_done response.status) (granted request response.blocks request.service live) (failed response.status request live)
+      (granted_live request response.blocks request.service live is) (answered_live live (Some response.status) _ refl is)) is
+  replied_live live response None is = is
+
+  pub responded_right : (live : Live) (response : Response) (asked : Option Request) → IsLive live → IsWell setup (Responds response) → IsRight setup (responded setup live response asked)
+  responded_right live response (Some request) is fit =
+      either (is_answer setup request response.header) _ _
+      (λ answers. decided_right live response request is (λ connects. fit (ap (λ (one : Request). is_answer setup one response.header) (sym connects) ∙ answers)))
+      (λ other. stays_right live is)
+  responded_right live response None is fit = stays_right (replied setup live response live.access.waiting) (replied_live live response live.access.waiting is)

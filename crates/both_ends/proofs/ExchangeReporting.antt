@@ -1,0 +1,213 @@
+-- Over any run of worlds, the changes that the device reported, and those that wait, lead to its diagnoses.
+use Rattle.std.proofs.Common.{◌≡◌, ◌++◌, ◌<◌, ◌≤◌, ℕ, Bool, true, false, List, [], ◌∷◌, length, map, Option, Some, None, option_map, refl, sym, ap, subst, ◌∙◌, append-nil, append_assoc}
+use Rattle.std.specs.Prelude.{slice_get}
+use Rattle.lldp.specs.Views.{peer_as}
+use Rattle.flash_model.specs.declared.flash.Flash.{Ghosts as Flash}
+use Rattle.pn_values.specs.declared.identity.Identity.{Identity}
+use Rattle.frame_codec.specs.declared.udp.Caller.{Caller}
+use Rattle.rpc_core.specs.Call.{Asked as Call}
+use Rattle.record_blocks.specs.declared.alarm_notification.AlarmNotification.{AlarmNotification}
+use Rattle.diagnosis.specs.declared.diagnosis.Change.{Change}
+use Rattle.diagnosis.specs.declared.notice.Notice.{Notice}
+use Rattle.diagnosis.specs.alarms.Own.{is_own}
+use Rattle.diagnosis.specs.reported.Followed.{at_places}
+use Rattle.diagnosis.specs.reported.Reported.{nothing_reported}
+use Rattle.relations.specs.RelationState.{RelationState, is_exchanging}
+use Rattle.diagnosis.specs.declared.reports.priority.Priority.TheVariants.{Low as low_priority}
+use Rattle.device_frames.specs.declared.event.Event.TheVariants.{Frame}
+use Rattle.device_frames.specs.Heard.{Heard, Ticks, Reported, Calls, Given, Raised, Rated, Met, Readied, Diagnosed, diagnosed, heard_of}
+use Rattle.device_core.specs.State.{State, Live}
+use Rattle.device_core.specs.Machine.{heard_step}
+use Rattle.controller_messages.specs.declared.setup.Setup.{Setup}
+use Rattle.network_world.specs.declared.moves.End.TheVariants.{Device, Controller}
+use Rattle.network_world.specs.declared.moves.Move.{Move}
+use Rattle.network_world.specs.declared.moves.Move.TheVariants as move
+use Rattle.network_world.specs.World.{World, AtDevice, Comes, Delivers, Happens, is_skipped}
+use Rattle.end_laws.specs.both.Small as small
+use Rattle.end_laws.specs.device.Small.{heard_as}
+use Rattle.end_laws.specs.hearing.Stations.{IsSetup}
+use Rattle.end_laws.specs.turns.Alarms.{AreAllTaken, ListsWhatIsReported, after_reports}
+use Rattle.both_ends.specs.startup.Played.{AreMade, AreMeant, Begins, CanMeet, last_world}
+use Rattle.both_ends.specs.startup.View.{IsMeant, IsMeantAtDevice, is_planned, rules_of}
+use Rattle.both_ends.specs.exchange.Sized.{AreSizedModules}
+use Rattle.both_ends.specs.exchange.Over.{reported_by, reported_over, reported_with, taken_over, taken_with}
+use Rattle.both_ends.specs.exchange.Told.{AreKnown, AreSizedMoves, IsSizedMove, IsTold, Leads, change_in, known_at}
+use Rattle.both_ends.proofs.ExchangeEarly.{IsEarlyFrame}
+use Rattle.both_ends.proofs.ExchangeFollows.{IsIn, kept_at}
+use Rattle.both_ends.proofs.ExchangeKnown.{ElsewhereSo}
+use Rattle.both_ends.proofs.ExchangeKnows.{FollowsSo, Knows, all_listed, knows_on}
+use Rattle.both_ends.proofs.ExchangeLaw.{DeviceSo, FollowsAt, IsOfFrame, alone_so, delivered_device, early_at, first_follows, follows_so, in_at, lacks_none, lists, low_all, makes_so, of_frame, one_follows, turn_at}
+use Rattle.both_ends.proofs.ExchangeLists.{none_some}
+use Rattle.both_ends.proofs.ExchangeLowTied.{reported_same}
+use Rattle.both_ends.proofs.ExchangeMessages.{HearsSo}
+use Rattle.both_ends.proofs.ExchangeReported.{IsCallIn}
+
+-- ---- a move
+
+same_change : (one other : Change) → Diagnosed one ≡ Diagnosed other → one ≡ other
+same_change one other e = cc
+
+-- the error of a change is that of the event
+error_is : (slot subslot channel error : ℕ) (appears : Bool) (change : Change) → diagnosed slot subslot channel error appears ≡ Diagnosed change → change.diagnosis.error ≡ error
+error_is slot subslot channel error appears change e = ap (λ (c : Change). c.diagnosis.error) (sym (same_change (record {
+  diagnosis = record { slot = slot; subslot = subslot; channel = channel; error = error };
+  appears = appears;
+}) change e))
+
+abbrev IsSmall : Heard → Type 0
+IsSmall heard = (change : Change) → heard ≡ Diagnosed change → change.diagnosis.error < 65536
+
+framed_small : (heard : Heard) → IsOfFrame heard → IsSmall heard
+framed_small heard is change e = absurd (subst (λ (h : Heard). IsOfFrame h) e is)
+
+module _ {F : Type 0} where
+  abbrev pub KnowsAt : World F → List AlarmNotification → Type 0
+  KnowsAt w raised = Knows w.device.live.rest.link w.device.live.rest.diagnoses raised
+
+  module _ (so : DeviceSo) (hears : HearsSo) (elsewhere : ElsewhereSo) {S : ℕ} (as_flash : Flash F S) (before after : World F) (raised taken : List AlarmNotification)
+      (follows : FollowsAt low_priority before raised taken) (knows : KnowsAt before raised) where
+    -- nothing happens at the device
+    rests_knows : after.device ≡ before.device → KnowsAt after (raised ++ reported_with before after)
+    rests_knows same =
+        subst (λ (d : State F). Knows d.live.rest.link d.live.rest.diagnoses (raised ++ reported_by before.device.live.rest.link d.live.rest.link)) (sym same)
+        (subst (λ (xs : List AlarmNotification). KnowsAt before xs) (sym (ap (λ (xs : List AlarmNotification). raised ++ xs) (reported_same before.device.live.rest.link before.device.live.rest.link refl) ∙ append-nil raised)) knows)
+
+    -- the device hears something
+    hears_knows : (heard : Heard) → IsSmall heard → ((sequence : ℕ) → heard_as (is_planned before.controller.setup) heard ≡ small.Call sequence small.Connects → sequence ≡ 0)
+        → ((sequence : ℕ) → heard_as (is_planned before.controller.setup) heard ≡ small.Call sequence small.Accesses → kept_at before.controller.setup before.device.live ≡ None → ⊥)
+        → IsCallIn before.controller.setup heard → AtDevice as_flash before heard after → IsMeantAtDevice before heard → KnowsAt after (raised ++ reported_with before after)
+    hears_knows heard is_small first late called made meant =
+        let live = before.device.live in
+        let station = before.device.station in
+        let outcomes = made.hears.steps.outcomes in
+        let step = heard_step outcomes station live heard in
+        let link = step.live.rest.link in
+        let turn = turn_at low_priority so hears as_flash before after raised taken follows heard outcomes meant in
+        let acts = so.turns (rules_of before.controller.setup station) before.controller.setup.activity outcomes station live heard meant.planned in
+        subst (λ (l : Live). Knows l.rest.link l.rest.diagnoses (raised ++ reported_by live.rest.link l.rest.link)) (sym made.hears.steps.live)
+        (knows_on elsewhere station.real.modules.items live.rest.link live.rest.diagnoses raised knows live.rest.calls heard link step.live.rest.diagnoses step.sent is_small
+        (λ makes. (
+          alone_so low_priority so hears as_flash before after raised taken follows heard first late called made meant link step.sent makes,
+          follows.unraised (makes_so low_priority so hears as_flash before after raised taken follows heard first late called made meant link step.sent makes).0,
+        )) turn acts.diagnoses)
+
+    idle_knows : (heard : Heard) → IsSmall heard → heard_as (is_planned before.controller.setup) heard ≡ small.Idle → ((caller : Caller) (address : List ℕ) (call : Call) → heard ≡ Reported caller address (Calls call) → ⊥)
+        → AtDevice as_flash before heard after → IsMeantAtDevice before heard → KnowsAt after (raised ++ reported_with before after)
+    idle_knows heard is_small idle no_call made meant =
+        hears_knows heard is_small (λ sequence e. absurd (idle_connect sequence (sym idle ∙ e))) (λ sequence e none. absurd (idle_access sequence (sym idle ∙ e)))
+        (λ caller address call e other. absurd (no_call caller address call e)) made meant
+      where
+        idle_connect : (sequence : ℕ) → small.Idle ≡ small.Call sequence small.Connects → ⊥
+        idle_connect sequence e = absurd cc
+
+        idle_access : (sequence : ℕ) → small.Idle ≡ small.Call sequence small.Accesses → ⊥
+        idle_access sequence e = absurd cc
+
+    comes_knows : (octets : List ℕ) (skipped : Bool) → IsIn low_priority before.controller.setup before.device.station.identity follows.relation octets
+        → (kept_at before.controller.setup before.device.live ≡ None → IsEarlyFrame before.controller.setup before.device.station octets)
+        → IsMeantAtDevice before (heard_of before.device.station.identity (Frame (record { items = octets }))) → Comes as_flash skipped before Device octets after
+        → KnowsAt after (raised ++ reported_with before after)
+    comes_knows octets true is early meant comes = rests_knows (ap (λ (w : World F). w.device) comes)
+    comes_knows octets false is early meant comes =
+        let heard = heard_of before.device.station.identity (Frame (record { items = octets })) in
+        hears_knows heard (framed_small heard (of_frame before.device.station.identity octets)) is.first (λ sequence e unkept. (early unkept).0 sequence e) is.called comes meant
+
+    delivered_knows : (octets : Option (List ℕ))
+        → ((frame : List ℕ) → octets ≡ Some frame → IsIn low_priority before.controller.setup before.device.station.identity follows.relation frame)
+        → ((frame : List ℕ) → octets ≡ Some frame → kept_at before.controller.setup before.device.live ≡ None → IsEarlyFrame before.controller.setup before.device.station frame)
+        → ((frame : List ℕ) → octets ≡ Some frame → IsMeantAtDevice before (heard_of before.device.station.identity (Frame (record { items = frame }))))
+        → Delivers as_flash octets before Device after → KnowsAt after (raised ++ reported_with before after)
+    delivered_knows None is early meant comes = rests_knows (ap (λ (w : World F). w.device) comes)
+    delivered_knows (Some octets) is early meant comes = comes_knows octets (is_skipped before.device before.controller Device octets) (is octets refl) (early octets refl) (meant octets refl) comes
+
+    away_knows : (octets : Option (List ℕ)) → Delivers as_flash octets before Controller after → KnowsAt after (raised ++ reported_with before after)
+    away_knows octets comes = rests_knows (delivered_device low_priority so hears as_flash before after raised taken follows octets comes)
+
+    one_knows : (one : Move) → Happens as_flash before one after → IsMeant before one → IsSizedMove one → KnowsAt after (raised ++ reported_with before after)
+    one_knows (move.Deliver Device number) happens meant sized =
+        delivered_knows (slice_get before.sent number) (λ frame there. in_at low_priority so hears as_flash before after raised taken follows number frame there)
+        (λ frame there. early_at low_priority so hears as_flash before after raised taken follows number frame there) meant happens
+    one_knows (move.Deliver Controller number) happens meant sized = away_knows (slice_get before.sent number) happens
+    one_knows (move.Tick Device) happens meant sized = idle_knows Ticks (λ change e. absurd cc) refl (λ caller address call e. absurd cc) happens meant
+    one_knows (move.Tick Controller) happens meant sized = rests_knows (ap (λ (w : World F). w.device) happens)
+    one_knows (move.Input slot subslot value) happens meant sized = idle_knows (Given slot subslot value.items) (λ change e. absurd cc) refl (λ caller address call e. absurd cc) happens meant
+    one_knows (move.Alarm slot subslot octets) happens meant sized = idle_knows (Raised slot subslot octets.items) (λ change e. absurd cc) refl (λ caller address call e. absurd cc) happens meant
+    one_knows (move.Status slot subslot is_good) happens meant sized = idle_knows (Rated slot subslot is_good) (λ change e. absurd cc) refl (λ caller address call e. absurd cc) happens meant
+    one_knows (move.Neighbour neighbour) happens meant sized = idle_knows (Met (option_map peer_as neighbour)) (λ change e. absurd cc) refl (λ caller address call e. absurd cc) happens meant
+    one_knows (move.Diagnosis slot subslot channel error appears) happens meant sized =
+        idle_knows (diagnosed slot subslot channel error appears)
+        (λ change e. subst (λ (n : ℕ). n < 65536) (sym (error_is slot subslot channel error appears change e)) sized) refl (λ caller address call e. absurd cc) happens meant
+    one_knows move.Ready happens meant sized = idle_knows Readied (λ change e. absurd cc) refl (λ caller address call e. absurd cc) happens meant
+    one_knows (move.Give slot subslot value) happens meant sized = rests_knows (ap (λ (w : World F). w.device) happens)
+    one_knows (move.OutputStatus slot subslot is_good) happens meant sized = rests_knows (ap (λ (w : World F). w.device) happens)
+    one_knows (move.Read slot subslot index) happens meant sized = rests_knows (ap (λ (w : World F). w.device) happens)
+    one_knows (move.Write slot subslot index octets) happens meant sized = rests_knows (ap (λ (w : World F). w.device) happens)
+    one_knows move.Stop happens meant sized = rests_knows (ap (λ (w : World F). w.device) happens)
+
+  -- ---- any run
+
+  record Reporting (w : World F) (raised taken : List AlarmNotification) : Type 0 where
+    pub follows : FollowsAt low_priority w raised taken
+    pub knows : KnowsAt w raised
+
+  run_reports : DeviceSo → HearsSo → ElsewhereSo → {S : ℕ} (as_flash : Flash F S) (w : World F) (raised taken : List AlarmNotification) → Reporting w raised taken
+      → (run : List (Move × World F)) → AreMade as_flash w run → AreMeant w run → AreSizedMoves run → Reporting (last_world w run) (raised ++ reported_over w run) (taken ++ taken_over low_priority w run)
+  run_reports so hears elsewhere as_flash w raised taken is [] made meant sized =
+      subst (λ (xs : List AlarmNotification). Reporting w xs (taken ++ [])) (sym (append-nil raised))
+      (subst (λ (xs : List AlarmNotification). Reporting w raised xs) (sym (append-nil taken)) is)
+  run_reports so hears elsewhere as_flash w raised taken is (one ∷ run) made meant sized =
+      let now = reported_with w one.1 in
+      let next : Reporting one.1 (raised ++ now) (taken ++ taken_with low_priority w one.0) = record {
+        follows = one_follows low_priority so hears as_flash w one.1 raised taken is.follows one.0 made.0 meant.0;
+        knows = one_knows so hears elsewhere as_flash w one.1 raised taken is.follows is.knows one.0 made.0 meant.0 sized.0;
+      } in
+      let all = run_reports so hears elsewhere as_flash one.1 (raised ++ now) (taken ++ taken_with low_priority w one.0) next run made.1 meant.1 sized.1 in
+      subst (λ (xs : List AlarmNotification). Reporting (last_world one.1 run) xs (taken ++ (taken_with low_priority w one.0 ++ taken_over low_priority one.1 run))) (append_assoc raised now (reported_over one.1 run))
+      (subst (λ (xs : List AlarmNotification). Reporting (last_world one.1 run) ((raised ++ now) ++ reported_over one.1 run) xs) (append_assoc taken (taken_with low_priority w one.0) (taken_over low_priority one.1 run)) all)
+
+  -- ---- from the start
+
+  first_knows : (setup : Setup) (identity : Identity) (first : World F) → Begins setup identity first → AreKnown first.device.live.rest.diagnoses → KnowsAt first []
+  first_knows setup identity first begins known = record {
+    known = known;
+    begins = λ l is. absurd (none_some l first.device.live.rest.link begins.unrelated is);
+    before = λ l is off. absurd (none_some l first.device.live.rest.link begins.unrelated is);
+    told = λ l is on. absurd (none_some l first.device.live.rest.link begins.unrelated is);
+  }
+
+  module _ (so : DeviceSo) (hears : HearsSo) (setup : Setup) (identity : Identity) (good : IsSetup setup) (can : CanMeet setup identity) {S : ℕ} (as_flash : Flash F S)
+      (first : World F) (run : List (Move × World F)) (begins : Begins setup identity first) (real : AreSizedModules first.device.station.real.modules.items)
+      (made : AreMade as_flash first run) (meant : AreMeant first run) where
+    pub low_so : FollowsAt low_priority (last_world first run) (reported_over first run) (taken_over low_priority first run)
+    low_so =
+        subst (λ (xs : List AlarmNotification). FollowsAt low_priority (last_world first run) xs (taken_over low_priority first run)) (low_all first run)
+        (follows_so low_priority so hears setup identity good can as_flash first run begins real made meant)
+
+    reporting_so : ElsewhereSo → AreKnown first.device.live.rest.diagnoses → AreSizedMoves run → Reporting (last_world first run) (reported_over first run) (taken_over low_priority first run)
+    reporting_so elsewhere known sized =
+        run_reports so hears elsewhere as_flash first [] [] (record {
+          follows = first_follows low_priority so hears setup identity good can first begins real;
+          knows = first_knows setup identity first begins known;
+        }) run made meant sized
+
+    -- where data is exchanged, what was reported and what waits lead to the diagnoses
+    pub told_so : ElsewhereSo → AreKnown first.device.live.rest.diagnoses → AreSizedMoves run → (link : RelationState) → (last_world first run).device.live.rest.link ≡ Some link → is_exchanging link.phase ≡ true
+        → IsTold link.flow.low (last_world first run).device.live.rest.diagnoses (reported_over first run)
+    told_so elsewhere known sized link is on = (reporting_so elsewhere known sized).knows.told link is on
+
+    -- where none is unacknowledged and none waits, the list of the controller is that of the device
+    pub list_so : ElsewhereSo → FollowsSo → AreAllTaken → ListsWhatIsReported → AreKnown first.device.live.rest.diagnoses → AreSizedMoves run → length (reported_over first run) ≤ 32768
+        → (link : RelationState) → (last_world first run).device.live.rest.link ≡ Some link → is_exchanging link.phase ≡ true → link.flow.low.alarms.sender.standing ≡ None → link.flow.low.waiting ≡ []
+        → (last_world first run).controller.live.stands ≡ true
+        → (last_world first run).controller.live.diagnosis ≡ known_at link.flow.low (last_world first run).device.live.rest.diagnoses
+    list_so elsewhere follows_law all_law lists_law known sized few link is on none empty up =
+        let last = last_world first run in
+        let reported = reported_over first run in
+        let taken = taken_over low_priority first run in
+        let told = told_so elsewhere known sized link is on in
+        let leads : Leads (is_own link.flow.low.places) told.changes [] (at_places (is_own link.flow.low.places) last.device.live.rest.diagnoses) =
+        subst (λ (xs : List Change). Leads (is_own link.flow.low.places) xs [] (at_places (is_own link.flow.low.places) last.device.live.rest.diagnoses)) (append-nil told.changes)
+        (subst (λ (ws : List Notice). Leads (is_own link.flow.low.places) (told.changes ++ map change_in ws) [] (at_places (is_own link.flow.low.places) last.device.live.rest.diagnoses)) empty told.leads) in
+        lists lists_law last reported taken low_so up
+        ∙ (ap (λ (xs : List AlarmNotification). after_reports xs nothing_reported) (lacks_none low_priority last reported taken low_so all_law few link is none)
+        ∙ all_listed follows_law (is_own link.flow.low.places) told.changes reported [] (at_places (is_own link.flow.low.places) last.device.live.rest.diagnoses) told.reports leads)

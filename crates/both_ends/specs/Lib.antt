@@ -1,0 +1,2 @@
+pub mod startup
+pub mod exchange

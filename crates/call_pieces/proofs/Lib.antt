@@ -1,9 +1,0 @@
-pub mod Sound
-pub mod Places
-pub mod Joining
-pub mod Lasting
-pub mod Leaping
-pub mod Reading
-pub mod Splitting
-pub mod Due
-pub mod Room

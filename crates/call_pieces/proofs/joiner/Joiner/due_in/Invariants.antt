@@ -1,7 +1,0 @@
--- what the others say is what all say
-use Rattle.std.proofs.Common.{◌≡◌, drop}
-use Rattle.call_pieces.specs.Leaps.{soonest}
-use Rattle.call_pieces.proofs.joiner.Joiner.due_in.Given as goal
-
-abbrev pub invariant-loop-call : goal.invariant-loop-call
-invariant-loop-call l = soonest l.soonest (drop l.call-index l.self.calls) ≡ soonest 4294967295 l.self.calls

@@ -1,7 +1,0 @@
--- what the others say is what all say, and the place is one of them
-use Rattle.std.proofs.Common.{◌≡◌, ◌<◌, length, drop}
-use Rattle.call_pieces.specs.State.{oldest, oldest_from}
-use Rattle.call_pieces.proofs.joiner.oldest.Given as goal
-
-abbrev pub invariant-loop-index : goal.invariant-loop-index
-invariant-loop-index l = (oldest_from l.place l.most l.index l.ages (drop l.index l.calls) ≡ oldest l.ages l.calls) × (l.place < length l.calls)

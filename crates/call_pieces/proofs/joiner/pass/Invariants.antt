@@ -1,7 +1,0 @@
--- those so far are passed, and the others are as before
-use Rattle.std.proofs.Common.{◌≡◌, ◌++◌, take, drop, map}
-use Rattle.call_pieces.specs.State.{older_than}
-use Rattle.call_pieces.proofs.joiner.pass.Given as goal
-
-abbrev pub invariant-loop-index : goal.invariant-loop-index
-invariant-loop-index l = l.ages ≡ map (older_than l.age) (take l.index l.initial.ages) ++ drop l.index l.initial.ages

@@ -1,9 +1,0 @@
--- By induction over the places.
-use Rattle.call_pieces.proofs.Due.{dropped, kept}
-use Rattle.call_pieces.proofs.law.calls_are_kept_until_due.Goals as goal
-
-pub returns-clause-kept : goal.returns-clause-kept
-returns-clause-kept c = kept
-
-pub returns-clause-dropped : goal.returns-clause-dropped
-returns-clause-dropped c = dropped

@@ -1,7 +1,0 @@
--- One place after another.
-use Rattle.call_pieces.proofs.Leaping.{one_aged}
-use Rattle.call_pieces.proofs.leaps.age.Goals as goal
-
-pub loop-index-preserved : goal.loop-index-preserved
-loop-index-preserved c =
-    one_aged c.args.ticks c.loop-index.index c.args.calls.now c.loop-index.calls c.index-calls-index.result c.age.new.self c.loop-index-test.true c.loop-index.invariant c.age.ensures

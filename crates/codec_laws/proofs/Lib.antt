@@ -1,9 +1,0 @@
-pub mod FramesFits
-pub mod FramesRead
-pub mod BlocksFits
-pub mod BlocksRead
-pub mod AlarmsBlocks
-pub mod AlarmsPdus
-pub mod AlarmsNumbered
-pub mod AlarmsLines
-pub mod AlarmsMoves

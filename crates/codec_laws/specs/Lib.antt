@@ -1,3 +1,0 @@
-pub mod frames
-pub mod blocks
-pub mod alarms

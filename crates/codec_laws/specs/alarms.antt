@@ -1,4 +1,0 @@
-pub mod Sendable
-pub mod Line
-pub mod World
-pub mod Taken

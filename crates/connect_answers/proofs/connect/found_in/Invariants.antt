@@ -1,7 +1,0 @@
--- The rest of the blocks, added to those so far, gives what all of them give.
-use Rattle.std.proofs.Common.{◌≡◌, ◌-◌}
-use Rattle.connect_answers.specs.Connect.{found_in, nothing}
-use Rattle.connect_answers.proofs.connect.found_in.Given as goal
-
-abbrev pub invariant-loop-index : goal.invariant-loop-index
-invariant-loop-index l = found_in (l.most - l._index) l.rest l.found ≡ found_in l.most l.bytes nothing

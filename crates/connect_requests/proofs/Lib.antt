@@ -1,4 +1,0 @@
-mod Accepted
-mod Handled
-mod Intervals
-mod Read

@@ -1,0 +1,6 @@
+mod RequestsAccepted
+mod RequestsHandled
+mod RequestsIntervals
+mod RequestsRead
+pub mod AnswersBlocks
+pub mod AnswersReading

@@ -1,0 +1,132 @@
+//! The answers of the device that a controller expects.
+ghost use Rattle.std.specs.Prelude.{◌≡◌, option_map};
+ghost use Rattle.dcp_core.specs.Answered.{answered as answered_as};
+ghost use Rattle.dcp_core.specs.Identify.{suite_bytes};
+ghost use Rattle.rpc_core.specs.Call.{asked};
+ghost use Rattle.controller_core.specs.start_up.Answers.{ident_bytes, is_addressed, is_answer, is_found, is_ready, is_refused, is_right, is_set_answer, is_reported, ready_in};
+
+use arrayvec::ArrayVec;
+use block_codec::{Block, ControlBlock, read_block};
+use controller_messages::{Refusal, Request, Setup};
+use dcp_core::{Kind, Service};
+use plans::{Plan, SESSION_KEY, Station};
+use rpc_core::{Call, Response};
+
+/// Operation of Control.
+const CONTROL: u16 = 4;
+
+/// Whether there is a value, and it equals the expected one.
+fn is_reported(wanted: &[u8], value: Option<&[u8]>) -> bool
+    ensures { result ≡ is_reported wanted.now (option_map (λ value. value.now) value.entry) }
+{
+    match value {
+        Some(value) => value == wanted,
+        None => false,
+    }
+}
+
+/// Whether an answer is to the Identify, and from the station that has the plan's name.
+pub fn is_found(plan: &Plan, answer: &dcp_core::Response<'_>) -> bool
+    ensures { result ≡ is_found plan.now (answered_as answer.now) }
+{
+    // Every station that receives an Identify may answer, and answers to earlier requests of others may arrive: name
+    // and transaction decide. A station that does not support Identify has not checked the name.
+    matches!(answer.service, Service::Identify)
+        && answer.is_supported
+        && answer.xid == 1
+        && is_reported(
+            plan.station().name.as_bytes(),
+            answer.value(Kind::NameOfStation),
+        )
+}
+
+/// VendorID and DeviceID.
+fn ident_octets(station: &Station) -> [u8; 4]
+    ensures { result ≡ ident_bytes station.now }
+{
+    let vendor = station.vendor_id.to_be_bytes();
+    let device = station.device_id.to_be_bytes();
+    [vendor[0], vendor[1], device[0], device[1]]
+}
+
+/// Whether an answer is from the device of the plan.
+pub fn is_right(plan: &Plan, answer: &dcp_core::Response<'_>) -> bool
+    ensures { result ≡ is_right plan.now (answered_as answer.now) }
+{
+    let ident = ident_octets(plan.station());
+    is_reported(&ident, answer.value(Kind::DeviceId))
+}
+
+/// Address, mask and gateway.
+fn suite_octets(plan: &Plan) -> ArrayVec<u8, 12>
+    ensures { result.items ≡ suite_bytes plan.now.station.suite }
+{
+    let suite = &plan.station().suite;
+    let mut octets = ArrayVec::new();
+    let _ = octets.try_extend_from_slice(&suite.address());
+    let _ = octets.try_extend_from_slice(&suite.mask());
+    let _ = octets.try_extend_from_slice(&suite.gateway());
+    octets
+}
+
+/// Whether an answer says that the station has the plan's IP suite.
+pub fn is_addressed(plan: &Plan, answer: &dcp_core::Response<'_>) -> bool
+    ensures { result ≡ is_addressed plan.now (answered_as answer.now) }
+{
+    let suite = suite_octets(plan);
+    is_reported(suite.as_slice(), answer.value(Kind::IpSuite))
+}
+
+/// Whether an answer is to the Set of the IP suite.
+pub fn is_set_answer(answer: &dcp_core::Response<'_>) -> bool
+    ensures { result ≡ is_set_answer (answered_as answer.now) }
+{
+    matches!(answer.service, Service::Set) && answer.xid == 2
+}
+
+/// The block of an ApplicationReady, if a call is one.
+pub fn ready_in(call: &Call<'_>) -> Option<ControlBlock>
+    ensures { result ≡ ready_in (asked call.now) }
+{
+    if call.header.operation != CONTROL {
+        return None;
+    }
+    match read_block(call.blocks.unwrap_or(&[])) {
+        Ok((Block::ApplicationReady(block), _behind)) => Some(block),
+        _ => None,
+    }
+}
+
+/// Whether a response is the one to the call for this request.
+pub fn is_answer(setup: &Setup, request: Request, response: &Response<'_>) -> bool
+    ensures { result ≡ is_answer setup.now request response.now.header }
+{
+    match request {
+        Request::Identify | Request::Address => false,
+        Request::Connect | Request::Write(_) | Request::PrmEnd | Request::Release(_) => {
+            // The activity alone is not enough: a late response to the previous request has it too.
+            response.header.activity == setup.activity
+                && response.header.sequence == request.sequence(&setup.plan)
+        }
+    }
+}
+
+/// Whether a refusal is the one of the call for this request.
+pub fn is_refused(setup: &Setup, request: Request, refusal: &Refusal) -> bool
+    ensures { result ≡ is_refused setup.now request refusal.now }
+{
+    match request {
+        Request::Identify | Request::Address => false,
+        Request::Connect | Request::Write(_) | Request::PrmEnd | Request::Release(_) => {
+            refusal.activity == setup.activity && refusal.sequence == request.sequence(&setup.plan)
+        }
+    }
+}
+
+/// Whether an ApplicationReady belongs to the relation.
+pub fn is_ready(setup: &Setup, block: &ControlBlock) -> bool
+    ensures { result ≡ is_ready setup.now block.now }
+{
+    // An ApplicationReady of an earlier relation may still arrive.
+    block.ar_uuid == setup.ar && block.session_key == SESSION_KEY
+}

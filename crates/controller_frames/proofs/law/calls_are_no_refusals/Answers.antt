@@ -1,6 +1,0 @@
--- It follows from the packet type.
-use Rattle.controller_frames.proofs.Refusals.{no_refusal}
-use Rattle.controller_frames.proofs.law.calls_are_no_refusals.Goals as goal
-
-pub returns : goal.returns
-returns c = record { apart = no_refusal }

@@ -1,0 +1,71 @@
+-- The requests of the application while data is exchanged: one record at a time is read or written.
+use Rattle.std.specs.Prelude.{◌+◌, ◌%◌, ◌==◌, ◌&&◌, ℕ, Bool, nat_eq, List, [], take, Option, Some, None, Result, Ok, Err}
+use Rattle.std.specs.Cmp.Lexicographic.{pointwise}
+use Rattle.rpc_core.specs.declared.header.CallHeader.{CallHeader}
+use Rattle.rpc_core.specs.declared.response.Status.{Status}
+use Rattle.wire.specs.declared.blocks.fault.BlockFault.{BlockFault}
+use Rattle.block_codec.specs.declared.block.Block.{Block}
+use Rattle.block_codec.specs.Block.{in_iod_read_res}
+use Rattle.record_blocks.specs.declared.read_record.IodReadRes.{IodReadRes}
+use Rattle.plans.specs.declared.parts.Parts.{Parts}
+use Rattle.controller_messages.specs.declared.record_request.RecordRequest.{RecordRequest}
+use Rattle.controller_messages.specs.declared.refusal.Refusal.{Refusal}
+use Rattle.controller_messages.specs.declared.setup.Setup.{Setup}
+use Rattle.controller_messages.specs.RecordRequests.{most_record_octets}
+use Rattle.controller_messages.specs.Requests.{write_count}
+use Rattle.controller_messages.specs.declared.access.Answer.{Answer}
+
+-- How many requests were made, modulo 2^32; the one that waits for its answer; what the last one was answered with; and the
+-- octets of the record: those that a Write that waits carries, or those that an answered Read brought.
+pub record Accessing : Type 0 where
+  pub calls : ℕ
+  pub waiting : Option RecordRequest
+  pub answer : Option Answer
+  pub octets : List ℕ
+
+-- No request was made.
+abbrev pub no_access : Accessing
+no_access = record { calls = 0; waiting = None; answer = None; octets = [] }
+
+-- The number of the next call: those of the start-up are before it, up to PrmEnd.
+abbrev pub call_number : Parts → ℕ → ℕ
+call_number plan calls = (write_count plan + 2 + calls) % 4294967296
+
+-- A request is made.
+abbrev pub made : RecordRequest → List ℕ → Accessing → Accessing
+made request octets access = record { calls = (access.calls + 1) % 4294967296; waiting = Some request; answer = None; octets = octets }
+
+-- A request is answered with this status and these octets of a record.
+abbrev pub answered_with : RecordRequest → Status → List ℕ → Accessing → Accessing
+answered_with request status octets access =
+    record access { waiting = None; answer = Some (record { request = request; status = status }); octets = octets }
+
+-- The relation ends: a request that waits is dropped.
+abbrev pub dropped : Accessing → Accessing
+dropped access = record access { waiting = None }
+
+-- The record that the answer brought.
+abbrev pub record_by : Option Answer → List ℕ → List ℕ
+record_by (Some answer) octets = octets
+record_by None octets = []
+
+abbrev pub record_of : Accessing → List ℕ
+record_of access = record_by access.answer access.octets
+
+-- ---- its answer
+
+-- A response, or a refusal, of the call for a request: with the activity of the controller, and the number of the call.
+abbrev pub is_reply : Setup → RecordRequest → CallHeader → Bool
+is_reply setup request header = pointwise nat_eq header.activity setup.activity && header.sequence == request.sequence
+
+abbrev pub is_rejected : Setup → RecordRequest → Refusal → Bool
+is_rejected setup request refusal = pointwise nat_eq refusal.activity setup.activity && refusal.sequence == request.sequence
+
+-- The record after an IODReadRes: as many octets as that counts, and no more than a record has.
+abbrev pub record_behind : Option IodReadRes → List ℕ → Option (List ℕ)
+record_behind (Some block) rest = Some (take most_record_octets (take block.header.record_data_length rest))
+record_behind None rest = None
+
+abbrev pub record_in : Result (Block × List ℕ) BlockFault → Option (List ℕ)
+record_in (Ok x) = record_behind (in_iod_read_res x.0) x.1
+record_in (Err fault) = None

@@ -1,0 +1,158 @@
+-- The statuses of an image, place by place.
+use Rattle.std.proofs.Common.{◌≡◌, inl, inr, ◌-◌, ℕ, ◌==◌, ◌&&◌, ◌||◌, Bool, true, false, List, [], ◌∷◌, map, replicate, Some, is_some, refl, sym, ap, ◌∙◌, if◌then◌else◌}
+use Rattle.std.specs.List.{AllByRecursion}
+use Rattle.std.proofs.lemmas.Bool.{cases_Bool, and_parts, and_from, eqb-true, eq-eqb, true≢false, false≢true}
+use Rattle.cyclic_data.specs.declared.place.PlaceKind.{PlaceKind}
+use Rattle.cyclic_data.specs.declared.place.PlaceKind.TheVariants.{Data, Iocs}
+use Rattle.cyclic_data.specs.declared.place.Place.{Place}
+use Rattle.cyclic_data.specs.Image.{Cell, Shown, cell_at, changed, changed_in, with_status, zero_cell}
+use Rattle.cyclic_data.specs.Layout.{Table, is_of, is_same_kind}
+use Rattle.cyclic_data.specs.exchange.Opening.{StatusOf, first_cell, first_shown, first_taken}
+
+-- ---- places of a kind and submodule
+
+kind_itself : (kind : PlaceKind) → is_same_kind kind kind ≡ true
+kind_itself Data = refl
+kind_itself Iocs = refl
+
+of_itself : (place : Place) → is_of place.kind place.slot place.subslot place ≡ true
+of_itself place =
+    and_from _ _ (kind_itself place.kind) (and_from _ _ (eq-eqb place.slot place.slot refl) (eq-eqb place.subslot place.subslot refl))
+
+same_kind : (one other : PlaceKind) → is_same_kind one other ≡ true → one ≡ other
+same_kind Data Data h = refl
+same_kind Data Iocs h = absurd (false≢true h)
+same_kind Iocs Data h = absurd (false≢true h)
+same_kind Iocs Iocs h = refl
+
+of_parts : (kind : PlaceKind) (slot subslot : ℕ) (place : Place) → is_of kind slot subslot place ≡ true
+    → (kind ≡ place.kind) × (slot ≡ place.slot) × (subslot ≡ place.subslot)
+of_parts kind slot subslot place h =
+    let all = and_parts (is_same_kind kind place.kind) ((place.slot == slot) && (place.subslot == subslot)) h in
+    let two = and_parts (place.slot == slot) (place.subslot == subslot) all.1 in
+    (same_kind kind place.kind all.0, sym (eqb-true place.slot slot two.0), sym (eqb-true place.subslot subslot two.1))
+
+-- If no cell has this kind and submodule, none is changed.
+pub none_changed : (kind : PlaceKind) (slot subslot : ℕ) (change : Cell → Cell) (cells : List Cell) → is_some (cell_at kind slot subslot cells) ≡ false
+    → cells ≡ map (changed_in kind slot subslot change) cells
+none_changed kind slot subslot change [] none = refl
+none_changed kind slot subslot change (cell ∷ cells) none =
+    elim (cases_Bool (is_of kind slot subslot cell.place)) [
+      | inl t ↦ absurd (true≢false (sym (ap (λ (b : Bool). is_some (if b then Some cell else cell_at kind slot subslot cells)) t) ∙ none))
+      | inr t ↦
+          let behind = sym (ap (λ (b : Bool). is_some (if b then Some cell else cell_at kind slot subslot cells)) t) ∙ none in
+          rw t (ap (λ (xs : List Cell). cell ∷ xs) (none_changed kind slot subslot change cells behind))
+    ]
+
+module _ (statuses : StatusOf) where
+  -- An image in which the cell of a place has its status.
+  abbrev pub with_state : Place → Shown → Shown
+  with_state place shown =
+      if is_some (cell_at place.kind place.slot place.subslot shown.cells)
+      then changed place.kind place.slot place.subslot (with_status (statuses place.kind place.slot place.subslot)) shown
+      else shown
+
+  -- Place by place.
+  abbrev pub stated : List Place → Shown → Shown
+  stated [] shown = shown
+  stated (place ∷ places) shown = stated places (with_state place shown)
+
+  -- The same for one cell.
+  abbrev turned : Place → Cell → Cell
+  turned place cell = changed_in place.kind place.slot place.subslot (with_status (statuses place.kind place.slot place.subslot)) cell
+
+  abbrev turned_all : List Place → Cell → Cell
+  turned_all [] cell = cell
+  turned_all (place ∷ places) cell = turned_all places (turned place cell)
+
+  abbrev shown_by : ℕ → List Cell → Shown
+  shown_by n cells = record { data_length = n; cells = cells }
+
+  one_stated : (place : Place) (n : ℕ) (cells : List Cell) → with_state place (shown_by n cells) ≡ shown_by n (map (turned place) cells)
+  one_stated place n cells =
+      elim (cases_Bool (is_some (cell_at place.kind place.slot place.subslot cells))) [
+        | inl t ↦ rw t refl
+        | inr t ↦ rw t (ap (shown_by n)
+            (none_changed place.kind place.slot place.subslot (with_status (statuses place.kind place.slot place.subslot)) cells t))
+      ]
+
+  map_same : (cells : List Cell) → cells ≡ map (λ (cell : Cell). cell) cells
+  map_same [] = refl
+  map_same (cell ∷ cells) = ap (λ (xs : List Cell). cell ∷ xs) (map_same cells)
+
+  map_twice : (place : Place) (places : List Place) (cells : List Cell)
+      → map (turned_all places) (map (turned place) cells) ≡ map (turned_all (place ∷ places)) cells
+  map_twice place places [] = refl
+  map_twice place places (cell ∷ cells) = ap (λ (xs : List Cell). turned_all (place ∷ places) cell ∷ xs) (map_twice place places cells)
+
+  all_stated : (places : List Place) (n : ℕ) (cells : List Cell) → stated places (shown_by n cells) ≡ shown_by n (map (turned_all places) cells)
+  all_stated [] n cells = ap (shown_by n) (map_same cells)
+  all_stated (place ∷ places) n cells =
+      ap (stated places) (one_stated place n cells)
+      ∙ (all_stated places n (map (turned place) cells) ∙ ap (shown_by n) (map_twice place places cells))
+
+  -- A cell with its status keeps it.
+  abbrev cell_with : Place → List ℕ → ℕ → Cell
+  cell_with place value status = record { place = place; value = value; status = status }
+
+  turned_to : (place : Place) (other : Place) (value : List ℕ) (status : ℕ) → is_of place.kind place.slot place.subslot other ≡ true
+      → turned place (cell_with other value status) ≡ cell_with other value (statuses other.kind other.slot other.subslot)
+  turned_to place other value status t =
+      let parts = of_parts place.kind place.slot place.subslot other t in
+      rw t (ap (λ (kind : PlaceKind). cell_with other value (statuses kind place.slot place.subslot)) parts.0
+      ∙ (ap (λ (slot : ℕ). cell_with other value (statuses other.kind slot place.subslot)) parts.1
+      ∙ ap (λ (subslot : ℕ). cell_with other value (statuses other.kind other.slot subslot)) parts.2))
+
+  settled : (places : List Place) (other : Place) (value : List ℕ)
+      → turned_all places (cell_with other value (statuses other.kind other.slot other.subslot)) ≡ cell_with other value (statuses other.kind other.slot other.subslot)
+  settled [] other value = refl
+  settled (place ∷ places) other value =
+      elim (cases_Bool (is_of place.kind place.slot place.subslot other)) [
+        | inl t ↦ ap (turned_all places) (turned_to place other value (statuses other.kind other.slot other.subslot) t) ∙ settled places other value
+        | inr t ↦ rw t (settled places other value)
+      ]
+
+  -- A cell whose place is among the places gets its status.
+  abbrev is_among : List Place → Place → Bool
+  is_among [] other = false
+  is_among (place ∷ places) other = is_of place.kind place.slot place.subslot other || is_among places other
+
+  gets : (places : List Place) (other : Place) (value : List ℕ) (status : ℕ) → is_among places other ≡ true
+      → turned_all places (cell_with other value status) ≡ cell_with other value (statuses other.kind other.slot other.subslot)
+  gets [] other value status among = absurd (false≢true among)
+  gets (place ∷ places) other value status among =
+      elim (cases_Bool (is_of place.kind place.slot place.subslot other)) [
+        | inl t ↦ ap (turned_all places) (turned_to place other value status t) ∙ settled places other value
+        | inr t ↦ rw t (gets places other value status (sym (ap (λ (b : Bool). b || is_among places other) t) ∙ among))
+      ]
+
+  among_more : (place : Place) (places others : List Place) → AllByRecursion (λ other. is_among places other ≡ true) others
+      → AllByRecursion (λ other. is_among (place ∷ places) other ≡ true) others
+  among_more place places [] all = tt
+  among_more place places (other ∷ others) all =
+      let here : is_among (place ∷ places) other ≡ true =
+      elim (cases_Bool (is_of place.kind place.slot place.subslot other)) [ inl t ↦ rw t refl | inr t ↦ rw t all.0 ] in
+      (here, among_more place places others all.1)
+
+  all_among : (places : List Place) → AllByRecursion (λ other. is_among places other ≡ true) places
+  all_among [] = tt
+  all_among (place ∷ places) =
+      let here : is_among (place ∷ places) place ≡ true = rw (of_itself place) refl in
+      (here, among_more place places places (all_among places))
+
+  each_gets : (places others : List Place) → AllByRecursion (λ other. is_among places other ≡ true) others
+      → map (turned_all places) (map zero_cell others) ≡ map (first_cell statuses) others
+  each_gets places [] all = refl
+  each_gets places (other ∷ others) all =
+      ap (λ (cell : Cell). cell ∷ map (turned_all places) (map zero_cell others)) (gets places other (replicate (other.size - 1) 0) 0 all.0)
+      ∙ ap (λ (cells : List Cell). first_cell statuses other ∷ cells) (each_gets places others all.1)
+
+  statuses_are : (layout : Table) → stated layout.places (first_taken layout) ≡ first_shown statuses layout
+  statuses_are layout =
+      all_stated layout.places layout.data_length (map zero_cell layout.places)
+      ∙ ap (shown_by layout.data_length) (each_gets layout.places layout.places (all_among layout.places))
+
+  -- If no place remains.
+  pub none_left : (layout : Table) (left : List Place) (image : Shown) → left ≡ [] → stated left image ≡ stated layout.places (first_taken layout)
+      → image ≡ first_shown statuses layout
+  none_left layout left image none same = sym (ap (λ (places : List Place). stated places image) none) ∙ (same ∙ statuses_are layout)

@@ -1,0 +1,45 @@
+-- The frames of cyclic data and of alarms, at both ends.
+use Rattle.std.specs.Prelude.{ℕ, Bool, false, List, [], Some, None, if◌then◌else◌}
+use Rattle.pn_values.specs.declared.mac.Mac.{Mac}
+use Rattle.frame_codec.specs.Meaning.{Content, RealTime}
+use Rattle.frame_codec.specs.Frame.{frame_bytes}
+use Rattle.cyclic_data.specs.declared.tail.CyclicTail.{CyclicTail}
+use Rattle.cyclic_data.specs.Image.{Shown, octets_of}
+use Rattle.cyclic_data.specs.Tail.{cyclic_bytes}
+use Rattle.cyclic_data.specs.declared.exchange.route.Route.{Route}
+
+-- A frame from one station to another without a tag, and one with a tag.
+abbrev pub plain_frame : Mac → Mac → Content → List ℕ
+plain_frame source destination content = frame_bytes (record { destination = destination; source = source; tag = None; content = content })
+
+abbrev pub tagged_frame : Mac → Mac → ℕ → Content → List ℕ
+tagged_frame source destination tag content =
+    frame_bytes (record { destination = destination; source = source; tag = Some tag; content = content })
+
+-- The fields after the data: DataStatus 0x35, of a provider that runs and has no problem, or 0x15, of one that runs and has
+-- a problem, and TransferStatus 0.
+abbrev pub tail_at : Bool → ℕ → CyclicTail
+tail_at has_problem counter = record {
+  counter = counter;
+  data_status = record { 0 = if has_problem then 0x15 else 0x35 };
+  transfer_status = 0;
+}
+
+abbrev pub running_at : ℕ → CyclicTail
+running_at counter = tail_at false counter
+
+-- The octets that follow the FrameID of a cyclic frame at this CycleCounter.
+abbrev pub body_at : Bool → Shown → ℕ → List ℕ
+body_at has_problem shown counter = cyclic_bytes (octets_of shown) (tail_at has_problem counter) []
+
+-- A cyclic frame from this station to its partner.
+abbrev pub frame_at : Mac → Route → Bool → Shown → ℕ → List ℕ
+frame_at source route has_problem shown counter =
+    tagged_frame source route.partner route.sent_tag (RealTime route.sent_id (body_at has_problem shown counter))
+
+-- The same of a station without a problem.
+abbrev pub cyclic_body : Shown → ℕ → List ℕ
+cyclic_body shown counter = body_at false shown counter
+
+abbrev pub cyclic_frame : Mac → Route → Shown → ℕ → List ℕ
+cyclic_frame source route shown counter = frame_at source route false shown counter

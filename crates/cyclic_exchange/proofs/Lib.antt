@@ -1,4 +1,0 @@
-pub mod Stated
-pub mod Kept
-pub mod Provided
-pub mod Leaps

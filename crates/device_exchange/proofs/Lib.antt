@@ -1,4 +1,0 @@
-mod Awaited
-pub mod Kept
-pub mod Inputs
-pub mod Leaps

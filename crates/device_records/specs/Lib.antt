@@ -1,0 +1,11 @@
+pub mod Elements
+pub mod Expected
+pub mod Found
+pub mod ArData
+pub mod Sources
+pub mod Standing
+pub mod Own
+pub mod Place
+pub mod Reading
+pub mod topology
+pub mod log_data

@@ -1,0 +1,73 @@
+//! The alarms of low priority that a device of this product sends.
+ghost use Rattle.std.specs.Prelude.{◌≡◌, ◌≤◌, ◌++◌, [], List, ℕ, length, Ok};
+ghost use Rattle.pn_alarms.specs.declared.pdu.PduType.TheVariants.{Data};
+ghost use Rattle.pn_alarms.specs.Format.{pdu_of, pdu_bytes};
+ghost use Rattle.diagnosis.specs.reports.Report.{diagnosed, diagnosis_pdu, report, report_of};
+
+use block_codec::AlarmNotification;
+use pn_alarms::{Header, data_front};
+
+/// The octets of an alarm of low priority with the UserStructureIdentifier 0x8000, up to its data.
+#[tactic(auto, unfolding(wire::specs::blocks::Fields::number_bytes, wire::specs::blocks::Fields::open_body, wire::specs::blocks::Fields::version, crate::specs::reports::Report::block_priority, crate::specs::reports::Report::front, crate::specs::reports::Report::payload, crate::specs::reports::Report::report, crate::specs::reports::Report::report_fields))]
+fn low_front(alarm: &AlarmNotification) -> [u8; 28]
+    requires { length alarm.now.alarm_data ≤ 32 }
+    ensures items { result ++ alarm.now.alarm_data ≡ report.write (diagnosed alarm.now) [] }
+    ensures len { length result ≡ 28 }
+    ensures fits { report.Fits (diagnosed alarm.now) }
+{
+    let size = (24 + alarm.alarm_data.octets().len() as u16).to_be_bytes();
+    let kind = alarm.alarm_type.to_be_bytes();
+    let api = alarm.api.to_be_bytes();
+    let slot = alarm.slot_number.to_be_bytes();
+    let subslot = alarm.subslot_number.to_be_bytes();
+    let module = alarm.module_ident_number.to_be_bytes();
+    let submodule = alarm.submodule_ident_number.to_be_bytes();
+    let specifier = alarm.alarm_specifier.to_be_bytes();
+    [
+        0x00,
+        0x02,
+        size[0],
+        size[1],
+        1,
+        0,
+        kind[0],
+        kind[1],
+        api[0],
+        api[1],
+        api[2],
+        api[3],
+        slot[0],
+        slot[1],
+        subslot[0],
+        subslot[1],
+        module[0],
+        module[1],
+        module[2],
+        module[3],
+        submodule[0],
+        submodule[1],
+        submodule[2],
+        submodule[3],
+        specifier[0],
+        specifier[1],
+        0x80,
+        0x00,
+    ]
+}
+
+/// Encodes data that carries an alarm of low priority with the UserStructureIdentifier 0x8000, which follows the FrameID of
+/// a frame, up to the alarm's own data. The caller appends the alarm's data.
+#[inline(always)]
+pub fn diagnosis_front(header: &Header, alarm: &AlarmNotification) -> [u8; 40]
+    requires kind { header.now.kind ≡ Data }
+    requires few { length alarm.now.alarm_data ≤ 32 }
+    // These octets followed by the alarm's data are the encoding of the PDU.
+    ensures exact { result ++ alarm.now.alarm_data ≡ pdu_bytes (diagnosis_pdu header.now alarm.now) }
+    ensures len { length result ≡ 40 }
+    // Followed by any octets, they are read as this PDU, and the block that it carries is read as the alarm.
+    ensures behind { (more : List ℕ) → pdu_of (pdu_bytes (diagnosis_pdu header.now alarm.now) ++ more) ≡ Ok (diagnosis_pdu header.now alarm.now) }
+    ensures carried { report_of (diagnosis_pdu header.now alarm.now).body ≡ Ok (diagnosed alarm.now) }
+{
+    let front = low_front(alarm);
+    data_front(header, &front, alarm.alarm_data.octets())
+}

@@ -1,0 +1,342 @@
+-- What a device sends and stores in each step.
+use Rattle.std.proofs.Common.{◌≡◌, ◌&&◌, ℕ, Bool, true, false, not, List, [], ◌∷◌, ◌++◌, Option, Some, None, is_some, Result, Ok, Err, refl}
+use Rattle.std.specs.List.{AllByRecursion}
+use Rattle.std.proofs.lemmas.Bool.{cond_both}
+use Rattle.pn_values.specs.declared.mac.Mac.{Mac}
+use Rattle.pn_values.specs.declared.set_item.BlockError.{BlockError}
+use Rattle.settings_journal.specs.settings_store.Machine.{Outcome, carried}
+use Rattle.dcp_core.specs.declared.request.Service.{Service}
+use Rattle.dcp_core.specs.declared.request.Service.TheVariants as service
+use Rattle.dcp_core.specs.Request.{Asked}
+use Rattle.dcp_core.specs.Identify.{matches}
+use Rattle.rpc_core.specs.Call.{Asked as Called}
+use Rattle.records.specs.declared.status.operation.Operation.{Operation}
+use Rattle.records.specs.declared.status.operation.Operation.TheVariants.{Connect, Release, Read, Write, Control, ReadImplicit}
+use Rattle.records.specs.declared.status.call_fault.CallFault.{CallFault}
+use Rattle.records.specs.declared.status.call_fault.CallFault.TheVariants.{Arguments}
+use Rattle.records.specs.status.Operation.{operation_of}
+use Rattle.record_blocks.specs.declared.write_record.IodWriteReq.{IodWriteReq}
+use Rattle.records.specs.declared.writes.write.Effect.{Effect}
+use Rattle.records.specs.declared.writes.write.Effect.TheVariants.{Stores, Keeps}
+use Rattle.records.specs.declared.writes.writing.Writing.{Writing}
+use Rattle.records.specs.declared.writes.writing.Writing.TheVariants.{One, Each}
+use Rattle.records.specs.writes.Asked.{writing_of}
+use Rattle.pn_alarms.specs.declared.device.PduFate.{PduFate}
+use Rattle.pn_alarms.specs.declared.device.PduFate.TheVariants as fate
+use Rattle.cyclic_data.specs.declared.exchange.received.Received.{Received}
+use Rattle.cyclic_data.specs.declared.exchange.received.Received.TheVariants as received
+use Rattle.relations.specs.declared.exchange.statuses.InputStatus.{InputStatus}
+use Rattle.relations.specs.exchange.Statuses.{statuses_at}
+use Rattle.relations.specs.exchange.Flow.{Flow}
+use Rattle.relations.specs.Exchanged.{given_to, heard_by, hearing, raised_to, received_by, receiving}
+use Rattle.relations.specs.declared.hearing.ReadyAnswer.{ReadyAnswer}
+use Rattle.relations.specs.declared.hearing.ReadyAnswer.TheVariants as to_ready
+use Rattle.device_records.specs.Reading.{implicit_read, relation_read}
+use Rattle.relations.specs.Connect.{connect_answer}
+use Rattle.relations.specs.Ready.{answer_of as ready_answer}
+use Rattle.frame_codec.specs.declared.udp.Caller.{Caller}
+use Rattle.pn_alarms.specs.declared.pdu.Header.{Header}
+use Rattle.pn_alarms.specs.Message.{ToDevice}
+use Rattle.module_diff.specs.Plugged.{submodule_ident}
+use Rattle.diagnosis.specs.Existing.{changed}
+use Rattle.diagnosis.specs.declared.diagnosis.Change.{Change}
+use Rattle.diagnosis.specs.declared.diagnosis.Diagnosis.{Diagnosis}
+use Rattle.device_frames.specs.Heard.{Heard, Ticks, Unreadable, Elsewhere, Asks, Resolves, Reported, Cyclic, Alarms, LowReplies, LowConfirms, Given, Raised, Rated, Met, Diagnosed, Readied, Said, Calls, Responds, Garbled}
+use Rattle.device_core.specs.Several.{judged_each}
+use Rattle.pn_values.specs.declared.identity.Identity.{Identity}
+use Rattle.connect_blocks.specs.declared.control.ControlBlock.{ControlBlock}
+use Rattle.cyclic_data.specs.declared.exchange.route.Route.{Route}
+use Rattle.pn_alarms.specs.declared.receiver.Taken.{Taken}
+use Rattle.rpc_core.specs.Cache.{Reported as Looked, new, again, old, looked, kept_more}
+use Rattle.relations.specs.declared.farewell.Farewell.{Farewell}
+use Rattle.relations.specs.Timers.{Due, due_of}
+use Rattle.relations.specs.RelationState.{RelationState, uuid_of, flow_of, is_alarm_of, is_preparing, phase_of}
+use Rattle.relations.specs.exchange.Frames.{Frame, alarm_frame, low_alarm_frame}
+use Rattle.relations.specs.Phases.{Named, Parameterized, Prepared, Exchanged, answered, keeping, passing, updated}
+use Rattle.relations.specs.Calls.{prm_end_of, prm_end_answer, release_answer}
+use Rattle.relations.specs.Diagnosed.{begin_one, beginning, diagnose_one, diagnosing, has_sent_low, heard_low, hearing_low, is_full_in, report_one, reporting}
+use Rattle.relations.specs.Ready.{handled_by}
+use Rattle.device_frames.specs.Relation.{alarms_of, due_frames, farewells_in, frames_in, inputs_of, low_alarms_of, low_replies_of, ready_calls, replies_of, where_due}
+use Rattle.device_frames.specs.Sendable.{AreSendable}
+use Rattle.device_frames.specs.Sent.{Sent, IdentifyAnswer, GetAnswer, SetAnswer, ArpReply, CallAnswer, Again, Ends}
+use Rattle.rpc_core.specs.Response.{answer_to}
+use Rattle.device_core.specs.State.{Station, Live, alias_in, counter_of, units_after}
+use Rattle.device_core.specs.Several.{judged_each}
+use Rattle.device_core.specs.Handled.{Handled, is_running, is_request, answer_from, kept_for, kept_answer, outcome_of, partner_of, ready_behind, handled_request, handled_effect, handled_write, handled_new, handled_looked, handled_blocks, handled_call, handled_answer, handled_said, handled_pdu, handled_received, handled_input, handled_notice, kept_status, handled, known_of, handled_alarm, handled_change, handled_low, handled_low_pdu}
+use Rattle.device_core.specs.Machine.{farewells_at, items_in, first_answer, resets, several_answer, written_as, finished, heard_step, handled_step}
+use Rattle.dcp_core.specs.Set.{plan_of}
+use Rattle.end_laws.specs.answers.Whole.{AreStoredWhole, IsAnsweredWhole, IsOneDatagram}
+use Rattle.end_laws.proofs.AnswersReading.{DatagramsAreRead, ResponsesAreRead, answer_whole}
+use Rattle.end_laws.proofs.AnswersStoring.{each_again, each_more}
+
+-- ---- messages that are no answers to calls
+
+abbrev IsOther : Sent → Type 0
+IsOther (CallAnswer caller address answer) = ⊥
+IsOther (Again frame) = ⊥
+IsOther message = Unit {0}
+
+abbrev AreOthers : List Sent → Type 0
+AreOthers messages = AllByRecursion IsOther messages
+
+others_then : (front back : List Sent) → AreOthers front → AreOthers back → AreOthers (front ++ back)
+others_then [] back first last = last
+others_then (message ∷ front) back first last = (first.0, others_then front back first.1 last)
+
+due_other : (b : Bool) (messages : List Sent) → AreOthers messages → AreOthers (where_due b messages)
+due_other true messages others = others
+due_other false messages others = tt
+
+farewells_other : (farewell : Option Farewell) → AreOthers (farewells_in farewell)
+farewells_other None = tt
+farewells_other (Some farewell) = (tt, tt)
+
+frames_other : (route : Route) (frame : Option Frame) → AreOthers (frames_in route frame)
+frames_other route None = tt
+frames_other route (Some frame) = (tt, tt)
+
+alarms_other : (flow : Option Flow) → AreOthers (alarms_of flow)
+alarms_other None = tt
+alarms_other (Some flow) = frames_other flow.cyclic.route (alarm_frame flow)
+
+low_alarms_other : (flow : Option Flow) → AreOthers (low_alarms_of flow)
+low_alarms_other None = tt
+low_alarms_other (Some flow) = frames_other flow.cyclic.route (low_alarm_frame flow)
+
+inputs_other : (counter : ℕ) (flow : Option Flow) → AreOthers (inputs_of counter flow)
+inputs_other counter None = tt
+inputs_other counter (Some flow) = (tt, tt)
+
+replies_other : (taken : Taken) (flow : Option Flow) → AreOthers (replies_of taken flow)
+replies_other taken None = tt
+replies_other taken (Some flow) = (tt, tt)
+
+low_replies_other : (taken : Taken) (flow : Option Flow) → AreOthers (low_replies_of taken flow)
+low_replies_other taken None = tt
+low_replies_other taken (Some flow) = (tt, tt)
+
+calls_other : (address : List ℕ) (link : Option RelationState) → AreOthers (ready_calls address link)
+calls_other address None = tt
+calls_other address (Some link) = (tt, tt)
+
+ready_other : (by_application : Bool) (address : List ℕ) (link : Option RelationState) (ended : Result ControlBlock CallFault) → AreOthers (ready_behind by_application address link ended)
+ready_other true address link (Ok block) = tt
+ready_other false address link (Ok block) = calls_other address link
+ready_other by_application address link (Err fault) = tt
+
+ends_other : (ends : Bool) (link : Option RelationState) → AreOthers (farewells_at ends link)
+ends_other true None = tt
+ends_other true (Some link) = (tt, tt)
+ends_other false link = tt
+
+unit_other : (address : List ℕ) (counter : ℕ) (due : Due) (link : Option RelationState) → AreOthers (due_frames address counter due link)
+unit_other address counter due link =
+    others_then (farewells_in due.farewell) _ (farewells_other due.farewell)
+    (others_then (where_due due.is_alarm (alarms_of (flow_of link))) _ (due_other due.is_alarm _ (alarms_other (flow_of link)))
+    (others_then (where_due due.is_low (low_alarms_of (flow_of link))) _ (due_other due.is_low _ (low_alarms_other (flow_of link)))
+    (others_then (where_due due.is_ready (ready_calls address link)) _ (due_other due.is_ready _ (calls_other address link))
+    (due_other due.is_cyclic _ (inputs_other counter (flow_of link))))))
+
+other_whole : (identity : Identity) (message : Sent) → IsOther message → IsAnsweredWhole identity message
+other_whole identity (CallAnswer caller address answer) other = absurd other
+other_whole identity (Again frame) other = absurd other
+other_whole identity message other = tt
+
+others_whole : (identity : Identity) (messages : List Sent) → AreOthers messages → AllByRecursion (IsAnsweredWhole identity) messages
+others_whole identity [] others = tt
+others_whole identity (message ∷ messages) others = (other_whole identity message others.0, others_whole identity messages others.1)
+
+-- ---- outcomes
+
+module _ (datagrams : DatagramsAreRead) (reads : ResponsesAreRead) (station : Station) (live : Live) (answers : List BlockError) where
+  -- What is sent and stored after an outcome is whole, if what is sent can be sent and what was stored is whole.
+  abbrev IsGood : Handled → Type 0
+  IsGood what =
+      AreSendable station.identity (finished station.identity live.rest what answers).sent → AreStoredWhole live.rest.calls
+      → AllByRecursion (IsAnsweredWhole station.identity) (finished station.identity live.rest what answers).sent
+      × AreStoredWhole (finished station.identity live.rest what answers).rest.calls
+
+  -- nothing is sent, and nothing more is stored
+  abbrev Silent : Type 0
+  Silent = AreSendable station.identity [] → AreStoredWhole live.rest.calls → AllByRecursion (IsAnsweredWhole station.identity) [] × AreStoredWhole live.rest.calls
+
+  silent : Silent
+  silent can stored = (tt, stored)
+
+  -- no answer to a call is sent, and nothing more is stored
+  quiet : (messages : List Sent) → AreOthers messages → AreSendable station.identity messages → AreStoredWhole live.rest.calls
+      → AllByRecursion (IsAnsweredWhole station.identity) messages × AreStoredWhole live.rest.calls
+  quiet messages others can stored = (others_whole station.identity messages others, stored)
+
+  -- an answer is sent and stored, and then no other answer is sent
+  served : (caller : Caller) (call : Called) (operation : Operation) (outcome : Result (List ℕ) CallFault) (messages : List Sent) → AreOthers messages
+      → AreSendable station.identity (answer_from live.values.running.suite.address caller call operation outcome ∷ messages) → AreStoredWhole live.rest.calls
+      → AllByRecursion (IsAnsweredWhole station.identity) (answer_from live.values.running.suite.address caller call operation outcome ∷ messages)
+      × AreStoredWhole (kept_more 4 (kept_for station.identity call (answer_from live.values.running.suite.address caller call operation outcome)) live.rest.calls)
+  served caller call operation outcome messages others can stored =
+      let answer = answer_to call (outcome_of operation outcome).0 (outcome_of operation outcome).1 in
+      let whole = answer_whole datagrams reads station.identity caller live.values.running.suite.address answer can.0 in (
+        (whole, others_whole station.identity messages others),
+        each_more IsOneDatagram (kept_for station.identity call (answer_from live.values.running.suite.address caller call operation outcome)) live.rest.calls (answer, whole) stored,
+      )
+
+  request_good : (asker : Mac) (asked : Service) (request : Asked) → IsGood (handled_request station live asker asked request)
+  request_good asker service.Identify request =
+      cond_both (matches station.identity live.values.running (alias_in live.rest.peer) request) _ _ IsGood
+      (λ _. quiet (IdentifyAnswer asker live.values.running request.xid ∷ []) (tt, tt)) (λ _. silent)
+  request_good asker service.Get request = quiet (GetAnswer asker live.values.running (alias_in live.rest.peer) request ∷ []) (tt, tt)
+  request_good asker service.Set request =
+      let ends = resets (plan_of (is_some live.rest.link) request) answers in
+      quiet (farewells_at ends live.rest.link ++ SetAnswer asker request answers ∷ []) (others_then (farewells_at ends live.rest.link) _ (ends_other ends live.rest.link) (tt, tt))
+
+  effect_good : (caller : Caller) (call : Called) (header : IodWriteReq) (effect : Effect) → IsGood (handled_effect station live caller call header effect)
+  effect_good caller call header (Stores value) = served caller call Write (written_as header (first_answer answers)) [] tt
+  effect_good caller call header (Keeps parameter) = served caller call Write (kept_answer header (keeping parameter live.rest.link)) [] tt
+
+  write_good : (caller : Caller) (call : Called) (writing : Result Writing CallFault) → IsGood (handled_write station live caller call writing)
+  write_good caller call (Ok (One write)) = effect_good caller call write.request write.effect
+  write_good caller call (Ok (Each header entries)) =
+      served caller call Write (Ok (several_answer header (judged_each (uuid_of live.rest.link) station.real entries) answers live.rest.link)) [] tt
+  write_good caller call (Err fault) = served caller call Write (Err fault) [] tt
+
+  new_good : (caller : Caller) (call : Called) (blocks : List ℕ) (operation : Operation) → IsGood (handled_new station live caller call blocks operation)
+  new_good caller call blocks Connect =
+      served caller call Connect (connect_answer station.identity station.real station.options caller.mac live.rest.link blocks) [] tt
+  new_good caller call blocks Release = served caller call Release (release_answer live.rest.link blocks) [] tt
+  new_good caller call blocks Read =
+      served caller call Read (relation_read (known_of station live) station.identity station.real live.values.running blocks) [] tt
+  new_good caller call blocks Write = write_good caller call (writing_of (uuid_of live.rest.link) station.real blocks)
+  new_good caller call blocks Control =
+      let by_application = station.options.ready_by_application in
+      let ended = prm_end_of live.rest.link blocks in
+      let link = updated (answered (Named (partner_of caller)) ended) (updated (answered (Parameterized by_application) ended) live.rest.link) in
+      served caller call Control (prm_end_answer live.rest.link blocks) (ready_behind by_application live.values.running.suite.address link ended)
+      (ready_other by_application live.values.running.suite.address link ended)
+  new_good caller call blocks ReadImplicit =
+      served caller call ReadImplicit (implicit_read (known_of station live) station.identity station.real live.values.running blocks) [] tt
+
+  looked_good : (caller : Caller) (call : Called) (blocks : List ℕ) (operation : Operation) (reported : Looked)
+      → looked call.header.activity call.header.sequence live.rest.calls ≡ reported → IsGood (handled_looked station live caller call blocks operation reported)
+  looked_good caller call blocks operation new is = new_good caller call blocks operation
+  looked_good caller call blocks operation (again frame) is =
+      λ can stored. ((each_again IsOneDatagram call.header.activity call.header.sequence live.rest.calls frame stored is, tt), stored)
+  looked_good caller call blocks operation old is = silent
+
+  blocks_good : (caller : Caller) (call : Called) (operation : Operation) (blocks : Option (List ℕ)) → IsGood (handled_blocks station live caller call operation blocks)
+  blocks_good caller call operation None =
+      let answer = answer_to call (outcome_of operation (Err Arguments)).0 [] in
+      λ can stored. ((answer_whole datagrams reads station.identity caller live.values.running.suite.address answer can.0, tt), stored)
+  blocks_good caller call operation (Some blocks) = looked_good caller call blocks operation _ refl
+
+  call_good : (caller : Caller) (call : Called) (operation : Option Operation) → IsGood (handled_call station live caller call operation)
+  call_good caller call None = silent
+  call_good caller call (Some operation) = blocks_good caller call operation call.blocks
+
+  answer_good : (answer : ReadyAnswer) → IsGood (handled_answer station live answer)
+  answer_good to_ready.NotWanted = silent
+  answer_good to_ready.Garbled = silent
+  answer_good to_ready.Confirmed =
+      let real = station.real.modules.items in
+      let link = updated (handled_by to_ready.Confirmed) live.rest.link in
+      let begun = begin_one real live.rest.diagnoses link in
+      let messages = low_alarms_of (flow_of (updated (beginning real live.rest.diagnoses link) link)) in
+      quiet (where_due begun messages) (due_other begun messages (low_alarms_other _))
+  answer_good (to_ready.Refused farewell) = quiet (Ends farewell ∷ []) (tt, tt)
+
+  said_good : (caller : Caller) (said : Said) → IsGood (handled_said station live caller said)
+  said_good caller (Calls call) = call_good caller call (operation_of call.header.operation)
+  said_good caller (Responds response) = answer_good (ready_answer response live.rest.link)
+  said_good caller Garbled = silent
+
+  pdu_good : (came : PduFate) (link : Option RelationState) → IsGood (handled_pdu live came link)
+  pdu_good (fate.Data taken) link = quiet (replies_of taken (flow_of link)) (replies_other taken (flow_of link))
+  pdu_good fate.Done link = silent
+  pdu_good fate.Ignored link = silent
+  pdu_good (fate.Aborted status) link = silent
+
+  alarm_good : (source : Mac) (header : Header) (message : ToDevice) → IsGood (handled_alarm live source header message)
+  alarm_good source header message =
+      cond_both (is_alarm_of source header.destination header.source live.rest.link) _ _ IsGood
+      (λ _. pdu_good (heard_by message live.rest.link) (updated (hearing message live.rest.link) live.rest.link)) (λ _. silent)
+
+  low_pdu_good : (came : PduFate) (link : Option RelationState) → IsGood (handled_low_pdu station live came link)
+  low_pdu_good (fate.Data taken) link =
+      let real = station.real.modules.items in
+      let next = updated (reporting real link) link in
+      quiet (low_replies_of taken (flow_of link) ++ where_due (report_one real link) (low_alarms_of (flow_of next)))
+      (others_then (low_replies_of taken (flow_of link)) _ (low_replies_other taken (flow_of link)) (due_other (report_one real link) _ (low_alarms_other (flow_of next))))
+  low_pdu_good fate.Done link = silent
+  low_pdu_good fate.Ignored link = silent
+  low_pdu_good (fate.Aborted status) link = silent
+
+  low_good : (source : Mac) (header : Header) (message : ToDevice) → IsGood (handled_low station live source header message)
+  low_good source header message =
+      cond_both (is_alarm_of source header.destination header.source live.rest.link) _ _ IsGood
+      (λ _. low_pdu_good (heard_low message live.rest.link) (updated (hearing_low message live.rest.link) live.rest.link)) (λ _. silent)
+
+  change_good : (change : Change) (diagnoses : Option (List Diagnosis)) → IsGood (handled_change station live change diagnoses)
+  change_good change (Some diagnoses) =
+      let real = station.real.modules.items in
+      let link = updated (diagnosing real change diagnoses live.rest.link) live.rest.link in
+      let is_sent = diagnose_one real change diagnoses live.rest.link in
+      quiet (where_due is_sent (low_alarms_of (flow_of link))) (due_other is_sent _ (low_alarms_other (flow_of link)))
+  change_good change None = silent
+
+  received_good : (came : Received) (link : Option RelationState) → IsGood (handled_received live came link)
+  received_good received.Foreign link = silent
+  received_good received.Short link = silent
+  received_good received.Stale link = silent
+  received_good received.Taken link = silent
+
+  input_good : (flow : Option Flow) → IsGood (handled_input live flow)
+  input_good (Some flow) = silent
+  input_good None = silent
+
+  notice_good : (flow : Option Flow) → IsGood (handled_notice live flow)
+  notice_good (Some flow) =
+      let link = updated (Exchanged flow) live.rest.link in
+      quiet (alarms_of (flow_of link)) (alarms_other (flow_of link))
+  notice_good None = silent
+
+  status_good : (slot subslot : ℕ) (is_good : Bool) (statuses : Option (List InputStatus)) → IsGood (kept_status live slot subslot is_good statuses)
+  status_good slot subslot is_good (Some statuses) = silent
+  status_good slot subslot is_good None = silent
+
+  handled_good : (heard : Heard) → IsGood (handled station live heard)
+  handled_good (Asks asker request) = request_good asker request.service request
+  handled_good (Resolves asker packet) =
+      cond_both (is_request packet.operation && is_running live.values.running packet.target.address) _ _ IsGood
+      (λ _. quiet (ArpReply asker live.values.running.suite.address packet.sender ∷ []) (tt, tt)) (λ _. silent)
+  handled_good (Reported caller address said) = cond_both (is_running live.values.running address) _ _ IsGood (λ _. said_good caller said) (λ _. silent)
+  handled_good (Alarms source header message) = alarm_good source header message
+  handled_good (LowReplies source header message) =
+      cond_both (has_sent_low live.rest.link) _ _ IsGood (λ _. low_good source header message) (λ _. alarm_good source header message)
+  handled_good (LowConfirms source header message) = cond_both (has_sent_low live.rest.link) _ _ IsGood (λ _. low_good source header message) (λ _. silent)
+  handled_good (Cyclic source frame_id body) =
+      received_good (received_by source frame_id body live.rest.link) (updated (receiving source frame_id body live.rest.link) live.rest.link)
+  handled_good (Given slot subslot value) = input_good (given_to slot subslot value live.rest.link)
+  handled_good (Raised slot subslot octets) = notice_good (raised_to station.real.modules.items slot subslot octets live.rest.link)
+  handled_good (Rated slot subslot is_good) =
+      status_good slot subslot is_good (statuses_at station.real.modules.items (record { slot = slot; subslot = subslot; is_good = is_good }) live.rest.statuses)
+  handled_good (Met peer) = silent
+  handled_good (Diagnosed change) =
+      cond_both (is_some (submodule_ident station.real.modules.items change.diagnosis.slot change.diagnosis.subslot) && not (is_full_in live.rest.link)) _ _ IsGood
+      (λ _. change_good change (changed change live.rest.diagnoses)) (λ _. silent)
+  handled_good Readied =
+      let address = live.values.running.suite.address in
+      let link = updated Prepared live.rest.link in
+      cond_both (is_preparing (phase_of live.rest.link)) _ _ IsGood (λ _. quiet (ready_calls address link) (calls_other address link)) (λ _. silent)
+  handled_good Ticks =
+      let due = due_of live.rest.link in
+      let link = updated (passing live.rest.link) live.rest.link in
+      let counter = counter_of (units_after 1 live.rest.units) in
+      quiet (due_frames live.values.running.suite.address counter due link) (unit_other live.values.running.suite.address counter due link)
+  handled_good Unreadable = silent
+  handled_good Elsewhere = silent
+
+pub step_good : DatagramsAreRead → ResponsesAreRead → (outcomes : List Outcome) (station : Station) (live : Live) (heard : Heard)
+    → AreSendable station.identity (heard_step outcomes station live heard).sent → AreStoredWhole live.rest.calls
+    → AllByRecursion (IsAnsweredWhole station.identity) (heard_step outcomes station live heard).sent × AreStoredWhole (heard_step outcomes station live heard).live.rest.calls
+unfolding heard_step handled_step
+step_good datagrams reads outcomes station live heard =
+    handled_good datagrams reads station live (carried outcomes live.values (items_in (handled station live heard))).answers heard

@@ -1,0 +1,692 @@
+-- What becomes of the exchange of a relation with any event at its device, and that no frame of inputs is sent but with a unit.
+use Rattle.std.proofs.Common.{◌≡◌, ap, ℕ, Bool, true, false, List, [], ◌∷◌, ◌++◌, length, Option, Some, None, option_map, Result, Ok, Err, refl, sym, subst, ◌∙◌}
+use Rattle.std.specs.Prelude.{◌&&◌, ◌||◌, if◌then◌else◌, is_some, unwrap_or}
+use Rattle.wire.specs.Codec.{◌>>=◌}
+use Rattle.pn_values.specs.declared.mac.Mac.{Mac}
+use Rattle.pn_values.specs.declared.real.RealModule.{RealModule}
+use Rattle.pn_values.specs.declared.set_item.BlockError.{BlockError}
+use Rattle.frame_codec.specs.declared.arp.Arp.{Arp}
+use Rattle.frame_codec.specs.declared.udp.Caller.{Caller}
+use Rattle.dcp_core.specs.declared.request.Service.{Service}
+use Rattle.dcp_core.specs.declared.request.Service.TheVariants as service
+use Rattle.dcp_core.specs.Request.{Asked}
+use Rattle.dcp_core.specs.Identify.{matches}
+use Rattle.dcp_core.specs.Set.{plan_of}
+use Rattle.rpc_core.specs.Cache.{Reported as Looked, new, again, old, looked}
+use Rattle.rpc_core.specs.Call.{Asked as Call}
+use Rattle.rpc_core.specs.Response.{Answered as Response, is_done}
+use Rattle.connect_blocks.specs.declared.control.ControlBlock.{ControlBlock}
+use Rattle.record_blocks.specs.declared.alarm_notification.AlarmNotification.{AlarmNotification}
+use Rattle.record_blocks.specs.declared.write_record.IodWriteReq.{IodWriteReq}
+use Rattle.block_codec.specs.Block.{block_of as read_block}
+use Rattle.records.specs.declared.status.call_fault.CallFault.{CallFault}
+use Rattle.records.specs.declared.status.operation.Operation.{Operation}
+use Rattle.records.specs.declared.status.operation.Operation.TheVariants as operation
+use Rattle.records.specs.status.Operation.{operation_of}
+use Rattle.records.specs.declared.writes.write.Effect.{Effect}
+use Rattle.records.specs.declared.writes.write.Effect.TheVariants.{Stores, Keeps}
+use Rattle.records.specs.declared.writes.write.Write.{Write}
+use Rattle.records.specs.declared.writes.writing.Writing.{Writing}
+use Rattle.records.specs.declared.writes.writing.Writing.TheVariants.{One, Each}
+use Rattle.records.specs.writes.Asked.{writing_of}
+use Rattle.device_records.specs.Reading.{implicit_read, relation_read}
+use Rattle.pn_alarms.specs.declared.abort.Abort.{Abort}
+use Rattle.pn_alarms.specs.declared.device.PduFate.{PduFate}
+use Rattle.pn_alarms.specs.declared.device.PduFate.TheVariants as fate
+use Rattle.pn_alarms.specs.declared.pdu.Header.{Header}
+use Rattle.pn_alarms.specs.declared.receiver.Taken.{Taken}
+use Rattle.pn_alarms.specs.Device.{end_with}
+use Rattle.pn_alarms.specs.Message.{ToDevice as Message}
+use Rattle.pn_alarms.specs.Sender.{notice_of}
+use Rattle.module_diff.specs.Plugged.{module_ident, submodule_ident}
+use Rattle.diagnosis.specs.Existing.{changed as changed_list}
+use Rattle.diagnosis.specs.alarms.Alarms.{Low}
+use Rattle.diagnosis.specs.declared.diagnosis.Change.{Change}
+use Rattle.diagnosis.specs.declared.diagnosis.Diagnosis.{Diagnosis}
+use Rattle.cyclic_data.specs.declared.exchange.received.Received.{Received}
+use Rattle.cyclic_data.specs.declared.exchange.received.Received.TheVariants as received
+use Rattle.cyclic_data.specs.declared.exchange.route.Route.{Route}
+use Rattle.cyclic_data.specs.exchange.Cyclic.{Cyclic as CyclicEnd}
+use Rattle.cyclic_data.specs.Image.{cell_at, changed, has_size, with_value}
+use Rattle.cyclic_data.specs.Timing.{Hearing, held_on}
+use Rattle.cyclic_data.specs.declared.place.PlaceKind.TheVariants.{Data as at_data}
+use Rattle.connects.specs.declared.requests.parts.Ar.{Ar}
+use Rattle.connects.specs.requests.Pieces.{Piece, pieces_of}
+use Rattle.connects.specs.requests.Request.{Request}
+use Rattle.connects.specs.requests.Handled.{admitted, ar_in, request_behind, request_in, request_of}
+use Rattle.relations.specs.declared.hearing.ReadyAnswer.{ReadyAnswer}
+use Rattle.relations.specs.declared.hearing.ReadyAnswer.TheVariants as to_ready
+use Rattle.relations.specs.declared.exchange.statuses.InputStatus.{InputStatus}
+use Rattle.relations.specs.declared.phase.Partner.{Partner}
+use Rattle.relations.specs.declared.phase.Phase.{Phase}
+use Rattle.relations.specs.declared.phase.Phase.TheVariants.{Started, Preparing, Awaiting, Exchanging}
+use Rattle.relations.specs.exchange.Runs as runs
+use Rattle.relations.specs.exchange.Diagnosis.{behind_low, diagnosed, diagnoses_begun, next_reported, with_low}
+use Rattle.relations.specs.exchange.Flow.{Flow}
+use Rattle.relations.specs.exchange.Frames.{Notifies, Reports}
+use Rattle.relations.specs.exchange.Marks.{awaits}
+use Rattle.relations.specs.exchange.Notices.{behind_message, may_raise, raised_at, raised_by}
+use Rattle.relations.specs.exchange.Opening.{begun_of}
+use Rattle.relations.specs.exchange.Process.{given_at, rated_at, remarked, with_cyclic, with_input}
+use Rattle.relations.specs.exchange.Received.{behind_frame, received_as}
+use Rattle.relations.specs.exchange.Statuses.{statuses_at}
+use Rattle.relations.specs.RelationState.{RelationState, is_alarm_of, is_awaiting, is_preparing, phase_of, uuid_of}
+use Rattle.relations.specs.Phases.{Handled as Event, Ended, Named, Parameterized, Prepared, Records, Unmoved, answered, exchanging_from, keeping, parameterized_from, passing_by, prepared_from, restarted, taking, updated, with_flow, with_records}
+use Rattle.relations.specs.Calls.{prm_end_of, release_answer, release_of}
+use Rattle.device_core.specs.Log.{but_rest, connect_log, release_log, with_log}
+use Rattle.relations.specs.Connect.{connect_answer, connect_within, making}
+use Rattle.relations.specs.Farewells.{farewell_of}
+use Rattle.pn_alarms.specs.declared.abort.Abort.TheVariants.{Other}
+use Rattle.relations.specs.Diagnosed.{begin_one, diagnose_one, has_sent_low, heard_low, hearing_low, report_one}
+use Rattle.relations.specs.Exchanged.{heard_by, hearing_as, receiving_as}
+use Rattle.relations.specs.Ready.{answer_of as ready_answer, confirmed_block, confirmed_by, is_answer_to}
+use Rattle.relations.specs.Timers.{ending_of, unit_later}
+use Rattle.device_frames.specs.Heard.{Heard, Ticks, Unreadable, Elsewhere, Asks, Resolves, Reported, Cyclic, Alarms, LowReplies, LowConfirms, Diagnosed, Given, Raised, Rated, Met, Readied, Said, Calls, Responds, Garbled}
+use Rattle.device_frames.specs.Relation.{alarms_of, frames_in, low_alarms_of, low_replies_of, ready_calls, replies_of, where_due}
+use Rattle.device_frames.specs.Sent.{Sent, IdentifyAnswer, SetAnswer, ArpReply}
+use Rattle.device_frames.specs.declared.note.Note.{Note}
+use Rattle.device_frames.specs.declared.note.Note.TheVariants as note
+use Rattle.settings_journal.specs.settings_store.Machine.{Outcome, carried}
+use Rattle.device_core.specs.State.{Station, Live, alias_in}
+use Rattle.device_core.specs.Handled.{Handled, Refuses, Sets, Moves, handled, handled_alarm, handled_answer, handled_blocks, handled_call, handled_change, handled_effect, handled_input, handled_looked, handled_low, handled_low_message, handled_low_pdu, handled_message, handled_new, handled_notice, handled_pdu, handled_received, handled_request, handled_said, handled_write, implicitly, is_request, is_running, kept_answer, kept_status, known_of, may_be_diagnosed, partner_of, ready_behind, served, starting_of, ticked}
+use Rattle.device_core.specs.Several.{Judged, judged_each}
+use Rattle.device_core.specs.Machine.{Stepped, Finished, effect_link, farewells_at, finished, first_answer, handled_step, heard_step, items_in, link_after, link_behind, one_link, resets, written_as}
+use Rattle.end_laws.specs.device.Exchange.{IsUnaccepted, given_with, is_inputs, is_unit, sends_inputs}
+use Rattle.end_laws.proofs.DeviceConnects.{unlimited}
+
+-- ---- what is sent
+
+neither : (one other : Bool) → one ≡ false → other ≡ false → (one || other) ≡ false
+neither false other e f = f
+neither true other e f = absurd (no_bool e)
+  where
+    no_bool : true ≡ false → ⊥
+    no_bool e = cc
+
+pub both_none : (one other : Bool) → (one || other) ≡ false → (one ≡ false) × (other ≡ false)
+both_none false other e = (refl, e)
+both_none true other e = absurd (no_bool e)
+  where
+    no_bool : true ≡ false → ⊥
+    no_bool e = cc
+
+pub none_both : (sent more : List Sent) → sends_inputs sent ≡ false → sends_inputs more ≡ false → sends_inputs (sent ++ more) ≡ false
+none_both [] more none others = others
+none_both (message ∷ sent) more none others =
+    let parts = both_none (is_inputs message) (sends_inputs sent) none in
+    neither (is_inputs message) (sends_inputs (sent ++ more)) parts.0 (none_both sent more parts.1 others)
+
+pub none_due : (b : Bool) (sent : List Sent) → sends_inputs sent ≡ false → sends_inputs (where_due b sent) ≡ false
+none_due true sent none = none
+none_due false sent none = refl
+
+notices_none : (route : Route) (header : Header) (standing : Option AlarmNotification) → sends_inputs (frames_in route (option_map (λ alarm. Notifies header alarm) standing)) ≡ false
+notices_none route header None = refl
+notices_none route header (Some alarm) = refl
+
+reports_none : (route : Route) (tag : ℕ) (header : Header) (standing : Option AlarmNotification) → sends_inputs (frames_in route (option_map (λ alarm. Reports tag header alarm) standing)) ≡ false
+reports_none route tag header None = refl
+reports_none route tag header (Some alarm) = refl
+
+pub alarms_none : (flow : Option Flow) → sends_inputs (alarms_of flow) ≡ false
+alarms_none None = refl
+alarms_none (Some flow) = notices_none flow.cyclic.route _ flow.alarms.sender.standing
+
+pub low_alarms_none : (flow : Option Flow) → sends_inputs (low_alarms_of flow) ≡ false
+low_alarms_none None = refl
+low_alarms_none (Some flow) = reports_none flow.cyclic.route flow.low.tag _ flow.low.alarms.sender.standing
+
+low_due : (b : Bool) (flow : Option Flow) → sends_inputs (where_due b (low_alarms_of flow)) ≡ false
+low_due b flow = none_due b (low_alarms_of flow) (low_alarms_none flow)
+
+replies_none : (taken : Taken) (flow : Option Flow) → sends_inputs (replies_of taken flow) ≡ false
+replies_none taken None = refl
+replies_none taken (Some flow) = refl
+
+low_replies_none : (taken : Taken) (flow : Option Flow) → sends_inputs (low_replies_of taken flow) ≡ false
+low_replies_none taken None = refl
+low_replies_none taken (Some flow) = refl
+
+pub ready_none : (address : List ℕ) (link : Option RelationState) → sends_inputs (ready_calls address link) ≡ false
+ready_none address None = refl
+ready_none address (Some link) = refl
+
+farewells_none : (ends : Bool) (link : Option RelationState) → sends_inputs (farewells_at ends link) ≡ false
+farewells_none false link = refl
+farewells_none true None = refl
+farewells_none true (Some link) = refl
+
+-- ---- a second Connect
+
+some_is : {A : Type 0} (x y : A) → Some x ≡ Some y → x ≡ y
+some_is x y e = cc
+
+none_some : {A : Type 0} {P : Type 0} (y : A) → None ≡ Some y → P
+none_some y e = absurd (no_some e)
+  where
+    no_some : None ≡ Some y → ⊥
+    no_some e = cc
+
+-- While a relation exists no Connect is accepted.
+refused_pieces : (uuid : List ℕ) (pieces : List Piece) (request : Request) → request_in (Some uuid) pieces ≡ Ok request → ⊥
+unfolding request_in
+refused_pieces uuid [] request e = absurd cc
+refused_pieces uuid (piece ∷ pieces) request e = by_first (ar_in piece) e
+  where
+    by_first : (first : Result Ar CallFault) → (first >>= λ ar. admitted (Some uuid) ar >>= λ _. request_behind ar pieces) ≡ Ok request → ⊥
+    by_first (Ok ar) e = absurd cc
+    by_first (Err why) e = absurd cc
+
+refused_second : (uuid blocks : List ℕ) (request : Request) → request_of (Some uuid) blocks ≡ Ok request → ⊥
+unfolding request_of
+refused_second uuid blocks request e = refused_pieces uuid (pieces_of blocks) request e
+
+-- ---- what is heard
+
+-- A unit, or none.
+abbrev pub units_of : Heard → ℕ
+units_of heard = if is_unit heard then 1 else 0
+
+-- It is neither a unit nor an input.
+pub record IsQuiet (heard : Heard) : Type 0 where
+  pub unit : is_unit heard ≡ false
+  pub value : (slot subslot size : ℕ) → given_with slot subslot size heard ≡ None
+
+-- ---- what becomes of the exchange
+
+-- Whether data is exchanged, and what was received last and when; and both after a unit.
+abbrev pub hearing_of : CyclicEnd → Bool × Hearing
+hearing_of cyclic = (cyclic.begun, cyclic.hearing)
+
+abbrev pub waiting_on : Bool × Hearing → Bool × Hearing
+waiting_on pair = (pair.0, if pair.0 then held_on pair.1 else pair.1)
+
+module _ (link : RelationState) where
+  -- The exchange goes on with what is heard.
+  pub record Follows (heard : Heard) (next : RelationState) : Type 0 where
+    pub events : List runs.Event
+    pub goes : next.flow ≡ runs.behind_all events link.flow
+    pub units : runs.units_in events ≡ units_of heard
+    pub given : (slot subslot size : ℕ) → runs.last_given slot subslot size events ≡ given_with slot subslot size heard
+    pub hears : link.phase ≡ Exchanging → IsUnaccepted heard (Some link)
+        → hearing_of next.flow.cyclic ≡ (if is_unit heard then waiting_on (hearing_of link.flow.cyclic) else hearing_of link.flow.cyclic)
+
+  -- If a relation is left, its exchange goes on; and no frame of inputs is sent, except with a unit.
+  pub record Does (heard : Heard) (end : Finished) : Type 0 where
+    pub follows : (next : RelationState) → end.rest.link ≡ Some next → Follows heard next
+    pub silent : is_unit heard ≡ false → sends_inputs end.sent ≡ false
+
+  module _ (heard : Heard) (quiet : IsQuiet heard) where
+    no_units : 0 ≡ units_of heard
+    no_units = sym (ap (λ (b : Bool). if b then 1 else 0) quiet.unit)
+
+    none_given : (slot subslot size : ℕ) → None ≡ given_with slot subslot size heard
+    none_given slot subslot size = sym (quiet.value slot subslot size)
+
+    -- nothing is received, and no unit passes
+    still : (flow : Flow) → hearing_of flow.cyclic ≡ hearing_of link.flow.cyclic
+        → hearing_of flow.cyclic ≡ (if is_unit heard then waiting_on (hearing_of link.flow.cyclic) else hearing_of link.flow.cyclic)
+    still flow same = same ∙ sym (ap (λ (b : Bool). if b then waiting_on (hearing_of link.flow.cyclic) else hearing_of link.flow.cyclic) quiet.unit)
+
+    -- the exchange goes on with an event that is neither a unit nor an input
+    goes_by : (events : List runs.Event) (next : RelationState) → next.flow ≡ runs.behind_all events link.flow → runs.units_in events ≡ 0
+        → ((slot subslot size : ℕ) → runs.last_given slot subslot size events ≡ None)
+        → (link.phase ≡ Exchanging → IsUnaccepted heard (Some link) → hearing_of (runs.behind_all events link.flow).cyclic ≡ hearing_of link.flow.cyclic)
+        → Follows heard next
+    goes_by events next same none nothing hears = record {
+      events = events;
+      goes = same;
+      units = none ∙ no_units;
+      given = λ slot subslot size. nothing slot subslot size ∙ none_given slot subslot size;
+      hears = λ phase unaccepted. ap (λ (flow : Flow). hearing_of flow.cyclic) same ∙ still (runs.behind_all events link.flow) (hears phase unaccepted);
+    }
+
+    calm : (next : RelationState) → next.flow ≡ link.flow → Follows heard next
+    calm next same = goes_by [] next same refl (λ slot subslot size. refl) (λ phase none. refl)
+
+    lowers : (next : RelationState) (low : Low) → next.flow ≡ with_low link.flow low → Follows heard next
+    lowers next low same = goes_by (runs.Lowers low ∷ []) next same refl (λ slot subslot size. refl) (λ phase none. refl)
+
+    lowers_twice : (next : RelationState) (low then_low : Low) → next.flow ≡ with_low (with_low link.flow low) then_low → Follows heard next
+    lowers_twice next low then_low same = goes_by (runs.Lowers low ∷ runs.Lowers then_low ∷ []) next same refl (λ slot subslot size. refl) (λ phase none. refl)
+
+    says : (next : RelationState) (message : Message) → next.flow ≡ behind_message link.flow message → Follows heard next
+    says next message same = goes_by (runs.Says message ∷ []) next same refl (λ slot subslot size. refl) (λ phase none. refl)
+
+    raised_by_same : (slot subslot : ℕ) (octets : List ℕ) (ident part : Option ℕ) → (unwrap_or (raised_by link.flow slot subslot octets ident part) link.flow).cyclic ≡ link.flow.cyclic
+    raised_by_same slot subslot octets None part = refl
+    raised_by_same slot subslot octets (Some ident) None = refl
+    raised_by_same slot subslot octets (Some ident) (Some part) = by_may (may_raise link.flow octets)
+      where
+        by_may : (b : Bool) → (unwrap_or (if b then Some (record link.flow { alarms = end_with link.flow.alarms (notice_of link.flow.alarms.sender.specifier slot subslot ident part octets) }) else None) link.flow).cyclic
+            ≡ link.flow.cyclic
+        by_may true = refl
+        by_may false = refl
+
+    raises : (real : List RealModule) (next : RelationState) (slot subslot : ℕ) (octets : List ℕ) → next.flow ≡ unwrap_or (raised_at link.flow real slot subslot octets) link.flow → Follows heard next
+    raises real next slot subslot octets same =
+        goes_by (runs.Raises real slot subslot octets ∷ []) next same refl (λ s ss size. refl)
+        (λ phase none. ap (λ (c : CyclicEnd). hearing_of c) (raised_by_same slot subslot octets (module_ident real slot) (submodule_ident real slot subslot)))
+
+    rates : (next : RelationState) (slot subslot : ℕ) (is_good : Bool) → next.flow ≡ rated_at link.flow slot subslot is_good → Follows heard next
+    rates next slot subslot is_good same = goes_by (runs.Rates slot subslot is_good ∷ []) next same refl (λ s ss size. refl) (λ phase none. refl)
+
+    comes : (next : RelationState) (source : Mac) (frame_id : ℕ) (body : List ℕ) → next.flow ≡ behind_frame link.flow source frame_id body
+        → (IsUnaccepted heard (Some link) → ⊥) → Follows heard next
+    comes next source frame_id body same accepted =
+        goes_by (runs.Comes source frame_id body ∷ []) next same refl (λ slot subslot size. refl) (λ phase none. absurd (accepted none))
+
+    begins : (next : RelationState) (low : Low) → next.flow ≡ with_low (begun_of link.flow) low → (link.phase ≡ Exchanging → ⊥) → Follows heard next
+    begins next low same before =
+        goes_by (runs.Begins ∷ runs.Lowers low ∷ []) next same refl (λ slot subslot size. refl) (λ phase none. absurd (before phase))
+
+module _ (station : Station) (before : Live) (link : RelationState) where
+  -- a device with this relation
+  abbrev live : Live
+  live = record before { rest = record before.rest { link = Some link } }
+
+  abbrev Done : Heard → Handled → Type 0
+  Done heard what = (answers : List BlockError) → Does link heard (finished station.identity live.rest what answers)
+
+  -- ---- an event that is finished
+
+  same_link : (next : RelationState) → Some link ≡ Some next → link ≡ next
+  same_link next e = some_is link next e
+
+  stays : (heard : Heard) (end : Finished) → Follows link heard link → end.rest.link ≡ live.rest.link → (is_unit heard ≡ false → sends_inputs end.sent ≡ false) → Does link heard end
+  stays heard end follows same silent = record {
+    follows = λ next e. subst (λ (l : RelationState). Follows link heard l) (same_link next (sym same ∙ e)) follows;
+    silent = silent;
+  }
+
+  ends : (heard : Heard) (end : Finished) → end.rest.link ≡ None → (is_unit heard ≡ false → sends_inputs end.sent ≡ false) → Does link heard end
+  ends heard end none silent = record { follows = λ next e. none_some next (sym none ∙ e); silent = silent }
+
+  becomes : (heard : Heard) (end : Finished) (next : RelationState) → Follows link heard next → end.rest.link ≡ Some next → (is_unit heard ≡ false → sends_inputs end.sent ≡ false) → Does link heard end
+  becomes heard end next follows is silent = record {
+    follows = λ later e. subst (λ (l : RelationState). Follows link heard l) (some_is next later (sym is ∙ e)) follows;
+    silent = silent;
+  }
+
+  -- a relation whose exchange is unchanged, if there is one
+  abbrev Calm : Option RelationState → Type 0
+  Calm after = (next : RelationState) → after ≡ Some next → next.flow ≡ link.flow
+
+  calm_stands : Calm live.rest.link
+  calm_stands next e = ap (λ (l : RelationState). l.flow) (sym (same_link next e))
+
+  calm_none : Calm None
+  calm_none next e = none_some next e
+
+  calm_map : (change : RelationState → RelationState) → ((l : RelationState) → (change l).flow ≡ l.flow) → (after : Option RelationState) → Calm after → Calm (option_map change after)
+  calm_map change same None is next e = none_some next e
+  calm_map change same (Some l) is next e = ap (λ (r : RelationState). r.flow) (sym (some_is (change l) next e)) ∙ (same l ∙ is l refl)
+
+  calm_named : (source : Partner) (after : Option RelationState) → Calm after → Calm (updated (Named source) after)
+  calm_named source after is = calm_map (λ l. restarted source l) (λ l. refl) after is
+
+  calm_answered : {A : Type 0} (what : Event) (result : Result A CallFault) (after : Option RelationState) → Calm (updated what after) → Calm after → Calm (updated (answered what result) after)
+  calm_answered what (Ok answer) after one other = one
+  calm_answered what (Err why) after one other = other
+
+  calm_taking : (result : Result Records CallFault) (after : Option RelationState) → Calm after → Calm (updated (taking result) after)
+  calm_taking (Ok records) after is = calm_map (λ l. with_records records l) (λ l. refl) after is
+  calm_taking (Err why) after is = is
+
+  calm_effect : (effect : Effect) (after : Option RelationState) → Calm after → Calm (effect_link effect after)
+  calm_effect (Stores value) after is = is
+  calm_effect (Keeps parameter) after is = calm_taking (keeping parameter after) after is
+
+  calm_one : (result : Result Write CallFault) (after : Option RelationState) → Calm after → Calm (one_link result after)
+  calm_one (Ok write) after is = calm_effect write.effect after is
+  calm_one (Err why) after is = is
+
+  calm_each : (judged : List Judged) (after : Option RelationState) → Calm after → Calm (link_behind judged after)
+  calm_each [] after is = is
+  calm_each (one ∷ others) after is = calm_each others (one_link one.1 after) (calm_one one.1 after is)
+
+  calms : (heard : Heard) → IsQuiet heard → (end : Finished) → Calm end.rest.link → sends_inputs end.sent ≡ false → Does link heard end
+  calms heard quiet end is silent = record { follows = λ next e. calm link heard quiet next (is next e); silent = λ unit. silent }
+
+  refuses : (heard : Heard) (why : Note) → Follows link heard link → Done heard (Refuses why)
+  refuses heard why follows = λ answers. stays heard _ follows refl (λ unit. refl)
+
+  -- ---- DCP and ARP
+
+  quiet_asks : (asker : Mac) (request : Asked) → IsQuiet (Asks asker request)
+  quiet_asks asker request = record { unit = refl; value = λ slot subslot size. refl }
+
+  sets_as : (heard : Heard) → IsQuiet heard → (asker : Mac) (request : Asked) (in_operation ends_it : Bool) (answers : List BlockError)
+      → resets (plan_of in_operation request) answers ≡ ends_it → Does link heard (finished station.identity live.rest (Sets asker request in_operation) answers)
+  sets_as heard quiet asker request in_operation ends_it answers is =
+      calms heard quiet (finished station.identity live.rest (Sets asker request in_operation) answers)
+      (subst (λ (b : Bool). Calm (link_after b live.rest.link)) (sym is) (by_end ends_it))
+      (none_both (farewells_at (resets (plan_of in_operation request) answers) live.rest.link) (SetAnswer asker request answers ∷ [])
+      (farewells_none (resets (plan_of in_operation request) answers) live.rest.link) refl)
+    where
+      by_end : (b : Bool) → Calm (link_after b live.rest.link)
+      by_end true = calm_none
+      by_end false = calm_stands
+
+  requests : (asker : Mac) (which : Service) (request : Asked) → Done (Asks asker request) (handled_request station live asker which request)
+  requests asker service.Identify request = by_match (matches station.identity live.values.running (alias_in live.rest.peer) request)
+    where
+      by_match : (b : Bool)
+          → Done (Asks asker request) (if b then Moves live.rest (IdentifyAnswer asker live.values.running request.xid ∷ []) else Refuses note.Filter)
+      by_match true = λ answers. calms _ (quiet_asks asker request) _ calm_stands refl
+      by_match false = refuses _ note.Filter (calm link _ (quiet_asks asker request) link refl)
+  requests asker service.Get request = λ answers. calms _ (quiet_asks asker request) _ calm_stands refl
+  requests asker service.Set request = λ answers.
+      sets_as _ (quiet_asks asker request) asker request (is_some live.rest.link) (resets (plan_of (is_some live.rest.link) request) answers) answers refl
+
+  resolves : (asker : Mac) (packet : Arp) (b : Bool)
+      → Done (Resolves asker packet) (if b then Moves live.rest (ArpReply asker live.values.running.suite.address packet.sender ∷ []) else Refuses note.NotMine)
+  resolves asker packet true = λ answers. calms _ (record { unit = refl; value = λ slot subslot size. refl }) _ calm_stands refl
+  resolves asker packet false = refuses _ note.NotMine (calm link _ (record { unit = refl; value = λ slot subslot size. refl }) link refl)
+
+  -- ---- calls
+
+  module _ (caller : Caller) (address : List ℕ) (said : Said) where
+    abbrev now : Heard
+    now = Reported caller address said
+
+    quiet_now : IsQuiet now
+    quiet_now = record { unit = refl; value = λ slot subslot size. refl }
+
+    -- a call that is answered
+    serves : (at : Live) (call : Call) (which : Operation) (outcome : Result (List ℕ) CallFault) (after : Option RelationState) (behind : List Sent)
+        → Calm after → sends_inputs behind ≡ false → Done now (served station at caller call which outcome after behind)
+    serves at call which outcome after behind is silent = λ answers. calms now quiet_now _ is silent
+
+    no_second : (blocks : List ℕ) (request : Request) → connect_within station.options caller.mac live.rest.link blocks ≡ Ok request → ⊥
+    no_second blocks request e =
+        refused_second link.request.ar.uuid blocks request (unlimited station.options caller.mac live.rest.link blocks request e)
+
+    connects : (blocks : List ℕ) (read : Result Request CallFault) → connect_within station.options caller.mac live.rest.link blocks ≡ read
+        → Calm (updated (making station.real (partner_of caller) station.options (starting_of station live) read) live.rest.link)
+    connects blocks (Ok request) e = absurd (no_second blocks request e)
+    connects blocks (Err why) e = calm_stands
+
+    names : (blocks : List ℕ) (b : Bool) → Calm (updated (if b then Named (partner_of caller) else Unmoved) live.rest.link)
+    names blocks true = calm_named (partner_of caller) live.rest.link calm_stands
+    names blocks false = calm_stands
+
+    effects : (call : Call) (header : IodWriteReq) (effect : Effect) → Done now (handled_effect station live caller call header effect)
+    effects call header (Stores value) = λ answers.
+        calms now quiet_now _
+        (calm_answered (Named (partner_of caller)) (written_as header (first_answer answers)) live.rest.link (calm_named (partner_of caller) live.rest.link calm_stands) calm_stands) refl
+    effects call header (Keeps parameter) =
+        let kept = keeping parameter live.rest.link in
+        let taken = calm_taking kept live.rest.link calm_stands in
+        serves live call operation.Write (kept_answer header kept) _ []
+        (calm_answered (Named (partner_of caller)) kept (updated (taking kept) live.rest.link) (calm_named (partner_of caller) (updated (taking kept) live.rest.link) taken) taken) refl
+
+    writes : (call : Call) (writing : Result Writing CallFault) → Done now (handled_write station live caller call writing)
+    writes call (Ok (One write)) = effects call write.request write.effect
+    writes call (Ok (Each header entries)) = λ answers.
+        let judged = judged_each (uuid_of live.rest.link) station.real entries in
+        calms now quiet_now _ (calm_named (partner_of caller) (link_behind judged live.rest.link) (calm_each judged live.rest.link calm_stands)) refl
+    writes call (Err why) = serves live call operation.Write (Err why) live.rest.link [] calm_stands refl
+
+    readies_behind : (by_application : Bool) (after : Option RelationState) (ended : Result ControlBlock CallFault)
+        → sends_inputs (ready_behind by_application live.values.running.suite.address after ended) ≡ false
+    readies_behind true after (Ok block) = refl
+    readies_behind false after (Ok block) = ready_none live.values.running.suite.address after
+    readies_behind by_application after (Err why) = refl
+
+    controls : (blocks : List ℕ) → Calm (updated (answered (Named (partner_of caller)) (prm_end_of live.rest.link blocks))
+        (updated (answered (Parameterized station.options.ready_by_application) (prm_end_of live.rest.link blocks)) live.rest.link))
+    controls blocks =
+        let ended = prm_end_of live.rest.link blocks in
+        let by_application = station.options.ready_by_application in
+        let moved = calm_answered (Parameterized by_application) ended live.rest.link
+        (calm_map (λ l. parameterized_from by_application l) (λ l. refl) live.rest.link calm_stands) calm_stands in
+        calm_answered (Named (partner_of caller)) ended (updated (answered (Parameterized by_application) ended) live.rest.link)
+        (calm_named (partner_of caller) (updated (answered (Parameterized by_application) ended) live.rest.link) moved) moved
+
+    new_call : (call : Call) (blocks : List ℕ) (which : Operation) → Done now (handled_new station live caller call blocks which)
+    new_call call blocks operation.Connect =
+        serves (but_rest live (with_log (connect_log blocks (connect_answer station.identity station.real station.options caller.mac live.rest.link blocks)) live.rest)) call operation.Connect (connect_answer station.identity station.real station.options caller.mac live.rest.link blocks) _ []
+        (connects blocks (connect_within station.options caller.mac live.rest.link blocks) refl) refl
+    new_call call blocks operation.Release =
+        serves (but_rest live (with_log (release_log (uuid_of live.rest.link) (release_answer live.rest.link blocks)) live.rest)) call operation.Release _ _ [] (calm_answered Ended (release_of live.rest.link blocks) live.rest.link calm_none calm_stands) refl
+    new_call call blocks operation.Read =
+        serves live call operation.Read _ _ []
+        (calm_answered (Named (partner_of caller)) (relation_read (known_of station live) station.identity station.real live.values.running blocks) live.rest.link
+        (calm_named (partner_of caller) live.rest.link calm_stands) calm_stands) refl
+    new_call call blocks operation.Write = writes call (writing_of (uuid_of live.rest.link) station.real blocks)
+    new_call call blocks operation.Control =
+        serves live call operation.Control _ _ _ (controls blocks)
+        (readies_behind station.options.ready_by_application _ (prm_end_of live.rest.link blocks))
+    new_call call blocks operation.ReadImplicit =
+        serves live call operation.ReadImplicit _ _ []
+        (calm_answered (implicitly (partner_of caller) live.rest.link blocks) (implicit_read (known_of station live) station.identity station.real live.values.running blocks) live.rest.link
+        (names blocks _) calm_stands) refl
+
+    looked_call : (call : Call) (blocks : List ℕ) (which : Operation) (found : Looked) → Done now (handled_looked station live caller call blocks which found)
+    looked_call call blocks which new = new_call call blocks which
+    looked_call call blocks which (again frame) = λ answers. calms now quiet_now _ calm_stands refl
+    looked_call call blocks which old = refuses now note.OldCall (calm link now quiet_now link refl)
+
+    counted_call : (call : Call) (which : Operation) (blocks : Option (List ℕ)) → Done now (handled_blocks station live caller call which blocks)
+    counted_call call which None = λ answers. calms now quiet_now _ calm_stands refl
+    counted_call call which (Some blocks) = looked_call call blocks which (looked call.header.activity call.header.sequence live.rest.calls)
+
+    called : (call : Call) (which : Option Operation) → Done now (handled_call station live caller call which)
+    called call None = refuses now note.Fault (calm link now quiet_now link refl)
+    called call (Some which) = counted_call call which call.blocks
+
+    -- ApplicationReady is confirmed only while it is awaited
+    not_awaiting : is_awaiting Exchanging ≡ true → ⊥
+    not_awaiting e = cc
+
+    unconfirmed : (response : Response) → ready_answer response (Some link) ≡ to_ready.Confirmed → link.phase ≡ Exchanging → ⊥
+    unfolding ready_answer
+    unconfirmed response e phase = by_phase link.phase phase e
+      where
+        by_phase : (p : Phase) → p ≡ Exchanging
+            → (if is_awaiting p && is_answer_to link.request.ar.uuid response.header
+            then (if is_done response.status then confirmed_by link.request.ar.uuid (confirmed_block (read_block response.blocks)) else to_ready.Refused (farewell_of Other link))
+            else to_ready.NotWanted) ≡ to_ready.Confirmed → ⊥
+        by_phase Exchanging same f = absurd cc
+        by_phase Started same f = absurd cc
+        by_phase Preparing same f = absurd cc
+        by_phase Awaiting same f = absurd cc
+
+    answers_as : (response : Response) (meaning : ReadyAnswer) → ready_answer response live.rest.link ≡ meaning → Done now (handled_answer station live meaning)
+    answers_as response to_ready.NotWanted is = refuses now note.NoRelation (calm link now quiet_now link refl)
+    answers_as response to_ready.Garbled is = refuses now note.Fault (calm link now quiet_now link refl)
+    answers_as response to_ready.Confirmed is = λ answers.
+        becomes now _ _ (begins link now quiet_now _ _ refl (λ phase. unconfirmed response is phase)) refl
+        (λ unit. low_due (begin_one station.real.modules.items live.rest.diagnoses (Some (exchanging_from link)))
+        (Some (diagnoses_begun station.real.modules.items live.rest.diagnoses (exchanging_from link).flow)))
+    answers_as response (to_ready.Refused farewell) is = λ answers. ends now _ refl (λ unit. refl)
+
+    says_so : (what : Said) → Done now (handled_said station live caller what)
+    says_so (Calls call) = called call (operation_of call.header.operation)
+    says_so (Responds response) = answers_as response (ready_answer response live.rest.link) refl
+    says_so Garbled = refuses now note.Fault (calm link now quiet_now link refl)
+
+    datagram : (b : Bool) → Done now (if b then handled_said station live caller said else Refuses note.NotMine)
+    datagram true = says_so said
+    datagram false = refuses now note.NotMine (calm link now quiet_now link refl)
+
+  -- ---- what is exchanged
+
+  quiet_cyclic : (source : Mac) (frame_id : ℕ) (body : List ℕ) → IsQuiet (Cyclic source frame_id body)
+  quiet_cyclic source frame_id body = record { unit = refl; value = λ s ss size. refl }
+
+  receives : (source : Mac) (frame_id : ℕ) (body : List ℕ) (what : Received) → received_as link.flow source frame_id body ≡ what
+      → Done (Cyclic source frame_id body) (handled_received live what (updated (receiving_as what (behind_frame link.flow source frame_id body)) (Some link)))
+  receives source frame_id body received.Foreign is = refuses _ note.NoRelation (calm link _ (quiet_cyclic source frame_id body) link refl)
+  receives source frame_id body received.Short is = refuses _ note.Fault (calm link _ (quiet_cyclic source frame_id body) link refl)
+  receives source frame_id body received.Stale is = refuses _ note.StaleCycle (calm link _ (quiet_cyclic source frame_id body) link refl)
+  receives source frame_id body received.Taken is = λ answers.
+      becomes _ _ (with_flow (behind_frame link.flow source frame_id body) link)
+      (comes link _ (quiet_cyclic source frame_id body) _ source frame_id body refl (λ none. none is)) refl (λ unit. refl)
+
+  -- an input is given
+  input_hearing : (slot subslot : ℕ) (cyclic : CyclicEnd) (awaited : Bool)
+      → hearing_of (if awaited then remarked (with_cyclic link.flow cyclic) slot subslot None else with_cyclic link.flow cyclic).cyclic ≡ hearing_of cyclic
+  input_hearing slot subslot cyclic true = refl
+  input_hearing slot subslot cyclic false = refl
+
+  given_hearing : (slot subslot : ℕ) (value : List ℕ) (fits : Bool)
+      → hearing_of (unwrap_or (option_map (with_input link.flow slot subslot)
+      (if fits then Some (record link.flow.cyclic { shown = changed at_data slot subslot (with_value value) link.flow.cyclic.shown }) else None)) link.flow).cyclic
+      ≡ hearing_of link.flow.cyclic
+  given_hearing slot subslot value true =
+      input_hearing slot subslot (record link.flow.cyclic { shown = changed at_data slot subslot (with_value value) link.flow.cyclic.shown }) (awaits slot subslot link.flow.marks)
+  given_hearing slot subslot value false = refl
+
+  gives_on : (slot subslot : ℕ) (value : List ℕ) (next : RelationState) → next.flow ≡ unwrap_or (given_at link.flow slot subslot value) link.flow → Follows link (Given slot subslot value) next
+  gives_on slot subslot value next same = record {
+    events = runs.Gives slot subslot value ∷ [];
+    goes = same;
+    units = refl;
+    given = λ s ss size. refl;
+    hears = λ phase none. ap (λ (flow : Flow). hearing_of flow.cyclic) same
+        ∙ given_hearing slot subslot value (has_size (length value) (cell_at at_data slot subslot link.flow.cyclic.shown.cells));
+  }
+
+  gives : (slot subslot : ℕ) (value : List ℕ) (given : Option Flow) → given_at link.flow slot subslot value ≡ given → Done (Given slot subslot value) (handled_input live given)
+  gives slot subslot value (Some flow) is = λ answers.
+      becomes _ _ (with_flow flow link) (gives_on slot subslot value (with_flow flow link) (sym (ap (λ (o : Option Flow). unwrap_or o link.flow) is))) refl (λ unit. refl)
+  gives slot subslot value None is =
+      refuses _ note.Refused (gives_on slot subslot value link (sym (ap (λ (o : Option Flow). unwrap_or o link.flow) is)))
+
+  quiet_rated : (slot subslot : ℕ) (is_good : Bool) → IsQuiet (Rated slot subslot is_good)
+  quiet_rated slot subslot is_good = record { unit = refl; value = λ s ss size. refl }
+
+  rates_as : (slot subslot : ℕ) (is_good : Bool) (statuses : Option (List InputStatus)) → Done (Rated slot subslot is_good) (kept_status live slot subslot is_good statuses)
+  rates_as slot subslot is_good (Some statuses) = λ answers.
+      becomes _ _ (with_flow (rated_at link.flow slot subslot is_good) link) (rates link _ (quiet_rated slot subslot is_good) _ slot subslot is_good refl) refl (λ unit. refl)
+  rates_as slot subslot is_good None = refuses _ note.Refused (calm link _ (quiet_rated slot subslot is_good) link refl)
+
+  -- alarms
+  quiet_raised : (slot subslot : ℕ) (octets : List ℕ) → IsQuiet (Raised slot subslot octets)
+  quiet_raised slot subslot octets = record { unit = refl; value = λ s ss size. refl }
+
+  notices : (slot subslot : ℕ) (octets : List ℕ) (raised : Option Flow) → raised_at link.flow station.real.modules.items slot subslot octets ≡ raised
+      → Done (Raised slot subslot octets) (handled_notice live raised)
+  notices slot subslot octets (Some flow) is = λ answers.
+      becomes _ _ (with_flow flow link)
+      (raises link _ (quiet_raised slot subslot octets) station.real.modules.items _ slot subslot octets (sym (ap (λ (o : Option Flow). unwrap_or o link.flow) is))) refl
+      (λ unit. alarms_none (Some flow))
+  notices slot subslot octets None is = refuses _ note.Refused (calm link _ (quiet_raised slot subslot octets) link refl)
+
+  module _ (heard : Heard) (quiet : IsQuiet heard) where
+    pdu : (message : Message) (what : PduFate) → Done heard (handled_pdu live what (updated (hearing_as what (behind_message link.flow message)) (Some link)))
+    pdu message (fate.Data taken) = λ answers.
+        becomes heard _ (with_flow (behind_message link.flow message) link) (says link heard quiet _ message refl) refl (λ unit. replies_none taken (Some (behind_message link.flow message)))
+    pdu message fate.Done = λ answers. becomes heard _ (with_flow (behind_message link.flow message) link) (says link heard quiet _ message refl) refl (λ unit. refl)
+    pdu message fate.Ignored = refuses heard note.Filter (calm link heard quiet link refl)
+    pdu message (fate.Aborted status) = λ answers. ends heard _ refl (λ unit. refl)
+
+    alarm : (message : Message) (own : Bool) → Done heard (if own then handled_message live message else Refuses note.NoRelation)
+    alarm message true = pdu message (heard_by message live.rest.link)
+    alarm message false = refuses heard note.NoRelation (calm link heard quiet link refl)
+
+    low_pdu : (message : Message) (what : PduFate) → Done heard (handled_low_pdu station live what (updated (hearing_low message live.rest.link) live.rest.link))
+    low_pdu message (fate.Data taken) = λ answers.
+        let next = behind_low link.flow message in
+        let later = next_reported station.real.modules.items next in
+        let one = report_one station.real.modules.items (Some (with_flow next link)) in
+        becomes heard _ (with_flow later (with_flow next link)) (lowers_twice link heard quiet (with_flow later (with_flow next link)) next.low later.low refl) refl
+        (λ unit. none_both (low_replies_of taken (Some next)) (where_due one (low_alarms_of (Some later))) (low_replies_none taken (Some next)) (low_due one (Some later)))
+    low_pdu message fate.Done = λ answers. becomes heard _ (with_flow (behind_low link.flow message) link) (lowers link heard quiet _ _ refl) refl (λ unit. refl)
+    low_pdu message fate.Ignored = refuses heard note.Filter (calm link heard quiet link refl)
+    low_pdu message (fate.Aborted status) = refuses heard note.Filter (calm link heard quiet link refl)
+
+    low : (message : Message) (own : Bool) → Done heard (if own then handled_low_message station live message else Refuses note.NoRelation)
+    low message true = low_pdu message (heard_low message live.rest.link)
+    low message false = refuses heard note.NoRelation (calm link heard quiet link refl)
+
+    low_reply : (source : Mac) (header : Header) (message : Message) (sent : Bool)
+        → Done heard (if sent then handled_low station live source header message else handled_alarm live source header message)
+    low_reply source header message true = low message (is_alarm_of source header.destination header.source live.rest.link)
+    low_reply source header message false = alarm message (is_alarm_of source header.destination header.source live.rest.link)
+
+    low_confirm : (source : Mac) (header : Header) (message : Message) (sent : Bool) → Done heard (if sent then handled_low station live source header message else Refuses note.Fault)
+    low_confirm source header message true = low message (is_alarm_of source header.destination header.source live.rest.link)
+    low_confirm source header message false = refuses heard note.Fault (calm link heard quiet link refl)
+
+  -- diagnosis
+  quiet_change : (change : Change) → IsQuiet (Diagnosed change)
+  quiet_change change = record { unit = refl; value = λ s ss size. refl }
+
+  changes : (change : Change) (later : Option (List Diagnosis)) → Done (Diagnosed change) (handled_change station live change later)
+  changes change (Some later) = λ answers.
+      becomes _ _ (with_flow (diagnosed station.real.modules.items change later link.flow) link) (lowers link _ (quiet_change change) _ _ refl) refl
+      (λ unit. low_due (diagnose_one station.real.modules.items change later (Some link)) (Some (diagnosed station.real.modules.items change later link.flow)))
+  changes change None = refuses _ note.Refused (calm link _ (quiet_change change) link refl)
+
+  diagnoses : (change : Change) (may : Bool) → Done (Diagnosed change) (if may then handled_change station live change (changed_list change live.rest.diagnoses) else Refuses note.Refused)
+  diagnoses change true = changes change (changed_list change live.rest.diagnoses)
+  diagnoses change false = refuses _ note.Refused (calm link _ (quiet_change change) link refl)
+
+  -- the application is ready
+  readies : (preparing : Bool) → Done Readied (if preparing
+      then (let after = updated Prepared live.rest.link in Moves (record live.rest { link = after }) (ready_calls live.values.running.suite.address after)) else Refuses note.Refused)
+  readies true = λ answers.
+      calms Readied (record { unit = refl; value = λ s ss size. refl }) _ (calm_map (λ l. prepared_from l) prepared_same live.rest.link calm_stands) (ready_none live.values.running.suite.address (updated Prepared live.rest.link))
+    where
+      prepared_same : (l : RelationState) → (prepared_from l).flow ≡ l.flow
+      prepared_same l = by_phase (is_preparing (Some l.phase))
+        where
+          by_phase : (b : Bool) → (if b then record l { phase = Awaiting; waited = 0 } else l).flow ≡ l.flow
+          by_phase true = refl
+          by_phase false = refl
+  readies false = refuses Readied note.Refused (calm link Readied (record { unit = refl; value = λ s ss size. refl }) link refl)
+
+  -- a unit
+  passes_on : Follows link Ticks (unit_later link)
+  passes_on = record { events = runs.Passes ∷ []; goes = refl; units = refl; given = λ s ss size. refl; hears = λ phase none. refl }
+
+  no_unit : true ≡ false → ⊥
+  no_unit e = cc
+
+  ticks : (ending : Option Abort) → ending_of link ≡ ending → Done Ticks (ticked live)
+  ticks (Some because) is = λ answers.
+      ends Ticks _ (ap (λ (o : Option Abort). updated (passing_by o) (Some link)) is) (λ unit. absurd (no_unit unit))
+  ticks None is = λ answers.
+      becomes Ticks _ (unit_later link) passes_on (ap (λ (o : Option Abort). updated (passing_by o) (Some link)) is) (λ unit. absurd (no_unit unit))
+
+  does : (heard : Heard) → Done heard (handled station live heard)
+  does (Asks asker request) = requests asker request.service request
+  does (Resolves asker packet) = resolves asker packet (is_request packet.operation && is_running live.values.running packet.target.address)
+  does (Reported caller address said) = datagram caller address said (is_running live.values.running address)
+  does (Alarms source header message) =
+      alarm _ (record { unit = refl; value = λ s ss size. refl }) message (is_alarm_of source header.destination header.source live.rest.link)
+  does (LowReplies source header message) = low_reply _ (record { unit = refl; value = λ s ss size. refl }) source header message (has_sent_low live.rest.link)
+  does (LowConfirms source header message) = low_confirm _ (record { unit = refl; value = λ s ss size. refl }) source header message (has_sent_low live.rest.link)
+  does (Cyclic source frame_id body) = receives source frame_id body (received_as link.flow source frame_id body) refl
+  does (Given slot subslot value) = gives slot subslot value (given_at link.flow slot subslot value) refl
+  does (Raised slot subslot octets) = notices slot subslot octets (raised_at link.flow station.real.modules.items slot subslot octets) refl
+  does (Rated slot subslot is_good) =
+      rates_as slot subslot is_good (statuses_at station.real.modules.items (record { slot = slot; subslot = subslot; is_good = is_good }) live.rest.statuses)
+  does (Met peer) = λ answers. calms (Met peer) (record { unit = refl; value = λ s ss size. refl }) _ calm_stands refl
+  does (Diagnosed change) = diagnoses change (may_be_diagnosed station live change)
+  does Readied = readies (is_preparing (phase_of live.rest.link))
+  does Ticks = ticks (ending_of link) refl
+  does Unreadable = refuses Unreadable note.Fault (calm link Unreadable (record { unit = refl; value = λ s ss size. refl }) link refl)
+  does Elsewhere = refuses Elsewhere note.NotMine (calm link Elsewhere (record { unit = refl; value = λ s ss size. refl }) link refl)
+
+-- One step of a device with a relation, whatever its flash does.
+pub record DoesIn (link : RelationState) (heard : Heard) (step : Stepped) : Type 0 where
+  pub follows : (next : RelationState) → step.live.rest.link ≡ Some next → Follows link heard next
+  pub silent : is_unit heard ≡ false → sends_inputs step.sent ≡ false
+
+step_of_link : (outcomes : List Outcome) (station : Station) (live : Live) (link : RelationState) (heard : Heard)
+    → DoesIn link heard (heard_step outcomes station (record live { rest = record live.rest { link = Some link } }) heard)
+unfolding heard_step handled_step
+step_of_link outcomes station live link heard =
+    let so = does station live link heard
+    (carried outcomes live.values (items_in (handled station (record live { rest = record live.rest { link = Some link } }) heard))).answers in
+    record { follows = so.follows; silent = so.silent }
+
+pub step_does : (outcomes : List Outcome) (station : Station) (live : Live) (link : RelationState) (heard : Heard) → live.rest.link ≡ Some link
+    → DoesIn link heard (heard_step outcomes station live heard)
+step_does outcomes station live link heard is =
+    let same : live ≡ record live { rest = record live.rest { link = Some link } } = ap (λ (l : Option RelationState). record live { rest = record live.rest { link = l } }) is in
+    subst (λ (l : Live). DoesIn link heard (heard_step outcomes station l heard)) (sym same) (step_of_link outcomes station live link heard)

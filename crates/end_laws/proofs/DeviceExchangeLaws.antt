@@ -1,0 +1,482 @@
+-- What a device exchanges over any events: a frame of inputs in each interval, with the values that were given, and the end of a
+-- relation that receives nothing.
+use Rattle.std.proofs.Common.{◌≡◌, ◌⊎◌, inl, inr, ap, ◌+◌, ◌-◌, ◌%◌, ◌==◌, ◌&&◌, ℕ, zero, suc, Bool, true, false, List, [], ◌∷◌, ◌++◌, Option, Some, None, option_map, refl, sym, subst, ◌∙◌, arith}
+use Rattle.std.specs.Prelude.{◌||◌, if◌then◌else◌, is_some, nat_le, unwrap_or, replicate}
+use Rattle.std.specs.List.{AllByRecursion}
+use Rattle.pn_alarms.specs.declared.abort.Abort.{Abort}
+use Rattle.pn_alarms.specs.declared.abort.Abort.TheVariants.{DataHold, Activity, Other}
+use Rattle.pn_alarms.specs.declared.repeats.Due.{Due as AlarmDue}
+use Rattle.pn_alarms.specs.declared.repeats.Due.TheVariants as is_due_of
+use Rattle.cyclic_data.specs.Image.{Shown, cell_at, place_at}
+use Rattle.cyclic_data.specs.Timing.{Hearing, held_on, is_due}
+use Rattle.cyclic_data.specs.declared.exchange.route.Route.{Route}
+use Rattle.cyclic_data.specs.declared.place.Place.{Place}
+use Rattle.cyclic_data.specs.declared.place.PlaceKind.TheVariants.{Data}
+use Rattle.cyclic_data.specs.exchange.Cyclic.{Cyclic as CyclicEnd}
+use Rattle.cyclic_data.specs.exchange.Runs.{later_one}
+use Rattle.cyclic_data.specs.exchange.Units.{ending_by, is_silent as is_cyclic_silent, tick_by}
+use Rattle.connects.specs.requests.Request.{Request}
+use Rattle.relations.specs.exchange.Flow.{Flow}
+use Rattle.relations.specs.exchange.Frames.{Frame, Inputs, Notifies, Replies, Reports, RepliesLow}
+use Rattle.relations.specs.exchange.Opening.{interval_of}
+use Rattle.relations.specs.exchange.Runs as runs
+use Rattle.relations.specs.exchange.Units.{alarm_due, flow_later, tick_of}
+use Rattle.relations.specs.RelationState.{RelationState, flow_of, phase_of}
+use Rattle.relations.specs.declared.phase.Phase.{Phase}
+use Rattle.relations.specs.declared.phase.Phase.TheVariants.{Started, Preparing, Awaiting, Exchanging}
+use Rattle.relations.specs.declared.farewell.Farewell.{Farewell}
+use Rattle.relations.specs.Phases.{made_of, passing_by, updated}
+use Rattle.relations.specs.Timers.{Due, due_by, due_in, ending_of, is_over, is_timed, unit_later}
+use Rattle.device_frames.specs.Heard.{Heard, Ticks, heard_of}
+use Rattle.device_frames.specs.Relation.{alarms_of, due_frames, farewells_in, frames_in, inputs_of, low_alarms_of, ready_calls, where_due}
+use Rattle.device_frames.specs.Sent.{Sent, IdentifyAnswer, GetAnswer, SetAnswer, ArpReply, Again, Ends, CallAnswer, Exchanges, ReadyCall}
+use Rattle.settings_journal.specs.settings_store.Machine.{Outcome}
+use Rattle.device_core.specs.State.{Live, Station, counter_of, units_after}
+use Rattle.device_core.specs.Machine.{handled_step, heard_step}
+use Rattle.end_laws.specs.device.Exchange.{AreUnaccepted, EndsWithoutData, GoesOnFor, Happening, HasTheLast, IsUnaccepted, SendsEachInterval, SendsTheLastGiven, StaysExchanging, StaysRelated, after_all, ends_for_data, input_value, is_end_of_data, is_inputs, is_unit, last_given, sends_inputs, stepped, units_in}
+use Rattle.end_laws.proofs.DeviceExchange.{Follows, alarms_none, both_none, hearing_of, low_alarms_none, none_due, ready_none, step_does, units_of, waiting_on}
+
+-- ---- lists of events
+
+two : {A : Type 0} (x y : A) → Some x ≡ Some y → x ≡ y
+two x y e = cc
+
+some_of : {A : Type 0} (o : Option A) → is_some o ≡ true → (x : A) × (o ≡ Some x)
+some_of (Some x) e = (x, refl)
+some_of None e = absurd (no_bool e)
+  where
+    no_bool : false ≡ true → ⊥
+    no_bool e = cc
+
+all_behind : (one more : List runs.Event) (flow : Flow) → runs.behind_all (one ++ more) flow ≡ runs.behind_all more (runs.behind_all one flow)
+all_behind [] more flow = refl
+all_behind (event ∷ one) more flow = all_behind one more (runs.behind event flow)
+
+units_both : (one more : List runs.Event) → runs.units_in (one ++ more) ≡ runs.units_in one + runs.units_in more
+units_both [] more = omega arith
+units_both (event ∷ one) more = omega (arith, units_both one more)
+
+later_none : (value : Option (List ℕ)) → later_one value None ≡ value
+later_none (Some value) = refl
+later_none None = refl
+
+later_thrice : (one other third : Option (List ℕ)) → later_one (later_one one other) third ≡ later_one one (later_one other third)
+later_thrice (Some value) other third = refl
+later_thrice None other third = refl
+
+given_both : (slot subslot size : ℕ) (one more : List runs.Event) → runs.last_given slot subslot size (one ++ more) ≡ later_one (runs.last_given slot subslot size more) (runs.last_given slot subslot size one)
+given_both slot subslot size [] more = sym (later_none (runs.last_given slot subslot size more))
+given_both slot subslot size (event ∷ one) more =
+    ap (λ (v : Option (List ℕ)). later_one v (runs.given_with slot subslot size event)) (given_both slot subslot size one more)
+    ∙ later_thrice (runs.last_given slot subslot size more) (runs.last_given slot subslot size one) (runs.given_with slot subslot size event)
+
+count_one : (is : Bool) (more : ℕ) → (if is then 1 else 0) + more ≡ (if is then suc more else more)
+count_one true more = omega arith
+count_one false more = omega arith
+
+-- ---- a relation over several events
+
+record RunFollows (station : Station) (live : Live) (link : RelationState) (happened : List Happening) : Type 0 where
+  next : RelationState
+  has : (after_all station happened live).rest.link ≡ Some next
+  flows : List runs.Event
+  goes : next.flow ≡ runs.behind_all flows link.flow
+  units : runs.units_in flows ≡ units_in station happened
+  given : (slot subslot size : ℕ) → runs.last_given slot subslot size flows ≡ last_given station slot subslot size happened
+
+module _ (station : Station) (live : Live) (link : RelationState) (one : Happening) (more : List Happening) where
+  abbrev heard_now : Heard
+  heard_now = heard_of station.identity one.event
+
+  then_follows : (between : RelationState) → Follows link heard_now between → RunFollows station (stepped station live one).live between more → RunFollows station live link (one ∷ more)
+  then_follows between first rest = record {
+    next = rest.next;
+    has = rest.has;
+    flows = first.events ++ rest.flows;
+    goes = rest.goes ∙ ap (λ (flow : Flow). runs.behind_all rest.flows flow) first.goes ∙ sym (all_behind first.events rest.flows link.flow);
+    units = units_both first.events rest.flows ∙ ap (λ (n : ℕ). n + runs.units_in rest.flows) first.units ∙ ap (λ (n : ℕ). units_of heard_now + n) rest.units
+        ∙ count_one (is_unit heard_now) (units_in station more);
+    given = λ slot subslot size. given_both slot subslot size first.events rest.flows
+        ∙ ap (λ (v : Option (List ℕ)). later_one v (runs.last_given slot subslot size first.events)) (rest.given slot subslot size)
+        ∙ ap (λ (v : Option (List ℕ)). later_one (last_given station slot subslot size more) v) (first.given slot subslot size);
+  }
+
+run_follows : (station : Station) (happened : List Happening) (live : Live) (link : RelationState) → live.rest.link ≡ Some link → StaysRelated station happened live
+    → RunFollows station live link happened
+run_follows station [] live link is related = record { next = link; has = is; flows = []; goes = refl; units = refl; given = λ slot subslot size. refl }
+run_follows station (one ∷ more) live link is related =
+    let next = some_of (stepped station live one).live.rest.link related.0 in
+    let does = step_does one.outcomes station live link (heard_of station.identity one.event) is in
+    then_follows station live link one more next.0 (does.follows next.0 next.1)
+    (run_follows station more (stepped station live one).live next.0 next.1 related.1)
+
+related_front : (station : Station) (happened : List Happening) (last : Happening) (live : Live) → StaysRelated station (happened ++ last ∷ []) live
+    → StaysRelated station happened live × (is_some (stepped station (after_all station happened live) last).live.rest.link ≡ true)
+related_front station [] last live related = (tt, related.0)
+related_front station (one ∷ more) last live related =
+    let rest = related_front station more last (stepped station live one).live related.1 in
+    ((related.0, rest.0), rest.1)
+
+-- ---- what a unit sends
+
+skips : (sent more : List Sent) → sends_inputs sent ≡ false → sends_inputs (sent ++ more) ≡ sends_inputs more
+skips [] more none = refl
+skips (message ∷ sent) more none =
+    let parts = both_none (is_inputs message) (sends_inputs sent) none in
+    ap (λ (b : Bool). b || sends_inputs (sent ++ more)) parts.0 ∙ skips sent more parts.1
+
+inputs_due : (is : Bool) (counter : ℕ) (flow : Flow) → sends_inputs (where_due is (inputs_of counter (Some flow))) ≡ is
+inputs_due true counter flow = refl
+inputs_due false counter flow = refl
+
+due_sends : (address : List ℕ) (counter : ℕ) (is_alarm is_low is_ready is_cyclic : Bool) (link : RelationState)
+    → sends_inputs (due_frames address counter (record { farewell = None; is_alarm = is_alarm; is_low = is_low; is_ready = is_ready; is_cyclic = is_cyclic }) (Some link)) ≡ is_cyclic
+due_sends address counter is_alarm is_low is_ready is_cyclic link =
+    skips (where_due is_alarm (alarms_of (Some link.flow))) _ (none_due is_alarm (alarms_of (Some link.flow)) (alarms_none (Some link.flow)))
+    ∙ (skips (where_due is_low (low_alarms_of (Some link.flow))) _ (none_due is_low (low_alarms_of (Some link.flow)) (low_alarms_none (Some link.flow)))
+    ∙ (skips (where_due is_ready (ready_calls address (Some link))) _ (none_due is_ready (ready_calls address (Some link)) (ready_none address (Some link)))
+    ∙ inputs_due is_cyclic counter link.flow))
+
+-- a frame is due if the exchange does not end
+cyclic_due : (cyclic : CyclicEnd) (alarm : AlarmDue) (ending : Option Abort) → (tick_by cyclic alarm ending).ending ≡ None → (tick_by cyclic alarm ending).is_cyclic ≡ is_due cyclic.sending
+cyclic_due cyclic alarm None e = refl
+cyclic_due cyclic alarm (Some because) e = absurd (no_some e)
+  where
+    no_some : Some because ≡ None → ⊥
+    no_some e = cc
+
+-- before the exchange of data the exchange does not end, or it ends with the relation
+timed_by : (phase : Phase) (over : Bool) (ending : Option Abort) → phase ≡ Exchanging → (if is_timed phase then (if over then Some Activity else None) else ending) ≡ ending
+timed_by Exchanging over ending e = refl
+timed_by Started over ending e = absurd cc
+timed_by Preparing over ending e = absurd cc
+timed_by Awaiting over ending e = absurd cc
+
+unended : (link : RelationState) → GoesOnFor (Some link) → ending_of link ≡ None → (tick_of link.flow).ending ≡ None
+unended link (inr none) e = none
+unended link (inl exchanges) e = sym (timed_by link.phase (is_over link) (tick_of link.flow).ending exchanges) ∙ e
+
+-- one unit of a device with this relation
+module _ (station : Station) (before : Live) (link : RelationState) where
+  abbrev sent_by : Option Abort → List Sent
+  sent_by ending = due_frames before.values.running.suite.address (counter_of (units_after 1 before.rest.units)) (due_by link ending) (updated (passing_by ending) (Some link))
+
+  unit_sends : (ending : Option Abort) → ending_of link ≡ ending → GoesOnFor (Some link) → is_some (updated (passing_by ending) (Some link)) ≡ true
+      → sends_inputs (sent_by ending) ≡ is_due link.flow.cyclic.sending
+  unit_sends (Some because) is goes_on related = absurd (no_bool related)
+    where
+      no_bool : false ≡ true → ⊥
+      no_bool e = cc
+  unit_sends None is goes_on related =
+      due_sends before.values.running.suite.address (counter_of (units_after 1 before.rest.units)) _ _ _ (tick_of link.flow).is_cyclic (unit_later link)
+      ∙ cyclic_due link.flow.cyclic (alarm_due link.flow) _ (unended link goes_on is)
+
+  tick_sends : (outcomes : List Outcome) → GoesOnFor (Some link) → is_some (heard_step outcomes station (record before { rest = record before.rest { link = Some link } }) Ticks).live.rest.link ≡ true
+      → sends_inputs (heard_step outcomes station (record before { rest = record before.rest { link = Some link } }) Ticks).sent ≡ is_due link.flow.cyclic.sending
+  unfolding heard_step handled_step
+  tick_sends outcomes goes_on related = unit_sends (ending_of link) refl goes_on related
+
+-- the unit of any device with a relation
+tick_at : (station : Station) (outcomes : List Outcome) (live : Live) (link : RelationState) → live.rest.link ≡ Some link → GoesOnFor live.rest.link
+    → is_some (heard_step outcomes station live Ticks).live.rest.link ≡ true → sends_inputs (heard_step outcomes station live Ticks).sent ≡ is_due link.flow.cyclic.sending
+tick_at station outcomes live link is goes_on related =
+    let same : live ≡ record live { rest = record live.rest { link = Some link } } = ap (λ (l : Option RelationState). record live { rest = record live.rest { link = l } }) is in
+    subst (λ (l : Live). GoesOnFor l.rest.link → is_some (heard_step outcomes station l Ticks).live.rest.link ≡ true → sends_inputs (heard_step outcomes station l Ticks).sent ≡ is_due link.flow.cyclic.sending)
+    (sym same) (tick_sends station live link outcomes) goes_on related
+
+unit_is : (heard : Heard) → is_unit heard ≡ true → heard ≡ Ticks
+unit_is Ticks e = refl
+unit_is heard e = absurd cc
+
+-- ---- a frame of inputs in each interval
+
+module _ (station : Station) (live : Live) (last : Happening) (next : RelationState) (has : live.rest.link ≡ Some next) (due : Bool) (is_due_now : is_due next.flow.cyclic.sending ≡ due)
+    (goes_on : GoesOnFor live.rest.link) (stands : is_some (stepped station live last).live.rest.link ≡ true) where
+  interval_by : (b : Bool) → is_unit (heard_of station.identity last.event) ≡ b
+      → sends_inputs (stepped station live last).sent ≡ (is_unit (heard_of station.identity last.event) && due)
+  interval_by false e = (step_does last.outcomes station live next (heard_of station.identity last.event) has).silent e ∙ sym (ap (λ (b : Bool). b && due) e)
+  interval_by true e =
+      let ticks : heard_of station.identity last.event ≡ Ticks = unit_is (heard_of station.identity last.event) e in
+      let related : is_some (heard_step last.outcomes station live Ticks).live.rest.link ≡ true =
+      subst (λ (h : Heard). is_some (heard_step last.outcomes station live h).live.rest.link ≡ true) ticks stands in
+      ap (λ (h : Heard). sends_inputs (heard_step last.outcomes station live h).sent) ticks
+      ∙ (tick_at station last.outcomes live next has goes_on related ∙ (is_due_now ∙ sym (ap (λ (b : Bool). b && due) e)))
+
+pub sends_each_interval : runs.IsDueEachInterval → SendsEachInterval
+sends_each_interval law station live happened last answered long related goes_on =
+    let front = related_front station happened last live related in
+    let run = run_follows station happened live (made_of answered.request answered.partner answered.rows answered.options answered.starting) answered.link front.0 in
+    interval_by station (after_all station happened live) last run.next run.has ((units_in station happened + 1) % interval_of answered.request.input == 0)
+    (ap (λ (flow : Flow). is_due flow.cyclic.sending) run.goes
+    ∙ (law answered.request answered.rows answered.starting run.flows long ∙ ap (λ (n : ℕ). (n + 1) % interval_of answered.request.input == 0) run.units))
+    goes_on front.1 (is_unit (heard_of station.identity last.event)) refl
+
+-- ---- its values
+
+module _ (station : Station) (happened : List Happening) (request : Request) where
+  abbrev AllHave : List Sent → Type 0
+  AllHave sent = AllByRecursion (HasTheLast station happened request) sent
+
+  frame_has : (route : Route) (frame : Frame) → is_inputs (Exchanges route frame) ≡ false → HasTheLast station happened request (Exchanges route frame)
+  frame_has route (Inputs has_problem inputs counter) e = absurd cc
+  frame_has route (Notifies header alarm) e = tt
+  frame_has route (Replies header) e = tt
+  frame_has route (Reports tag header alarm) e = tt
+  frame_has route (RepliesLow tag header) e = tt
+
+  message_has : (message : Sent) → is_inputs message ≡ false → HasTheLast station happened request message
+  message_has (Exchanges route frame) e = frame_has route frame e
+  message_has (IdentifyAnswer asker running xid) e = tt
+  message_has (GetAnswer asker running alias asked) e = tt
+  message_has (SetAnswer asker asked answers) e = tt
+  message_has (ArpReply asker address target) e = tt
+  message_has (CallAnswer caller address answer) e = tt
+  message_has (Again frame) e = tt
+  message_has (ReadyCall address ready) e = tt
+  message_has (Ends farewell) e = tt
+
+  none_has : (sent : List Sent) → sends_inputs sent ≡ false → AllHave sent
+  none_has [] none = tt
+  none_has (message ∷ sent) none =
+      let parts = both_none (is_inputs message) (sends_inputs sent) none in
+      (message_has message parts.0, none_has sent parts.1)
+
+  both_have : (sent more : List Sent) → AllHave sent → AllHave more → AllHave (sent ++ more)
+  both_have [] more all others = others
+  both_have (message ∷ sent) more all others = (all.0, both_have sent more all.1 others)
+
+  due_has : (is : Bool) (sent : List Sent) → AllHave sent → AllHave (where_due is sent)
+  due_has true sent all = all
+  due_has false sent all = tt
+
+  -- the inputs of a relation
+  abbrev AreGiven : Shown → Type 0
+  AreGiven inputs = (slot subslot : ℕ) → option_map (λ cell. cell.value) (cell_at Data slot subslot inputs.cells)
+      ≡ option_map (input_value station happened slot subslot) (place_at Data slot subslot request.input.layout.places)
+
+  farewells_have : (farewell : Option Farewell) → AllHave (farewells_in farewell)
+  farewells_have None = tt
+  farewells_have (Some farewell) = (tt, tt)
+
+  inputs_have : (counter : ℕ) (flow : Option Flow) → ((there : Flow) → flow ≡ Some there → AreGiven there.cyclic.shown) → AllHave (inputs_of counter flow)
+  inputs_have counter None given = tt
+  inputs_have counter (Some flow) given = (given flow refl, tt)
+
+  frames_have : (address : List ℕ) (counter : ℕ) (due : Due) (link : Option RelationState) → ((there : Flow) → flow_of link ≡ Some there → AreGiven there.cyclic.shown)
+      → AllHave (due_frames address counter due link)
+  frames_have address counter due link given =
+      both_have (farewells_in due.farewell) _ (farewells_have due.farewell)
+      (both_have (where_due due.is_alarm (alarms_of (flow_of link))) _ (none_has _ (none_due due.is_alarm (alarms_of (flow_of link)) (alarms_none (flow_of link))))
+      (both_have (where_due due.is_low (low_alarms_of (flow_of link))) _ (none_has _ (none_due due.is_low (low_alarms_of (flow_of link)) (low_alarms_none (flow_of link))))
+      (both_have (where_due due.is_ready (ready_calls address link)) _ (none_has _ (none_due due.is_ready (ready_calls address link) (ready_none address link)))
+      (due_has due.is_cyclic (inputs_of counter (flow_of link)) (inputs_have counter (flow_of link) given)))))
+
+  -- with a unit
+  module _ (before : Live) (link : RelationState) (given : AreGiven link.flow.cyclic.shown) where
+    later_given : (ending : Option Abort) (there : Flow) → flow_of (updated (passing_by ending) (Some link)) ≡ Some there → AreGiven there.cyclic.shown
+    later_given (Some because) there e = absurd (none_some e)
+      where
+        none_some : None ≡ Some there → ⊥
+        none_some e = cc
+    later_given None there e = subst (λ (flow : Flow). AreGiven flow.cyclic.shown) (two (flow_later link.flow) there e) given
+
+    tick_has : (outcomes : List Outcome) → AllHave (heard_step outcomes station (record before { rest = record before.rest { link = Some link } }) Ticks).sent
+    unfolding heard_step handled_step
+    tick_has outcomes =
+        frames_have before.values.running.suite.address (counter_of (units_after 1 before.rest.units)) (due_in link) (updated (passing_by (ending_of link)) (Some link)) (later_given (ending_of link))
+
+  any_has : (outcomes : List Outcome) (live : Live) (link : RelationState) (heard : Heard) → live.rest.link ≡ Some link → AreGiven link.flow.cyclic.shown
+      → AllHave (heard_step outcomes station live heard).sent
+  any_has outcomes live link heard is given = by_unit (is_unit heard) refl
+    where
+      same : live ≡ record live { rest = record live.rest { link = Some link } }
+      same = ap (λ (l : Option RelationState). record live { rest = record live.rest { link = l } }) is
+
+      by_unit : (b : Bool) → is_unit heard ≡ b → AllHave (heard_step outcomes station live heard).sent
+      by_unit false e = none_has (heard_step outcomes station live heard).sent ((step_does outcomes station live link heard is).silent e)
+      by_unit true e =
+          subst (λ (h : Heard). AllHave (heard_step outcomes station live h).sent) (sym (unit_is heard e))
+          (subst (λ (l : Live). AllHave (heard_step outcomes station l Ticks).sent) (sym same) (tick_has live link given outcomes))
+
+value_same : (f g : Place → List ℕ) → ((place : Place) → f place ≡ g place) → (o : Option Place) → option_map f o ≡ option_map g o
+value_same f g same None = refl
+value_same f g same (Some place) = ap (λ (v : List ℕ). Some v) (same place)
+
+pub sends_the_last_given : runs.AreTheLastGiven → SendsTheLastGiven
+sends_the_last_given law station live happened last answered related =
+    let first = made_of answered.request answered.partner answered.rows answered.options answered.starting in
+    let run = run_follows station happened live first answered.link related in
+    any_has station happened answered.request last.outcomes (after_all station happened live) run.next (heard_of station.identity last.event) run.has
+    (λ slot subslot.
+    ap (λ (flow : Flow). option_map (λ cell. cell.value) (cell_at Data slot subslot flow.cyclic.shown.cells)) run.goes
+    ∙ (law answered.request answered.rows answered.starting run.flows slot subslot
+    ∙ value_same (runs.input_value slot subslot run.flows) (input_value station happened slot subslot)
+    (λ place. ap (λ (v : Option (List ℕ)). unwrap_or v (replicate (place.size - 1) 0)) (run.given slot subslot place.size))
+    (place_at Data slot subslot answered.request.input.layout.places)))
+
+-- ---- the end without data
+
+-- The units that a relation waits, one after the other.
+abbrev waiting_for : ℕ → Bool × Hearing → Bool × Hearing
+waiting_for zero pair = pair
+waiting_for (suc units) pair = waiting_for units (waiting_on pair)
+
+abbrev is_silent_pair : Bool × Hearing → Bool
+is_silent_pair pair = pair.0 && ((held_on pair.1).held == pair.1.limit)
+
+record RunHears (station : Station) (live : Live) (link : RelationState) (happened : List Happening) : Type 0 where
+  next : RelationState
+  has : (after_all station happened live).rest.link ≡ Some next
+  phase : next.phase ≡ Exchanging
+  hears : hearing_of next.flow.cyclic ≡ waiting_for (units_in station happened) (hearing_of link.flow.cyclic)
+
+exchanging_is : (o : Option RelationState) → phase_of o ≡ Some Exchanging → (link : RelationState) × (o ≡ Some link) × (link.phase ≡ Exchanging)
+exchanging_is (Some link) e = (link, refl, two link.phase Exchanging e)
+exchanging_is None e = absurd (none_some e)
+  where
+    none_some : None ≡ Some Exchanging → ⊥
+    none_some e = cc
+
+waits_more : (is : Bool) (units : ℕ) (pair : Bool × Hearing) → waiting_for units (if is then waiting_on pair else pair) ≡ waiting_for (if is then suc units else units) pair
+waits_more true units pair = refl
+waits_more false units pair = refl
+
+run_hears : (station : Station) (happened : List Happening) (live : Live) (link : RelationState) → live.rest.link ≡ Some link → link.phase ≡ Exchanging
+    → StaysExchanging station happened live → AreUnaccepted station happened live → RunHears station live link happened
+run_hears station [] live link is phase stays none = record { next = link; has = is; phase = phase; hears = refl }
+run_hears station (one ∷ more) live link is phase stays none =
+    let heard = heard_of station.identity one.event in
+    let after = exchanging_is (stepped station live one).live.rest.link stays.0 in
+    let does = step_does one.outcomes station live link heard is in
+    let first = does.follows after.0 after.1 in
+    let rest = run_hears station more (stepped station live one).live after.0 after.1 after.2 stays.1 none.1 in
+    let unaccepted : IsUnaccepted heard (Some link) = subst (λ (l : Option RelationState). IsUnaccepted heard l) is none.0 in
+    record {
+      next = rest.next;
+      has = rest.has;
+      phase = rest.phase;
+      hears = rest.hears ∙ (ap (λ (pair : Bool × Hearing). waiting_for (units_in station more) pair) (first.hears phase unaccepted)
+          ∙ waits_more (is_unit heard) (units_in station more) (hearing_of link.flow.cyclic));
+    }
+
+-- units alone
+abbrev passes : ℕ → List runs.Event
+passes zero = []
+passes (suc units) = runs.Passes ∷ passes units
+
+passes_units : (units : ℕ) → runs.units_in (passes units) ≡ units
+passes_units zero = refl
+passes_units (suc units) = omega (arith, passes_units units)
+
+passes_hear : (units : ℕ) (flow : Flow) → hearing_of (runs.behind_all (passes units) flow).cyclic ≡ waiting_for units (hearing_of flow.cyclic)
+passes_hear zero flow = refl
+passes_hear (suc units) flow = passes_hear units (flow_later flow)
+
+passes_quiet : (units : ℕ) (flow : Flow) → runs.AreNoRenewals (passes units) flow
+passes_quiet zero flow = tt
+passes_quiet (suc units) flow = (refl, passes_quiet units (flow_later flow))
+
+-- what a unit says of the end
+quiet_both : (sent more : List Sent) → ends_for_data sent ≡ false → ends_for_data more ≡ false → ends_for_data (sent ++ more) ≡ false
+quiet_both [] more none others = others
+quiet_both (message ∷ sent) more none others =
+    let parts = both_none (is_end_of_data message) (ends_for_data sent) none in
+    ap (λ (b : Bool). b || ends_for_data (sent ++ more)) parts.0 ∙ quiet_both sent more parts.1 others
+
+quiet_due : (is : Bool) (sent : List Sent) → ends_for_data sent ≡ false → ends_for_data (where_due is sent) ≡ false
+quiet_due true sent none = none
+quiet_due false sent none = refl
+
+quiet_frames : (route : Route) (frame : Option Frame) → ends_for_data (frames_in route frame) ≡ false
+quiet_frames route None = refl
+quiet_frames route (Some frame) = refl
+
+quiet_alarms : (flow : Option Flow) → ends_for_data (alarms_of flow) ≡ false
+quiet_alarms None = refl
+quiet_alarms (Some flow) = quiet_frames flow.cyclic.route _
+
+quiet_low_alarms : (flow : Option Flow) → ends_for_data (low_alarms_of flow) ≡ false
+quiet_low_alarms None = refl
+quiet_low_alarms (Some flow) = quiet_frames flow.cyclic.route _
+
+quiet_ready : (address : List ℕ) (link : Option RelationState) → ends_for_data (ready_calls address link) ≡ false
+quiet_ready address None = refl
+quiet_ready address (Some link) = refl
+
+quiet_inputs : (counter : ℕ) (flow : Option Flow) → ends_for_data (inputs_of counter flow) ≡ false
+quiet_inputs counter None = refl
+quiet_inputs counter (Some flow) = refl
+
+unending : (address : List ℕ) (counter : ℕ) (due : Due) (link : Option RelationState) → due.farewell ≡ None → ends_for_data (due_frames address counter due link) ≡ false
+unending address counter due link none =
+    quiet_both (farewells_in due.farewell) _ (ap (λ (f : Option Farewell). ends_for_data (farewells_in f)) none)
+    (quiet_both (where_due due.is_alarm (alarms_of (flow_of link))) _ (quiet_due due.is_alarm (alarms_of (flow_of link)) (quiet_alarms (flow_of link)))
+    (quiet_both (where_due due.is_low (low_alarms_of (flow_of link))) _ (quiet_due due.is_low (low_alarms_of (flow_of link)) (quiet_low_alarms (flow_of link)))
+    (quiet_both (where_due due.is_ready (ready_calls address link)) _ (quiet_due due.is_ready (ready_calls address link) (quiet_ready address link))
+    (quiet_due due.is_cyclic (inputs_of counter (flow_of link)) (quiet_inputs counter (flow_of link))))))
+
+-- the end that a unit brings, if data is exchanged
+ending_so : (cyclic : CyclicEnd) (alarm : AlarmDue) (ending : Option Abort) → (tick_by cyclic alarm ending).ending ≡ ending
+ending_so cyclic alarm None = refl
+ending_so cyclic alarm (Some because) = refl
+
+alarm_ending : (alarm : AlarmDue) → (ending_by alarm ≡ None) ⊎ (ending_by alarm ≡ Some Other)
+alarm_ending is_due_of.Nothing = inl refl
+alarm_ending is_due_of.Again = inl refl
+alarm_ending is_due_of.Spent = inr refl
+
+module _ (station : Station) (before : Live) (link : RelationState) where
+  abbrev frames_at : Option Abort → List Sent
+  frames_at ending = due_frames before.values.running.suite.address (counter_of (units_after 1 before.rest.units)) (due_by link ending) (updated (passing_by ending) (Some link))
+
+  says_by : (silent : Bool) → ends_for_data (frames_at (if silent then Some DataHold else ending_by (alarm_due link.flow))) ≡ silent
+  says_by true = refl
+  says_by false = by_alarm (alarm_ending (alarm_due link.flow))
+    where
+      by_alarm : (ending_by (alarm_due link.flow) ≡ None) ⊎ (ending_by (alarm_due link.flow) ≡ Some Other) → ends_for_data (frames_at (ending_by (alarm_due link.flow))) ≡ false
+      by_alarm (inl none) =
+          ap (λ (o : Option Abort). ends_for_data (frames_at o)) none
+          ∙ unending before.values.running.suite.address (counter_of (units_after 1 before.rest.units)) (due_by link None) (Some (unit_later link)) refl
+      by_alarm (inr other) = ap (λ (o : Option Abort). ends_for_data (frames_at o)) other
+
+  ends_by : (silent : Bool) → silent ≡ true → updated (passing_by (if silent then Some DataHold else ending_by (alarm_due link.flow))) (Some link) ≡ None
+  ends_by true e = refl
+  ends_by false e = absurd (no_bool e)
+    where
+      no_bool : false ≡ true → ⊥
+      no_bool e = cc
+
+  ending_now : link.phase ≡ Exchanging → ending_of link ≡ (if is_cyclic_silent link.flow.cyclic then Some DataHold else ending_by (alarm_due link.flow))
+  ending_now exchanges = timed_by link.phase (is_over link) (tick_of link.flow).ending exchanges ∙ ending_so link.flow.cyclic (alarm_due link.flow) _
+
+  tick_ends : (outcomes : List Outcome) → link.phase ≡ Exchanging
+      → (ends_for_data (heard_step outcomes station (record before { rest = record before.rest { link = Some link } }) Ticks).sent ≡ is_cyclic_silent link.flow.cyclic)
+      × (is_cyclic_silent link.flow.cyclic ≡ true → (heard_step outcomes station (record before { rest = record before.rest { link = Some link } }) Ticks).live.rest.link ≡ None)
+  unfolding heard_step handled_step
+  tick_ends outcomes exchanges = (
+    ap (λ (o : Option Abort). ends_for_data (frames_at o)) (ending_now exchanges) ∙ says_by (is_cyclic_silent link.flow.cyclic),
+    λ silent. ap (λ (o : Option Abort). updated (passing_by o) (Some link)) (ending_now exchanges) ∙ ends_by (is_cyclic_silent link.flow.cyclic) silent,
+  )
+
+-- a unit of any device that exchanges data
+tick_ends_at : (station : Station) (outcomes : List Outcome) (live : Live) (link : RelationState) (heard : Heard) → live.rest.link ≡ Some link → link.phase ≡ Exchanging → heard ≡ Ticks
+    → (ends_for_data (heard_step outcomes station live heard).sent ≡ is_cyclic_silent link.flow.cyclic)
+    × (is_cyclic_silent link.flow.cyclic ≡ true → (heard_step outcomes station live heard).live.rest.link ≡ None)
+tick_ends_at station outcomes live link heard is exchanges ticks =
+    let same : live ≡ record live { rest = record live.rest { link = Some link } } = ap (λ (l : Option RelationState). record live { rest = record live.rest { link = l } }) is in
+    subst (λ (h : Heard). (ends_for_data (heard_step outcomes station live h).sent ≡ is_cyclic_silent link.flow.cyclic)
+    × (is_cyclic_silent link.flow.cyclic ≡ true → (heard_step outcomes station live h).live.rest.link ≡ None)) (sym ticks)
+    (subst (λ (l : Live). (ends_for_data (heard_step outcomes station l Ticks).sent ≡ is_cyclic_silent link.flow.cyclic)
+    × (is_cyclic_silent link.flow.cyclic ≡ true → (heard_step outcomes station l Ticks).live.rest.link ≡ None)) (sym same) (tick_ends station live link outcomes exchanges))
+
+pub ends_without_data : runs.IsHeldSoLong → EndsWithoutData
+ends_without_data law station live link happened last is exchanges begun fresh stays none ticks =
+    let run = run_hears station happened live link is exchanges stays none in
+    let units = units_in station happened in
+    let tick = tick_ends_at station last.outcomes (after_all station happened live) run.next (heard_of station.identity last.event) run.has run.phase ticks in
+    let silent : is_cyclic_silent run.next.flow.cyclic ≡ nat_le link.flow.cyclic.hearing.limit (units + 1) =
+    ap (λ (pair : Bool × Hearing). is_silent_pair pair) run.hears
+    ∙ (ap (λ (pair : Bool × Hearing). is_silent_pair pair) (sym (passes_hear units link.flow))
+    ∙ (law (passes units) link.flow begun fresh (passes_quiet units link.flow)
+    ∙ ap (λ (n : ℕ). nat_le link.flow.cyclic.hearing.limit (n + 1)) (passes_units units))) in
+    (tick.0 ∙ silent, λ over. tick.1 (silent ∙ over))

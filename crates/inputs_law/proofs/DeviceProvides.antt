@@ -1,0 +1,566 @@
+-- What becomes of the inputs that a relation sends, and of the statuses that the application gave, with any event at its device.
+use Rattle.std.proofs.Common.{◌≡◌, ◌&&◌, ℕ, Bool, true, false, cond, List, [], ◌∷◌, Option, Some, None, option_map, Result, Ok, Err, refl, sym, ap, subst, ◌∙◌}
+use Rattle.std.specs.Prelude.{if◌then◌else◌, is_some, unwrap_or}
+use Rattle.wire.specs.Codec.{◌>>=◌}
+use Rattle.pn_values.specs.declared.mac.Mac.{Mac}
+use Rattle.pn_values.specs.declared.real.RealModule.{RealModule}
+use Rattle.pn_values.specs.declared.set_item.BlockError.{BlockError}
+use Rattle.frame_codec.specs.declared.udp.Caller.{Caller}
+use Rattle.dcp_core.specs.declared.request.Service.{Service}
+use Rattle.dcp_core.specs.declared.request.Service.TheVariants as service
+use Rattle.dcp_core.specs.Request.{Asked}
+use Rattle.dcp_core.specs.Identify.{matches}
+use Rattle.dcp_core.specs.Set.{plan_of}
+use Rattle.rpc_core.specs.Cache.{Reported as Looked, new, again, old, looked}
+use Rattle.rpc_core.specs.Call.{Asked as Call}
+use Rattle.record_blocks.specs.declared.write_record.IodWriteReq.{IodWriteReq}
+use Rattle.records.specs.declared.status.call_fault.CallFault.{CallFault}
+use Rattle.records.specs.declared.status.call_fault.CallFault.TheVariants as fault
+use Rattle.records.specs.declared.status.operation.Operation.{Operation}
+use Rattle.records.specs.declared.status.operation.Operation.TheVariants as operation
+use Rattle.records.specs.status.Operation.{operation_of}
+use Rattle.records.specs.declared.writes.write.Effect.{Effect}
+use Rattle.records.specs.declared.writes.write.Effect.TheVariants.{Stores, Keeps}
+use Rattle.records.specs.declared.writes.write.Write.{Write}
+use Rattle.records.specs.declared.writes.writing.Writing.{Writing}
+use Rattle.records.specs.declared.writes.writing.Writing.TheVariants.{One, Each}
+use Rattle.records.specs.writes.Asked.{writing_of}
+use Rattle.device_records.specs.Reading.{implicit_read, relation_read}
+use Rattle.pn_alarms.specs.declared.abort.Abort.{Abort}
+use Rattle.pn_alarms.specs.declared.device.PduFate.{PduFate}
+use Rattle.pn_alarms.specs.declared.device.PduFate.TheVariants as fate
+use Rattle.pn_alarms.specs.declared.pdu.Header.{Header}
+use Rattle.pn_alarms.specs.Device.{end_with}
+use Rattle.pn_alarms.specs.Message.{ToDevice as Message}
+use Rattle.pn_alarms.specs.Sender.{notice_of}
+use Rattle.module_diff.specs.Plugged.{module_ident, submodule_ident}
+use Rattle.diagnosis.specs.Existing.{changed as changed_list}
+use Rattle.diagnosis.specs.declared.diagnosis.Change.{Change}
+use Rattle.diagnosis.specs.declared.diagnosis.Diagnosis.{Diagnosis}
+use Rattle.cyclic_data.specs.declared.exchange.received.Received.{Received}
+use Rattle.cyclic_data.specs.declared.exchange.received.Received.TheVariants as received
+use Rattle.cyclic_data.specs.declared.tail.CyclicTail.{CyclicTail}
+use Rattle.cyclic_data.specs.declared.tail.ShortFrame.{ShortFrame}
+use Rattle.cyclic_data.specs.Tail.{cyclic_of}
+use Rattle.cyclic_data.specs.Image.{Shown as Image}
+use Rattle.cyclic_data.specs.exchange.Cyclic.{Cyclic as CyclicEnd}
+use Rattle.cyclic_data.specs.exchange.Received.{behind_frame as cyclic_behind, behind_read, is_new, is_of_partner, taken_from}
+use Rattle.connects.specs.declared.requests.parts.Ar.{Ar}
+use Rattle.connects.specs.requests.Handled.{admitted, any_short, ar_in, request_behind, request_in, request_of, request_within}
+use Rattle.connects.specs.requests.Pieces.{Piece, pieces_of}
+use Rattle.connects.specs.requests.Request.{Request}
+use Rattle.relations.specs.declared.hearing.ReadyAnswer.{ReadyAnswer}
+use Rattle.relations.specs.declared.hearing.ReadyAnswer.TheVariants as to_ready
+use Rattle.relations.specs.declared.exchange.statuses.InputStatus.{InputStatus}
+use Rattle.relations.specs.declared.phase.Partner.{Partner}
+use Rattle.relations.specs.declared.phase.Phase.TheVariants.{Awaiting}
+use Rattle.relations.specs.exchange.Diagnosis.{behind_low, diagnosed, diagnoses_begun, next_reported}
+use Rattle.relations.specs.exchange.Flow.{Flow}
+use Rattle.relations.specs.exchange.Notices.{behind_message, may_raise, raised_at, raised_by}
+use Rattle.relations.specs.exchange.Process.{given_at, rated_at}
+use Rattle.relations.specs.exchange.Received.{behind_frame, received_as}
+use Rattle.relations.specs.exchange.Statuses.{statuses_at}
+use Rattle.relations.specs.RelationState.{RelationState, is_alarm_of, is_preparing, phase_of, uuid_of}
+use Rattle.relations.specs.Phases.{Handled as Event, Ended, Named, Parameterized, Prepared, Records, Unmoved, answered, exchanging_from, keeping, parameterized_from, passing_by, prepared_from, restarted, taking, updated, with_flow, with_records}
+use Rattle.relations.specs.Calls.{prm_end_of, release_of}
+use Rattle.relations.specs.Connect.{connect_of, connect_within, is_foreign, making}
+use Rattle.relations.specs.Diagnosed.{heard_low, hearing_low, has_sent_low}
+use Rattle.relations.specs.Exchanged.{given_to, heard_by, hearing_as, raised_to, received_by, receiving_as}
+use Rattle.relations.specs.Ready.{answer_of as ready_answer}
+use Rattle.relations.specs.Timers.{ending_of, unit_later}
+use Rattle.device_frames.specs.Heard.{Heard, Ticks, Unreadable, Elsewhere, Asks, Resolves, Reported, Cyclic, Alarms, LowReplies, LowConfirms, Diagnosed, Given, Raised, Rated, Met, Readied, Said, Calls, Responds, Garbled}
+use Rattle.device_frames.specs.Relation.{ready_calls}
+use Rattle.device_frames.specs.Sent.{IdentifyAnswer, ArpReply}
+use Rattle.device_frames.specs.declared.note.Note.{Note}
+use Rattle.device_frames.specs.declared.note.Note.TheVariants as note
+use Rattle.settings_journal.specs.settings_store.Machine.{Outcome, carried}
+use Rattle.device_core.specs.State.{Station, Live, alias_in}
+use Rattle.device_core.specs.Handled.{Handled, Refuses, Moves, handled, handled_alarm, handled_answer, handled_blocks, handled_call, handled_change, handled_effect, handled_input, handled_looked, handled_low, handled_low_message, handled_low_pdu, handled_message, handled_new, handled_notice, handled_pdu, handled_received, handled_request, handled_said, handled_write, implicitly, is_request, is_running, kept_status, known_of, may_be_diagnosed, partner_of, starting_of, ticked}
+use Rattle.device_core.specs.Several.{Judged, judged_each}
+use Rattle.device_core.specs.Machine.{Finished, effect_link, finished, first_answer, handled_step, heard_step, items_in, link_after, link_behind, one_link, resets, written_as}
+use Rattle.relations.specs.declared.options.DeviceOptions.{DeviceOptions}
+use Rattle.inputs_law.proofs.GivenCells.{Provided, give, give_is, provided_in, restate}
+
+some_is : {A : Type 0} (x y : A) → Some x ≡ Some y → x ≡ y
+some_is x y e = cc
+
+none_some : {A : Type 0} {P : Type 0} (y : A) → None ≡ Some y → P
+none_some y e = absurd (no_some e)
+  where
+    no_some : None ≡ Some y → ⊥
+    no_some e = cc
+
+-- ---- a second Connect
+
+-- while a relation exists, no Connect is accepted
+refused_pieces : (uuid : List ℕ) (pieces : List Piece) (request : Request) → request_in (Some uuid) pieces ≡ Ok request → ⊥
+unfolding request_in
+refused_pieces uuid [] request e = absurd cc
+refused_pieces uuid (piece ∷ pieces) request e = by_first (ar_in piece) e
+  where
+    by_first : (first : Result Ar CallFault) → (first >>= λ ar. admitted (Some uuid) ar >>= λ _. request_behind ar pieces) ≡ Ok request → ⊥
+    by_first (Ok ar) e = absurd cc
+    by_first (Err why) e = absurd cc
+
+refused_second : (uuid blocks : List ℕ) (request : Request) → request_of (Some uuid) blocks ≡ Ok request → ⊥
+unfolding request_of
+refused_second uuid blocks request e = refused_pieces uuid (pieces_of blocks) request e
+
+-- the options of the device do not change what is asked for
+unlimited_as : (short : Bool) (read : Result Request CallFault) (request : Request) → cond short (Err (fault.IocrField 10)) read ≡ Ok request → read ≡ Ok request
+unlimited_as true read request e = absurd cc
+unlimited_as false read request e = e
+
+own_as : (foreign : Bool) (read : Result Request CallFault) (request : Request) → cond foreign (Err (fault.ArField 7)) read ≡ Ok request → read ≡ Ok request
+own_as true read request e = absurd cc
+own_as false read request e = e
+
+pub unlimited : (options : DeviceOptions) (source : Mac) (link : Option RelationState) (blocks : List ℕ) (request : Request) → connect_within options source link blocks ≡ Ok request
+    → connect_of link blocks ≡ Ok request
+unfolding request_within
+unlimited options source link blocks request e =
+    let read = own_as (is_foreign options source link blocks) (request_within options.smallest_interval (uuid_of link) blocks) request e in
+    unlimited_as (any_short options.smallest_interval (uuid_of link) (pieces_of blocks)) (connect_of link blocks) request read
+
+second_refused : (link : RelationState) (options : DeviceOptions) (source : Mac) (blocks : List ℕ) (request : Request) → connect_within options source (Some link) blocks ≡ Ok request → ⊥
+second_refused link options source blocks request e = refused_second link.request.ar.uuid blocks request (unlimited options source (Some link) blocks request e)
+
+-- ---- what is heard of inputs and of their statuses
+
+-- the statuses that the application gave, after an event
+abbrev pub said_in : List RealModule → Heard → List InputStatus → List InputStatus
+said_in real (Rated slot subslot is_good) statuses = unwrap_or (statuses_at real (record { slot = slot; subslot = subslot; is_good = is_good }) statuses) statuses
+said_in real heard statuses = statuses
+
+-- what a relation sends of its inputs, after an event
+abbrev pub rated_if : Option (List InputStatus) → ℕ → ℕ → Bool → Provided → Provided
+rated_if (Some statuses) slot subslot is_good now = restate slot subslot (Some is_good) now
+rated_if None slot subslot is_good now = now
+
+abbrev pub provided_by : List RealModule → List InputStatus → Heard → Provided → Provided
+provided_by real statuses (Given slot subslot value) now = give slot subslot value now
+provided_by real statuses (Rated slot subslot is_good) now = rated_if (statuses_at real (record { slot = slot; subslot = subslot; is_good = is_good }) statuses) slot subslot is_good now
+provided_by real statuses heard now = now
+
+-- ---- the statuses
+
+module _ (station : Station) (live : Live) where
+  abbrev KeepsSaid : Handled → Type 0
+  KeepsSaid what = (answers : List BlockError) → (finished station.identity live.rest what answers).rest.statuses ≡ live.rest.statuses
+
+  kept_if : (b : Bool) (x y : Handled) → KeepsSaid x → KeepsSaid y → KeepsSaid (if b then x else y)
+  kept_if true x y one other = one
+  kept_if false x y one other = other
+
+  refuses_said : (why : Note) → KeepsSaid (Refuses why)
+  refuses_said why = λ answers. refl
+
+  request_said : (asker : Mac) (which : Service) (request : Asked) → KeepsSaid (handled_request station live asker which request)
+  request_said asker service.Identify request = kept_if (matches station.identity live.values.running (alias_in live.rest.peer) request) _ _ (λ answers. refl) (λ answers. refl)
+  request_said asker service.Get request = λ answers. refl
+  request_said asker service.Set request = λ answers. refl
+
+  effect_said : (caller : Caller) (call : Call) (header : IodWriteReq) (effect : Effect) → KeepsSaid (handled_effect station live caller call header effect)
+  effect_said caller call header (Stores value) = λ answers. refl
+  effect_said caller call header (Keeps parameter) = λ answers. refl
+
+  write_said : (caller : Caller) (call : Call) (writing : Result Writing CallFault) → KeepsSaid (handled_write station live caller call writing)
+  write_said caller call (Ok (One write)) = effect_said caller call write.request write.effect
+  write_said caller call (Ok (Each header entries)) = λ answers. refl
+  write_said caller call (Err why) = λ answers. refl
+
+  new_said : (caller : Caller) (call : Call) (blocks : List ℕ) (which : Operation) → KeepsSaid (handled_new station live caller call blocks which)
+  new_said caller call blocks operation.Connect = λ answers. refl
+  new_said caller call blocks operation.Release = λ answers. refl
+  new_said caller call blocks operation.Read = λ answers. refl
+  new_said caller call blocks operation.Write = write_said caller call (writing_of (uuid_of live.rest.link) station.real blocks)
+  new_said caller call blocks operation.Control = λ answers. refl
+  new_said caller call blocks operation.ReadImplicit = λ answers. refl
+
+  looked_said : (caller : Caller) (call : Call) (blocks : List ℕ) (which : Operation) (found : Looked) → KeepsSaid (handled_looked station live caller call blocks which found)
+  looked_said caller call blocks which new = new_said caller call blocks which
+  looked_said caller call blocks which (again frame) = λ answers. refl
+  looked_said caller call blocks which old = λ answers. refl
+
+  counted_said : (caller : Caller) (call : Call) (which : Operation) (blocks : Option (List ℕ)) → KeepsSaid (handled_blocks station live caller call which blocks)
+  counted_said caller call which None = λ answers. refl
+  counted_said caller call which (Some blocks) = looked_said caller call blocks which (looked call.header.activity call.header.sequence live.rest.calls)
+
+  call_said : (caller : Caller) (call : Call) (which : Option Operation) → KeepsSaid (handled_call station live caller call which)
+  call_said caller call None = λ answers. refl
+  call_said caller call (Some which) = counted_said caller call which call.blocks
+
+  answer_said : (meaning : ReadyAnswer) → KeepsSaid (handled_answer station live meaning)
+  answer_said to_ready.NotWanted = λ answers. refl
+  answer_said to_ready.Garbled = λ answers. refl
+  answer_said to_ready.Confirmed = λ answers. refl
+  answer_said (to_ready.Refused farewell) = λ answers. refl
+
+  datagram_said : (caller : Caller) (said : Said) → KeepsSaid (handled_said station live caller said)
+  datagram_said caller (Calls call) = call_said caller call (operation_of call.header.operation)
+  datagram_said caller (Responds response) = answer_said (ready_answer response live.rest.link)
+  datagram_said caller Garbled = λ answers. refl
+
+  pdu_said : (what : PduFate) (link : Option RelationState) → KeepsSaid (handled_pdu live what link)
+  pdu_said (fate.Data taken) link = λ answers. refl
+  pdu_said fate.Done link = λ answers. refl
+  pdu_said fate.Ignored link = λ answers. refl
+  pdu_said (fate.Aborted status) link = λ answers. refl
+
+  alarm_said : (source : Mac) (header : Header) (message : Message) → KeepsSaid (handled_alarm live source header message)
+  alarm_said source header message = kept_if (is_alarm_of source header.destination header.source live.rest.link) _ _ (pdu_said (heard_by message live.rest.link) _) (λ answers. refl)
+
+  low_pdu_said : (what : PduFate) (link : Option RelationState) → KeepsSaid (handled_low_pdu station live what link)
+  low_pdu_said (fate.Data taken) link = λ answers. refl
+  low_pdu_said fate.Done link = λ answers. refl
+  low_pdu_said fate.Ignored link = λ answers. refl
+  low_pdu_said (fate.Aborted status) link = λ answers. refl
+
+  low_said : (source : Mac) (header : Header) (message : Message) → KeepsSaid (handled_low station live source header message)
+  low_said source header message = kept_if (is_alarm_of source header.destination header.source live.rest.link) _ _ (low_pdu_said (heard_low message live.rest.link) _) (λ answers. refl)
+
+  received_said : (what : Received) (link : Option RelationState) → KeepsSaid (handled_received live what link)
+  received_said received.Foreign link = λ answers. refl
+  received_said received.Short link = λ answers. refl
+  received_said received.Stale link = λ answers. refl
+  received_said received.Taken link = λ answers. refl
+
+  input_said : (flow : Option Flow) → KeepsSaid (handled_input live flow)
+  input_said (Some flow) = λ answers. refl
+  input_said None = λ answers. refl
+
+  notice_said : (flow : Option Flow) → KeepsSaid (handled_notice live flow)
+  notice_said (Some flow) = λ answers. refl
+  notice_said None = λ answers. refl
+
+  change_said : (change : Change) (later : Option (List Diagnosis)) → KeepsSaid (handled_change station live change later)
+  change_said change (Some later) = λ answers. refl
+  change_said change None = λ answers. refl
+
+  rated_said : (slot subslot : ℕ) (is_good : Bool) (statuses : Option (List InputStatus)) (answers : List BlockError)
+      → (finished station.identity live.rest (kept_status live slot subslot is_good statuses) answers).rest.statuses ≡ unwrap_or statuses live.rest.statuses
+  rated_said slot subslot is_good (Some statuses) answers = refl
+  rated_said slot subslot is_good None answers = refl
+
+  all_said : (heard : Heard) (answers : List BlockError) → (finished station.identity live.rest (handled station live heard) answers).rest.statuses ≡ said_in station.real.modules.items heard live.rest.statuses
+  all_said (Asks asker request) = request_said asker request.service request
+  all_said (Resolves asker packet) = kept_if (is_request packet.operation && is_running live.values.running packet.target.address) _ _ (λ answers. refl) (λ answers. refl)
+  all_said (Reported caller address said) = kept_if (is_running live.values.running address) _ _ (datagram_said caller said) (λ answers. refl)
+  all_said (Alarms source header message) = alarm_said source header message
+  all_said (LowReplies source header message) = kept_if (has_sent_low live.rest.link) _ _ (low_said source header message) (alarm_said source header message)
+  all_said (LowConfirms source header message) = kept_if (has_sent_low live.rest.link) _ _ (low_said source header message) (λ answers. refl)
+  all_said (Cyclic source frame_id body) = received_said (received_by source frame_id body live.rest.link) _
+  all_said (Given slot subslot value) = input_said (given_to slot subslot value live.rest.link)
+  all_said (Raised slot subslot octets) = notice_said (raised_to station.real.modules.items slot subslot octets live.rest.link)
+  all_said (Rated slot subslot is_good) =
+      rated_said slot subslot is_good (statuses_at station.real.modules.items (record { slot = slot; subslot = subslot; is_good = is_good }) live.rest.statuses)
+  all_said (Met peer) = λ answers. refl
+  all_said (Diagnosed change) = kept_if (may_be_diagnosed station live change) _ _ (change_said change (changed_list change live.rest.diagnoses)) (λ answers. refl)
+  all_said Readied = kept_if (is_preparing (phase_of live.rest.link)) _ _ (λ answers. refl) (λ answers. refl)
+  all_said Ticks = λ answers. refl
+  all_said Unreadable = λ answers. refl
+  all_said Elsewhere = λ answers. refl
+
+pub step_said : (outcomes : List Outcome) (station : Station) (live : Live) (heard : Heard)
+    → (heard_step outcomes station live heard).live.rest.statuses ≡ said_in station.real.modules.items heard live.rest.statuses
+unfolding heard_step handled_step
+step_said outcomes station live heard = all_said station live heard (carried outcomes live.values (items_in (handled station live heard))).answers
+
+-- ---- a relation that stays
+
+module _ (station : Station) (before : Live) (link : RelationState) where
+  -- a device with this relation
+  abbrev live : Live
+  live = record before { rest = record before.rest { link = Some link } }
+
+  abbrev real : List RealModule
+  real = station.real.modules.items
+
+  -- a relation that sends the same inputs, if there is one
+  abbrev Calm : Option RelationState → Type 0
+  Calm after = (next : RelationState) → after ≡ Some next → provided_in next.flow ≡ provided_in link.flow
+
+  -- what a relation sends after an event, if there is one
+  abbrev Provides : Heard → Finished → Type 0
+  Provides heard end = (next : RelationState) → end.rest.link ≡ Some next → provided_in next.flow ≡ provided_by real live.rest.statuses heard (provided_in link.flow)
+
+  abbrev Done : Heard → Handled → Type 0
+  Done heard what = (answers : List BlockError) → Provides heard (finished station.identity live.rest what answers)
+
+  abbrev Stays : Handled → Type 0
+  Stays what = (answers : List BlockError) → Calm (finished station.identity live.rest what answers).rest.link
+
+  calm_as : (now : RelationState) → provided_in now.flow ≡ provided_in link.flow → Calm (Some now)
+  calm_as now same next e = ap (λ (l : RelationState). provided_in l.flow) (sym (some_is now next e)) ∙ same
+
+  calm_stands : Calm live.rest.link
+  calm_stands = calm_as link refl
+
+  calm_none : Calm None
+  calm_none next e = none_some next e
+
+  calm_map : (change : RelationState → RelationState) → ((l : RelationState) → provided_in (change l).flow ≡ provided_in l.flow) → (after : Option RelationState) → Calm after → Calm (option_map change after)
+  calm_map change same None is next e = none_some next e
+  calm_map change same (Some l) is next e = ap (λ (r : RelationState). provided_in r.flow) (sym (some_is (change l) next e)) ∙ (same l ∙ is l refl)
+
+  calm_named : (source : Partner) (after : Option RelationState) → Calm after → Calm (updated (Named source) after)
+  calm_named source after is = calm_map (λ l. restarted source l) (λ l. refl) after is
+
+  calm_answered : {A : Type 0} (what : Event) (result : Result A CallFault) (after : Option RelationState) → Calm (updated what after) → Calm after → Calm (updated (answered what result) after)
+  calm_answered what (Ok answer) after one other = one
+  calm_answered what (Err why) after one other = other
+
+  calm_taking : (result : Result Records CallFault) (after : Option RelationState) → Calm after → Calm (updated (taking result) after)
+  calm_taking (Ok records) after is = calm_map (λ l. with_records records l) (λ l. refl) after is
+  calm_taking (Err why) after is = is
+
+  calm_effect : (effect : Effect) (after : Option RelationState) → Calm after → Calm (effect_link effect after)
+  calm_effect (Stores value) after is = is
+  calm_effect (Keeps parameter) after is = calm_taking (keeping parameter after) after is
+
+  calm_one : (result : Result Write CallFault) (after : Option RelationState) → Calm after → Calm (one_link result after)
+  calm_one (Ok write) after is = calm_effect write.effect after is
+  calm_one (Err why) after is = is
+
+  calm_each : (judged : List Judged) (after : Option RelationState) → Calm after → Calm (link_behind judged after)
+  calm_each [] after is = is
+  calm_each (one ∷ others) after is = calm_each others (one_link one.1 after) (calm_one one.1 after is)
+
+  stays_if : (b : Bool) (x y : Handled) → Stays x → Stays y → Stays (if b then x else y)
+  stays_if true x y one other = one
+  stays_if false x y one other = other
+
+  refuses : (why : Note) → Stays (Refuses why)
+  refuses why = λ answers. calm_stands
+
+  -- ---- DCP
+
+  set_as : (ends : Bool) → Calm (link_after ends live.rest.link)
+  set_as true = calm_none
+  set_as false = calm_stands
+
+  requests : (asker : Mac) (which : Service) (request : Asked) → Stays (handled_request station live asker which request)
+  requests asker service.Identify request =
+      stays_if (matches station.identity live.values.running (alias_in live.rest.peer) request) (Moves live.rest (IdentifyAnswer asker live.values.running request.xid ∷ [])) (Refuses note.Filter)
+      (λ answers. calm_stands) (refuses note.Filter)
+  requests asker service.Get request = λ answers. calm_stands
+  requests asker service.Set request = λ answers. set_as (resets (plan_of (is_some live.rest.link) request) answers)
+
+  -- ---- calls
+
+  module _ (caller : Caller) where
+    connects : (blocks : List ℕ) (read : Result Request CallFault) → connect_within station.options caller.mac live.rest.link blocks ≡ read
+        → Calm (updated (making station.real (partner_of caller) station.options (starting_of station live) read) live.rest.link)
+    connects blocks (Ok request) e = absurd (second_refused link station.options caller.mac blocks request e)
+    connects blocks (Err why) e = calm_stands
+
+    names : (b : Bool) → Calm (updated (if b then Named (partner_of caller) else Unmoved) live.rest.link)
+    names true = calm_named (partner_of caller) live.rest.link calm_stands
+    names false = calm_stands
+
+    named : {A : Type 0} (result : Result A CallFault) → Calm (updated (answered (Named (partner_of caller)) result) live.rest.link)
+    named result = calm_answered (Named (partner_of caller)) result live.rest.link (calm_named (partner_of caller) live.rest.link calm_stands) calm_stands
+
+    effects : (call : Call) (header : IodWriteReq) (effect : Effect) → Stays (handled_effect station live caller call header effect)
+    effects call header (Stores value) = λ answers. named (written_as header (first_answer answers))
+    effects call header (Keeps parameter) =
+        let kept = keeping parameter live.rest.link in
+        let taken = calm_taking kept live.rest.link calm_stands in
+        λ answers. calm_answered (Named (partner_of caller)) kept (updated (taking kept) live.rest.link) (calm_named (partner_of caller) (updated (taking kept) live.rest.link) taken) taken
+
+    writes : (call : Call) (writing : Result Writing CallFault) → Stays (handled_write station live caller call writing)
+    writes call (Ok (One write)) = effects call write.request write.effect
+    writes call (Ok (Each header entries)) = λ answers.
+        let judged = judged_each (uuid_of live.rest.link) station.real entries in
+        calm_named (partner_of caller) (link_behind judged live.rest.link) (calm_each judged live.rest.link calm_stands)
+    writes call (Err why) = λ answers. calm_stands
+
+    controls : (blocks : List ℕ) → Calm (updated (answered (Named (partner_of caller)) (prm_end_of live.rest.link blocks))
+        (updated (answered (Parameterized station.options.ready_by_application) (prm_end_of live.rest.link blocks)) live.rest.link))
+    controls blocks =
+        let ended = prm_end_of live.rest.link blocks in
+        let by_application = station.options.ready_by_application in
+        let moved = calm_answered (Parameterized by_application) ended live.rest.link
+        (calm_map (λ l. parameterized_from by_application l) (λ l. refl) live.rest.link calm_stands) calm_stands in
+        calm_answered (Named (partner_of caller)) ended (updated (answered (Parameterized by_application) ended) live.rest.link)
+        (calm_named (partner_of caller) (updated (answered (Parameterized by_application) ended) live.rest.link) moved) moved
+
+    new_call : (call : Call) (blocks : List ℕ) (which : Operation) → Stays (handled_new station live caller call blocks which)
+    new_call call blocks operation.Connect = λ answers. connects blocks (connect_within station.options caller.mac live.rest.link blocks) refl
+    new_call call blocks operation.Release = λ answers. calm_answered Ended (release_of live.rest.link blocks) live.rest.link calm_none calm_stands
+    new_call call blocks operation.Read = λ answers. named (relation_read (known_of station live) station.identity station.real live.values.running blocks)
+    new_call call blocks operation.Write = writes call (writing_of (uuid_of live.rest.link) station.real blocks)
+    new_call call blocks operation.Control = λ answers. controls blocks
+    new_call call blocks operation.ReadImplicit = λ answers.
+        calm_answered (implicitly (partner_of caller) live.rest.link blocks) (implicit_read (known_of station live) station.identity station.real live.values.running blocks) live.rest.link
+        (names _) calm_stands
+
+    looked_call : (call : Call) (blocks : List ℕ) (which : Operation) (found : Looked) → Stays (handled_looked station live caller call blocks which found)
+    looked_call call blocks which new = new_call call blocks which
+    looked_call call blocks which (again frame) = λ answers. calm_stands
+    looked_call call blocks which old = refuses note.OldCall
+
+    counted_call : (call : Call) (which : Operation) (blocks : Option (List ℕ)) → Stays (handled_blocks station live caller call which blocks)
+    counted_call call which None = λ answers. calm_stands
+    counted_call call which (Some blocks) = looked_call call blocks which (looked call.header.activity call.header.sequence live.rest.calls)
+
+    called : (call : Call) (which : Option Operation) → Stays (handled_call station live caller call which)
+    called call None = refuses note.Fault
+    called call (Some which) = counted_call call which call.blocks
+
+    answers_as : (meaning : ReadyAnswer) → Stays (handled_answer station live meaning)
+    answers_as to_ready.NotWanted = refuses note.NoRelation
+    answers_as to_ready.Garbled = refuses note.Fault
+    answers_as to_ready.Confirmed = λ answers.
+        calm_as (with_flow (diagnoses_begun station.real.modules.items live.rest.diagnoses (exchanging_from link).flow) (exchanging_from link)) refl
+    answers_as (to_ready.Refused farewell) = λ answers. calm_none
+
+    says_so : (what : Said) → Stays (handled_said station live caller what)
+    says_so (Calls call) = called call (operation_of call.header.operation)
+    says_so (Responds response) = answers_as (ready_answer response live.rest.link)
+    says_so Garbled = refuses note.Fault
+
+  -- ---- what is exchanged
+
+  -- a cyclic frame does not change the image that is sent
+  abbrev IsShown : CyclicEnd → Type 0
+  IsShown cyclic = cyclic.shown ≡ link.flow.cyclic.shown
+
+  read_same : (read : Result (List ℕ × CyclicTail) ShortFrame) → IsShown (behind_read link.flow.cyclic read)
+  read_same (Ok x) = by_new (is_new link.flow.cyclic x.1)
+    where
+      by_new : (b : Bool) → IsShown (if b then taken_from link.flow.cyclic x.0 x.1 else link.flow.cyclic)
+      by_new true = refl
+      by_new false = refl
+  read_same (Err short) = refl
+
+  frame_same : (source : Mac) (frame_id : ℕ) (body : List ℕ) → IsShown (cyclic_behind link.flow.cyclic source frame_id body)
+  frame_same source frame_id body = by_partner (is_of_partner link.flow.cyclic.route source frame_id)
+    where
+      by_partner : (b : Bool) → IsShown (if b then behind_read link.flow.cyclic (cyclic_of link.flow.cyclic.taken.data_length body) else link.flow.cyclic)
+      by_partner true = read_same (cyclic_of link.flow.cyclic.taken.data_length body)
+      by_partner false = refl
+
+  receives : (source : Mac) (frame_id : ℕ) (body : List ℕ) (what : Received)
+      → Stays (handled_received live what (updated (receiving_as what (behind_frame link.flow source frame_id body)) (Some link)))
+  receives source frame_id body received.Foreign = refuses note.NoRelation
+  receives source frame_id body received.Short = refuses note.Fault
+  receives source frame_id body received.Stale = refuses note.StaleCycle
+  receives source frame_id body received.Taken = λ answers.
+      calm_as (with_flow (behind_frame link.flow source frame_id body) link)
+      (ap (λ (shown : Image). let p : Provided = record { shown = shown; marks = link.flow.marks } in p) (frame_same source frame_id body))
+
+  -- an input is given
+  gives : (slot subslot : ℕ) (value : List ℕ) (given : Option Flow) → given_at link.flow slot subslot value ≡ given → Done (Given slot subslot value) (handled_input live given)
+  gives slot subslot value (Some flow) is = λ answers next e.
+      ap (λ (l : RelationState). provided_in l.flow) (sym (some_is (with_flow flow link) next e))
+      ∙ (ap (λ (o : Option Flow). provided_in (unwrap_or o link.flow)) (sym is) ∙ give_is slot subslot value link.flow)
+  gives slot subslot value None is = λ answers next e.
+      ap (λ (l : RelationState). provided_in l.flow) (sym (some_is link next e))
+      ∙ (ap (λ (o : Option Flow). provided_in (unwrap_or o link.flow)) (sym is) ∙ give_is slot subslot value link.flow)
+
+  -- a status
+  rates_as : (slot subslot : ℕ) (is_good : Bool) (statuses : Option (List InputStatus)) (answers : List BlockError) (next : RelationState)
+      → (finished station.identity live.rest (kept_status live slot subslot is_good statuses) answers).rest.link ≡ Some next
+      → provided_in next.flow ≡ rated_if statuses slot subslot is_good (provided_in link.flow)
+  rates_as slot subslot is_good (Some statuses) answers next e = ap (λ (l : RelationState). provided_in l.flow) (sym (some_is (with_flow (rated_at link.flow slot subslot is_good) link) next e))
+  rates_as slot subslot is_good None answers next e = ap (λ (l : RelationState). provided_in l.flow) (sym (some_is link next e))
+
+  -- alarms
+  raised_same : (slot subslot : ℕ) (octets : List ℕ) (ident part : Option ℕ) (flow : Flow) → raised_by link.flow slot subslot octets ident part ≡ Some flow → provided_in flow ≡ provided_in link.flow
+  raised_same slot subslot octets None part flow e = none_some flow e
+  raised_same slot subslot octets (Some ident) None flow e = none_some flow e
+  raised_same slot subslot octets (Some ident) (Some part) flow e = by_may (may_raise link.flow octets) e
+    where
+      by_may : (b : Bool) → (if b then Some (record link.flow { alarms = end_with link.flow.alarms (notice_of link.flow.alarms.sender.specifier slot subslot ident part octets) }) else None) ≡ Some flow
+          → provided_in flow ≡ provided_in link.flow
+      by_may true is = ap (λ (f : Flow). provided_in f) (sym (some_is (record link.flow { alarms = end_with link.flow.alarms (notice_of link.flow.alarms.sender.specifier slot subslot ident part octets) }) flow is))
+      by_may false is = none_some flow is
+
+  notices : (slot subslot : ℕ) (octets : List ℕ) (raised : Option Flow) → raised_at link.flow station.real.modules.items slot subslot octets ≡ raised → Stays (handled_notice live raised)
+  notices slot subslot octets (Some flow) is = λ answers.
+      calm_as (with_flow flow link) (raised_same slot subslot octets (module_ident station.real.modules.items slot) (submodule_ident station.real.modules.items slot subslot) flow is)
+  notices slot subslot octets None is = refuses note.Refused
+
+  pdu : (message : Message) (what : PduFate) → Stays (handled_pdu live what (updated (hearing_as what (behind_message link.flow message)) (Some link)))
+  pdu message (fate.Data taken) = λ answers. calm_as (with_flow (behind_message link.flow message) link) refl
+  pdu message fate.Done = λ answers. calm_as (with_flow (behind_message link.flow message) link) refl
+  pdu message fate.Ignored = refuses note.Filter
+  pdu message (fate.Aborted status) = λ answers. calm_none
+
+  alarm : (source : Mac) (header : Header) (message : Message) → Stays (handled_alarm live source header message)
+  alarm source header message = stays_if (is_alarm_of source header.destination header.source live.rest.link) (handled_message live message) (Refuses note.NoRelation) (pdu message (heard_by message live.rest.link)) (refuses note.NoRelation)
+
+  low_pdu : (message : Message) (what : PduFate) → Stays (handled_low_pdu station live what (updated (hearing_low message live.rest.link) live.rest.link))
+  low_pdu message (fate.Data taken) = λ answers.
+      let next = behind_low link.flow message in
+      calm_as (with_flow (next_reported station.real.modules.items next) (with_flow next link)) refl
+  low_pdu message fate.Done = λ answers. calm_as (with_flow (behind_low link.flow message) link) refl
+  low_pdu message fate.Ignored = refuses note.Filter
+  low_pdu message (fate.Aborted status) = refuses note.Filter
+
+  low : (source : Mac) (header : Header) (message : Message) → Stays (handled_low station live source header message)
+  low source header message = stays_if (is_alarm_of source header.destination header.source live.rest.link) (handled_low_message station live message) (Refuses note.NoRelation) (low_pdu message (heard_low message live.rest.link)) (refuses note.NoRelation)
+
+  -- diagnosis
+  changes : (change : Change) (later : Option (List Diagnosis)) → Stays (handled_change station live change later)
+  changes change (Some later) = λ answers. calm_as (with_flow (diagnosed station.real.modules.items change later link.flow) link) refl
+  changes change None = refuses note.Refused
+
+  -- the application is ready
+  prepared_same : (l : RelationState) → provided_in (prepared_from l).flow ≡ provided_in l.flow
+  prepared_same l = by_phase (is_preparing (Some l.phase))
+    where
+      by_phase : (b : Bool) → provided_in (if b then record l { phase = Awaiting; waited = 0 } else l).flow ≡ provided_in l.flow
+      by_phase true = refl
+      by_phase false = refl
+
+  -- a unit
+  ticks : (ending : Option Abort) → ending_of link ≡ ending → Stays (ticked live)
+  ticks (Some because) is = λ answers. subst (λ (l : Option RelationState). Calm l) (sym (ap (λ (o : Option Abort). updated (passing_by o) (Some link)) is)) calm_none
+  ticks None is = λ answers. subst (λ (l : Option RelationState). Calm l) (sym (ap (λ (o : Option Abort). updated (passing_by o) (Some link)) is)) (calm_as (unit_later link) refl)
+
+  provides : (heard : Heard) → Done heard (handled station live heard)
+  provides (Asks asker request) = requests asker request.service request
+  provides (Resolves asker packet) =
+      stays_if (is_request packet.operation && is_running live.values.running packet.target.address) (Moves live.rest (ArpReply asker live.values.running.suite.address packet.sender ∷ [])) (Refuses note.NotMine)
+      (λ answers. calm_stands) (refuses note.NotMine)
+  provides (Reported caller address said) = stays_if (is_running live.values.running address) (handled_said station live caller said) (Refuses note.NotMine) (says_so caller said) (refuses note.NotMine)
+  provides (Alarms source header message) = alarm source header message
+  provides (LowReplies source header message) =
+      stays_if (has_sent_low live.rest.link) (handled_low station live source header message) (handled_alarm live source header message) (low source header message) (alarm source header message)
+  provides (LowConfirms source header message) =
+      stays_if (has_sent_low live.rest.link) (handled_low station live source header message) (Refuses note.Fault) (low source header message) (refuses note.Fault)
+  provides (Cyclic source frame_id body) = receives source frame_id body (received_as link.flow source frame_id body)
+  provides (Given slot subslot value) = gives slot subslot value (given_at link.flow slot subslot value) refl
+  provides (Raised slot subslot octets) = notices slot subslot octets (raised_at link.flow station.real.modules.items slot subslot octets) refl
+  provides (Rated slot subslot is_good) =
+      rates_as slot subslot is_good (statuses_at station.real.modules.items (record { slot = slot; subslot = subslot; is_good = is_good }) live.rest.statuses)
+  provides (Met peer) = λ answers. calm_stands
+  provides (Diagnosed change) =
+      stays_if (may_be_diagnosed station live change) (handled_change station live change (changed_list change live.rest.diagnoses)) (Refuses note.Refused)
+      (changes change (changed_list change live.rest.diagnoses)) (refuses note.Refused)
+  provides Readied =
+      stays_if (is_preparing (phase_of live.rest.link))
+      (let after = updated Prepared live.rest.link in Moves (record live.rest { link = after }) (ready_calls live.values.running.suite.address after)) (Refuses note.Refused)
+      (λ answers. calm_map (λ l. prepared_from l) prepared_same live.rest.link calm_stands) (refuses note.Refused)
+  provides Ticks = ticks (ending_of link) refl
+  provides Unreadable = refuses note.Fault
+  provides Elsewhere = refuses note.NotMine
+
+step_of_link : (outcomes : List Outcome) (station : Station) (live : Live) (link : RelationState) (heard : Heard) (next : RelationState)
+    → (heard_step outcomes station (record live { rest = record live.rest { link = Some link } }) heard).live.rest.link ≡ Some next
+    → provided_in next.flow ≡ provided_by station.real.modules.items live.rest.statuses heard (provided_in link.flow)
+unfolding heard_step handled_step
+step_of_link outcomes station live link heard next e =
+    provides station live link heard
+    (carried outcomes live.values (items_in (handled station (record live { rest = record live.rest { link = Some link } }) heard))).answers next e
+
+-- a relation that exists before a step and after it: what it sends of its inputs
+pub step_provides : (outcomes : List Outcome) (station : Station) (live : Live) (link : RelationState) (heard : Heard) (next : RelationState) → live.rest.link ≡ Some link
+    → (heard_step outcomes station live heard).live.rest.link ≡ Some next
+    → provided_in next.flow ≡ provided_by station.real.modules.items live.rest.statuses heard (provided_in link.flow)
+step_provides outcomes station live link heard next is =
+    let same : live ≡ record live { rest = record live.rest { link = Some link } } = ap (λ (l : Option RelationState). record live { rest = record live.rest { link = l } }) is in
+    subst (λ (l : Live). (heard_step outcomes station l heard).live.rest.link ≡ Some next → provided_in next.flow ≡ provided_by station.real.modules.items live.rest.statuses heard (provided_in link.flow))
+    (sym same) (step_of_link outcomes station live link heard next)

@@ -1,0 +1,12 @@
+pub mod GivenCells
+pub mod GivenStatuses
+pub mod DeviceProvides
+pub mod GivenValues
+pub mod DeviceSends
+pub mod BroughtFrames
+pub mod ControllerGoes
+pub mod ControllerShows
+pub mod InputsPlaced
+pub mod WorldSteps
+pub mod RunShows
+pub mod RunLaw

@@ -1,4 +1,0 @@
-pub mod Wanted
-pub mod Diff
-pub mod Accepted
-pub mod Handled

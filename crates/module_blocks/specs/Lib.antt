@@ -1,2 +1,0 @@
-pub mod Expected
-pub mod ModuleDiff

@@ -1,0 +1,142 @@
+-- A step of a Write is bridged.
+use Rattle.std.proofs.Common.{◌≡◌, ◌==◌, ℕ, List, [], ◌∷◌, drop, flat_map, Option, Some, None, Result, Ok, Err, refl, sym, ap, subst, ◌∙◌}
+use Rattle.std.proofs.lemmas.Bool.{cond_both, cond-true}
+use Rattle.std.proofs.lemmas.List.{append-nil}
+use Rattle.pn_values.specs.declared.command.Command.TheVariants.{SetIm}
+use Rattle.pn_values.specs.declared.set_item.BlockError.{BlockError}
+use Rattle.pn_values.specs.declared.set_item.SetItem.TheVariants.{Ask}
+use Rattle.frame_codec.specs.declared.udp.Caller.{Caller}
+use Rattle.rpc_core.specs.declared.response.Status.{Status}
+use Rattle.rpc_core.specs.Call.{Asked as Called}
+use Rattle.rpc_core.specs.Response.{answer_to}
+use Rattle.records.specs.declared.status.call_fault.CallFault.{CallFault}
+use Rattle.records.specs.declared.status.call_fault.CallFault.TheVariants.{Arguments}
+use Rattle.records.specs.declared.status.operation.Operation.{Operation}
+use Rattle.records.specs.declared.status.operation.Operation.TheVariants.{Write as Writing}
+use Rattle.records.specs.declared.writes.write.Effect.{Effect}
+use Rattle.records.specs.declared.writes.write.Effect.TheVariants.{Stores, Keeps}
+use Rattle.records.specs.declared.writes.write.Write.{Write}
+use Rattle.records.specs.declared.writes.writing.Writing.{Writing as Asking}
+use Rattle.records.specs.declared.writes.writing.Writing.TheVariants.{One, Each}
+use Rattle.records.specs.status.Operation.{operation_of}
+use Rattle.records.specs.status.Status.{status_of}
+use Rattle.records.specs.writes.Answer.{number_of}
+use Rattle.records.specs.writes.Asked.{writing_of}
+use Rattle.relations.specs.Phases.{keeping}
+use Rattle.relations.specs.RelationState.{uuid_of}
+use Rattle.settings_journal.specs.settings_store.Machine.{Outcome, carried}
+use Rattle.device_frames.specs.declared.event.Event.{Event}
+use Rattle.device_frames.specs.Heard.{Calls, Reported, heard_of}
+use Rattle.device_frames.specs.Sendable.{AreSendable, IsSendable}
+use Rattle.device_frames.specs.Sent.{CallAnswer, bytes_of}
+use Rattle.device_core.specs.State.{Live, Station}
+use Rattle.device_core.specs.Several.{Judged, judged_each, texts_in}
+use Rattle.device_core.specs.Handled.{Handled, WritesEach, handled, handled_blocks, handled_effect, handled_write, kept_answer, outcome_of}
+use Rattle.device_core.specs.Machine.{first_answer, handled_step, heard_step, several_answer, step_of, written_as}
+use Rattle.octets_law.specs.Bridge.{Bridges}
+use Rattle.octets_law.specs.Octets.{Call, answers_in, asking_of, calling, commands_in, in_order, number, statuses_in, written_by}
+use Rattle.octets_law.proofs.AnswerPlaces.{answer_statuses}
+use Rattle.octets_law.proofs.CallPlaces.{IsCallRead}
+use Rattle.octets_law.proofs.CallReads.{tested}
+use Rattle.octets_law.proofs.CallSteps.{WritesAreBridged, holds}
+use Rattle.octets_law.proofs.WriteAnswers.{several_read}
+use Rattle.octets_law.proofs.WriteEach.{each_asked}
+use Rattle.octets_law.proofs.WriteHeard.{kept_step, refused_step, write_step}
+use Rattle.octets_law.proofs.WriteJudged.{each_listed}
+use Rattle.octets_law.proofs.WriteMarks.{other_fault}
+use Rattle.octets_law.proofs.WriteSteps.{refused_write, written_each}
+
+-- The operation of a Write is 3.
+operation_three : (n : ℕ) → operation_of n ≡ Some Writing → n ≡ 3
+unfolding operation_of
+operation_three n =
+    cond_both (n == 0) _ _ P (λ _ e. absurd cc) (λ _. cond_both (n == 1) _ _ P (λ _ e. absurd cc) (λ _. cond_both (n == 2) _ _ P (λ _ e. absurd cc)
+    (λ _. cond_both (n == 3) _ _ P (λ is _. tested n 3 is) (λ _. cond_both (n == 4) _ _ P (λ _ e. absurd cc) (λ _. cond_both (n == 5) _ _ P (λ _ e. absurd cc) (λ _ e. absurd cc))))))
+  where
+    P : Option Operation → Type 0
+    P r = r ≡ Some Writing → n ≡ 3
+
+module _ (names : List (List ℕ)) (outcomes : List Outcome) (station : Station) (live : Live) (event : Event) (octets : List ℕ)
+    (asks : asking_of station.identity.mac event ≡ calling octets) (caller : Caller) (address : List ℕ) (call : Called) (read : IsCallRead octets call)
+    (heard : heard_of station.identity event ≡ Reported caller address (Calls call))
+    (can : AreSendable station.identity (step_of outcomes station live event).sent) where
+  abbrev Goal : Type 0
+  Goal = Bridges station.identity.mac names event live.values (step_of outcomes station live event)
+
+  -- The step of what it means.
+  abbrev Step : Handled → Type 0
+  Step what = Bridges station.identity.mac names event live.values (handled_step outcomes station live what)
+
+  stepped : (what : Handled) → handled station live (heard_of station.identity event) ≡ what
+      → (AreSendable station.identity (handled_step outcomes station live what).sent → Step what) → Goal
+  unfolding heard_step
+  stepped what is step =
+      subst Step (sym is) (step (subst (λ what. AreSendable station.identity (handled_step outcomes station live what).sent) is can))
+
+  asked : asking_of station.identity.mac event ≡ Call octets
+  asked = asks ∙ cond-true (number 0 2 octets == 0x0400) _ _ (holds _ 0x0400 read.kind)
+
+  -- The statuses of the answer.
+  told : (came : Status × List ℕ) → IsSendable station.identity (CallAnswer caller live.values.running.suite.address (answer_to call came.0 came.1))
+      → flat_map (answers_in (asking_of station.identity.mac event))
+      (bytes_of station.identity (CallAnswer caller live.values.running.suite.address (answer_to call came.0 came.1)) ∷ [])
+      ≡ number_of came.0 ∷ statuses_in 16 (drop 64 came.1)
+  told came sent =
+      let frame : List ℕ = bytes_of station.identity (CallAnswer caller live.values.running.suite.address (answer_to call came.0 came.1)) in
+      ap (λ a. flat_map (answers_in a) (frame ∷ [])) asked ∙ append-nil _
+      ∙ answer_statuses station.identity caller live.values.running.suite.address (answer_to call came.0 came.1) octets sent read.name
+
+  -- Its blocks are missing.
+  by_none : handled station live (heard_of station.identity event) ≡ handled_blocks station live caller call Writing None → Goal
+  unfolding handled_step
+  by_none what =
+      stepped (handled_blocks station live caller call Writing None) what (λ sent.
+      refused_write station.identity.mac names event live (handled_step outcomes station live (handled_blocks station live caller call Writing None)) (number_of (status_of Writing Arguments))
+      refl (other_fault Arguments (λ e. absurd cc)) (told (outcome_of Writing (Err Arguments)) sent.0))
+
+  module _ (blocks : List ℕ) (counted : call.blocks ≡ Some blocks) (is_write : operation_of call.header.operation ≡ Some Writing) where
+    reads : commands_in (asking_of station.identity.mac event) ≡ written_by blocks
+    reads =
+        ap commands_in asked ∙ cond-true (in_order 68 2 octets == 3) _ _ (holds _ 3 (read.operation ∙ operation_three call.header.operation is_write)) ∙ ap written_by (read.blocks blocks counted)
+
+    -- One record, by what it does.
+    by_effect : (write : Write) (effect : Effect) → write.effect ≡ effect → writing_of (uuid_of live.rest.link) station.real blocks ≡ Ok (One write)
+        → handled station live (heard_of station.identity event) ≡ handled_effect station live caller call write.request effect → Goal
+    unfolding handled_step
+    by_effect write (Stores value) effect is what =
+        let address : List ℕ = live.values.running.suite.address in
+        stepped (handled_effect station live caller call write.request (Stores value)) what (λ sent.
+        write_step station.identity.mac names outcomes station live event caller address call write value (uuid_of live.rest.link) station.real blocks is effect reads
+        (told (outcome_of Writing (written_as write.request (first_answer (carried outcomes live.values (Ask (SetIm value) ∷ [])).answers))) sent.0))
+    by_effect write (Keeps parameter) effect is what =
+        let heeded : Handled = handled_effect station live caller call write.request (Keeps parameter) in
+        stepped heeded what (λ sent.
+        kept_step station.identity.mac names event live (handled_step outcomes station live heeded) write parameter (keeping parameter live.rest.link) (uuid_of live.rest.link) station.real blocks
+        is effect refl reads (told (outcome_of Writing (kept_answer write.request (keeping parameter live.rest.link))) sent.0))
+
+    by_writing : (writing : Result Asking CallFault) → writing_of (uuid_of live.rest.link) station.real blocks ≡ writing
+        → handled station live (heard_of station.identity event) ≡ handled_write station live caller call writing → Goal
+    unfolding handled_step
+    by_writing (Ok (One write)) is what = by_effect write write.effect refl is what
+    by_writing (Ok (Each header entries)) is what =
+        let address : List ℕ = live.values.running.suite.address in
+        let judged : List Judged = judged_each (uuid_of live.rest.link) station.real entries in
+        let answers : List BlockError = (carried outcomes live.values (texts_in judged)).answers in
+        let it = each_asked (uuid_of live.rest.link) station.real blocks header entries is in
+        let list = each_listed (uuid_of live.rest.link) station.real blocks header entries is in
+        stepped (WritesEach caller address call header judged) what (λ sent.
+        written_each station.identity.mac names outcomes station live event caller address call header judged it.0 (reads ∙ it.1) it.2
+        (told (outcome_of Writing (Ok (several_answer header judged answers live.rest.link))) sent.0
+        ∙ ap (λ l. 0 ∷ l) (several_read header judged answers live.rest.link list.wide list.judged list.few)))
+    by_writing (Err why) is what =
+        let refused : Handled = handled_write station live caller call (Err why) in
+        stepped refused what (λ sent.
+        refused_step station.identity.mac names event live (handled_step outcomes station live refused) (uuid_of live.rest.link) station.real blocks why is refl
+        (told (outcome_of Writing (Err why)) sent.0))
+
+  -- A Write is bridged, if what the device sends at it can be sent.
+  pub writes_bridged : WritesAreBridged names outcomes station live event octets asks caller address call read heard
+  writes_bridged is = (
+    λ _ what. by_none what,
+    λ blocks counted _ what. by_writing blocks counted is (writing_of (uuid_of live.rest.link) station.real blocks) refl what,
+  )

@@ -1,0 +1,138 @@
+-- What a device does in its life, said of the octets that it was given and of those that it sent.
+use Rattle.std.specs.Prelude.{◌≡◌, ◌⊎◌, ◌==◌, ◌&&◌, ℕ, length, Bool, true, not, nat_eq, nat_le, nat_lt, List, [], ◌∷◌, ◌++◌, map, take, drop, flat_map, filter_map, Some, None, if◌then◌else◌}
+use Rattle.std.specs.Cmp.Lexicographic.{pointwise}
+use Rattle.std.specs.List.{AllByRecursion}
+use Rattle.pn_values.specs.declared.mac.Mac.{Mac}
+use Rattle.pn_values.specs.declared.command.Command.{Command}
+use Rattle.pn_values.specs.declared.settings.Settings.{Settings}
+use Rattle.pn_values.specs.Command.{fold_of}
+use Rattle.pn_values.specs.Settings.{factory_settings}
+use Rattle.device_frames.specs.declared.event.Event.{Event}
+use Rattle.device_frames.specs.declared.event.Event.TheVariants.{Frame}
+use Rattle.octets_law.specs.Octets.{Asking, Set, Call, Nothing, activity_of, asking_of, block_errors, called, commands_in, confirmed, faulted, is_counted, is_dcp, is_whole, part, dcp_blocks, untagged}
+
+-- An event, and the frames that were sent at it.
+abbrev pub Told : Type 0
+Told = Event × List (List ℕ)
+
+-- All frames that were sent.
+abbrev pub sent_in : List Told → List (List ℕ)
+sent_in transcript = flat_map (λ told. told.1) transcript
+
+-- ---- calls that are answered again
+
+-- An answer that is stored: the sequence number and the activity of the call, and the frame.
+abbrev pub Stored : Type 0
+Stored = List ℕ × List ℕ
+
+-- The frame that is sent again for a call: that of the stored answer of its activity, if it has the call's sequence number.
+abbrev pub again_for : Asking → List Stored → List (List ℕ)
+again_for (Call call) (one ∷ others) =
+    if pointwise nat_eq (drop 1 one.0) (activity_of call)
+    then (if pointwise nat_eq (called call) one.0 then one.1 ∷ [] else [])
+    else again_for (Call call) others
+again_for asking stored = []
+
+-- Whether it is a call that is answered again.
+abbrev pub is_again : Asking → List Stored → Bool
+is_again asking stored = nat_lt 0 (length (again_for asking stored))
+
+-- Without the answer of this activity.
+abbrev pub without : List ℕ → List Stored → List Stored
+without activity [] = []
+without activity (one ∷ others) = if pointwise nat_eq (drop 1 one.0) activity then others else one ∷ without activity others
+
+-- What is stored after an event: the last answer of each of the last four activities. No answer to a call with wrong counts
+-- is stored, and none that is sent again.
+abbrev pub stored_after : Asking → List (List ℕ) → List Stored → List Stored
+stored_after (Call call) (frame ∷ behind) stored =
+    if is_counted call && not (is_again (Call call) stored) then (called call, frame) ∷ take 3 (without (activity_of call) stored) else stored
+stored_after asking sent stored = stored
+
+-- ---- settings
+
+-- The commands that are found by `found` at each event, in order; none at a call that is answered again.
+abbrev pub commands_by : (Asking → List (List ℕ) → List Command) → Mac → List Stored → List Told → List Command
+commands_by found mac stored [] = []
+commands_by found mac stored (told ∷ transcript) =
+    let asking = asking_of mac told.0 in
+    (if is_again asking stored then [] else found asking told.1) ++ commands_by found mac (stored_after asking told.1 stored) transcript
+
+-- Some of these commands, in order.
+abbrev pub AreAmong : List Command → List Command → Type 0
+AreAmong some [] = some ≡ []
+AreAmong some (one ∷ others) = AreAmong some others ⊎ ((more : List Command) × (some ≡ one ∷ more) × AreAmong more others)
+
+-- Some commands of one event, from which on nothing was sent any more: power was lost in it.
+pub record AreCutOff (mac : Mac) (transcript : List Told) (commands : List Command) : Type 0 where
+  pub front : List Told
+  pub last : Told
+  pub behind : List Told
+  pub parts : transcript ≡ front ++ last ∷ behind
+  pub silent : sent_in (last ∷ behind) ≡ []
+  pub some : AreAmong commands (filter_map (λ command. command) (commands_in (asking_of mac last.0)))
+
+-- The settings are the first ones changed by all confirmed commands; or by these and then the first one that a fault stopped;
+-- or by these and then some of the commands at which the device fell silent.
+pub record AreMade (mac : Mac) (first : Settings) (transcript : List Told) (settings : Settings) : Type 0 where
+  pub more : List Command
+  pub at_end : (more ≡ []) ⊎ (more ≡ take 1 (commands_by faulted mac [] transcript)) ⊎ AreCutOff mac transcript more
+  pub made : settings ≡ fold_of (commands_by confirmed mac [] transcript ++ more) first
+
+-- ---- answers
+
+-- What a device owes to what it is asked: to a whole Set one BlockError for each block. To a call that is answered again, with
+-- right counts, the stored frame, or nothing if the call does not reach it.
+abbrev pub IsAnswered : Asking → List Stored → List (List ℕ) → Type 0
+IsAnswered (Set set) stored sent = is_whole set ≡ true → length (flat_map (block_errors set) sent) ≡ length (dcp_blocks set)
+IsAnswered (Call call) stored sent = is_again (Call call) stored ≡ true → is_counted call ≡ true → (sent ≡ []) ⊎ (sent ≡ again_for (Call call) stored)
+IsAnswered Nothing stored sent = Unit {0}
+
+-- Each event is answered as it has to be, until the device falls silent.
+abbrev pub AreAnswered : Mac → List Stored → List Told → Type 0
+AreAnswered mac stored [] = Unit {0}
+AreAnswered mac stored (told ∷ transcript) =
+    let asking = asking_of mac told.0 in
+    (sent_in (told ∷ transcript) ≡ []) ⊎ (IsAnswered asking stored told.1 × AreAnswered mac (stored_after asking told.1 stored) transcript)
+
+-- ---- Identify (IEC 61158-6-10, 4.3.2.3)
+
+-- The values of this kind in a frame.
+abbrev pub values_in : ℕ → List ℕ → List (List ℕ)
+values_in kind frame = filter_map (λ block. if block.0 == kind then Some (drop 2 block.1) else None) (dcp_blocks frame)
+
+-- The frame tells this name and this IP suite.
+abbrev pub Tells : Settings → List ℕ → Type 0
+Tells settings frame =
+    (values_in 0x0202 frame ≡ settings.name ∷ []) × (values_in 0x0102 frame ≡ (settings.suite.address ++ settings.suite.mask ++ settings.suite.gateway) ∷ [])
+
+-- Whether it is an Identify request of all stations: to the multicast address, with the one block FF/FF.
+abbrev pub is_for_all : List ℕ → Bool
+is_for_all frame =
+    is_dcp 0xFEFE 5 0 frame && nat_le 30 (length frame) && nat_le (length frame) 1514
+    && pointwise nat_eq (take 6 frame) (0x01 ∷ 0x0E ∷ 0xCF ∷ 0 ∷ 0 ∷ 0 ∷ []) && pointwise nat_eq (part 24 6 frame) (0 ∷ 4 ∷ 0xFF ∷ 0xFF ∷ 0 ∷ 0 ∷ [])
+
+-- What is sent at an Identify request tells these settings. One of all stations is answered once.
+abbrev pub IsIdentified : Settings → List ℕ → List (List ℕ) → Type 0
+IsIdentified settings octets sent =
+    (is_dcp 0xFEFE 5 0 (untagged octets) ≡ true → AllByRecursion (Tells settings) sent) × (is_for_all (untagged octets) ≡ true → length sent ≡ 1)
+
+-- ---- a life
+
+-- A cycle, from a start with the first settings to the loss of power, after which a start gives these.
+pub record IsCycle (mac : Mac) (first : Settings) (transcript : List Told) (settings : Settings) : Type 0 where
+  pub made : AreMade mac first transcript settings
+  pub answered : AreAnswered mac [] transcript
+  pub identified : (octets : List ℕ) (sent : List (List ℕ)) (later : List Told)
+      → transcript ≡ (Frame (record { items = octets }), sent) ∷ later → IsIdentified first octets sent
+
+-- Cycles of these events, one after another.
+abbrev pub AreCycles : Mac → List (List Event) → List Told → Settings → Settings → Type 0
+AreCycles mac [] transcript first settings = (transcript ≡ []) × (settings ≡ first)
+AreCycles mac (events ∷ cycles) transcript first settings =
+    (now : List Told) × (later : List Told) × (between : Settings) × (transcript ≡ now ++ later) × (map (λ told. told.0) now ≡ events)
+    × IsCycle mac first now between × AreCycles mac cycles later between settings
+
+-- What was told since is a life of these cycles, from a blank chip on.
+abbrev pub IsLife : Mac → List (List Event) → List Told → List Told → Settings → Type 0
+IsLife mac cycles before now settings = (transcript : List Told) × (now ≡ before ++ transcript) × AreCycles mac cycles transcript factory_settings settings

@@ -1,0 +1,48 @@
+-- What a device owes to a call, read at fixed places.
+use Rattle.std.specs.Prelude.{◌≡◌, ◌+◌, ◌-◌, ◌/◌, ◌%◌, ◌==◌, ◌&&◌, ℕ, Bool, true, false, flat_map, length, nat_eq, nat_le, nat_lt, List, ◌∷◌, take, if◌then◌else◌}
+use Rattle.std.specs.Cmp.Lexicographic.{pointwise}
+use Rattle.pn_values.specs.IpSuite.{is_zero}
+use Rattle.pn_values.specs.declared.mac.Mac.{Mac}
+use Rattle.frame_codec.specs.Sum.{ones_sum_of}
+use Rattle.rpc_core.specs.Fields.{turned}
+use Rattle.rpc_core.specs.Interface.{interface_uuid}
+use Rattle.rpc_core.specs.declared.interface.Interface.TheVariants.{Device}
+use Rattle.rpc_core.specs.Cache.{Kept, looked, new}
+use Rattle.device_frames.specs.declared.event.Event.{Event}
+use Rattle.device_frames.specs.declared.event.Event.TheVariants.{Frame, Call as Joined}
+use Rattle.octets_law.specs.Octets.{in_order, number, part, statuses}
+
+-- An identifier of a call, in the byte order of the call.
+abbrev pub identifier : ℕ → List ℕ → List ℕ
+identifier place call = if number 4 1 call / 16 == 1 then turned (part place 16 call) else part place 16 call
+
+-- Whether octets are a whole call to a device (C706, 12.5): version 4, packet type 0, no fragment, a known byte order, the interface of devices
+-- 24, FragmentNumber 76 and authentication 78 are 0, all octets of the body are there (its length 74), and the counts of the blocks are right.
+abbrev pub is_whole_call : List ℕ → Bool
+is_whole_call call =
+    (number 0 1 call == 4) && (number 1 1 call == 0) && (number 2 1 call / 4 % 2 == 0) && nat_lt (number 4 1 call / 16) 2
+    && pointwise nat_eq (identifier 24 call) (interface_uuid Device) && (in_order 76 2 call == 0) && (number 78 1 call == 0)
+    && nat_le (80 + in_order 74 2 call) (length call) && nat_le (20 + in_order 84 4 call) (in_order 74 2 call)
+    && (in_order 92 4 call == 0) && (in_order 84 4 call == in_order 96 4 call)
+
+-- Whether a frame without a tag is a datagram to the port of calls, 34964: IPv4 with a header of 20 octets and a right checksum, no fragment, UDP
+-- without a checksum, and all octets that its lengths 16 and 38 count are there.
+abbrev pub is_datagram : List ℕ → Bool
+is_datagram frame =
+    (number 12 2 frame == 0x0800) && (number 14 1 frame == 0x45) && (number 20 2 frame % 0x4000 == 0) && (number 23 1 frame == 17)
+    && (ones_sum_of (part 14 20 frame) == 65535) && (number 36 2 frame == 34964) && (number 40 2 frame == 0) && nat_le 8 (number 38 2 frame)
+    && nat_le (20 + number 38 2 frame) (number 16 2 frame) && nat_le (14 + number 16 2 frame) (length frame) && nat_le (length frame) 1514
+
+-- The call that an event has for a device of this MAC address at this IP address: of a frame to both that is a whole datagram, its body; or a call
+-- that was joined of fragments.
+abbrev pub IsFor : Mac → List ℕ → Event → List ℕ → Type 0
+IsFor mac address (Frame frame) call =
+    (take 6 frame.items ≡ mac.octets) × (part 30 4 frame.items ≡ address) × (is_datagram frame.items ≡ true) × (call ≡ part 42 (number 38 2 frame.items - 8) frame.items)
+IsFor mac address (Joined caller to octets) call = (to ≡ address) × (call ≡ octets.items)
+IsFor mac address event call = ⊥
+
+-- What a device owes to a Write (operation 3) that is whole and has its address: if its activity has no stored answer to this or a later call, the
+-- frames that are sent at the event answer the call, with a status of its own and those of its records.
+pub record IsOwed (mac : Mac) (address : List ℕ) (stored : List Kept) (event : Event) (sent : List (List ℕ)) : Type 0 where
+  pub write : (call : List ℕ) → IsFor mac address event call → is_zero address ≡ false → is_whole_call call ≡ true → in_order 68 2 call ≡ 3
+      → looked (identifier 40 call) (in_order 64 4 call) stored ≡ new → (status : ℕ) × (records : List ℕ) × (flat_map (statuses call) sent ≡ status ∷ records)

@@ -1,9 +1,0 @@
-pub mod Elements
-pub mod Expected
-pub mod Found
-pub mod ArData
-pub mod Sources
-pub mod Standing
-pub mod Own
-pub mod Place
-pub mod Reading

@@ -1,0 +1,93 @@
+//! Cyclic frames, and the units of time.
+ghost use Rattle.std.specs.Prelude.{◌≡◌, ◌≢◌, ◌<◌, ◌≤◌, false};
+ghost use Rattle.pn_alarms.specs.Leaps.{after};
+ghost use Rattle.relations.specs.exchange.Leaps.{BringNothing, flow_due_in};
+ghost use Rattle.relations.specs.exchange.Received.{behind_frame, received_as};
+ghost use Rattle.relations.specs.exchange.Units.{flow_later, repeated_in, repeated_of, tick_of};
+
+use crate::exchange::data_exchange::DataExchange;
+use cyclic_data::{Received, Tick};
+use pn_alarms::Due;
+use pn_values::Mac;
+
+/// Which alarms are sent again with a unit of time.
+#[derive(Clone, Copy)]
+pub struct Repeated {
+    /// That of high priority.
+    pub high: bool,
+    /// That of low priority.
+    pub low: bool,
+}
+
+impl DataExchange {
+    /// Receives a cyclic frame: its source, its FrameID, and the octets that follow it.
+    pub fn receive(&mut self, source: Mac, frame_id: u16, body: &[u8]) -> Received
+        ensures received { result ≡ received_as self.old source frame_id body.now }
+        ensures state { self.new ≡ behind_frame self.old source frame_id body.now }
+        // A frame that is not accepted changes nothing.
+        ensures refused { result ≢ Received.Taken → self.new ≡ self.old }
+    {
+        self.cyclic.receive(source, frame_id, body)
+    }
+
+    /// Counts a unit of 31.25 microseconds. A frame of inputs is due each interval. Once data is exchanged, the
+    /// relation ends if no frame of outputs was accepted for the data hold time, or else if an alarm was sent as often
+    /// as allowed without an ACK. Returns what is due.
+    pub fn tick(&mut self) -> Tick
+        ensures brought { result ≡ tick_of self.old }
+        ensures repeated { repeated_in self.new ≡ repeated_of self.old }
+        ensures state { self.new ≡ flow_later self.old }
+    {
+        let (high, low) = (self.alarms.tick(), self.low.tick());
+        let tick = match high.or(low) {
+            // Usually no alarm is due: then the checks for alarms are skipped.
+            Due::Nothing => self.cyclic.tick(Due::Nothing),
+            due => self.cyclic.tick(due),
+        };
+        if tick.is_cyclic() {
+            self.problem_sent = self.low.has_problem();
+        }
+        tick
+    }
+
+    /// Whether the last frame of inputs said that a submodule of the relation has a diagnosis.
+    pub fn problem_sent(&self) -> bool
+        ensures { result ≡ self.now.problem_sent }
+    {
+        self.problem_sent
+    }
+
+    /// Which alarms are sent again after the unit that passed last.
+    pub fn repeated(&self) -> Repeated
+        ensures { result ≡ repeated_in self.now }
+    {
+        Repeated {
+            high: self.alarms.is_repeated(),
+            low: self.low.is_repeated(),
+        }
+    }
+
+    /// The number of units up to and with the next one with which a frame of inputs is due, the data hold time is over,
+    /// or an alarm is sent again or given up.
+    pub fn due_in(&self) -> u32
+        ensures value { result ≡ flow_due_in self.now }
+        ensures some { 0 < result }
+        ensures few { result ≤ 8388608 }
+    {
+        self.cyclic
+            .due_in()
+            .min(self.alarms.due_in())
+            .min(self.low.due_in())
+    }
+
+    /// Counts several units of 31.25 microseconds at once. None of them may bring anything.
+    pub fn pass(&mut self, units: u32)
+        requires { units < flow_due_in self.old }
+        ensures state { self.new ≡ after flow_later units self.old }
+        ensures nothing { BringNothing units self.old }
+    {
+        self.cyclic.pass(units);
+        self.alarms.pass(units);
+        self.low.pass(units);
+    }
+}

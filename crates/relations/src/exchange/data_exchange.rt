@@ -1,0 +1,150 @@
+//! The data exchange of a relation.
+ghost use Rattle.std.specs.Prelude.{◌≡◌, ◌≤◌, IfSome, None, [], false, is_some, length, option_map, unwrap_or};
+ghost use Rattle.relations.specs.exchange.Opening.{begun_of, opened};
+ghost use Rattle.relations.specs.exchange.Process.{given_at, output_at, rated_at, remarked};
+
+use crate::exchange::marks::{Mark, Starting, awaits, begin, change, iops_in};
+use crate::exchange::opening::{Differing, route_of};
+use arrayvec::ArrayVec;
+use connects::ConnectRequest;
+use cyclic_data::{Consumer, CyclicExchange, Provider, Route};
+use diagnosis::{DiagnosisAlarms, Terms};
+use module_diff::DiffRows;
+use pn_alarms::DeviceAlarms;
+use std::marker::Model;
+
+/// What a relation exchanges with its partner. It is large and stays in place: the next relation that opens it
+/// overwrites its content, so that the end of a relation need not clear it.
+#[derive(Drop)]
+pub struct DataExchange {
+    pub(crate) cyclic: CyclicExchange,
+    pub(crate) alarms: DeviceAlarms,
+    pub(crate) low: DiagnosisAlarms,
+    /// Why the IOPS of inputs are not good, for each place.
+    pub(crate) marks: ArrayVec<Mark, 128>,
+    /// Whether the last frame of inputs said that a submodule of the relation has a diagnosis.
+    pub(crate) problem_sent: bool,
+}
+
+// Its model: one value for each place, and the states of the sender and of the receiver.
+impl Model for DataExchange {
+    ghost use Rattle.relations.specs.exchange.Flow.{Flow};
+
+    ghost Value = { Flow };
+
+    ghost view = { λ exchange. record { cyclic = exchange.cyclic; alarms = exchange.alarms; low = exchange.low; marks = exchange.marks.items; problem_sent = exchange.problem_sent } };
+}
+
+impl DataExchange {
+    /// An exchange that is not open: no data is exchanged, no submodule has an input or an output, and no alarm is
+    /// active.
+    pub fn new() -> DataExchange
+        ensures begun { result.cyclic.begun ≡ false }
+        ensures inputs { result.cyclic.shown.cells ≡ [] }
+        ensures outputs { result.cyclic.taken.cells ≡ [] }
+        ensures alarms { result.alarms.sender.standing ≡ None }
+    {
+        DataExchange {
+            cyclic: CyclicExchange::new(),
+            alarms: DeviceAlarms::new(1, 1),
+            low: DiagnosisAlarms::new(),
+            marks: ArrayVec::new(),
+            problem_sent: false,
+        }
+    }
+
+    /// Opens the exchange when a Connect is answered; `rows` lists the modules and submodules that differ. No data was
+    /// given and none accepted, and the interval of the inputs is counted from now. Nothing of an earlier relation
+    /// remains.
+    pub fn open(&mut self, request: &ConnectRequest, rows: &DiffRows, starting: Starting<'_>)
+        ensures { self.new ≡ opened request.now rows.now
+            (record { begin_bad = starting.entry.begin_bad; statuses = starting.entry.statuses.now; units = starting.entry.units; diagnoses = starting.entry.diagnoses.now }) }
+    {
+        let (input, output, alarm) = (request.input(), request.output(), request.alarm());
+        begin(&mut self.marks, input.layout.places(), rows, starting);
+        self.cyclic.open(
+            route_of(request),
+            Provider::start(input.send_clock_factor, input.reduction_ratio),
+            Consumer::new(output.data_hold_factor, output.interval()),
+            &input.layout,
+            &output.layout,
+            &Differing {
+                rows,
+                marks: self.marks.as_slice(),
+            },
+        );
+        self.alarms = DeviceAlarms::new(alarm.timeout_factor, alarm.retries);
+        let terms = Terms {
+            timeout_factor: alarm.timeout_factor,
+            retries: alarm.retries,
+            tag: alarm.tag_low,
+        };
+        self.low
+            .open(terms, request.expected(), rows, starting.diagnoses);
+        self.problem_sent = false;
+    }
+
+    /// Begins the exchange when ApplicationReady is answered: data is exchanged, and the data hold time runs from now
+    /// on.
+    pub fn begin(&mut self)
+        ensures { self.new ≡ begun_of self.old }
+    {
+        self.cyclic.begin();
+    }
+
+    /// The partner, and the numbers of its frames.
+    pub fn route(&self) -> &Route
+        ensures { result.now ≡ self.now.cyclic.route }
+    {
+        self.cyclic.route()
+    }
+
+    /// The end of cyclic data, from which the frames of inputs are built.
+    #[inline(always)]
+    pub fn cyclic(&self) -> &CyclicExchange
+        ensures { result.now ≡ self.now.cyclic }
+    {
+        &self.cyclic
+    }
+
+    /// Sets the input of a submodule, which frames carry from now on. Returns whether the submodule has an input of
+    /// this length; if not, nothing changes. A submodule without data has an input of no octets. If the first input was
+    /// awaited, the IOPS is good from now on, unless something else is against it.
+    pub fn give(&mut self, slot: u16, subslot: u16, value: &[u8]) -> bool
+        ensures done { result ≡ is_some (given_at self.old slot subslot value.now) }
+        ensures state { self.new ≡ unwrap_or (given_at self.old slot subslot value.now) self.old }
+    {
+        if !self.cyclic.give(slot, subslot, value) {
+            return false;
+        }
+        if awaits(self.marks.as_slice(), slot, subslot) {
+            self.remark(slot, subslot, None);
+        }
+        true
+    }
+
+    /// Says that the inputs of a submodule are good or bad from now on. The IOPS follows.
+    pub fn rate(&mut self, slot: u16, subslot: u16, is_good: bool)
+        ensures { self.new ≡ rated_at self.old slot subslot is_good }
+    {
+        self.remark(slot, subslot, Some(is_good));
+    }
+
+    /// Changes the marks of the inputs of a submodule: an input was given, or this status. The IOPS follows.
+    fn remark(&mut self, slot: u16, subslot: u16, status: Option<bool>)
+        ensures { self.new ≡ remarked self.old slot subslot status }
+    {
+        change(&mut self.marks, slot, subslot, status);
+        let iops = iops_in(self.marks.as_slice(), slot, subslot);
+        self.cyclic.state(slot, subslot, iops);
+    }
+
+    /// The output of a submodule, if it has one: its data in the last accepted frame. All zeros if no frame was
+    /// accepted yet, or if the IOPS is not good.
+    pub fn output(&self, slot: u16, subslot: u16) -> Option<&[u8]>
+        ensures value { option_map (λ value. value.now) result ≡ output_at self.now slot subslot }
+        ensures short { IfSome result (λ value. length value.now ≤ 1440) }
+    {
+        self.cyclic.value(slot, subslot)
+    }
+}

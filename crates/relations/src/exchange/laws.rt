@@ -1,0 +1,26 @@
+//! What holds for exchanges over many events.
+ghost use Rattle.relations.specs.exchange.Runs.{AreOfTheLast, AreStillTheIocs, AreTheIops, AreTheLastGiven, IsDueEachInterval, IsHeldSoLong};
+
+use cyclic_data::cyclic_data_is_kept;
+
+/// How data is exchanged over any list of events. These are laws of the definitions that specify `DataExchange`; the
+/// function has no code.
+pub fn exchange_is_kept()
+    // A frame of inputs is due each interval, counted from the answer to the Connect, for any events.
+    ensures interval { IsDueEachInterval }
+    // For any events, the outputs are those of the last accepted frame, and are unchanged if there was none.
+    ensures last { AreOfTheLast }
+    // For any events, the input of a submodule is the value that was given last since the answer to the Connect, and
+    // zeros if none was given.
+    ensures given { AreTheLastGiven }
+    // For any events, the IOPS of a submodule is good exactly if the ModuleDiffBlock does not list it, if the application
+    // did not say last that it is bad, and, if inputs begin bad, if it has no octets of data or an input was given.
+    ensures iops { AreTheIops }
+    // For any events, the IOCS that are sent are those of the answer to the Connect.
+    ensures iocs { AreStillTheIocs }
+    // Counted from its start, the data hold time is over from the unit on that completes it, and not before, unless
+    // meanwhile a frame is accepted, or the exchange begins again or ends.
+    ensures hold { IsHeldSoLong }
+{
+    cyclic_data_is_kept();
+}

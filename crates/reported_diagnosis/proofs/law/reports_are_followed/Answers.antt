@@ -1,9 +1,0 @@
--- Each follows from its lemma.
-use Rattle.reported_diagnosis.proofs.Following.{elsewhere, follows}
-use Rattle.reported_diagnosis.proofs.law.reports_are_followed.Goals as goal
-
-pub returns-clause-follows : goal.returns-clause-follows
-returns-clause-follows c = follows
-
-pub returns-clause-elsewhere : goal.returns-clause-elsewhere
-returns-clause-elsewhere c = elsewhere

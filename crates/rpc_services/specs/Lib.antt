@@ -1,0 +1,2 @@
+pub mod endpoint_mapper
+pub mod pieces

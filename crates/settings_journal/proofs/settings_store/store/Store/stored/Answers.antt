@@ -1,0 +1,6 @@
+use Rattle.std.proofs.Common.{subst}
+use Rattle.settings_journal.specs.settings_store.Carries.{Holds}
+use Rattle.settings_journal.proofs.settings_store.store.Store.stored.Goals as goal
+
+pub returns-clause-holds : goal.returns-clause-holds
+returns-clause-holds g c = subst (λ s. Holds (g.F.Flash.image s.flash) s.values) c.self.view_is c.self.invariant

@@ -1,5 +1,0 @@
-pub mod Crash
-pub mod Faults
-pub mod Machine
-pub mod Placed
-pub mod Steps

@@ -1,5 +1,0 @@
--- How many commits are left.
-use Rattle.settings_store.proofs.store.Store.left.Goals as goal
-
-pub returns-clause-read : goal.returns-clause-read
-returns-clause-read g c = rw (← c.self.view_is) c.left.ensures.read

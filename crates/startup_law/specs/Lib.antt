@@ -1,4 +1,0 @@
-pub mod View
-pub mod Played
-pub mod request
-pub mod answer

@@ -1,0 +1,108 @@
+-- What the frames of a step say to either end, as far as a start-up is concerned.
+use Rattle.std.proofs.Common.{◌≡◌, ◌⊎◌, ◌≤◌, ◌+◌, inl, inr, ℕ, Bool, List, [], ◌∷◌, Option, Some, sym, ap, subst, ◌∙◌}
+use Rattle.std.specs.List.{AllByRecursion}
+use Rattle.end_laws.specs.both.Small.{Ask, Accesses, Answers, Asking, Awaiting, Call, Confirms, Controller, Device, Exchanges, Idle, Kept, Readies, RelationState, Rules, ToController, ToDevice, Waiting}
+use Rattle.end_laws.specs.both.Steps.{CallsWhile, DeviceSteps, IsDull, IsReady, Moves, SaysAtMost}
+
+module _ {T Q : Type 0} (rules : Rules T Q) where
+  -- The relation waits for the response to ApplicationReady.
+  pub record Awaits (device : Device T Q) : Type 0 where
+    pub link : RelationState T Q
+    pub has : device.link ≡ Some link
+    pub awaits : link.phase ≡ Awaiting
+
+  -- A frame of the device says nothing to the device, and ApplicationReady to the controller only while the relation waits.
+  pub record IsOfDevice (device : Device T Q) (frame : List ℕ) : Type 0 where
+    pub idle : rules.to_device frame ≡ Idle
+    pub ready : rules.to_controller frame ≡ Readies → Awaits device
+
+  -- The stored response says nothing to the device, and no ApplicationReady.
+  abbrev pub IsKeptFine : Option Kept → Type 0
+  IsKeptFine kept = (answer : Kept) → kept ≡ Some answer → (rules.to_device answer.frame ≡ Idle) × (rules.to_controller answer.frame ≡ Readies → ⊥)
+
+  no_answer : (sequence : ℕ) (positive : Bool) (frame : List ℕ) → SaysAtMost rules (Answers sequence positive) frame → rules.to_controller frame ≡ Readies → ⊥
+  no_answer sequence positive frame (inl nothing) readies = let e = sym nothing ∙ readies in cc
+  no_answer sequence positive frame (inr answers) readies = let e = sym answers ∙ readies in cc
+
+  dull_frame : (device : Device T Q) (frame : List ℕ) → IsDull rules frame → IsOfDevice device frame
+  dull_frame device frame dull = record { idle = dull.0; ready = λ readies. absurd (let e = sym dull.1 ∙ readies in cc) }
+
+  ready_frame : (device : Device T Q) (frame : List ℕ) → IsReady rules device frame → IsOfDevice device frame
+  ready_frame device frame it = record { idle = it.to_device; ready = λ _. record { link = it.link; has = it.has; awaits = it.awaits } }
+
+  either_frame : (device : Device T Q) (frame : List ℕ) → IsDull rules frame ⊎ IsReady rules device frame → IsOfDevice device frame
+  either_frame device frame (inl dull) = dull_frame device frame dull
+  either_frame device frame (inr ready) = ready_frame device frame ready
+
+  each_frame : (P : List ℕ → Type 0) (device : Device T Q) (frames : List (List ℕ)) → ((frame : List ℕ) → P frame → IsOfDevice device frame) → AllByRecursion P frames
+      → AllByRecursion (IsOfDevice device) frames
+  each_frame P device [] so all = tt
+  each_frame P device (frame ∷ frames) so all = (so frame all.0, each_frame P device frames so all.1)
+
+  some_kept : (one other : Kept) → Some one ≡ Some other → one ≡ other
+  some_kept one other e = cc
+
+  kept_frame : (device : Device T Q) (kept : Kept) (before : Option Kept) → before ≡ Some kept → IsKeptFine before → IsOfDevice device kept.frame
+  kept_frame device kept before is fine = record { idle = (fine kept is).0; ready = λ readies. absurd ((fine kept is).1 readies) }
+
+  -- The frames of a step of the device, and the response that it then stores.
+  pub device_frames : (heard : ToDevice) (before after : Device T Q) (frames : List (List ℕ)) → DeviceSteps rules heard before after frames → IsKeptFine before.kept
+      → AllByRecursion (IsOfDevice after) frames × IsKeptFine after.kept
+  device_frames (Call sequence ask) before after frames (inl it) fine =
+      let no = no_answer sequence it.positive it.frame it.to_controller in
+      let first : IsOfDevice after it.frame = record { idle = it.to_device; ready = λ readies. absurd (no readies) } in (
+        subst (λ (l : List (List ℕ)). AllByRecursion (IsOfDevice after) l) (sym it.sent) (first, each_frame (IsReady rules after) after it.others (ready_frame after) it.readies),
+        λ answer is. subst (λ (k : Kept). (rules.to_device k.frame ≡ Idle) × (rules.to_controller k.frame ≡ Readies → ⊥))
+            (some_kept (record { sequence = sequence; frame = it.frame }) answer (sym it.keeps ∙ is)) (it.to_device, no),
+      )
+  device_frames (Call sequence ask) before after frames (inr (inl it)) fine = (
+    subst (λ (l : List (List ℕ)). AllByRecursion (IsOfDevice after) l) (sym it.sent) (kept_frame after it.kept before.kept it.has fine, tt),
+    subst (λ (d : Device T Q). IsKeptFine d.kept) (sym it.unchanged) fine,
+  )
+  device_frames (Call sequence ask) before after frames (inr (inr it)) fine =
+      (subst (λ (l : List (List ℕ)). AllByRecursion (IsOfDevice after) l) (sym it.1) tt, subst (λ (d : Device T Q). IsKeptFine d.kept) (sym it.0) fine)
+  device_frames Confirms before after frames (inl it) fine =
+      (each_frame (IsDull rules) after frames (dull_frame after) it.dull, subst (λ (d : Device T Q). IsKeptFine d.kept) (sym it.becomes) fine)
+  device_frames Confirms before after frames (inr it) fine =
+      (subst (λ (l : List (List ℕ)). AllByRecursion (IsOfDevice after) l) (sym it.1) tt, subst (λ (d : Device T Q). IsKeptFine d.kept) (sym it.0) fine)
+  device_frames Idle before after frames it fine =
+      (each_frame (λ frame. IsDull rules frame ⊎ IsReady rules after frame) after frames (either_frame after) it.sent, subst IsKeptFine (sym it.keeps) fine)
+
+  -- The response that is stored after a step is the one before it, or one to the call that was heard.
+  pub record IsStored (heard : ToDevice) (kept : Kept) : Type 0 where
+    pub ask : Ask
+    pub heard_as : heard ≡ Call kept.sequence ask
+
+  pub stored_of : (heard : ToDevice) (before after : Device T Q) (frames : List (List ℕ)) → DeviceSteps rules heard before after frames → (kept : Kept) → after.kept ≡ Some kept
+      → (before.kept ≡ Some kept) ⊎ IsStored heard kept
+  stored_of (Call sequence ask) before after frames (inl it) kept is =
+      inr (record { ask = ask; heard_as = ap (λ (k : Kept). Call k.sequence ask) (some_kept (record { sequence = sequence; frame = it.frame }) kept (sym it.keeps ∙ is)) })
+  stored_of (Call sequence ask) before after frames (inr (inl it)) kept is = inl (sym (ap (λ (d : Device T Q). d.kept) it.unchanged) ∙ is)
+  stored_of (Call sequence ask) before after frames (inr (inr it)) kept is = inl (sym (ap (λ (d : Device T Q). d.kept) it.0) ∙ is)
+  stored_of Confirms before after frames (inl it) kept is = inl (sym (ap (λ (d : Device T Q). d.kept) it.becomes) ∙ is)
+  stored_of Confirms before after frames (inr it) kept is = inl (sym (ap (λ (d : Device T Q). d.kept) it.0) ∙ is)
+  stored_of Idle before after frames it kept is = inl (sym it.keeps ∙ is)
+
+  -- ---- the controller
+
+  -- A controller that does not exchange data, and hears no ApplicationReady, does not exchange data afterwards.
+  pub not_exchanging : (skips : Bool) (count : ℕ) (heard : ToController) (before after : Controller) → Moves skips count heard before after → (before ≡ Exchanges → ⊥)
+      → (heard ≡ Readies → ⊥) → after ≡ Exchanges → ⊥
+  not_exchanging skips count heard before after (inl same) not silent e = not (sym same ∙ e)
+  not_exchanging skips count heard before after (inr (inl ended)) not silent e = let f = sym ended ∙ e in cc
+  not_exchanging skips count heard before after (inr (inr (inl asks))) not silent e = let f = sym asks ∙ e in cc
+  not_exchanging skips count heard before after (inr (inr (inr (inl next)))) not silent e = by_next next.becomes
+    where
+      by_next : ((next.sequence ≤ count) × (after ≡ Asking (next.sequence + 1))) ⊎ (after ≡ Waiting) → ⊥
+      by_next (inl asks) = let f = sym asks.1 ∙ e in cc
+      by_next (inr waits) = let f = sym waits ∙ e in cc
+  not_exchanging skips count heard before after (inr (inr (inr (inr readies)))) not silent e = silent readies.0
+
+  -- Then its frames carry no call of the application.
+  abbrev pub IsNoAccess : List ℕ → Type 0
+  IsNoAccess frame = (sequence : ℕ) → rules.to_device frame ≡ Call sequence Accesses → ⊥
+
+  pub calls_no_access : (now : Controller) → (now ≡ Exchanges → ⊥) → (sequence : ℕ) → CallsWhile rules.count now sequence Accesses → ⊥
+  calls_no_access now not sequence (inl releases) = cc
+  calls_no_access now not sequence (inr (inl asked)) = asked.1
+  calls_no_access now not sequence (inr (inr accesses)) = not accesses.1

@@ -1,0 +1,53 @@
+use Rattle.both_ends.proofs.ExchangeLaw.{DeviceSo}
+use Rattle.both_ends.proofs.ExchangeMessages.{HearsSo}
+use Rattle.startup_octets.proofs.AlarmRuns.{alarms_taken, reads}
+use Rattle.startup_octets.proofs.alarms.alarms_are_read.Goals as goal
+use Rattle.startup_octets.proofs.alarms.alarms_are_read.Goals.{After-worlds_take_alarms}
+
+-- The laws of the crates below.
+device_so : (g : _) → After-worlds_take_alarms g → DeviceSo
+device_so g c = record { begins_sized = c.messages_can_be_sent.ensures.first; goes_sized = c.messages_can_be_sent.ensures.next; goes_on = c.device_goes_on.ensures; kinds = c.turns_are_of_a_kind.ensures.event; turns = c.device_turns.ensures.turn; raises = c.device_turns.ensures.raises }
+
+hears_so : (g : _) → After-worlds_take_alarms g → HearsSo
+hears_so g c = record {
+  data_read = c.frames_are_read.ensures.real_time;
+  packet_read = c.frames_are_read.ensures.arp;
+  datagram_read = c.frames_are_read.ensures.udp;
+  alarm = c.alarms_are_heard.ensures.alarm;
+  ack = c.alarms_are_heard.ensures.ack;
+  nack = c.alarms_are_heard.ensures.nack;
+  low_alarm = c.alarms_are_heard.ensures.low;
+  low_ack = c.alarms_are_heard.ensures.low_ack;
+  low_nack = c.alarms_are_heard.ensures.low_nack;
+  end_heard = c.ends_are_heard.ensures.controller;
+  confirms = c.confirmations_are_heard.ensures.confirms;
+  low = c.confirmations_are_heard.ensures.low;
+  unheard = c.confirmations_are_heard.ensures.unheard;
+  acks = c.confirmations_are_heard.ensures.ack;
+  nacks = c.confirmations_are_heard.ensures.nack;
+  ends = c.ends_are_heard.ensures.device;
+  identify = c.requests_are_heard.ensures.identify;
+  address = c.requests_are_heard.ensures.address;
+  call_can = c.calls_can_be_sent.ensures.call;
+  record_can = c.calls_can_be_sent.ensures.record_call;
+  call_at_device = c.calls_are_heard.ensures.device;
+  call_at_controller = c.calls_are_heard.ensures.controller;
+  agreed_at_device = c.ready_answers_are_heard.ensures.device;
+  agreed_at_controller = c.ready_answers_are_heard.ensures.controller;
+  ready_can = c.calls_can_be_sent.ensures.ready;
+  ready_at_controller = c.ready_calls_are_heard.ensures.controller;
+  response_at_controller = c.responses_are_heard.ensures.controller;
+  response_long = c.responses_are_heard.ensures.long;
+  chosen = c.answers_choose_well.ensures;
+  response_no_call = c.calls_and_responses_differ.ensures.answered;
+}
+
+pub returns : goal.returns
+returns g c = record {
+  taken = λ can first run begins made real.
+      alarms_taken g.F.Flash first run made
+      (λ some made_so. reads c.formats_are_sound.ensures.layers (device_so g c) (hears_so g c) c.args.setup.now c.args.identity.now c.stations_are_real.ensures.setup can g.F.Flash first begins real some made_so
+      (c.worlds_start_up.ensures.meant can first some begins made_so))
+      (c.worlds_take_alarms.ensures.front can first run begins made real) (c.worlds_take_alarms.ensures.last can first run begins made real)
+      (λ some made_so. c.worlds_take_alarms.ensures.shown can first some begins made_so real);
+}

@@ -1,0 +1,166 @@
+//! The watch over worlds about which it was told a lie: each law is called broken, so that a watch that says nothing passes no test.
+
+use super::*;
+use rattle_std::alloc::Global;
+
+/// The plan of the first line of the schedules of `tests/table_world`: two records, and outputs of slots 2 and 3.
+const SCHEDULES: &str = include_str!("../../table_world/stdin");
+
+/// A watched world in which nothing has happened yet.
+fn fresh() -> Watched {
+    let catalogue = SCHEDULES.lines().next().and_then(|line| line.strip_prefix("plan ")).expect("a catalogue");
+    let fresh = both_ends::fresh_world(Global, catalogue, None).expect("there is a world");
+    Watched::new(Global, fresh).expect("memory")
+}
+
+/// Makes a move after which all laws hold.
+fn hold(watched: &mut Watched, choice: Choice) {
+    assert_eq!(watched.make(choice).expect("memory"), None, "{choice:?}");
+}
+
+/// Both ends exchange data: each frame came to the other end as soon as it was sent.
+fn exchanging() -> Watched {
+    let mut watched = fresh();
+    for number in 0..40 {
+        if number < watched.count() {
+            let end = watched.other_end(number);
+            hold(&mut watched, Choice::Deliver(end, number));
+        }
+    }
+    assert!(watched.told().is_exchanging());
+    watched
+}
+
+/// What the watch says after a unit of time at the device.
+fn said_after_a_unit(watched: &mut Watched) -> Option<Law> {
+    watched.make(Choice::Tick(End::Device)).expect("memory")
+}
+
+#[test]
+fn without_a_lie_all_laws_hold() {
+    let mut watched = exchanging();
+    assert_eq!(said_after_a_unit(&mut watched), None);
+    assert!(watched.are_kept());
+    assert!(watched.tally().exchanging > 0);
+}
+
+#[test]
+fn an_exchange_without_an_application_ready() {
+    let mut watched = exchanging();
+    watched.was_handed = false;
+    assert_eq!(said_after_a_unit(&mut watched), Some(Law::StartUp));
+}
+
+#[test]
+fn a_device_that_exchanges_before_its_controller() {
+    let mut watched = exchanging();
+    hold(&mut watched, Choice::Stop);
+    watched.was_exchanging = false;
+    assert_eq!(said_after_a_unit(&mut watched), Some(Law::Confirmed));
+}
+
+#[test]
+fn a_phase_that_no_frame_made() {
+    let mut watched = exchanging();
+    watched.told.phase = Some(Phase::Started);
+    assert_eq!(said_after_a_unit(&mut watched), Some(Law::Phases));
+}
+
+#[test]
+fn a_second_relation() {
+    let mut watched = exchanging();
+    watched.relations = 2;
+    assert_eq!(said_after_a_unit(&mut watched), Some(Law::Phases));
+}
+
+#[test]
+fn a_state_that_no_frame_made() {
+    let mut watched = exchanging();
+    watched.told.state = State::Looking;
+    assert_eq!(said_after_a_unit(&mut watched), Some(Law::States));
+}
+
+#[test]
+fn two_records_in_one_move() {
+    let mut watched = exchanging();
+    assert_eq!(watched.told.taken, 2);
+    watched.told.taken = 0;
+    assert_eq!(said_after_a_unit(&mut watched), Some(Law::Records));
+}
+
+#[test]
+fn outputs_that_no_frame_brought() {
+    let mut watched = exchanging();
+    let mut last = watched.last.or(watched.seen.get(0).copied()).expect("a frame");
+    last.brings.second = [0x12, 0x34];
+    watched.last = Some(last);
+    assert_eq!(said_after_a_unit(&mut watched), Some(Law::Outputs));
+}
+
+#[test]
+fn outputs_that_were_never_set() {
+    let mut watched = exchanging();
+    hold(&mut watched, Choice::Give(2, [0x56, 0x78]));
+    while watched.told.outputs == ZEROS {
+        let count = watched.count();
+        hold(&mut watched, Choice::Tick(End::Controller));
+        for number in count..watched.count() {
+            hold(&mut watched, Choice::Deliver(End::Device, number));
+        }
+    }
+    let last = watched.last.as_mut().expect("a cyclic frame was accepted");
+    last.given.second = [0x9a, 0xbc];
+    assert_eq!(said_after_a_unit(&mut watched), Some(Law::Outputs));
+}
+
+#[test]
+fn alarms_that_were_lost() {
+    let mut watched = exchanging();
+    watched.raised = 2;
+    assert_eq!(said_after_a_unit(&mut watched), Some(Law::Alarms));
+}
+
+#[test]
+fn an_alarm_that_was_acknowledged_twice() {
+    let mut watched = exchanging();
+    watched.acknowledged = 1;
+    assert_eq!(said_after_a_unit(&mut watched), Some(Law::Alarms));
+}
+
+#[test]
+fn a_frame_that_does_not_exist_and_changes_something() {
+    let mut watched = exchanging();
+    watched.told.is_front = false;
+    let said = watched.make(Choice::Deliver(End::Device, 1_000)).expect("memory");
+    assert_eq!(said, Some(Law::Skipped));
+}
+
+#[test]
+fn a_move_that_changes_the_other_end() {
+    let mut watched = exchanging();
+    watched.told.alarm = Some(7);
+    assert_eq!(said_after_a_unit(&mut watched), Some(Law::OneEnd));
+}
+
+#[test]
+fn a_frame_that_nobody_saw() {
+    let mut watched = exchanging();
+    for _ in 0..6 {
+        watched.seen.pop();
+    }
+    assert_eq!(said_after_a_unit(&mut watched), Some(Law::Frames));
+}
+
+#[test]
+fn a_frame_that_is_not_as_it_was() {
+    let mut watched = exchanging();
+    watched.seen[0].sum ^= 1;
+    assert!(!watched.are_kept());
+}
+
+#[test]
+fn a_world_that_is_not_that_of_the_moves_before() {
+    let mut watched = exchanging();
+    watched.told.taken = 0;
+    assert!(matches!(watched.without_memory(AllocError), Ok(Some(Law::Front))));
+}
