@@ -10,8 +10,8 @@ void clock_start(void);
 /* The whole units that passed since the last call. The remainder is kept for the next call, so none is lost. */
 uint32_t clock_units(void);
 
-/* Sleeps until this many units have passed since the last call of clock_units, or until an interrupt. It may return earlier, as a timer with a
- * fixed period does. An interrupt that came since the last sleep is not slept over. */
+/* Sleeps until this many units, at most 8,000, have passed since the last call of clock_units, or until an interrupt. It may return earlier, as a
+ * timer with a fixed period does. An interrupt that came since the last sleep is not slept over. */
 void clock_sleep(uint32_t units);
 
 #endif

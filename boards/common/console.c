@@ -45,6 +45,8 @@ void console_line(const char *text, uint32_t number)
 
 void console_step(void)
 {
+    if (sent == written)
+        return;
     while (sent != written && serial_send(buffer[sent % SIZE]))
         sent++;
 }

@@ -34,7 +34,7 @@ static union {
 /* What each turn uses is in one structure: then one register has the address of all of it. */
 static struct {
     uint32_t waited;   /* units that passed and were not handed in yet */
-    uint32_t due;      /* units until something is due, or fewer, from the last ones that were handed in; 0: to be asked */
+    uint32_t due;      /* units until something is due, or fewer, from the last ones that were handed in */
     uint32_t step_age; /* units since the application was called */
     uint32_t phase;    /* of the relation */
     uint32_t look_age; /* units since the state of the relation was asked */
@@ -88,6 +88,12 @@ static const pn_host host = {NULL, program, erase, transmit};
 
 /* --- A start --- */
 
+/* What is due, after an event that may have changed it. */
+APART static void ask_due(void)
+{
+    must(pn_due(&device, &op, &own.due), "pn_due");
+}
+
 /* What changed since the last call. */
 APART static uint32_t news(void)
 {
@@ -135,7 +141,7 @@ static void start(void)
     memset(&watch, 0, sizeof watch);
     (void)news();
     own.phase = PN_NONE;
-    own.due = 0;
+    ask_due();
     own.link_age = LINK_PERIOD;
     link.is_up = -1;
     console_say("boot ok name ");
@@ -163,8 +169,8 @@ static int is_done(uint32_t answer, const char *call)
 {
     int is_accepted = op.note == PN_DONE;
     must(answer, call);
-    own.due = 0;
     carry_out();
+    ask_due();
     return is_accepted;
 }
 
@@ -239,18 +245,6 @@ APART static void look(void)
         application_was_reset();
 }
 
-APART static void ask_due(void)
-{
-    must(pn_due(&device, &op, &own.due), "pn_due");
-}
-
-static uint32_t until_due(void)
-{
-    if (own.due == 0)
-        ask_due();
-    return own.due;
-}
-
 /* Hands in units of time. pn_tick stops after a unit that sends: the rest waits, and is handed in before the next event. */
 static void pass(uint32_t units)
 {
@@ -261,47 +255,43 @@ static void pass(uint32_t units)
         carry_out();
 }
 
-/* FrameID 0x8000 to 0xF7FF, with a VLAN tag or without. */
-static int is_cyclic(const uint8_t *octets, size_t length)
+/* FrameID 0x8000 to 0xF7FF, with a VLAN tag or without. A word of the frame has its first octet lowest. */
+static int is_cyclic(const uint32_t *frame, size_t length)
 {
-    size_t at = length > 18 && octets[12] == 0x81 && octets[13] == 0 ? 16 : 12;
-    return length > at + 3 && octets[at] == 0x88 && octets[at + 1] == 0x92 && octets[at + 2] >= 0x80 && octets[at + 2] <= 0xF7;
-}
-
-/* The units before a frame with which nothing is due: so the timers that the frame starts begin with its own time. */
-static void pass_quiet(void)
-{
-    uint32_t quiet = until_due() - 1;
-    if (quiet > own.waited)
-        quiet = own.waited;
-    if (quiet != 0)
-        pass(quiet);
+    uint32_t type = (frame[3] & 0xFFFFu) == 0x0081u ? frame[4] : frame[3];
+    return length >= 20 && (type & 0x0080FFFFu) == 0x00809288u && (type & 0x00780000u) != 0x00780000u;
 }
 
 /* A frame that is not accepted cyclic data may change what is due, and what the host knows of the device. */
 APART static void follow_frame(void)
 {
     int is_of_interest = op.note == PN_DONE || watch.is_asked != 0;
-    own.due = 0;
     carry_out();
+    ask_due();
     if (is_of_interest)
         look();
 }
 
-/* A cyclic frame that is accepted only puts off what is due. */
-static void take_frame(const uint8_t *octets, size_t length)
+/* The units before a frame with which nothing is due: so the timers that the frame starts begin with its own time. */
+static void pass_quiet(void)
 {
+    uint32_t quiet = own.due - 1 < own.waited ? own.due - 1 : own.waited;
+    if (quiet != 0)
+        pass(quiet);
+}
+
+/* A cyclic frame that is accepted only puts off what is due. */
+static void take_frame(size_t length)
+{
+    const uint8_t *octets = (const uint8_t *)room.frame;
+    int is_data = is_cyclic(room.frame, length);
     pass_quiet();
-    if (is_cyclic(octets, length)) {
-        must(pn_frame(&device, &op, octets, length), "pn_frame");
-        own.has_outputs = 1;
-        if (op.note == PN_DONE && op.work == PN_NOTHING)
-            return;
-    } else {
+    if (!is_data)
         pn_watch_frame(&watch, octets, length);
-        must(pn_frame(&device, &op, octets, length), "pn_frame");
-    }
-    follow_frame();
+    must(pn_frame(&device, &op, octets, length), "pn_frame");
+    own.has_outputs |= is_data;
+    if (!is_data || op.note != PN_DONE || op.work != PN_NOTHING)
+        follow_frame();
 }
 
 static void take_frames(void)
@@ -309,7 +299,7 @@ static void take_frames(void)
     size_t length;
     for (uint32_t i = 0; i < FRAMES_AT_ONCE && (length = lan9118_receive(room.frame)) != 0; i++) {
         meter_begin(METER_FRAME);
-        take_frame((const uint8_t *)room.frame, length);
+        take_frame(length);
         meter_end(METER_FRAME);
     }
 }
@@ -325,7 +315,7 @@ int host_reset(void)
     memcpy(frame, application_station.mac, 6);
     memcpy(frame + 6, reset, sizeof reset);
     own.is_silent = 1;
-    take_frame(frame, 60);
+    take_frame(60);
     own.is_silent = 0;
     return counts.losses == losses;
 }
@@ -333,12 +323,12 @@ int host_reset(void)
 /* The time that passed, once something is due. After a stall the rest is dropped, else repeats would go out at once. */
 static void take_time(void)
 {
-    uint32_t most = until_due() + PN_MOST_DEBT;
+    uint32_t most = own.due + PN_MOST_DEBT;
     if (own.waited > most) {
         counts.forgotten += own.waited - most;
         own.waited = most;
     }
-    while (own.waited >= until_due())
+    while (own.waited >= own.due)
         pass(own.waited);
 }
 
@@ -396,14 +386,14 @@ static void turn(void)
         take_frames();
     if (own.step_age >= STEP || (own.step_age >= EARLIEST_STEP && own.has_outputs))
         step();
-    if (own.waited >= until_due())
+    if (own.waited >= own.due)
         take_time();
 }
 
 /* Units until the next turn has something to do, unless a frame comes before. */
 static uint32_t until_next(void)
 {
-    uint32_t step_in = STEP - own.step_age, due_in = until_due() - own.waited;
+    uint32_t step_in = STEP - own.step_age, due_in = own.due - own.waited;
     return due_in < step_in ? due_in : step_in;
 }
 

@@ -26,8 +26,9 @@ typedef struct {
 #define PUT(kind, to, place, what) (((kind *)((uint8_t *)(to) + (place)))->value = (what))
 #define MOVE(kind, to, from, place) PUT(kind, to, place, GET(kind, from, place))
 
-/* Eight octets or more: sixteen in a turn, and then the last eight, of which some may have been copied before. */
-static void *copy_long(void *restrict to, const uint8_t *restrict from, size_t length)
+/* Eight octets or more: sixteen in a turn, and then the last eight, of which some may have been copied before. It is no part of memcpy, which would
+ * save registers for short copies too. */
+static __attribute__((noinline)) void *copy_long(void *restrict to, const uint8_t *restrict from, size_t length)
 {
     uint8_t *at = to;
     for (; length > 16; length -= 16, at += 16, from += 16) {

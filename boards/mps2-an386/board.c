@@ -33,11 +33,8 @@
 
 /* A unit of time is 781.25 cycles: four of them are 3,125. */
 #define CYCLES_OF_FOUR_UNITS 3125u
-/* Longer than any turn of the loop, in cycles: four times this number fits 32 bits. */
-#define LONGEST 0x3FFFFFFFu
-/* What SysTick can count, in units, and the fewest cycles for which it is set. */
-#define LONGEST_SLEEP 20000u
-#define SHORTEST_SLEEP 20u
+/* The fewest cycles for which SysTick is set. */
+#define SHORTEST_SLEEP 20
 
 #define PAINT 0xA5A5A5A5u
 /* Octets below the frame of the painting function that it leaves alone. */
@@ -67,12 +64,11 @@ uint32_t board_cycles(void)
     return ~TIMER_VALUE;
 }
 
+/* Four times the cycles since the last call fit 32 bits: the watchdog ends a longer turn. While the start waits for the button it is fed, and time is
+ * not needed. */
 uint32_t clock_units(void)
 {
-    uint32_t now = board_cycles(), passed = now - clock.last, quarters, units;
-    passed = passed < LONGEST ? passed : LONGEST;
-    quarters = passed * 4 + clock.rest;
-    units = quarters / CYCLES_OF_FOUR_UNITS;
+    uint32_t now = board_cycles(), quarters = (now - clock.last) * 4 + clock.rest, units = quarters / CYCLES_OF_FOUR_UNITS;
     clock.rest = quarters - units * CYCLES_OF_FOUR_UNITS;
     clock.last = now;
     return units;
@@ -82,10 +78,11 @@ uint32_t clock_units(void)
  * waits, and WFI returns. */
 void clock_sleep(uint32_t units)
 {
-    uint32_t cycles = ((units < LONGEST_SLEEP ? units : LONGEST_SLEEP) * CYCLES_OF_FOUR_UNITS - clock.rest + 3) / 4, passed;
+    uint32_t ends = clock.last + (units * CYCLES_OF_FOUR_UNITS - clock.rest + 3) / 4;
+    int32_t cycles;
     __asm__ volatile("cpsid i" ::: "memory");
-    passed = board_cycles() - clock.last;
-    SYSTICK_RELOAD = cycles > passed + SHORTEST_SLEEP ? cycles - passed : SHORTEST_SLEEP;
+    cycles = (int32_t)(ends - board_cycles());
+    SYSTICK_RELOAD = (uint32_t)(cycles > SHORTEST_SLEEP ? cycles : SHORTEST_SLEEP);
     SYSTICK_VALUE = 0;
     SYSTICK_CONTROL = 7;
     meter_sleeps();

@@ -24,8 +24,6 @@ void board_fault(void);
 #define COUNTER REGISTER(SYSTEM + 0x5C)
 #define TICKS_OF_MICROSECOND NOR_TICKS
 #define TICKS_OF_UNIT (PN_UNIT_NS * TICKS_OF_MICROSECOND / 1000u)
-/* In units: a quarter of a second. */
-#define LONGEST_SLEEP 8000u
 #define TIMER_LOAD REGISTER(TIMER + 0x00)
 #define TIMER_CONTROL REGISTER(TIMER + 0x08)
 #define TIMER_CLEAR REGISTER(TIMER + 0x0C)
@@ -53,7 +51,7 @@ uint32_t clock_units(void)
  * interrupts are masked it waits, and WFI returns. */
 void clock_sleep(uint32_t units)
 {
-    uint32_t ticks = (units < LONGEST_SLEEP ? units : LONGEST_SLEEP) * TICKS_OF_UNIT, passed = COUNTER - counted;
+    uint32_t ticks = units * TICKS_OF_UNIT, passed = COUNTER - counted;
     __asm__ volatile("cpsid i" ::: "memory");
     meter_sleeps();
     if (passed < ticks) {
