@@ -13,7 +13,7 @@ import subprocess
 import sys
 import time
 
-from wire import TOP, Program, talk_to
+from wire import TOP, Program, awaited, talk_to
 
 BRIDGE = os.path.join(TOP, "host", "bridge", "nandutable-bridge")
 PYTHON = "/usr/bin/python3"  # the one that has Debian's modules
@@ -382,6 +382,10 @@ class BridgeTests:
         everything.until("plant/_bridge", LATE, state="online")
         for prefix, other in others.items():
             other.until(f"{prefix}/_bridge", LATE, state="online")
+        # Each of them has all that it will keep.
+        for prefix, other in {"plant": everything, **others}.items():
+            for topic in ("flow", "_ports", "_statistics"):
+                other.until(f"{prefix}/flow-7/{topic}", LATE)
         first, before = self.exchanged(lines), [resident(bridge) for bridge in bridges]
         broker.process.send_signal(signal.SIGSTOP)
         ends, number = time.monotonic() + (8 if self.asked.short else 60), 0
@@ -588,6 +592,7 @@ class BridgeTests:
         everything.until("plant/flow-7/_diagnosis", diagnosis=[{"slot": 2, "subslot": 1, "channel": 3, "error": 6, "text": "wire break"}])
         device.ask("diagnosis 2 1 3 6 disappears", "note done")
         everything.until("plant/flow-7/_diagnosis", diagnosis=[])
+        awaited("both alarms", lambda: len(everything.messages("plant/flow-7/_alarm")) >= 2)
         same("an alarm is not retained", [retained for retained, _ in everything.messages("plant/flow-7/_alarm")], [False, False])
         everything.until("plant/flow-7/_ports")
         everything.until("plant/flow-7/_statistics", 30)

@@ -17,7 +17,7 @@ import threading
 import time
 
 from signal_tests import rows, same
-from wire import BUILD, HOST, TOP, Plant, Program, device_of, talk_to
+from wire import BUILD, HOST, TOP, Plant, Program, awaited, device_of, talk_to
 
 PYTHON = os.path.join(HOST, "python")
 sys.path.insert(0, PYTHON)
@@ -103,12 +103,8 @@ def written(script, **more):
     return process.Process([sys.executable, "-u", "-c", script], **more)
 
 
-def is_soon(what, find, seconds=10):
-    ends = time.monotonic() + seconds
-    while not find():
-        if time.monotonic() > ends:
-            raise AssertionError(f"{what} within {seconds} s")
-        time.sleep(0.01)
+def is_soon(what, find, seconds=20):
+    awaited(what, find, seconds)
 
 
 def wanted_value(kind, octets, text):
@@ -264,7 +260,7 @@ class PythonTests:
              (102, "a.c = 1 good", ["a.b = 9999 good"], 9900, 9999))
         flood.close()
         deaf = written("import time\nprint('here')\ntime.sleep(60)")
-        same("it runs", deaf.get(5), "here")
+        same("it runs", deaf.get(60), "here")
         begins = time.monotonic()
         fault = refusal(nandutable.Busy, "does not read", lambda: [deaf.send("x" * 4000) for _ in range(100)])
         same(f"at once: {fault}", time.monotonic() - begins < 10, True)
@@ -351,7 +347,7 @@ class PythonTests:
         controller.process.stdin.close()
         same("it ends with its input", controller.wait(), 7)
         same("and says so", controller.has("ended 7: stopped"), True)
-        device.expect("phase none", 5)
+        device.expect("phase none")
         device.end()
 
     def answer_to_stations(self, controller):
@@ -434,9 +430,9 @@ class PythonTests:
             self.check_records(device, plant, flow)
             info = flow.info
             same("the station", (info["mac"], info["address"], info["interval_us"], info["lost"]), ("02:00:00:00:00:01", "192.168.0.2", 1000, 0))
-            is_soon("its port", lambda: flow.info["ports"], 15)
-            same("its neighbour", [(port["name"], [(peer["port"], peer["station"]) for peer in port["peers"]]) for port in flow.info["ports"]],
-                 [("port-001", [("port-001", "plc")])])
+            # The ports are read each ten seconds, and the device hears of its neighbour each five.
+            is_soon("its port, and its neighbour", lambda: [(port["name"], [(peer["port"], peer["station"]) for peer in port["peers"]]) for port in flow.info["ports"]] ==
+                    [("port-001", [("port-001", "plc")])], 40)
             device.end(signal.SIGKILL)
             refusal((nandutable.Lost, nandutable.Gone), "no cyclic frame of the device came within the data hold time", flow.wait_change, "flow", 20)
             is_soon("its end", lambda: not plant.running)
@@ -448,7 +444,7 @@ class PythonTests:
 
     def check_values(self, device, flow):
         device.ask("input 2 1 414800000000002a01", "note done")
-        same("a change", flow.wait_until("flow", lambda value: value == 12.5, 5), 12.5)
+        same("a change", flow.wait_until("flow", lambda value: value == 12.5, 20), 12.5)
         is_soon("the others of its frame", lambda: (flow.flow, flow["total"], flow.pipe_full, flow.slot2_state) == (12.5, 42, True, 1))
         reading = flow.signal("flow")
         same("a reading", (str(reading), reading.good, reading.unit, reading.type, reading.direction, abs(reading.time - time.time()) < 30),
@@ -477,22 +473,22 @@ class PythonTests:
         refusal(nandutable.TimedOut, "flow-7 sends no alarm", flow.wait_alarm, 0.05)
 
     def check_waits(self, device, plant, flow):
-        later = threading.Timer(0.2, lambda: device.say("input 2 1 415800000000002b00"))
+        later = threading.Timer(1, lambda: device.say("input 2 1 415800000000002b00"))  # when this program waits
         later.start()
-        same("the next value", flow.wait_change("flow", 5), 13.5)
+        same("the next value", flow.wait_change("flow", 20), 13.5)
         device.ask("status 2 1 bad", "note done")
         is_soon("the quality", lambda: not flow.signal("flow").good)
         refusal(nandutable.BadQuality, "flow-7.flow is not good: the device says that its data are bad", lambda: flow.flow)
         device.ask("status 2 1 good", "note done")
-        same("good again", flow.wait_until("flow", lambda _: True, 5), 13.5)
+        same("good again", flow.wait_until("flow", lambda _: True, 20), 13.5)
         for number in range(3):
             device.ask(f"alarm 2 1 c0ffe{number}", "note done")
             is_soon("an alarm", lambda: len(plant.state.snapshot()["alarms"]) == number + 1)
         alarms = [flow.wait_alarm(5) for _ in range(2)] + [plant.wait_alarm(5)]
         same("alarms in order", [(alarm.octets.hex(), alarm.slot, alarm.priority) for alarm in alarms], [(f"c0ffe{number}", 2, "high") for number in range(3)])
-        later = threading.Timer(0.2, lambda: device.say("diagnosis 2 1 0 6 appears"))
+        later = threading.Timer(1, lambda: device.say("diagnosis 2 1 0 6 appears"))
         later.start()
-        same("a diagnosis", flow.wait_diagnosis(10), [nandutable.Diagnosis(2, 1, 0, 6, "wire break")])
+        same("a diagnosis", flow.wait_diagnosis(20), [nandutable.Diagnosis(2, 1, 0, 6, "wire break")])
         device.ask("diagnosis 2 1 0 6 disappears", "note done")
         is_soon("it disappears", lambda: flow.diagnosis == [])
 
@@ -511,8 +507,8 @@ class PythonTests:
         same("several readers at once", told, ["00200038"] * 5)
         flow.restart(20)
         same("it exchanges again", flow.state, "exchanging")
-        same("the outputs are set again", flow.wait_until("lamp", lambda lamp: lamp == 255, 5), 255)
-        same("the inputs come again", flow.wait_until("flow", lambda value: value == 13.5, 5), 13.5)
+        same("the outputs are set again", flow.wait_until("lamp", lambda lamp: lamp == 255, 20), 255)
+        same("the inputs come again", flow.wait_until("flow", lambda value: value == 13.5, 20), 13.5)
 
     def python_several(self, _):
         """Three stations of one controller: names, a station that is not there, one that ends and comes back."""
@@ -531,7 +527,7 @@ class PythonTests:
                 two.wait_state("exchanging", 30)
                 for number, station in ((1, one), (2, two)):
                     devices[number].ask(f"input 1 1 000{number}", "note done")
-                    same(f"pump.{number}", station.wait_until("level", lambda level: level == number, 5), number)
+                    same(f"pump.{number}", station.wait_until("level", lambda level: level == number, 20), number)
                     station.speed = -number
                     devices[number].expect(f"output 2 1 {65536 - number:04x}")
                     same(f"the record of pump.{number}", station.read(0, 1, 0xAFF0)[:4].hex(), "00200038")
@@ -543,10 +539,10 @@ class PythonTests:
                     is_soon("the alarm", lambda: plant.state.snapshot()["alarms"][-1:] and plant.state.snapshot()["alarms"][-1]["station"] == f"pump.{number}")
                 same("their stations", [plant.wait_alarm(5).station for _ in range(3)], ["pump.2", "pump.1", "pump.2"])
                 plant.commands.stop("pump.1")
-                one.wait_state("ended", 5)
+                one.wait_state("ended", 20)
                 same("the other goes on", (two.state, two.level), ("exchanging", 2))
                 one.restart(30)
-                same("the first again", one.wait_until("level", lambda level: level == 1, 5), 1)
+                same("the first again", one.wait_until("level", lambda level: level == 1, 20), 1)
                 is_soon("neither has lost a frame that the other one's end explains", lambda: two.info["received"] > 100)
             for device in devices.values():
                 device.end()
@@ -603,8 +599,10 @@ class PythonTests:
         same("a record", self.module_prints("--socket", path, "read", "pump-1", "0", "1", "0xAFF0")[:8], "00200038")
         same("a refused one", "invalid index" in self.module_prints("--socket", path, "read", "pump-1", "0", "1", "40", status=1), True)
         self.module_prints("--socket", path, "write", "pump-1", "0", "1", "0xAFF1", "002100380100" + "20" * 54)
+        # The device hears of its neighbour each five seconds.
+        is_soon("its neighbour", lambda: "port 'port-001' to 'port-001' of 'plc'" in self.module_prints("--socket", path, "stations"))
         told = self.module_prints("--socket", path, "stations")
-        same(told, told.startswith("pump-1  exchanging  02:00:00:00:00:01  192.168.0.2  ") and "port 'port-001' to 'port-001' of 'plc'" in told, True)
+        same(told, told.startswith("pump-1  exchanging  02:00:00:00:00:01  192.168.0.2  "), True)
         shot = json.loads(self.module_prints("--socket", path, "snapshot"))
         same("the snapshot", (shot["stations"]["pump-1"]["state"], shot["signals"]["pump-1.level"]["value"]), ("exchanging", 258))
         with subprocess.Popen([sys.executable, "-m", "nandutable", "--socket", path, "watch", "level"], stdout=subprocess.PIPE, text=True,
@@ -648,7 +646,7 @@ class PythonTests:
             with subprocess.Popen(words, stdout=subprocess.PIPE, stderr=subprocess.DEVNULL, env={**os.environ, "PYTHONPATH": PYTHON}, text=True) as script:
                 pid = int(script.stdout.readline())
                 script.send_signal(number)
-                script.wait(20)
+                script.wait(60)
             is_soon("its controller ends", lambda: not self.runs(pid))
         # The device is free at once: a controller that was not released would be refused for a minute.
         controller = self.controller(wire, plan, "--signals", "--times", "--socket", path)
@@ -671,6 +669,7 @@ class PythonTests:
         device, top = self.device(wire, "python-fill"), self.path("top")
         os.makedirs(os.path.join(top, "host", "build"))
         controller = self.controller(wire, os.path.join(HOST, "demo", "pump.json"), "--signals", "--times", "--retry", "1", "--socket", os.path.join(top, "host/build/demo.lines"))
+        talk_to(os.path.join(top, "host/build/demo.lines"), 60).close()  # the controller listens
         tank = Tank(device, level=150.0)
         ran = subprocess.run([sys.executable, os.path.join(HOST, "demo", "fill.py")], cwd=top, env={**os.environ, "PYTHONPATH": PYTHON}, capture_output=True, text=True, timeout=60)
         told = [line.split() for line in ran.stdout.splitlines()]

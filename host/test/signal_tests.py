@@ -13,7 +13,7 @@ import time
 
 import dce
 import peer
-from wire import BUILD, HERE, TOP, Program, talk_to
+from wire import BUILD, HERE, TOP, Program, awaited, talk_to
 
 sys.path.insert(0, TOP)
 from planning import signals as launcher, types  # noqa: E402: the top of the repository is not on the path before
@@ -347,8 +347,8 @@ class SignalTests:
         device = self.device(wire, "signals", "--station", path, name=None)
         controller = self.controller(wire, path, "--signals", "--deadband", "flow=0.5", "--deadband", "flow-7.total=10", "--assign", "02:00:00:00:00:01", "--retry", "1")
         controller.expect("state exchanging", 60)
-        controller.expect(r"flow-7\.flow = 0 good$")
-        controller.expect(r"flow-7\.valve_8 = false good$")
+        # Outputs are good at once, inputs with the next frame that says so.
+        controller.expect_each(r"flow-7\.flow = 0 good$", r"flow-7\.valve_8 = false good$")
         # The lines of today stay; those of the signals come too.
         device.ask("input 2 1 40490fdb0000002a01", "note done")
         controller.expect("input 2 1 40490fdb0000002a01$")
@@ -394,8 +394,7 @@ class SignalTests:
         for line in (r"flow = 3\.6428573", "valves = 128"):
             controller.expect(rf"flow-7\.{line} bad$")
         controller.expect("state exchanging", 60)
-        controller.expect(r"flow-7\.flow = .* good$")
-        controller.expect(r"flow-7\.lamp = 7 good$")
+        controller.expect_each(r"flow-7\.flow = .* good$", r"flow-7\.lamp = 7 good$")
         device.expect("output 3 3 07")
         controller.end()
         device.end()
@@ -422,16 +421,17 @@ class SignalTests:
         controller.ask("set pump.2.slot2_sub1_out 00ff", r"refused set pump\.2\.slot2_sub1_out: no data is exchanged, the state is looking$")
         controller.ask("pump-1 give 2 1 0003", "pump-1 state exchanging")
         controller.expect(r"pump-1\.speed = 3 good [0-9.]+$")
-        # Fifty changes within half a second: at most three lines of the signal, and the last one has the last value.
+        # Fifty changes, on an idle machine within half a second: one line in 0.4 seconds, and the last one has the last value.
         time.sleep(0.5)
-        before = len(controller.lines)
+        before, begins = len(controller.lines), time.monotonic()
         for number in range(1, 51):
             device.ask(f"input 1 1 {number:04x}", "note done")
             time.sleep(0.01)
         controller.sees(r"pump-1\.level = 50 good")
-        lines = [(at, line) for at, line in controller.lines[before:] if line.startswith("pump-1.level")]
-        gaps = [float(later.split()[-1]) - float(one.split()[-1]) for (_, one), (_, later) in zip(lines, lines[1:])]
-        same(f"few lines: {lines}", len(lines) <= 6 and all(later - one > 0.35 for (one, _), (later, _) in zip(lines, lines[1:])), True)
+        took = time.monotonic() - begins
+        lines = [line for _, line in controller.lines[before:] if line.startswith("pump-1.level")]
+        gaps = [float(later.split()[-1]) - float(one.split()[-1]) for one, later in zip(lines, lines[1:])]
+        same(f"few lines in {took:.2f} s: {lines}", len(lines) <= took / 0.4 + 1, True)
         same(f"times rise: {gaps}", all(gap > 0 for gap in gaps), True)
         device.ask("input 1 1 8000", "note done")
         controller.expect(r"pump-1\.full = true good", 5)
@@ -476,19 +476,22 @@ class SignalTests:
         awake.sendall(b"names\n")
         read_until(rb"names 2000\n")
         same("each name once", len([line for line in lines if line.startswith("name ")]), count)
-        time.sleep(0.5)
-        awake.sendall(b"get *\nget bit_1\nset bit_0 true\n")
-        read_until(rb"got 2000\n")
-        newest = {}
-        for line in lines:
-            found = re.match(r"pump-1\.(bit_[0-9]+) = (true|false) good$", line)
-            if found:
-                newest[found[1]] = found[2]
-        same("each input is true", {newest.get(f"bit_{number}") for number in range(1, count, 2)}, {"true"})
-        awake.sendall(b"statistics\n")
-        read_until(rb"lines lost [0-9]+\n")
-        cyclic = next(re.match(r"cyclic received ([0-9]+) lost ([0-9]+)", line) for line in lines if line.startswith("cyclic"))
-        same("frames were received", int(cyclic[1]) > 100, True)
+
+        def inputs():
+            """The newest value of each input, after all were asked for."""
+            awake.sendall(b"get *\n")
+            read_until(rb"got 2000\n")
+            found = {one[1]: one[2] for line in lines if (one := re.match(r"pump-1\.(bit_[0-9]+) = (true|false) good$", line))}
+            return {found.get(f"bit_{number}") for number in range(1, count, 2)}
+        awaited("each input is true", lambda: inputs() == {"true"})
+        awake.sendall(b"get bit_1\nset bit_0 true\n")
+
+        def counted():
+            """Frames received and lost."""
+            awake.sendall(b"statistics\n")
+            read_until(rb"lines lost [0-9]+\n")
+            return [re.match(r"cyclic received ([0-9]+) lost ([0-9]+)", line) for line in lines if line.startswith("cyclic")][-1]
+        awaited("frames are received", lambda: int(counted()[1]) > 100)
         with open(f"/proc/{controller.process.pid}/statm", encoding="ascii") as file:
             before = int(file.read().split()[1])
         for number in range(200):
@@ -505,6 +508,7 @@ class SignalTests:
             came += other.recv(4096)
         same("its answer alone", b"name " in came, False)
         other.close()
+        cyclic = counted()
         awake.close()
         controller.end()
         device.end()

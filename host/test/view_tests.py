@@ -5,6 +5,7 @@ import io
 import json
 import os
 import re
+import select
 import signal
 import socket
 import subprocess
@@ -15,7 +16,7 @@ import time
 import browser
 from made_up_plant import CONTROLLER, MadeUp, line_of_stations, mac_of
 from signal_tests import same
-from wire import HOST, talk_to
+from wire import HOST, awaited, talk_to
 
 sys.path.insert(0, os.path.join(HOST, "python"))
 from nandutable import view as server  # noqa: E402: the module's folder is not on the path before
@@ -35,6 +36,10 @@ const ground = (element) => { let found = [0, 0, 0, 0]; for (let at = element; a
   if (colour[3] > 0) { found = found[3] === 0 ? colour : [...over(found, colour), 1]; if (colour[3] === 1) return found; } } return [255, 255, 255]; };
 const behind = (element) => { const box = element.closest("g")?.querySelector("rect.box"); return box && element.closest("svg") ? rgb(getComputedStyle(box).fill) : ground(element); };
 """
+# The value of an output in its row.
+ROW = "return document.querySelector(`[aria-label='Set ${arguments[0]}']`)?.closest('tr').querySelector('td.value span').textContent"
+# Two frames are drawn.
+FRAMES = "const done = arguments[0]; requestAnimationFrame(() => requestAnimationFrame(() => done()))"
 CONTRAST = RATIO + """
 const wrong = [];
 const seen = (element) => element.getClientRects().length > 0 && !element.closest(".unseen, [disabled]");
@@ -83,10 +88,13 @@ class View:
         with self.wire.opened("c0", socket.AF_INET, socket.SOCK_STREAM, 0) if self.wire else socket.socket() as link:
             link.settimeout(seconds)
             link.connect(("127.0.0.1", self.port))
-            link.sendall(octets if isinstance(octets, bytes) else octets.encode())
             came = b""
-            while more := link.recv(65536):
-                came += more
+            # A server that refuses may close before it has read all.
+            with contextlib.suppress(BrokenPipeError, ConnectionResetError):
+                link.sendall(octets if isinstance(octets, bytes) else octets.encode())
+            with contextlib.suppress(ConnectionResetError):
+                while more := link.recv(65536):
+                    came += more
         head, _, body = came.partition(b"\r\n\r\n")
         return int(head.split()[1]) if head.startswith(b"HTTP/") else 0, head.decode(), body.decode()
 
@@ -238,7 +246,7 @@ class ViewTests:
         for rest, status in (("\r\n", 411), ("Transfer-Encoding: chunked\r\n\r\n0\r\n\r\n", 411), ("Content-Length: -1\r\n\r\n", 411), ("Content-Length: 9000\r\n\r\n" + "a" * 9000, 413),
                              ("Content-Length: 2\r\n\r\n{}", 400), ("Content-Length: 5000\r\n\r\n" + "[" * 5000, 400), ("Content-Length: 4\r\n\r\n\xff\xff", 400)):
             same(rest[:40], view.asked((front + rest).encode("utf-8"))[0], status)
-        same("only two were done", raw_of(view.state(), "pump-1.speed"), "1501")
+        view.waits(lambda state: raw_of(state, "pump-1.speed") == "1501", "only two were done")
         counts = view.state()["counts"]
         same(f"{counts}", (counts["sets"], counts["refused"] > 10), (2, True))
 
@@ -249,7 +257,11 @@ class ViewTests:
         with View("--socket", plant.path) as view:
             view.waits(lambda state: len(state["signals"]) == 64 * 31, "all signals", 60)
             asleep = [self.open_page(view) for _ in range(16)]
+            view.waits(lambda state: state["counts"]["pages"] == 16, "16 pages")
             same("a seventeenth page", view.get("/events")[0], 503)
+            # Each of them has got the beginning of all signals, so the server has all that it keeps for them.
+            for link in asleep:
+                awaited("a page begins", lambda: b"event: whole" in link.recv(4096, socket.MSG_PEEK))
             slow = socket.create_connection(("127.0.0.1", view.port))
             slow.sendall(b"GET / HTTP/1.1\r\nHost:")
             over = threading.Event()
@@ -267,10 +279,10 @@ class ViewTests:
             with self.open_page(view) as link:
                 same("a new page is served", link.recv(15), b"HTTP/1.1 200 OK")
             idle = [socket.create_connection(("127.0.0.1", view.port)) for _ in range(70)]
-            time.sleep(0.5)
+            same("connections beyond 64 are closed", bool(select.select(idle, [], [], 20)[0]), True)
             for link in idle:
                 link.close()
-            more = view.waits(lambda state: state["counts"]["no_place"] >= 1 and state["counts"], "connections beyond 64 are closed")
+            more = view.waits(lambda state: state["counts"]["no_place"] >= 1 and state["counts"], "they are counted")
             over.set()
             changes.join()
             for link in (*asleep, slow):
@@ -296,9 +308,10 @@ class ViewTests:
                     gone = view.waits(lambda state: not state["controller"]["running"] and state, "it is gone")
                     same("all is bad", ([one["good"] for one in gone["signals"]], station_of(gone)["state"]), ([False, False], "ended"))
                     same("a set is refused", view.set("pump-1.speed", "1")[0], 503)
-                    plant = MadeUp(path)
+                    plant = MadeUp(path + ".new")  # which nobody knows before it has its stations
                     two_signals(plant)
                     plant.change("pump-1.level", "813")
+                    os.replace(path + ".new", path)
                     view.waits(lambda state: raw_of(state, "pump-1.level") == "813" and station_of(state)["state"] == "exchanging", "it is there again")
                     same("sets, whose lines cannot be written", [view.set("pump-1.speed", str(number)) for number in range(150)], [(200, None)] * 150)
                     plant.close()
@@ -437,10 +450,10 @@ class ViewTests:
                 self.shows(page, "td.value", f"{number}mm", 2)
             same("nothing can be set on this page", page.run("return document.querySelectorAll('table button').length"), 0)
             same("and its server refuses", self.set_by_script(page), [403, "this page is read-only: nandutable-view was started without --allow-set"])
-            self.shows(page, ".picture text.name", "pump-1", 1)
+            self.shows(page, ".picture text.name", "pump-1", 20)
             self.shows(page, "#cables li", "Controller, port-001 – pump-1, port-001", 30)
             self.shows(page, "#title", "Controller plc", 40)
-            same("one cable, from both of its ends", page.run("return document.querySelectorAll('#cables li, .picture .other').length"), 1)
+            self.says(page, "one cable, from both of its ends", 1, "return document.querySelectorAll('#cables li, .picture .other').length")
             took = self.pulled(wire, page)
             same("complaints", [line for line in page.complaints() if "403" not in line], [])
             view.end(signal.SIGKILL)
@@ -456,17 +469,29 @@ class ViewTests:
         device.end()
         return f"a pulled cable is seen within {took:.1f} s; {len(asked)} requests, all to the server of the page"
 
-    @staticmethod
-    def shows(page, place, text, seconds):
+    def shows(self, page, place, text, seconds):
         """Waits until an element of this kind has this text. Returns the seconds."""
-        begins = time.monotonic()
-        while True:
-            found = page.run("return [...document.querySelectorAll(arguments[0])].map((element) => element.textContent.trim())", place)
-            if any(text == one for one in found):
-                return time.monotonic() - begins
-            if time.monotonic() - begins > seconds:
-                raise AssertionError(f"{place} does not show {text!r} within {seconds} s, but {found}")
+        return self.comes(page, f"{place} with {text!r}", lambda found: text in found, seconds,
+                          "return [...document.querySelectorAll(arguments[0])].map((element) => element.textContent.trim())", place)
+
+    def says(self, page, what, wanted, script, *words, seconds=20):
+        """Waits until a script of the page returns this."""
+        return self.comes(page, f"{what} is {wanted!r}", lambda found: found == wanted, seconds, script, *words)
+
+    @staticmethod
+    def comes(page, what, is_it, seconds, script, *words):
+        """Waits until a script of the page returns what is wanted. Returns the seconds. A browser that draws late on this machine has more time: twenty times
+        of what it takes for two frames."""
+        begins, late = time.monotonic(), 0.0
+        while not is_it(found := page.run(script, *words)):
+            took = time.monotonic() - begins
+            if took > seconds + late:
+                page.waits(FRAMES)
+                late = max(late, 20 * (time.monotonic() - begins - took))
+            if took > seconds + late:
+                raise AssertionError(f"{what}: not within {seconds} s, and {late:.1f} s for a late browser, but {found!r}")
             time.sleep(0.02)
+        return time.monotonic() - begins
 
     @staticmethod
     def set_by_script(page):
@@ -482,13 +507,8 @@ class ViewTests:
         self.shows(page, ".state", "exchanging data", 30)
         return took
 
-    @staticmethod
-    def shows_link(page):
-        begins = time.monotonic()
-        while "down" not in page.run("return document.getElementById('summary').lastElementChild.textContent"):
-            same("the pulled cable is seen within two seconds", time.monotonic() - begins < 2, True)
-            time.sleep(0.02)
-        return time.monotonic() - begins
+    def shows_link(self, page):
+        return self.comes(page, "the pulled cable is seen", lambda found: "down" in found, 2, "return document.getElementById('summary').lastElementChild.textContent")
 
     def keys_and_sets(self, page, device):
         """By the keyboard alone: the skip link, the search, the dialog."""
@@ -496,30 +516,35 @@ class ViewTests:
         page.keys("TAB")
         same("the first key goes to the skip link", page.run(focused), ["A", "Skip to the stations", "solid"])
         page.keys("ENTER")
-        same("it skips", page.run("return location.hash"), "#stations-title")
+        self.says(page, "where it skips to", "#stations-title", "return location.hash")
         page.keys("/")
-        same("the search", page.run(focused)[1], "find")
+        self.says(page, "the search", "find", "return document.activeElement.id")
         page.keys("leve")
-        self.shows(page, "#found", "1 station, 1 signal found", 2)
+        self.shows(page, "#found", "1 station, 1 signal found", 20)
         page.keys("ESCAPE")
-        self.shows(page, "#found", "1 station, 2 signals", 2)
+        self.shows(page, "#found", "1 station, 2 signals", 20)
+        # All is known of both signals: their rows are not made again.
+        self.shows(page, "td.value", "815mm", 20)
+        self.says(page, "the output has a row", True, "return document.querySelector(`[aria-label='Set pump-1.speed']`) !== null")
         seen = []
         while page.run("return document.activeElement.getAttribute('aria-label')") != "Set pump-1.speed":
             page.keys("TAB")
             seen.append(page.run(focused))
             same(f"the button is reached: {seen}", len(seen) < 12 and all(one[2] == "solid" for one in seen), True)
         page.keys("ENTER")
-        same("the dialog is open, in its field", page.run("return [document.getElementById('set').open, document.activeElement.id]"), [True, "set-value"])
+        self.says(page, "the dialog is open, in its field", [True, "set-value"], "return [document.getElementById('set').open, document.activeElement.id]")
         page.keys("70000", "ENTER")
-        self.shows(page, "#set-answer", "Not set: Unsigned16 takes 0 to 65535", 5)
+        self.shows(page, "#set-answer", "Not set: Unsigned16 takes 0 to 65535", 20)
         same("complaints: of the refused one alone", [line for line in page.complaints() if "409" not in line and "events" not in line], [])
         page.run("document.getElementById('set-value').select()")
         page.keys("1500", "ENTER")
         device.expect("output 2 1 05dc")
-        self.shows(page, "td.value", "1500rpm", 3)
-        same("the dialog is closed, and the focus is back", page.run("return [document.getElementById('set').open, document.activeElement.getAttribute('aria-label')]"), [False, "Set pump-1.speed"])
-        page.keys("ENTER", "ESCAPE")
-        same("Escape closes it", page.run("return document.getElementById('set').open"), False)
+        self.shows(page, "td.value", "1500rpm", 20)
+        self.says(page, "the dialog is closed, and the focus is back", [False, "Set pump-1.speed"], "return [document.getElementById('set').open, document.activeElement.getAttribute('aria-label')]")
+        page.keys("ENTER")
+        self.says(page, "the dialog is open", True, "return document.getElementById('set').open")
+        page.keys("ESCAPE")
+        self.says(page, "Escape closes it", False, "return document.getElementById('set').open")
 
     def browser_made_up(self):
         """Plants that no test machine has, in Chromium: many stations, a ring, names that are meant to break the page; widths, contrast, motion."""
@@ -549,6 +574,7 @@ class ViewTests:
                     same("each state has its word", page.run("return [...document.querySelectorAll('.state, .quality, .mark, .word')].filter((one) => !one.textContent.trim()).length"), 0)
                 plant.change("pump-1.level", scheme)
                 same("no motion", page.run("return document.getAnimations().length"), 0)
+                self.says(page, "the output in its row", "1200", ROW, "pump-1.speed")
                 page.run("document.querySelector('[aria-label=\"Set pump-1.speed\"]').click()")
                 count += self.has_contrast(page, f"dialog {scheme}")
                 page.keys("ESCAPE")
@@ -565,18 +591,19 @@ class ViewTests:
         with View("--socket", plant.path, "--allow-set") as view:
             page.open(view.url)
             self.shows(page, "#found", "1 station, 3 signals", 15)
+            for name in ("display", "valve", "octets"):
+                self.says(page, f"{name} in its row", plant.values[f"flow-7.{name}"][2], ROW, f"flow-7.{name}")
             for name, keys, field, value in (("display", (), 'Hello, "world"!', '"Hello, \\"world\\"!"'), ("display", ('a "b" \\ c',), 'a "b" \\ c', '"a \\"b\\" \\\\ c"'),
                                              ("octets", ("a0b1",), "a0b1", "a0b1"), ("valve", ("ARROW_UP",), "true", "true"), ("valve", ("ARROW_DOWN",), "false", "false")):
                 page.run("document.querySelector(`[aria-label='Set flow-7.${arguments[0]}']`).click()", name)
                 if keys:
                     page.keys(*keys)
-                same(f"the field of {name}", page.run("return document.activeElement.value"), field)
+                self.says(page, f"the field of {name}", field, "return document.activeElement.value")
                 page.keys("ENTER")
+                self.says(page, "the dialog is open", False, "return document.getElementById('set').open")
                 view.waits(lambda state: raw_of(state, f"flow-7.{name}") == value, f"{name} is {value}")
-                ends = time.monotonic() + 5
-                while page.run("return document.getElementById('set').open") and time.monotonic() < ends:
-                    time.sleep(0.05)
-                same("the dialog is closed", page.run("return document.getElementById('set').open"), False)
+                # The next dialog begins with the value that the page has.
+                self.says(page, f"{name} in its row", value, ROW, f"flow-7.{name}")
 
     @staticmethod
     def has_contrast(page, what):
@@ -603,13 +630,14 @@ class ViewTests:
         two_signals(plant, ports=[(f"port-{number:03}", [(name, name, f"02:00:00:00:0a:0{number}")]) for number, name in enumerate(HOSTILE, 1)])
         plant.values["pump-1.level"][4] = HOSTILE[0].replace("'", "")
         with View("--socket", plant.path) as view:
+            page.open("about:blank")  # the page before may still ask for a server that is gone
             page.complaints()
             page.open(view.url)
             for number, name in enumerate(HOSTILE, 1):
                 self.shows(page, "#cables li", f"pump-1, port-{number:03} – {name}, {name}", 15)
             same("none of them is an element", page.run("return [document.querySelectorAll('img, script:not([src]), body svg[onload]').length, document.title]"), [0, "Controller on eth2"])
             plant.tell(f"warning: {HOSTILE[0]}")
-            time.sleep(1)
+            self.comes(page, "the warning", lambda found: HOSTILE[0] in found, 20, "return document.getElementById('events').textContent")
             same("nor in what happened", page.run("return document.querySelectorAll('#events img').length"), 0)
             same("complaints", page.complaints(), [])
 

@@ -31,6 +31,20 @@ class NoWire(Exception):
     """Namespaces or a wire between them cannot be made here."""
 
 
+class Final(AssertionError):
+    """What no late machine explains, such as a setting that was lost: the test is not tried again."""
+
+
+def awaited(what, find, seconds=20):
+    """Waits until `find` returns something that counts as true, and returns it."""
+    ends = time.monotonic() + seconds
+    while not (found := find()):
+        if time.monotonic() > ends:
+            raise AssertionError(f"{what}: not within {seconds} s, but {found!r}")
+        time.sleep(0.01)
+    return found
+
+
 def command(*words, environment=None):
     try:
         ran = subprocess.run(words, capture_output=True, text=True, env=environment)
@@ -98,8 +112,13 @@ class Wire:
 
     def opened(self, end, *kind):
         """A socket of this kind at an end."""
+        return self.opened_in(self.device if end == "d0" else self.controller, *kind)
+
+    @staticmethod
+    def opened_in(name, *kind):
+        """A socket of this kind in a namespace."""
         libc = ctypes.CDLL(None, use_errno=True)
-        with open("/proc/self/ns/net", "rb") as home, open(f"/run/netns/{self.device if end == 'd0' else self.controller}", "rb") as there:
+        with open("/proc/thread-self/ns/net", "rb") as home, open(f"/run/netns/{name}", "rb") as there:
             if libc.setns(there.fileno(), CLONE_NEWNET) != 0:
                 raise NoWire(f"setns: {os.strerror(ctypes.get_errno())}")
             try:
@@ -190,6 +209,15 @@ class Program:
                     break
                 self.news.wait(left)
         raise AssertionError(f"no line '{pattern}' of {os.path.basename(self.words[4])}:\n{self.text()}")
+
+    def expect_each(self, *patterns, seconds=10):
+        """Lines that match these patterns, in any order, after the lines that were expected before. The next ones come after the last of them."""
+        first, last = self.seen, self.seen
+        for pattern in patterns:
+            self.seen = first
+            self.expect(pattern, seconds)
+            last = max(last, self.seen)
+        self.seen = last
 
     def has(self, pattern):
         """Whether the beginning of some line matches."""
