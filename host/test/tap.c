@@ -97,12 +97,16 @@ int main(int count, char *words[])
     fflush(file);
     puts("ready");
     fflush(stdout);
-    while (!is_ended) {
+    for (;;) {
         struct iovec part = {octets, sizeof octets - 4};
         struct msghdr message = {.msg_iov = &part, .msg_iovlen = 1, .msg_control = beside, .msg_controllen = sizeof beside};
-        ssize_t got = recvmsg(fd, &message, 0);
+        /* What came before the end is written, also if this program is late. */
+        int flags = is_ended ? MSG_DONTWAIT : 0;
+        ssize_t got = recvmsg(fd, &message, flags);
         if (got >= 14)
             write_frame(file, &message, octets, (size_t)got);
+        else if (flags != 0)
+            break;
     }
     return fclose(file) == 0 ? 0 : 1;
 }
