@@ -13,7 +13,7 @@ mod received;
 mod route;
 mod units;
 
-pub use exchange::{CyclicExchange, ProviderStatus};
+pub use exchange::{CyclicExchange, ProviderStatus, ReceivedValue};
 pub use frames::send_cyclic;
 pub use laws::cyclic_data_is_kept;
 pub use opening::Statuses;

@@ -6,7 +6,7 @@ ghost use Rattle.cyclic_data.specs.Image.{place_at, status_in, value_in};
 ghost use Rattle.cyclic_data.specs.declared.place.PlaceKind.TheVariants.{Data};
 
 use crate::layout::Layout;
-use crate::octets::{blank, status_at, value_at};
+use crate::octets::{blank, rated_value_at, status_at, value_at};
 use crate::place::{Place, PlaceKind};
 use arrayvec::ArrayVec;
 
@@ -52,6 +52,17 @@ impl LaidOut {
             ≡ option_map (value_in self.now.octets) (place_at Data slot subslot self.now.places.items) }
     {
         value_at(&self.octets, self.places.as_slice(), slot, subslot)
+    }
+
+    /// The data of a submodule and its IOPS, or `None` if it has no data here.
+    pub(crate) fn rated_value(&self, slot: u16, subslot: u16) -> Option<(&[u8], u8)>
+        requires { IsReceived self.now.data_length self.now.places.items self.now.octets }
+        ensures value { option_map (λ rated. rated.0.now) result
+            ≡ option_map (value_in self.now.octets) (place_at Data slot subslot self.now.places.items) }
+        ensures status { option_map (λ rated. rated.1) result
+            ≡ option_map (status_in self.now.octets) (place_at Data slot subslot self.now.places.items) }
+    {
+        rated_value_at(&self.octets, self.places.as_slice(), slot, subslot)
     }
 
     /// The status of a place, or `None` if there is no such place.

@@ -17,8 +17,8 @@ mod timing;
 mod zero_octets;
 
 pub use exchange::{
-    CyclicExchange, ProviderStatus, Received, Route, Statuses, Tick, cyclic_data_is_kept,
-    send_cyclic,
+    CyclicExchange, ProviderStatus, Received, ReceivedValue, Route, Statuses, Tick,
+    cyclic_data_is_kept, send_cyclic,
 };
 pub use fault::LayoutFault;
 pub use image::Image;

@@ -106,6 +106,26 @@ pub(crate) fn value_at<'a>(
     Some(part(octets, place.offset as usize, place.size as usize - 1))
 }
 
+/// The octets at the place of a submodule's data and its IOPS, or `None` if there is no such place.
+pub(crate) fn rated_value_at<'a>(
+    octets: &'a [u8],
+    places: &[Place],
+    slot: u16,
+    subslot: u16,
+) -> Option<(&'a [u8], u8)>
+    requires inside { AllByRecursion (IsInside (length octets.now)) places.now }
+    requires solid { AllByRecursion IsSolid places.now }
+    ensures value { option_map (λ rated. rated.0.now) result ≡ option_map (value_in octets.now) (place_at Data slot subslot places.now) }
+    ensures status { option_map (λ rated. rated.1) result ≡ option_map (status_in octets.now) (place_at Data slot subslot places.now) }
+{
+    let place = place_at(places, PlaceKind::Data, slot, subslot)?;
+    let value = part(octets, place.offset as usize, place.size as usize - 1);
+    Some((
+        value,
+        octets[place.offset as usize + place.size as usize - 1],
+    ))
+}
+
 /// The status at a place, or `None` if there is no such place.
 pub(crate) fn status_at(
     octets: &[u8],

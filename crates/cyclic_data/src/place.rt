@@ -48,7 +48,8 @@ impl Place {
     pub(crate) fn is_of(&self, kind: PlaceKind, slot: u16, subslot: u16) -> bool
         ensures { result ≡ is_of kind slot subslot self.now }
     {
-        kind.is(self.kind) && self.slot == slot && self.subslot == subslot
+        // Most places differ in the slot.
+        self.slot == slot && self.subslot == subslot && kind.is(self.kind)
     }
 }
 

@@ -62,6 +62,7 @@ impl ReceivedImage {
     }
 
     /// Stores the octets of a frame, as many as DataLength counts. The octets after them are ignored.
+    #[inline(always)]
     pub fn accept(&mut self, octets: &[u8])
         requires { self.old.data_length ≤ length octets.now }
         ensures { self.new ≡ with_frame octets.now self.old }
@@ -92,11 +93,34 @@ impl ReceivedImage {
         ensures value { option_map (λ value. value.now) result ≡ option_map output_of (cell_at Data slot subslot self.now.cells) }
         ensures short { IfSome result (λ value. length value.now ≤ 1440) }
     {
-        let value = self.get(slot, subslot)?;
-        match self.status(PlaceKind::Data, slot, subslot) {
-            Some(GOOD) => Some(value),
-            // With a bad IOPS the data has no meaning, and outputs fall back to zeros.
-            _ => Some(zeros(value.len())),
+        match self.rated_output(slot, subslot) {
+            Some((value, _)) => Some(value),
+            None => None,
         }
+    }
+
+    /// The same, and its IOPS.
+    pub(crate) fn rated_output(&self, slot: u16, subslot: u16) -> Option<(&[u8], u8)>
+        ensures value { option_map (λ rated. rated.0.now) result ≡ option_map output_of (cell_at Data slot subslot self.now.cells) }
+        ensures status { option_map (λ rated. rated.1) result ≡ option_map (λ cell. cell.status) (cell_at Data slot subslot self.now.cells) }
+        ensures short { IfSome result (λ rated. length rated.0.now ≤ 1440) }
+    {
+        let (value, iops) = self.rated_value(slot, subslot)?;
+        if iops == GOOD {
+            return Some((value, iops));
+        }
+        // With a bad IOPS the data has no meaning, and outputs fall back to zeros.
+        Some((zeros(value.len()), iops))
+    }
+
+    /// The data of a submodule with any IOPS, and its IOPS, or `None` if it has no data in these frames.
+    fn rated_value(&self, slot: u16, subslot: u16) -> Option<(&[u8], u8)>
+        ensures value { option_map (λ rated. rated.0.now) result
+            ≡ option_map (λ cell. cell.value) (cell_at Data slot subslot self.now.cells) }
+        ensures status { option_map (λ rated. rated.1) result
+            ≡ option_map (λ cell. cell.status) (cell_at Data slot subslot self.now.cells) }
+        ensures short { IfSome result (λ rated. length rated.0.now ≤ 1440) }
+    {
+        self.laid_out.rated_value(slot, subslot)
     }
 }

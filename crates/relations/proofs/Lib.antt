@@ -8,3 +8,6 @@ mod ExchangeAwaited
 pub mod ExchangeKept
 pub mod ExchangeInputs
 pub mod ExchangeLeaps
+mod DueLater
+mod InputsDue
+mod MarksAwaited

@@ -2,13 +2,14 @@
 ghost use Rattle.std.specs.Prelude.{◌≡◌, ◌≤◌, IfSome, Some, is_some, length, option_map, true};
 ghost use Rattle.relations.specs.declared.phase.Phase.TheVariants.{Exchanging};
 ghost use Rattle.relations.specs.Exchanged.{becoming, given_to, heard_by, hearing, output_in, provider_in, raised_to, rating, received_by, receiving};
+ghost use Rattle.relations.specs.Leaps.{due_within};
 ghost use Rattle.relations.specs.RelationState.{flow_of, phase_of};
 ghost use Rattle.relations.specs.Phases.{updated};
 ghost use Rattle.relations.specs.Diagnosed.{begin_one, beginning, diagnose_one, diagnosing, has_sent_low, heard_low, hearing_low, is_full_in, owns_in, report_one, reporting};
 
 use crate::Relation;
 use crate::exchange::DataExchange;
-use cyclic_data::{ProviderStatus, Received};
+use cyclic_data::{ProviderStatus, Received, ReceivedValue};
 use diagnosis::{Change, Diagnoses};
 use pn_alarms::{Message, PduFate};
 use pn_values::{Mac, Real};
@@ -26,9 +27,12 @@ impl Relation {
 
     /// Receives a cyclic frame: its source, its FrameID, and the octets that follow it. If it is not accepted nothing
     /// changes.
+    #[inline(always)]
     pub fn receive(&mut self, source: Mac, frame_id: u16, body: &[u8]) -> Received
         ensures received { result ≡ received_by source frame_id body.now self.old }
         ensures state { self.new ≡ updated (receiving source frame_id body.now self.old) self.old }
+        // It only puts off what is due.
+        ensures due { due_within self.old ≤ due_within self.new }
     {
         match self.phase {
             Some(_) => self.exchange.receive(source, frame_id, body),
@@ -41,6 +45,8 @@ impl Relation {
     pub fn give(&mut self, slot: u16, subslot: u16, value: &[u8]) -> bool
         ensures done { result ≡ is_some (given_to slot subslot value.now self.old) }
         ensures state { self.new ≡ updated (becoming (given_to slot subslot value.now self.old)) self.old }
+        // It changes nothing that is due.
+        ensures due { due_within self.new ≡ due_within self.old }
     {
         match self.phase {
             Some(_) => self.exchange.give(slot, subslot, value),
@@ -75,6 +81,19 @@ impl Relation {
     {
         match self.phase {
             Some(_) => self.exchange.cyclic().provider(slot, subslot),
+            None => None,
+        }
+    }
+
+    /// The output of a submodule in the controller's last accepted frame, and what the controller says of it. `None` if there is no
+    /// relation, if the output has no place in it, or if no frame was accepted yet.
+    pub fn received_value(&self, slot: u16, subslot: u16) -> Option<ReceivedValue<'_>>
+        ensures status { option_map (λ value. value.status) result ≡ provider_in slot subslot self.now }
+        ensures octets { IfSome result (λ value. output_in slot subslot self.now ≡ Some value.octets.now) }
+        ensures short { IfSome result (λ value. length value.octets.now ≤ 1440) }
+    {
+        match self.phase {
+            Some(_) => self.exchange.cyclic().received_value(slot, subslot),
             None => None,
         }
     }

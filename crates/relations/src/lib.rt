@@ -20,7 +20,7 @@ mod ready;
 mod relation;
 mod time;
 
-pub use cyclic_data::ProviderStatus;
+pub use cyclic_data::{ProviderStatus, ReceivedValue};
 pub use exchange::{
     DataExchange, InputStatus, Mark, OWN_REFERENCE, Repeated, Starting, exchange_is_kept, is_bad,
     is_plugged, put_status,

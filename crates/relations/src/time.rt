@@ -153,16 +153,17 @@ impl Relation {
         ensures some { 0 < result }
         ensures few { IsSome self.now → result ≤ 8388608 }
     {
-        // While data is exchanged the relation has no timers of its own.
-        if matches!(self.phase, Some(Phase::Exchanging)) {
-            return self.exchange.due_in();
-        }
         let Some(phase) = self.phase else {
             return NEVER;
         };
+        let due = self.exchange.due_in();
+        // While data is exchanged the relation has no timers of its own.
+        if matches!(phase, Phase::Exchanging) {
+            return due;
+        }
         let inactive = inactive_in(phase, limit_of(&self.request), self.inactive);
         let timers = inactive.min(ready_in(phase, self.waited));
-        self.exchange.due_in().min(timers)
+        due.min(timers)
     }
 
     /// Counts several units of 31.25 microseconds at once. None of them may bring anything.
@@ -170,6 +171,8 @@ impl Relation {
         requires { units < due_within self.old }
         ensures state { self.new ≡ units_over units self.old }
         ensures nothing { NothingDueFor units self.old }
+        // What is due comes nearer by these units, and by no more.
+        ensures due { due_within self.old ≤ due_within self.new + units }
     {
         let Some(phase) = self.phase else {
             return;

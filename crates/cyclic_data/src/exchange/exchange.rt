@@ -1,5 +1,5 @@
 //! One end of cyclic data.
-ghost use Rattle.std.specs.Prelude.{◌≡◌, ◌≤◌, ◌++◌, IfSome, [], false, is_some, length, option_map, unwrap_or};
+ghost use Rattle.std.specs.Prelude.{◌≡◌, ◌≤◌, ◌++◌, IfSome, Some, [], false, is_some, length, option_map, unwrap_or};
 ghost use Rattle.arrayvec.specs.ArrayVec.{array_vec_len};
 ghost use Rattle.cyclic_data.specs.exchange.Frames.{body_at};
 ghost use Rattle.cyclic_data.specs.exchange.Opening.{begun_of, ended_of, opened, related};
@@ -31,6 +31,15 @@ pub struct CyclicExchange {
     pub(crate) taken: ReceivedImage,
     /// DataStatus of the last accepted frame.
     pub(crate) data_status: DataStatus,
+}
+
+/// The data of a submodule in the partner's last accepted frame, and what the partner says of it.
+#[derive(Clone, Copy, Debug, PartialEq, Eq)]
+pub struct ReceivedValue<'a> {
+    /// The data. All zeros if the IOPS is not good.
+    pub octets: &'a [u8],
+    /// What the partner says of it.
+    pub status: ProviderStatus,
 }
 
 /// What the partner says of the data of a submodule in its last accepted frame.
@@ -219,6 +228,26 @@ impl CyclicExchange {
         let data_status = self.data_status;
         match self.taken.status(PlaceKind::Data, slot, subslot) {
             Some(iops) => Some(ProviderStatus { iops, data_status }),
+            None => None,
+        }
+    }
+
+    /// The data of a submodule in the partner's last accepted frame, and what the partner says of it, if the submodule has data
+    /// there. `None` if no frame was accepted yet.
+    pub fn received_value(&self, slot: u16, subslot: u16) -> Option<ReceivedValue<'_>>
+        ensures status { option_map (λ value. value.status) result ≡ provider_at self.now slot subslot }
+        ensures octets { IfSome result (λ value. value_at self.now slot subslot ≡ Some value.octets.now) }
+        ensures short { IfSome result (λ value. length value.octets.now ≤ 1440) }
+    {
+        if !self.consumer.has_heard() {
+            return None;
+        }
+        let data_status = self.data_status;
+        match self.taken.rated_output(slot, subslot) {
+            Some((octets, iops)) => Some(ReceivedValue {
+                octets,
+                status: ProviderStatus { iops, data_status },
+            }),
             None => None,
         }
     }

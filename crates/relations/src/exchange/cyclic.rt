@@ -1,5 +1,5 @@
 //! Cyclic frames, and the units of time.
-ghost use Rattle.std.specs.Prelude.{◌≡◌, ◌≢◌, ◌<◌, ◌≤◌, false};
+ghost use Rattle.std.specs.Prelude.{◌≡◌, ◌≢◌, ◌+◌, ◌<◌, ◌≤◌, false};
 ghost use Rattle.pn_alarms.specs.Leaps.{after};
 ghost use Rattle.relations.specs.exchange.Leaps.{BringNothing, flow_due_in};
 ghost use Rattle.relations.specs.exchange.Received.{behind_frame, received_as};
@@ -21,6 +21,7 @@ pub struct Repeated {
 
 impl DataExchange {
     /// Receives a cyclic frame: its source, its FrameID, and the octets that follow it.
+    #[inline(always)]
     pub fn receive(&mut self, source: Mac, frame_id: u16, body: &[u8]) -> Received
         ensures received { result ≡ received_as self.old source frame_id body.now }
         ensures state { self.new ≡ behind_frame self.old source frame_id body.now }
@@ -69,6 +70,7 @@ impl DataExchange {
 
     /// The number of units up to and with the next one with which a frame of inputs is due, the data hold time is over,
     /// or an alarm is sent again or given up.
+    #[inline(always)]
     pub fn due_in(&self) -> u32
         ensures value { result ≡ flow_due_in self.now }
         ensures some { 0 < result }
@@ -85,6 +87,8 @@ impl DataExchange {
         requires { units < flow_due_in self.old }
         ensures state { self.new ≡ after flow_later units self.old }
         ensures nothing { BringNothing units self.old }
+        // What is due comes nearer by these units, and by no more.
+        ensures due { flow_due_in self.old ≤ flow_due_in self.new + units }
     {
         self.cyclic.pass(units);
         self.alarms.pass(units);

@@ -1,7 +1,9 @@
 -- Several units that bring nothing to a relation, or to none.
-use Rattle.std.proofs.Common.{◌<◌, refl, sym}
+use Rattle.std.proofs.Common.{◌*◌, ◌<◌, refl, sym, arith}
 use Rattle.relations.specs.RelationState.{RelationState}
 use Rattle.relations.specs.Leaps.{link_due_in}
+use Rattle.relations.specs.exchange.Leaps.{flow_due_in}
+use Rattle.relations.proofs.DueLater.{timers_nearer}
 use Rattle.relations.proofs.Leaps.{begun_kept, below_left, below_right, later_after, none_after, none_due, nothing_after}
 use Rattle.relations.proofs.relation.Relation.pass.Goals as goal
 
@@ -50,6 +52,15 @@ returns-clause-nothing c =
     } in
     let below : c.args.units < link_due_in link = rw (← c.self.view_is, c.in-Some.is) at c.requires in
     rw (← c.self.view_is, c.in-Some.is) (nothing_after link c.args.units below c.pass.ensures.nothing)
+
+pub returns-in_default-clause-due : goal.returns-in_default-clause-due
+returns-in_default-clause-due c = rw (← c.self.view_is, c.in_default.is) (omega arith)
+
+pub returns-clause-due : goal.returns-clause-due
+returns-clause-due c =
+    rw (← c.self.view_is, c.in-Some.is) (rw (c.pass_timers.ensures.inactive, c.pass_timers.ensures.waited)
+    (timers_nearer c.in-Some.phase (c.self.inside.request.ar.timeout_factor * 3200) c.self.inside.inactive c.self.inside.waited c.args.units
+    (flow_due_in c.self.inside.exchange) (flow_due_in c.pass.new.self) c.pass.ensures.due))
 
 pub pass_timers-requires-clause-over : goal.pass_timers-requires-clause-over
 pass_timers-requires-clause-over c =

@@ -1,0 +1,30 @@
+-- An input changes nothing that is due.
+use Rattle.std.proofs.Common.{◌≡◌, ℕ, Bool, true, false, List, length, Option, Some, None, option_map, unwrap_or, if◌then◌else◌, refl, ap, ◌∙◌}
+use Rattle.cyclic_data.specs.declared.place.PlaceKind.TheVariants.{Data}
+use Rattle.cyclic_data.specs.Image.{Shown, cell_at, changed, has_size, with_value}
+use Rattle.cyclic_data.specs.exchange.Cyclic.{Cyclic}
+use Rattle.relations.specs.exchange.Flow.{Flow}
+use Rattle.relations.specs.exchange.Marks.{awaits}
+use Rattle.relations.specs.exchange.Process.{given_at, remarked, with_cyclic, with_input}
+use Rattle.relations.specs.Leaps.{due_within}
+use Rattle.relations.specs.Phases.{with_flow}
+use Rattle.relations.specs.RelationState.{RelationState}
+
+abbrev with_shown : RelationState → Shown → Cyclic
+with_shown link shown = record link.flow.cyclic { shown = shown }
+
+settled_due : (link : RelationState) (slot subslot : ℕ) (shown : Shown) (b : Bool)
+    → due_within (Some (with_flow (if b then remarked (with_cyclic link.flow (with_shown link shown)) slot subslot None else with_cyclic link.flow (with_shown link shown)) link)) ≡ due_within (Some link)
+settled_due link slot subslot shown true = refl
+settled_due link slot subslot shown false = refl
+
+sized_due : (link : RelationState) (slot subslot : ℕ) (shown : Shown) (b : Bool)
+    → due_within (Some (with_flow (unwrap_or (option_map (with_input link.flow slot subslot) (if b then Some (with_shown link shown) else None)) link.flow) link)) ≡ due_within (Some link)
+sized_due link slot subslot shown true = settled_due link slot subslot shown (awaits slot subslot link.flow.marks)
+sized_due link slot subslot shown false = refl
+
+pub given_due : (link : RelationState) (slot subslot : ℕ) (value : List ℕ) (new : Flow) → new ≡ unwrap_or (given_at link.flow slot subslot value) link.flow
+    → due_within (Some (with_flow new link)) ≡ due_within (Some link)
+given_due link slot subslot value new is =
+    ap (λ (flow : Flow). due_within (Some (with_flow flow link))) is
+    ∙ sized_due link slot subslot (changed Data slot subslot (with_value value) link.flow.cyclic.shown) (has_size (length value) (cell_at Data slot subslot link.flow.cyclic.shown.cells))
