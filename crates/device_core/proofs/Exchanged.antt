@@ -1,5 +1,5 @@
 -- What a cyclic frame, an alarm that is raised, and a PDU do, if something changes and if nothing does.
-use Rattle.std.proofs.Common.{◌≡◌, ◌≢◌, ℕ, Bool, cond, true, false, List, [], Option, Some, None, is_some, refl, sym, ap}
+use Rattle.std.proofs.Common.{◌≡◌, ◌≢◌, ℕ, Bool, cond, true, false, List, [], Option, Some, None, is_some, refl, sym, ap, ◌∙◌}
 use Rattle.pn_values.specs.declared.mac.Mac.{Mac}
 use Rattle.pn_alarms.specs.declared.device.PduFate.TheVariants as fate
 use Rattle.pn_alarms.specs.Message.{ToDevice}
@@ -41,6 +41,21 @@ pub cyclic_leaves : (station : Station) (live : Live) (source : Mac) (frame_id :
 cyclic_leaves station live source frame_id body =
     received_leaves station live (received_by source frame_id body live.rest.link) (updated (receiving source frame_id body live.rest.link) live.rest.link)
     (stays_untaken source frame_id body live.rest.link)
+
+-- One that is not done changes nothing.
+undone_by : (station : Station) (live : Live) (one : Received) (now : Option RelationState) → (one ≢ Taken → now ≡ live.rest.link)
+    → (end_of station live (handled_received live one now)).note ≢ Done → record live.rest { link = now } ≡ live.rest
+undone_by station live Foreign now stays undone = ap (λ l. record live.rest { link = l }) (stays (λ e. cc))
+undone_by station live Short now stays undone = ap (λ l. record live.rest { link = l }) (stays (λ e. cc))
+undone_by station live Stale now stays undone = ap (λ l. record live.rest { link = l }) (stays (λ e. cc))
+undone_by station live Taken now stays undone = absurd (undone refl)
+
+pub cyclic_undone : (station : Station) (live : Live) (source : Mac) (frame_id : ℕ) (body : List ℕ)
+    → (end_of station live (handled_cyclic live source frame_id body)).note ≢ Done → (end_of station live (handled_cyclic live source frame_id body)).rest ≡ live.rest
+cyclic_undone station live source frame_id body undone =
+    cyclic_leaves station live source frame_id body
+    ∙ undone_by station live (received_by source frame_id body live.rest.link) (updated (receiving source frame_id body live.rest.link) live.rest.link)
+    (stays_untaken source frame_id body live.rest.link) undone
 
 -- An alarm that is refused changes nothing, and one that is raised is sent.
 pub notice_refused : (station : Station) (live : Live) (flow : Option Flow) → is_some flow ≡ false

@@ -1,6 +1,7 @@
 -- Several units of time at once, and as many Tick events.
-use Rattle.std.proofs.Common.{◌≡◌, ◌+◌, ◌-◌, ◌%◌, ◌<◌, ◌++◌, ℕ, zero, suc, List, [], ◌∷◌, map, sum, refl, sym, ap, ◌∙◌, arith, append_assoc, Option}
+use Rattle.std.proofs.Common.{◌≡◌, ◌+◌, ◌-◌, ◌%◌, ◌<◌, ◌≤◌, ◌++◌, ℕ, zero, suc, List, [], ◌∷◌, map, sum, refl, sym, ap, ◌∙◌, arith, append_assoc, Option}
 use Rattle.std.specs.Prelude.{min}
+use Rattle.std.proofs.lemmas.Bool.{ne_eqb}
 use Rattle.std.proofs.lemmas.List.{append-nil}
 use Rattle.std.proofs.lemmas.List.Sums.{sum_by-cons}
 use Rattle.std.proofs.Math.Nat.{mod-add-mod, mod-eq_of_lt}
@@ -16,12 +17,28 @@ use Rattle.device_frames.specs.Sent.{bytes_of}
 use Rattle.device_core.specs.Behind.{behind, frames_of}
 use Rattle.device_core.specs.Handled.{ticked}
 use Rattle.device_core.specs.Log.{err_log, with_log}
-use Rattle.device_core.specs.Leaps.{LeapsAreTicks, NoneSends, OnlyTheLastSends, Leapt, and_then, then_leap, ticks_of}
+use Rattle.device_core.specs.Leaps.{lamp_off_in, LeapsAreTicks, NoneSends, OnlyTheLastSends, Leapt, and_then, then_leap, ticks_of}
 use Rattle.device_core.specs.Machine.{end_of, handled_step, heard_step, step_of}
 use Rattle.device_core.specs.State.{Live, Rest, State, Station, counter_of, units_after}
 
 pub below_right : (number one other : ℕ) → number < min one other → number < other
 below_right number one other below = omega (arith, below)
+
+shows_still : (lamp : ℕ) → 0 < lamp → lamp_off_in lamp ≡ lamp
+shows_still lamp some = rw (ne_eqb lamp 0 (λ off. omega (arith, off, some))) refl
+
+-- The lamp and the relation after some units with which nothing is due.
+pub due_nearer : (lamp old new units : ℕ) → units < min (lamp_off_in lamp) old → old ≤ new + units
+    → min (lamp_off_in lamp) old ≤ min (lamp_off_in (lamp - units)) new + units
+due_nearer zero old new units below nearer =
+    let off : zero - units ≡ zero = omega arith in
+    rw off (omega (arith, nearer))
+due_nearer (suc lamp) old new units below nearer =
+    let on = shows_still (suc lamp) (omega arith) in
+    let inside : units < suc lamp = omega (arith, below, on) in
+    let shows : suc lamp - units ≡ suc (lamp - units) = omega (arith, inside) in
+    let still = shows_still (suc (lamp - units)) (omega arith) in
+    rw shows (omega (arith, below, nearer, on, still))
 
 -- ---- one Tick event
 

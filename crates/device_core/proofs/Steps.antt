@@ -21,12 +21,13 @@ use Rattle.device_frames.specs.declared.note.Note.{Note}
 use Rattle.device_frames.specs.declared.note.Note.TheVariants as note
 use Rattle.device_core.specs.Cycle.{started}
 use Rattle.device_core.specs.State.{Station, State, Rest, Live, alias_in, at_start, store_of, with_rest}
-use Rattle.device_frames.specs.Heard.{Heard, Asks}
+use Rattle.device_frames.specs.declared.event.Event.{Event}
+use Rattle.device_frames.specs.Heard.{Heard, Asks, heard_of}
 use Rattle.device_frames.specs.Sendable.{AreSendable, IsSendable}
 use Rattle.device_frames.specs.Sent.{Sent, GetAnswer, SetAnswer, Again, bytes_of}
 use Rattle.device_core.specs.Handled.{Handled, Refuses, Sets, Writes, WritesEach, Moves, identified, handled_request, handled_looked, handled_blocks, handled_call, handled}
 use Rattle.device_core.specs.Machine.{Finished, Stepped, items_in, items_of, farewells_at, resets, finished, end_of, handled_step, heard_step}
-use Rattle.device_core.specs.Steps.{Steps, Identifies, IsIdentified, IsServed, IsAgain}
+use Rattle.device_core.specs.Steps.{Steps, Identifies, IsIdentified, IsQuietStep, IsServed, IsAgain}
 use Rattle.device_core.proofs.Machine.{is_asking, nothing_asked, inactive_step, is_inactive, handled_as}
 use Rattle.device_core.proofs.Faults.{step_goes_on}
 use Rattle.device_core.proofs.Sendable.{all_sendable}
@@ -128,6 +129,27 @@ inactive_steps as_flash old new heard what frames said holds handled_so none is 
       sendable = subst (λ (e : Finished). AreSendable old.station.identity e.sent) (sym end) sendable;
       note_is = note_is ∙ sym (ap (λ e. e.note) end);
     })
+
+-- The same of an outcome that also sends nothing.
+pub quiet_step : {F : Type 0} (old new : State F) (event : Event) (what : Handled) (said : Note)
+    → handled old.station old.live (heard_of old.station.identity event) ≡ what → is_asking what ≡ false
+    → new ≡ with_rest old (end_of old.station old.live what).rest → (end_of old.station old.live what).sent ≡ [] → said ≡ (end_of old.station old.live what).note
+    → IsQuietStep old event said new
+unfolding inactive_step
+quiet_step old new event what said handled_so asks_nothing is sends_nothing note_is =
+    let heard = heard_of old.station.identity event in
+    let end = ap (end_of old.station old.live) handled_so in
+    let inactive = is_inactive [] old.station old.live heard (ap is_asking handled_so ∙ asks_nothing) in
+    let step = heard_step [] old.station old.live heard in
+    let live_is : new.live ≡ step.live = rw inactive (ap (λ s. s.live) is ∙ ap (λ r. record { values = old.live.values; rest = r }) (sym (ap (λ e. e.rest) end))) in
+    let frames_are : [] ≡ step.frames = rw inactive (ap (map (bytes_of old.station.identity)) (sym (ap (λ e. e.sent) end ∙ sends_nothing))) in
+    let said_is : said ≡ step.note = rw inactive (note_is ∙ sym (ap (λ e. e.note) end)) in
+    record {
+      exact = record { same = ap (λ s. s.station) is; live = live_is; frames = frames_are; note = said_is };
+      none = ap (λ s. s.accepted) inactive;
+      flash = ap (λ s. s.flash) is;
+      values = ap (λ s. s.live.values) is;
+    }
 
 -- An outcome that is a move.
 pub moves_steps : {F : Type 0} {S : ℕ} (as_flash : Flash F S) (old new : State F) (heard : Heard) (rest : Rest) (sent : List Sent) (frames : List (List ℕ)) (said : Note)

@@ -130,6 +130,13 @@ pub record IsExactStep {F : Type 0} (old : State F) (event : Event) (sent : List
   pub frames : sent ≡ (step_of [] old.station old.live event).frames
   pub note : said ≡ (step_of [] old.station old.live event).note
 
+-- The step of an event that asks nothing of the settings and sends nothing: the flash and the settings stay as they are.
+pub record IsQuietStep {F : Type 0} (old : State F) (event : Event) (said : Note) (new : State F) : Type 0 where
+  pub exact : IsExactStep old event [] said new
+  pub none : (step_of [] old.station old.live event).accepted ≡ []
+  pub flash : new.flash ≡ old.flash
+  pub values : new.live.values ≡ old.live.values
+
 -- The run if no flash call fails.
 pub record IsExactRun {F : Type 0} (old : State F) (events : List Event) (before now : List (List ℕ)) (new : State F) : Type 0 where
   pub same : new.station ≡ old.station

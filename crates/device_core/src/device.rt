@@ -1,5 +1,5 @@
 // The device.
-ghost use Rattle.std.specs.Prelude.{◌≡◌, ◌∷◌, [], ℕ, true, false, IsErr, ◌≤◌, IfOk, IfErr, IfSome, MatchResult, length, option_map};
+ghost use Rattle.std.specs.Prelude.{◌≡◌, ◌∷◌, [], ℕ, Some, true, false, IsErr, ◌≤◌, IfOk, IfErr, IfSome, MatchResult, length, option_map};
 ghost use Rattle.flash_model.specs.Calls.{Arms};
 ghost use Rattle.flash_model.specs.Image.{erased};
 ghost use Rattle.pn_values.specs.Settings.{factory_settings};
@@ -20,7 +20,7 @@ use flash_model::{Flash, Order};
 use lldp::Neighbour;
 use pn_values::{Identity, Real, SetItem, Settings};
 use records::TakenRecord;
-use relations::{DeviceOptions, InputStatus, Phase, ProviderStatus, Relation};
+use relations::{DeviceOptions, InputStatus, Phase, ProviderStatus, ReceivedValue, Relation};
 use rpc_core::Uuid;
 use settings_journal::{BootFault, Store};
 use std::marker::Model;
@@ -260,6 +260,16 @@ impl<F: Flash<S>, const S: usize> Device<F, S> {
         ensures { result ≡ provider_in slot subslot self.now.live.rest.link }
     {
         self.relation.provider(slot, subslot)
+    }
+
+    /// The output of a submodule in the controller's last accepted frame, and what the controller says of it. `None` if there is no
+    /// relation, if the output has no place in it, or if no frame was accepted yet.
+    pub fn received_value(&self, slot: u16, subslot: u16) -> Option<ReceivedValue<'_>>
+        ensures status { option_map (λ value. value.status) result ≡ provider_in slot subslot self.now.live.rest.link }
+        ensures octets { IfSome result (λ value. output_in slot subslot self.now.live.rest.link ≡ Some value.octets.now) }
+        ensures short { IfSome result (λ value. length value.octets.now ≤ 1440) }
+    {
+        self.relation.received_value(slot, subslot)
     }
 
     /// The fixed identity.

@@ -1,5 +1,5 @@
 // Several units of time at once.
-ghost use Rattle.std.specs.Prelude.{◌≡◌, ◌<◌, ◌≤◌};
+ghost use Rattle.std.specs.Prelude.{◌≡◌, ◌+◌, ◌<◌, ◌≤◌};
 ghost use Rattle.frame_codec.specs.Outbox.{boxed};
 ghost use Rattle.device_core.specs.State.{units_after};
 ghost use Rattle.device_core.specs.Leaps.{LeapsAreTicks, NoneSends, OnlyTheLastSends, lamp_off_in, live_due_in, ticks_of};
@@ -52,6 +52,8 @@ impl<F: Flash<S>, const S: usize> Device<F, S> {
         requires { units < live_due_in self.old.live }
         ensures device { self.new ≡ record self.old { live = (ticks_of units self.old.station self.old.live).live } }
         ensures none { NoneSends units self.old.station self.old.live }
+        // What is due comes nearer by these units, and by no more.
+        ensures due { live_due_in self.old.live ≤ live_due_in self.new.live + units }
     {
         self.lamp = self.lamp.saturating_sub(units);
         self.units = units_later(self.units, units);

@@ -1,12 +1,12 @@
 // One step: what an event is, and its outcome.
-ghost use Rattle.std.specs.Prelude.{◌≡◌, ◌≢◌, ◌<◌, ◌-◌, ◌^◌, ◌&&◌, [], true, false, List, ℕ, Option, Some, map, option_map};
+ghost use Rattle.std.specs.Prelude.{◌≡◌, ◌≢◌, ◌<◌, ◌≤◌, ◌-◌, ◌^◌, ◌&&◌, [], true, false, List, ℕ, Option, Some, map, option_map};
 ghost use Rattle.settings_journal.specs.settings_store.Carries.{Holds};
 ghost use Rattle.dcp_core.specs.Request.{Asked};
 ghost use Rattle.device_frames.specs.Heard.{Asks, heard_alarm, heard_by, heard_content, heard_of, heard_reply};
 ghost use Rattle.frame_codec.specs.Frame.{arp, datagram, frame_of};
 ghost use Rattle.frame_codec.specs.Meaning.{IsNoRealTime, RealTime};
 ghost use Rattle.pn_alarms.specs.Message.{message_of};
-ghost use Rattle.device_frames.specs.declared.event.Event.TheVariants.{Frame, Call as Joined};
+ghost use Rattle.device_frames.specs.declared.event.Event.TheVariants.{Frame, Call as Joined, Input};
 ghost use Rattle.relations.specs.Farewells.{farewell_of};
 ghost use Rattle.relations.specs.RelationState.{RelationState, flow_of};
 ghost use Rattle.relations.specs.Timers.{farewell_for, left_behind};
@@ -23,7 +23,8 @@ ghost use Rattle.device_core.specs.Machine.{end_of};
 ghost use Rattle.rpc_core.specs.Call.{Asked as Called};
 ghost use Rattle.rpc_core.specs.Cache.{looked, again};
 ghost use Rattle.device_core.specs.Faults.{StepGoesOn};
-ghost use Rattle.device_core.specs.Steps.{Steps, Identifies, IsServed, IsAgain, IsExactStep, StaysReliable};
+ghost use Rattle.device_core.specs.Leaps.{live_due_in};
+ghost use Rattle.device_core.specs.Steps.{Steps, Identifies, IsServed, IsAgain, IsExactStep, IsQuietStep, StaysReliable};
 ghost use Rattle.frame_codec.specs.Outbox.{boxed};
 
 use crate::logging::{log_err, log_fate, uuid_of};
@@ -130,6 +131,47 @@ impl<F: Flash<S>, const S: usize> Device<F, S> {
         let _ = &self.identity;
         outbox.clear(); // as `step` does
         self.hear_datagram(caller, address, octets, outbox)
+    }
+
+    /// Sets the input of a submodule, which is only read and not kept: it does what `step` does with that event, and sends nothing.
+    pub fn give_input(&mut self, slot: u16, subslot: u16, value: &[u8]) -> Note
+        ensures quiet { IsQuietStep self.old (Input slot subslot (record { items = value.now })) result self.new }
+        // It changes nothing that is due.
+        ensures due { live_due_in self.new.live ≡ live_due_in self.old.live }
+    {
+        self.give(slot, subslot, value)
+    }
+
+    /// Takes a cyclic frame that the relation accepts, which is only read and not kept: it does what `step` does with the event of
+    /// these octets, and sends nothing. Returns whether the octets are such a frame; if not, nothing changes.
+    #[inline(never)]
+    pub fn take_cyclic(&mut self, octets: &[u8]) -> bool
+        ensures taken { result ≡ true → IsQuietStep self.old (Frame (record { items = octets.now })) Note.Done self.new }
+        ensures left { result ≡ false → self.new ≡ self.old }
+        // It only puts off what is due.
+        ensures due { live_due_in self.old.live ≤ live_due_in self.new.live }
+    {
+        match real_time_in(octets) {
+            Some(frame) => self.take_real_time(&frame),
+            None => false,
+        }
+    }
+
+    // The same of a frame of EtherType 0x8892.
+    #[inline(always)]
+    fn take_real_time(&mut self, frame: &RealTimeFrame) -> bool
+        ensures taken { (octets : List ℕ) → heard_of self.old.station.identity (Frame (record { items = octets }))
+            ≡ heard_content self.old.station.identity frame.now.destination frame.now.source (RealTime frame.now.frame_id frame.now.body.now) →
+            result ≡ true → IsQuietStep self.old (Frame (record { items = octets })) Note.Done self.new }
+        ensures left { result ≡ false → self.new ≡ self.old }
+        ensures due { live_due_in self.old.live ≤ live_due_in self.new.live }
+    {
+        match kind_of(&self.identity, frame.destination, frame.frame_id) {
+            RealTimeKind::Cyclic => {
+                is_done(self.hear_cyclic(frame.source, frame.frame_id, frame.body))
+            }
+            RealTimeKind::Alarm | RealTimeKind::Request | RealTimeKind::Elsewhere => false,
+        }
     }
 
     // The outcome of an event.
@@ -420,6 +462,7 @@ impl<F: Flash<S>, const S: usize> Device<F, S> {
     #[inline(always)]
     fn hear_cyclic(&mut self, source: Mac, frame_id: u16, body: &[u8]) -> Note
         ensures state { self.new ≡ behind self.old (handled_cyclic self.old.live source frame_id body.now) }
+        ensures due { live_due_in self.old.live ≤ live_due_in self.new.live }
         ensures note { result ≡ (end_of self.old.station self.old.live (handled_cyclic self.old.live source frame_id body.now)).note }
     {
         let received = self.relation.receive(source, frame_id, body);
@@ -430,6 +473,7 @@ impl<F: Flash<S>, const S: usize> Device<F, S> {
     #[inline(never)]
     fn give(&mut self, slot: u16, subslot: u16, value: &[u8]) -> Note
         ensures state { self.new ≡ behind self.old (handled_given self.old.live slot subslot value.now) }
+        ensures due { live_due_in self.new.live ≡ live_due_in self.old.live }
         ensures note { result ≡ (end_of self.old.station self.old.live (handled_given self.old.live slot subslot value.now)).note }
     {
         if self.relation.give(slot, subslot, value) {
@@ -561,6 +605,14 @@ fn repeated_with(elapsed: &Elapsed, repeated: Repeated) -> Repeated
         high: is_alarm && repeated.high,
         low: is_alarm && repeated.low,
     }
+}
+
+// Whether this note is `Done`.
+fn is_done(note: Note) -> bool
+    ensures done { result ≡ true → note ≡ Note.Done }
+    ensures undone { result ≡ false → note ≢ Note.Done }
+{
+    matches!(note, Note::Done)
 }
 
 // The note for a cyclic frame.

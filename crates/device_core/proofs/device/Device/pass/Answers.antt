@@ -1,7 +1,9 @@
 -- Units with which nothing is due: the relation passes them, and the lamp and CycleCounter count.
 use Rattle.std.proofs.Common.{◌<◌, refl}
-use Rattle.relations.specs.Leaps.{NothingDueFor}
-use Rattle.device_core.proofs.Leaping.{below_right, none_sends, ticks_live}
+use Rattle.std.specs.Prelude.{min}
+use Rattle.relations.specs.Leaps.{NothingDueFor, due_within}
+use Rattle.device_core.specs.Leaps.{lamp_off_in}
+use Rattle.device_core.proofs.Leaping.{below_right, due_nearer, none_sends, ticks_live}
 use Rattle.device_core.proofs.device.Device.pass.Goals as goal
 
 pub pass-requires : goal.pass-requires
@@ -13,6 +15,12 @@ returns-clause-device g c =
     let none : NothingDueFor c.args.units c.args.self.now.live.rest.link = rw (← c.self.view_is) c.pass.ensures.nothing in
     rw (ticks_live c.args.self.now.station c.args.self.now.live c.args.units fits none)
     (rw (← c.self.view_is) (rw (c.saturating_sub-self-inside.ensures, c.units_later-self-inside.ensures.value, c.pass.ensures.state) refl))
+
+pub returns-clause-due : goal.returns-clause-due
+returns-clause-due g c =
+    let below : c.args.units < min (lamp_off_in c.self.inside.lamp) (due_within c.self.inside.relation) = rw (← c.self.view_is) at c.requires in
+    rw (← c.self.view_is) (rw c.saturating_sub-self-inside.ensures
+    (due_nearer c.self.inside.lamp (due_within c.self.inside.relation) (due_within c.pass.new.self) c.args.units below c.pass.ensures.due))
 
 pub returns-clause-none : goal.returns-clause-none
 returns-clause-none g c =
