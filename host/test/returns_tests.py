@@ -14,7 +14,7 @@ import time
 from wire import DEVICE, TOOL, Final, Wire, command
 
 PATIENCE, RETRY = 2, 1  # seconds: the options --patience and --retry of the controllers
-HOLD, RATIO = 125, 16  # the data hold time is 2 seconds
+HOLD, RATIO, WRITES = 125, 16, 2  # the data hold time is 2 seconds; the plan has two records
 # Seconds: CMInitiatorActivityTimeoutFactor of the Connect; how often a request is sent again; how long two programs take until they run.
 ACTIVITY, REPEAT, BEGINNING = 60, 1, 2
 UNITS_A_SECOND = 32000
@@ -26,10 +26,12 @@ OUTGOING = 4
 
 
 def bound(patience):
-    """Within how many seconds both ends exchange data again. Before that there is at most, one after the other: a request that is not sent again yet, each of
-    the four limited states of a start-up (address, Connect, Writes, PrmEnd) and the wait for ApplicationReady up to the patience, what is left of a relation
-    at the device (the activity timer, or the data hold time), two pauses before the controller begins again, and the start-up itself."""
-    return REPEAT + 4 * patience + patience + ACTIVITY + HOLD * RATIO / 1000 + 2 * RETRY + BEGINNING
+    """Within how many seconds both ends exchange data again. What can lie before that, one after the other: a request that is not sent again yet; each of the
+    four limited states of a start-up (address, Connect, Writes, PrmEnd) and the wait for ApplicationReady, up to the patience; the rest of a relation at
+    the device, up to its activity timer or the data hold time, and the data hold time of the controller; two pauses before the controller begins again; the
+    start-up with its Writes, and some units of time at the ends of these. Besides, the programs take a while until they run."""
+    units = WRITES + 5 + 14
+    return REPEAT + 4 * patience + patience + ACTIVITY + 2 * HOLD * RATIO / 1000 + 2 * RETRY + units / UNITS_A_SECOND + BEGINNING
 
 
 class Middle(Wire):
