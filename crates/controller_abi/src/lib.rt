@@ -4,6 +4,7 @@
 #![tactic(auto)]
 
 mod asking;
+mod host;
 mod law;
 mod operation;
 mod plan;
@@ -13,6 +14,7 @@ mod serving;
 mod tool;
 
 pub use asking::{find, hear, name, outcome};
+pub use host::{Asked, Host, play};
 pub use law::requests_have_numbers_of_their_own;
 pub use plan::{WrittenPlan, WrittenRecord, fault_in, judge, start, unstarted};
 pub use port::Port;

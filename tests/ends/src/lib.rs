@@ -9,6 +9,7 @@ use script_runner::{RunFault, run};
 
 mod ends;
 mod failing;
+mod hosts;
 mod intervals;
 mod lines;
 mod makers;

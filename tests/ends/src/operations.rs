@@ -15,7 +15,7 @@ use uuid::Uuid;
 const SECOND: u32 = 32000;
 
 /// The controller of the demo station's plan, whose first frame waits.
-fn begun(alloc: Global) -> Port {
+pub(crate) fn begun(alloc: Global) -> Port {
     let plan = plan_from_json(alloc, PUMP.as_bytes())
         .ok()
         .expect("there is a plan");

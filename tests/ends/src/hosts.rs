@@ -1,0 +1,133 @@
+//! A host of a controller: what it fetched and was told over a run, against the same controller event by event.
+
+use super::operations::{asked, begun, taken};
+use super::served::{ECHO, NEIGHBOUR, REQUEST, RIVAL, spelled};
+use c_layout::Op;
+use controller_abi::{Asked, Host, play};
+use controller_core::Event;
+use frame_codec::Bytes;
+use rattle_std::alloc::Global;
+
+/// The number of an operation, what it returned, and the units that remain.
+type Answer = (u32, u32, u32);
+
+/// A host that gives up after some operations.
+struct Patient {
+    most: usize,
+    answers: Vec<Answer>,
+    events: Vec<Event>,
+    fetched: Vec<Vec<u8>>,
+}
+
+impl Patient {
+    fn new(most: usize) -> Patient {
+        Patient {
+            most,
+            answers: Vec::new(),
+            events: Vec::new(),
+            fetched: Vec::new(),
+        }
+    }
+}
+
+fn bytes(octets: &[u8]) -> Bytes {
+    octets.iter().copied().take(1519).collect()
+}
+
+impl Host for Patient {
+    fn tell(&mut self, asked: &Asked<'_>, answer: u32, reported: &Op) -> bool {
+        self.answers.push((asked.op.what, answer, reported.units));
+        let slot = asked.op.slot as u16;
+        match (asked.op.what, answer) {
+            (3, 0) => self.events.push(Event::Frame(bytes(asked.given))),
+            (4, 0) => {
+                for _ in reported.units..asked.op.units {
+                    self.events.push(Event::Tick);
+                }
+            }
+            (5, 0) => self.events.push(Event::Give(slot, 1, bytes(asked.given))),
+            (7, 0) if reported.work == 3 => {
+                self.fetched.push(reported.octets[..reported.length as usize].to_vec());
+            }
+            (13, 0) => self.events.push(Event::Stop),
+            _ => {}
+        }
+        self.answers.len() < self.most
+    }
+}
+
+fn operation(what: u32, units: u32) -> Op {
+    let mut op = asked(what);
+    (op.slot, op.subslot, op.units) = (2, 1, units);
+    op
+}
+
+/// What the controller sends at these events, one by one, after its opening frame.
+fn sent(events: &[Event]) -> Vec<Vec<u8>> {
+    let mut port = begun(Global);
+    let mut frames = taken(&mut port);
+    for event in events {
+        port.take(event);
+        frames.extend(taken(&mut port));
+    }
+    frames
+}
+
+#[test]
+fn events_wait_and_a_host_gives_up() {
+    let operations: Vec<Asked<'_>> = [(4, 9), (7, 0), (7, 0), (4, 12), (4, 11), (7, 0), (7, 0), (7, 0), (4, 11), (99, 0)]
+        .map(|(what, units)| Asked {
+            op: operation(what, units),
+            given: &[],
+        })
+        .into();
+    let all = [
+        (4, 7, 9),
+        (7, 0, 0),
+        (7, 0, 0),
+        (4, 0, 11),
+        (4, 7, 11),
+        (7, 0, 0),
+        (7, 0, 0),
+        (7, 0, 0),
+        (4, 0, 0),
+        (99, 10, 0),
+    ];
+    for most in 1..=11 {
+        let mut host = Patient::new(most);
+        let is_whole = play(&mut begun(Global), &operations, &mut host);
+        assert_eq!(is_whole, most > 10);
+        assert_eq!(host.answers, all[..most.min(10)]);
+    }
+}
+
+// Any operations, some of them while frames wait.
+#[test]
+fn a_run_is_that_of_its_events() {
+    let frames = [ECHO, REQUEST, RIVAL, NEIGHBOUR].map(spelled);
+    let mut number = 0x2545_F491_4F6C_DD1D_u64;
+    let mut operations = Vec::new();
+    for _ in 0..3_000 {
+        number ^= number << 13;
+        number ^= number >> 7;
+        number ^= number << 17;
+        let kind = [7, 7, 7, 4, 4, 3, 5, 9, 15, 16][(number >> 20) as usize % 10];
+        let units = (number >> 40) as u32 % 1_000;
+        operations.push(Asked {
+            op: operation(kind, units),
+            given: if kind == 3 { &frames[(number >> 30) as usize % 4] } else { &[0, 1][..(number >> 33) as usize % 3] },
+        });
+    }
+    operations.push(Asked {
+        op: operation(13, 0),
+        given: &[],
+    });
+    let mut port = begun(Global);
+    let mut host = Patient::new(usize::MAX);
+    assert!(play(&mut port, &operations, &mut host));
+    let mut all = host.fetched;
+    all.extend(taken(&mut port));
+    let wanted = sent(&host.events);
+    assert!(wanted.len() > 100, "{}", wanted.len());
+    assert_eq!(all, wanted);
+}
