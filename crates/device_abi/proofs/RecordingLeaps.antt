@@ -2,17 +2,50 @@
 use Rattle.std.proofs.Common.{◌≡◌, ◌++◌, ℕ, zero, suc, false, List, [], refl, sym, ap, subst, ◌∙◌, arith}
 use Rattle.std.proofs.lemmas.List.{append-nil}
 use Rattle.settings_journal.specs.settings_store.State.{Values}
-use Rattle.settings_journal.specs.Image.{StartsWith}
+use Rattle.settings_journal.specs.Image.{LeftByDevice, StartsWith}
+use Rattle.settings_journal.specs.settings_store.Legal.{made_of}
+use Rattle.settings_journal.specs.settings_store.Machine.{Accepted}
+use Rattle.device_frames.specs.declared.event.Event.{Event}
 use Rattle.device_frames.specs.declared.event.Event.TheVariants.{Tick}
+use Rattle.device_frames.specs.declared.note.Note.{Note}
 use Rattle.device_frames.specs.Heard.{heard_of}
 use Rattle.device_core.specs.Leaps.{NoneSends, OnlyTheLastSends, ticks_of}
 use Rattle.device_core.specs.Machine.{handled_step, heard_step, step_of}
 use Rattle.device_core.specs.State.{Live, State, Station}
+use Rattle.device_core.specs.Steps.{IsQuietStep}
 use Rattle.device_abi.specs.recorded.Record.{image_of, record_of}
 use Rattle.device_abi.specs.recorded.Laws.{IsImage-of}
 use Rattle.device_abi.specs.declared.recorded.flash.RecordedFlash.{RecordedFlash}
-use Rattle.device_abi.specs.recording.Leaps.{PassesAll, PassesOne}
+use Rattle.device_abi.specs.recording.Calls.{AreLegal, CallsOf}
+use Rattle.device_abi.specs.recording.Leaps.{PassesAll, PassesOne, StepsAlone}
 use Rattle.device_abi.proofs.RecordingLegal.{are_legal}
+
+-- A step that asks nothing of the settings, and sends nothing.
+pub quiet_alone : {S : ℕ} (old new : State (RecordedFlash S)) (event : Event) (said : Note) → StartsWith (image_of old.flash) old.live.values.stored old.live.values.room
+    → IsQuietStep old event said new → StepsAlone old event [] said new
+quiet_alone {S} old new event said starts quiet =
+    let accepted = (step_of [] old.station old.live event).accepted in
+    let stored = old.live.values.stored in
+    let there : StartsWith (image_of new.flash) old.live.values.stored old.live.values.room =
+    subst (λ (f : RecordedFlash S). StartsWith (image_of f) old.live.values.stored old.live.values.room) (sym quiet.flash) starts in
+    record {
+      exact = quiet.exact;
+      records = record {
+        calls = [];
+        of_commands = subst (λ (a : List Accepted). CallsOf (image_of old.flash) stored old.live.values.room a []) (sym quiet.none) (refl, starts);
+        record_is = ap record_of quiet.flash;
+        few = omega arith;
+        short = omega arith;
+        last = ((record_of new.flash).recent, sym (append-nil (record_of new.flash).recent));
+        image = ap image_of quiet.flash;
+        made = ap (λ (v : Values). v.stored) quiet.values ∙ ap (λ (a : List Accepted). made_of a stored) (sym quiet.none);
+        starts = subst (λ (v : Values). StartsWith (image_of new.flash) v.stored v.room) (sym quiet.values) there;
+        left = λ left. subst (λ (f : RecordedFlash S). LeftByDevice (image_of f)) (sym quiet.flash) left;
+        legal = subst (λ (a : List Accepted). AreLegal S (image_of old.flash) stored a []) (sym quiet.none)
+            (are_legal _ (image_of old.flash) stored old.live.values.room [] [] (IsImage-of old.flash).first_size (refl, starts));
+      };
+      none = refl;
+    }
 
 abbrev with_live : {S : ℕ} → State (RecordedFlash S) → Live → State (RecordedFlash S)
 with_live device live = record device { live = live }

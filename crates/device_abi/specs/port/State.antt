@@ -1,5 +1,5 @@
 -- What a host sees of a port.
-use Rattle.std.specs.Prelude.{◌≡◌, ◌<◌, Bool, true, false, ℕ, List, [], ◌∷◌, drop, if◌then◌else◌, Option, Some, None}
+use Rattle.std.specs.Prelude.{◌≡◌, ◌<◌, ◌≤◌, Bool, true, false, ℕ, List, [], ◌∷◌, drop, if◌then◌else◌, Option, Some, None}
 use Rattle.flash_model.specs.Calls.{Call, Programs, Erases, Arms}
 use Rattle.device_abi.specs.declared.recorded.flash.RecordedFlash.{RecordedFlash}
 use Rattle.device_abi.specs.recorded.Entry.{call_of}
@@ -31,10 +31,11 @@ IsSteady Made has_failed calls frames = (has_failed ≡ true) × (calls ≡ []) 
 IsSteady Booted has_failed calls frames = has_failed ≡ false
 IsSteady Lost has_failed calls frames = (calls ≡ []) × (frames ≡ [])
 
--- What is due, if it is known: it is known only of a port that is open and from which no flash call remains.
+-- A number of units before which nothing is due, if one is known: it is known only of a port that is open and from which no flash
+-- call remains.
 abbrev pub IsCounted : Option ℕ → Live → Stage → List Call → Type 0
 IsCounted None live stage calls = Unit {0}
-IsCounted (Some due) live stage calls = (due ≡ live_due_in live) × (0 < due) × (stage ≡ Booted) × (calls ≡ [])
+IsCounted (Some due) live stage calls = (due ≤ live_due_in live) × (0 < due) × (stage ≡ Booted) × (calls ≡ [])
 
 -- Why a port reports nothing: it did not start, or power was lost.
 abbrev pub closed : Stage → Option Refusal

@@ -1,5 +1,5 @@
 //! A device, and the work of its last step that the host has not fetched yet.
-ghost use Rattle.std.specs.Prelude.{◌≡◌, ◌≢◌, ◌+◌, ◌-◌, ◌<◌, ◌≤◌, ◌%◌, ◌^◌, [], None, Some, IfOk, MatchResult, ℕ, length, option_map, take, true};
+ghost use Rattle.std.specs.Prelude.{◌≡◌, ◌≢◌, ◌+◌, ◌-◌, ◌<◌, ◌≤◌, ◌%◌, ◌^◌, [], None, Some, IfOk, IfSome, MatchResult, ℕ, false, length, max, option_map, take, true};
 ghost use Rattle.std.specs.Prelude.{⊤};
 ghost use mathlib.Core.Option.{none};
 ghost use types.Logic.{sem};
@@ -19,13 +19,15 @@ ghost use Rattle.device_core.specs.Leaps.{live_due_in};
 ghost use Rattle.frame_codec.specs.Outbox.{boxed};
 
 use crate::port::{Refusal, Stage};
-use crate::{Recorded, RecordedFlash, leap, skip, step, step_call, step_frame, unit};
+use crate::{
+    Recorded, RecordedFlash, leap, skip, step, step_call, step_cyclic, step_frame, step_input, unit,
+};
 use device_core::{Caller, Device, Event, Note};
 use flash_model::Sector;
 use frame_codec::{Bytes, Frame, Outbox};
 use pn_values::{Identity, Real, Settings};
 use records::TakenRecord;
-use relations::{DeviceOptions, Phase, ProviderStatus};
+use relations::{DeviceOptions, Phase, ProviderStatus, ReceivedValue};
 use settings_journal::Fill;
 use std::marker::Model;
 use wire::at_most;
@@ -47,7 +49,8 @@ pub struct Port {
     calls_past: usize,
     /// The number of frames in the outbox that the host has fetched.
     frames_past: usize,
-    /// What is due, if it is known: after units of time it is, any other event makes it unknown.
+    /// Nothing is due before this many units passed, if that is known: after units of time it is. An input and a cyclic frame leave
+    /// it known, any other event makes it unknown.
     due: Option<u32>,
 }
 
@@ -250,12 +253,41 @@ impl Port {
         }
     }
 
+    /// Takes a cyclic frame that the relation accepts, while events are accepted. Of a frame that is longer than any valid one only
+    /// the first 1,519 octets are read. Returns whether the octets are such a frame; if not, nothing changes.
+    #[inline(always)]
+    pub fn take_cyclic(&mut self, octets: &[u8]) -> bool
+        requires free { barred self.old ≡ None }
+        ensures taken { result ≡ true → Takes self.old (Framed (record { items = take 1519 octets.now })) Note.Done self.new }
+        ensures left { result ≡ false → self.new ≡ self.old }
+        // It makes no work, and only puts off what is due.
+        ensures free { barred self.new ≡ None }
+        ensures due { live_due_in self.old.device.live ≤ live_due_in self.new.device.live }
+    {
+        self.hear_cyclic(at_most(octets, 1519))
+    }
+
     /// Sets the input of a submodule.
     #[inline(never)]
     pub fn input(&mut self, slot: u16, subslot: u16, octets: &[u8]) -> Result<Note, Refusal>
         ensures { Answers self.old (Input slot subslot (record { items = take 1519 octets.now })) result self.new }
     {
-        self.offer(&Event::Input(slot, subslot, first_of(octets)))
+        match self.barred() {
+            Some(refusal) => Err(refusal),
+            None => Ok(self.give(slot, subslot, at_most(octets, 1519))),
+        }
+    }
+
+    /// The same while events are accepted.
+    #[inline(always)]
+    pub fn take_input(&mut self, slot: u16, subslot: u16, octets: &[u8]) -> Note
+        requires free { barred self.old ≡ None }
+        ensures takes { Takes self.old (Input slot subslot (record { items = take 1519 octets.now })) result self.new }
+        // It makes no work, and changes nothing that is due.
+        ensures free { barred self.new ≡ None }
+        ensures due { live_due_in self.new.device.live ≡ live_due_in self.old.device.live }
+    {
+        self.give(slot, subslot, at_most(octets, 1519))
     }
 
     /// Raises an alarm of a submodule.
@@ -298,6 +330,7 @@ impl Port {
     }
 
     /// Lets units of time pass, up to the first that sends something. Returns how many remain, and what is due then.
+    #[inline(always)]
     pub fn tick(&mut self, units: u32) -> Result<Passed, Refusal>
         ensures passes { PassesOrNot self.old units result self.new }
         // No unit makes a flash call.
@@ -381,6 +414,7 @@ impl Port {
     }
 
     /// Takes the next frame once no flash call remains. It is then fetched. Says the kind of the piece of work after it.
+    #[inline(always)]
     pub fn fetch_frame(&mut self, more: &mut u32) -> Option<&Frame>
         requires { self.old.calls ≡ [] }
         ensures* { sem 𝓛 (follows_so the_row the_row self.entry.ghost_name none (λ _ _. ⊤) (λ new. FetchesFrame self.old (option_map (λ frame. frame.now.items) result) more.new new)) }
@@ -535,6 +569,24 @@ impl Port {
         }
     }
 
+    /// The output of a submodule in the controller's last accepted frame, and what the controller says of it. `None` if there is no
+    /// relation, if the output has no place in it, or if no frame was accepted yet.
+    pub fn received_value(
+        &self,
+        slot: u16,
+        subslot: u16,
+    ) -> Result<Option<ReceivedValue<'_>>, Refusal>
+        ensures status { MatchResult result (λ found. (closed self.now.stage ≡ None)
+            × (option_map (λ value. value.status) found ≡ provider_in slot subslot self.now.device.live.rest.link)) (λ refusal. closed self.now.stage ≡ Some refusal) }
+        ensures octets { IfOk result (λ found. IfSome found (λ value. output_in slot subslot self.now.device.live.rest.link ≡ Some value.octets.now)) }
+        ensures short { IfOk result (λ found. IfSome found (λ value. length value.octets.now ≤ 1440)) }
+    {
+        match why_closed(self.stage) {
+            Some(refusal) => Err(refusal),
+            None => Ok(self.device.received_value(slot, subslot)),
+        }
+    }
+
     /// The output of a submodule. Returns NoSlot if no submodule with an output is plugged there.
     pub fn output(&self, slot: u16, subslot: u16) -> Result<&[u8], Refusal>
         ensures value { let value = output_of self.now.device.station.real slot subslot
@@ -617,9 +669,45 @@ impl Port {
         note
     }
 
+    // The same with a cyclic frame, if the relation accepts it. It is only read, makes no work, and only puts off what is due.
+    #[inline(always)]
+    fn hear_cyclic(&mut self, octets: &[u8]) -> bool
+        requires { barred self.old ≡ None }
+        ensures taken { result ≡ true → Takes self.old (Framed (record { items = octets.now })) Note.Done self.new }
+        ensures left { result ≡ false → self.new ≡ self.old }
+        ensures free { barred self.new ≡ None }
+        ensures due { live_due_in self.old.device.live ≤ live_due_in self.new.device.live }
+    {
+        step_cyclic(&mut self.device, octets)
+    }
+
+    // The same with an input, which is only read, makes no work, and changes nothing that is due.
+    #[inline(always)]
+    fn give(&mut self, slot: u16, subslot: u16, octets: &[u8]) -> Note
+        requires { barred self.old ≡ None }
+        ensures takes { Takes self.old (Input slot subslot (record { items = octets.now })) result self.new }
+        ensures free { barred self.new ≡ None }
+        ensures due { live_due_in self.new.device.live ≡ live_due_in self.old.device.live }
+    {
+        step_input(&mut self.device, slot, subslot, octets)
+    }
+
     // ---- units of time. None of them makes a flash call, so the flash is not looked at.
 
-    // What is due, if the port is open and no flash call remains; else why no event is accepted.
+    /// Whether so many units of time surely bring nothing, and no work remains.
+    #[inline(always)]
+    pub fn is_quiet(&self, units: u32) -> bool
+        ensures open { result ≡ true → barred self.now ≡ None }
+        ensures few { result ≡ true → units < live_due_in self.now.device.live }
+    {
+        match self.due {
+            Some(due) => units < due && !self.has_frames(),
+            None => false,
+        }
+    }
+
+    // How many units nothing is due for, if the port is open and no flash call remains; else why no event is accepted.
+    #[inline(always)]
     fn counted(&mut self) -> Result<u32, Refusal>
         ensures same { self.new ≡ self.old }
         ensures counted { MatchResult result (λ due. IsCounted (Some due) self.old.device.live self.old.stage self.old.calls)
@@ -632,6 +720,7 @@ impl Port {
     }
 
     // Counts the units until something is due, which then is known, if an event is accepted now.
+    #[inline(never)]
     fn count(&mut self) -> Result<u32, Refusal>
         ensures same { self.new ≡ self.old }
         ensures counted { MatchResult result (λ due. IsCounted (Some due) self.old.device.live self.old.stage self.old.calls)
@@ -659,10 +748,11 @@ impl Port {
         due
     }
 
-    // Lets units of time pass by leaps, up to the first that sends something, if `first` is what is due.
+    // Lets units of time pass by leaps, up to the first that sends something, if nothing is due before `first`.
+    #[inline(always)]
     fn pass(&mut self, units: u32, first: u32) -> Passed
         requires free { barred self.old ≡ None }
-        requires due { first ≡ live_due_in self.old.device.live }
+        requires due { first ≤ live_due_in self.old.device.live }
         requires some { 0 < first }
         ensures passes { Passes self.old units result.left self.new }
         ensures due { result.due ≡ live_due_in self.new.device.live }
@@ -683,10 +773,11 @@ impl Port {
         }
     }
 
-    // Lets all units pass that are due. All work of the step before is fetched. Returns what is due then.
+    // Lets units of time pass, at most as many as are due. All work of the step before is fetched. Returns what is due then.
+    #[inline(always)]
     fn leap(&mut self, units: u32) -> u32
         requires free { barred self.old ≡ None }
-        requires due { units ≡ live_due_in self.old.device.live }
+        requires few { units ≤ live_due_in self.old.device.live }
         ensures ticks { Ticks units self.old self.new }
         ensures stage { self.new.stage ≡ Stage.Booted }
         ensures due { result ≡ live_due_in self.new.device.live }
@@ -716,6 +807,29 @@ impl Port {
         let due = self.device.due();
         self.due = Some(due);
         due
+    }
+
+    /// The same where nobody asks what is due then.
+    #[inline(always)]
+    pub fn pass_quietly(&mut self, units: u32)
+        requires free { barred self.old ≡ None }
+        requires few { units < live_due_in self.old.device.live }
+        ensures ticks { Ticks units self.old self.new }
+        ensures free { barred self.new ≡ None }
+        ensures quiet { self.new.calls ≡ [] }
+    {
+        skip(&mut self.device, units);
+        self.due = nearer(self.due, units);
+    }
+}
+
+// For how many units nothing is due, some units later, if nothing was due with these.
+fn nearer(due: Option<u32>, units: u32) -> Option<u32>
+    ensures { result ≡ option_map (λ before. max 1 (before - units)) due }
+{
+    match due {
+        Some(due) => Some(due.saturating_sub(units).max(1)),
+        None => None,
     }
 }
 

@@ -1,5 +1,5 @@
 // Several units of time at once.
-ghost use Rattle.std.specs.Prelude.{◌≡◌, ◌<◌, ◌≤◌, [], false};
+ghost use Rattle.std.specs.Prelude.{◌≡◌, ◌+◌, ◌<◌, ◌≤◌, [], false};
 ghost use Rattle.device_core.specs.Leaps.{live_due_in};
 ghost use Rattle.device_abi.specs.recording.Leaps.{PassesAll};
 ghost use Rattle.frame_codec.specs.Outbox.{boxed};
@@ -33,6 +33,8 @@ pub fn skip<const S: usize>(device: &mut Device<RecordedFlash<S>, S>, units: u32
     ensures passes { PassesAll units device.old [] device.new }
     ensures flash { device.new.flash ≡ device.old.flash }
     ensures going { device.new.live.values.has_failed ≡ false }
+    // What is due comes nearer by these units, and by no more.
+    ensures due { live_due_in device.old.live ≤ live_due_in device.new.live + units }
 {
     // The stored settings are what a restart finds.
     let _ = device.stored();

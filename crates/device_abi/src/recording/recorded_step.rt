@@ -1,8 +1,10 @@
 // One step, and what it records for the host.
-ghost use Rattle.std.specs.Prelude.{◌≡◌, false, []};
+ghost use Rattle.std.specs.Prelude.{◌≡◌, ◌≤◌, false, true, []};
 ghost use Rattle.device_core.specs.Machine.{step_of};
-ghost use Rattle.device_frames.specs.declared.event.Event.TheVariants.{Call as Joined, Frame as Framed};
+ghost use Rattle.device_frames.specs.declared.event.Event.TheVariants.{Call as Joined, Frame as Framed, Input};
+ghost use Rattle.device_core.specs.Leaps.{live_due_in};
 ghost use Rattle.device_core.specs.Steps.{IsExactStep};
+ghost use Rattle.device_abi.specs.recording.Leaps.{StepsAlone};
 ghost use Rattle.device_abi.specs.recording.Recorded.{Records};
 ghost use Rattle.frame_codec.specs.Outbox.{boxed};
 
@@ -52,6 +54,41 @@ pub fn step_frame<const S: usize>(
     // The stored settings are what a restart finds, before the step too.
     let _ = device.stored();
     device.step_frame(octets, outbox)
+}
+
+/// The same with a cyclic frame that the relation accepts. It sends nothing, and makes no call to the flash. Returns whether the octets
+/// are such a frame; if not, nothing changes.
+pub fn step_cyclic<const S: usize>(device: &mut Device<RecordedFlash<S>, S>, octets: &[u8]) -> bool
+    requires { device.old.live.values.has_failed ≡ false }
+    ensures taken { result ≡ true → StepsAlone device.old (Framed (record { items = octets.now })) [] Note.Done device.new }
+    ensures left { result ≡ false → device.new ≡ device.old }
+    ensures flash { device.new.flash ≡ device.old.flash }
+    ensures going { device.new.live.values.has_failed ≡ false }
+    // It only puts off what is due.
+    ensures due { live_due_in device.old.live ≤ live_due_in device.new.live }
+{
+    // The stored settings are what a restart finds.
+    let _ = device.stored();
+    device.take_cyclic(octets)
+}
+
+/// The same with an input. It sends nothing, and makes no call to the flash.
+pub fn step_input<const S: usize>(
+    device: &mut Device<RecordedFlash<S>, S>,
+    slot: u16,
+    subslot: u16,
+    value: &[u8],
+) -> Note
+    requires { device.old.live.values.has_failed ≡ false }
+    ensures alone { StepsAlone device.old (Input slot subslot (record { items = value.now })) [] result device.new }
+    ensures flash { device.new.flash ≡ device.old.flash }
+    ensures going { device.new.live.values.has_failed ≡ false }
+    // It changes nothing that is due.
+    ensures due { live_due_in device.new.live ≡ live_due_in device.old.live }
+{
+    // The stored settings are what a restart finds.
+    let _ = device.stored();
+    device.give_input(slot, subslot, value)
 }
 
 /// The same with a call that came in fragments and was joined, from this caller to this IP address. Its octets are only read and not

@@ -27,7 +27,7 @@ loop-due-preserved c =
       ticks = subst (λ n. Ticks n c.args.self.now new) count
           (ticks_on (c.args.units - c.loop-due.left) c.loop-due.due c.args.self.now now new c.loop-due.invariant.ticks c.leap-due.ensures.ticks);
       free = free_at new.stage new.calls new.frames c.leap-due.ensures.stage c.leap-due.ensures.quiet (sym c.if-has_frames.ensures);
-      due = c.leap-due.ensures.due;
+      due = omega (arith, c.leap-due.ensures.due);
       some = c.leap-due.ensures.some;
     }
 

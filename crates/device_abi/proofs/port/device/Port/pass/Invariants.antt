@@ -1,4 +1,4 @@
--- The units so far passed, one step each, and what is due is known.
+-- The units so far passed, one step each, and nothing is due before so many more.
 use Rattle.std.proofs.Common.{◌≡◌, ◌-◌, ◌≤◌, ◌<◌, None}
 use Rattle.device_core.specs.Leaps.{live_due_in}
 use Rattle.device_abi.specs.port.State.{barred}
@@ -10,7 +10,7 @@ invariant-loop-due l = record {
   few : l.left ≤ l.units;
   ticks : Ticks (l.units - l.left) l.initial.self l.self;
   free : barred l.self ≡ None;
-  due : l.due ≡ live_due_in l.self.device.live;
+  due : l.due ≤ live_due_in l.self.device.live;
   some : 0 < l.due;
 }
 

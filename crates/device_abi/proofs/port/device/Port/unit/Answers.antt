@@ -24,7 +24,7 @@ invariant_of-self c =
       omega arith,
       steady_of port.stage _ _ _ (booted_of port.stage _ free) c.unit.ensures.going,
       (
-        c.due-due.ensures.value,
+        omega (arith, c.due-due.ensures.value),
         c.due-due.ensures.some,
         booted_of port.stage _ free,
         ap (λ f. drop port.calls_past (record_of f).recent) c.unit.ensures.flash ∙ (none_left (the_view port).calls (the_view port).frames (idle_of port.stage _ free)).0,
