@@ -1,0 +1,5 @@
+pub mod Device
+pub mod Controller
+pub mod World
+pub mod Limits
+pub mod Law
