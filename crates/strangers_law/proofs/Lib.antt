@@ -1,0 +1,11 @@
+pub mod Blocks
+pub mod Responses
+pub mod Refusals
+pub mod Harmless
+pub mod Unnamed
+pub mod Remaining
+pub mod Hearing
+pub mod Sending
+pub mod Floods
+pub mod Controllers
+pub mod Besides

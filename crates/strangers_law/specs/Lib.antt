@@ -1,0 +1,4 @@
+pub mod Strange
+pub mod Device
+pub mod Controller
+pub mod Station
