@@ -1,9 +1,10 @@
 -- A world that is begun and played meets all laws of both ends.
-use Rattle.std.proofs.Common.{◌≡◌, ◌<◌, ◌≤◌, ◌+◌, ℕ, zero, suc, true, false, List, [], ◌∷◌, length, take, Some, None, Result, Ok, Err, refl, sym, subst}
+use Rattle.std.proofs.Common.{◌≡◌, ◌<◌, ◌≤◌, ◌+◌, ℕ, zero, suc, true, false, List, [], ◌∷◌, length, take, Some, None, Result, Ok, Err, refl, sym, ap, subst, ◌∙◌}
 use Rattle.std.specs.Prelude.{OnErr, OnOk}
 use Rattle.std.specs.List.{AllByRecursion}
 use Rattle.flash_model.specs.declared.flash.Flash.{Ghosts as Flash}
 use Rattle.pn_values.specs.declared.identity.Identity.{Identity}
+use Rattle.rpc_core.specs.Cache.{kept_of}
 use Rattle.both_ends.specs.startup.request.Request.{request_for}
 use Rattle.relations.specs.Exchanged.{output_in}
 use Rattle.relations.specs.RelationState.{RelationState, is_exchanging}
@@ -71,6 +72,14 @@ pub record Laws {F : Type 0} {S : ℕ} (as_flash : Flash F S) (setup : Setup) (i
       → length (reported_over first run) ≤ 32768 → (link : RelationState) → (last_world first run).device.live.rest.link ≡ Some link → is_exchanging link.phase ≡ true
       → link.flow.low.alarms.sender.standing ≡ None → link.flow.low.waiting ≡ [] → (last_world first run).controller.live.stands ≡ true
       → (last_world first run).controller.live.diagnosis ≡ known_at link.flow.low (last_world first run).device.live.rest.diagnoses
+  pub known : CanMeet setup identity → (first : World F) (run : List (Move × World F)) → Begins setup identity first → AreMade as_flash first run
+      → AreSizedModules first.device.station.real.modules.items → AreKnown first.device.live.rest.diagnoses → AreSizedMoves run
+      → AreKnown (last_world first run).device.live.rest.diagnoses
+  pub station : CanMeet setup identity → (first : World F) (run : List (Move × World F)) → Begins setup identity first → AreMade as_flash first run
+      → (last_world first run).device.station ≡ first.device.station
+  pub others : CanMeet setup identity → (first : World F) (run : List (Move × World F)) → Begins setup identity first → AreMade as_flash first run
+      → (activity : List ℕ) → (setup.activity ≡ activity → ⊥) → kept_of activity first.device.live.rest.calls ≡ None
+      → kept_of activity (last_world first run).device.live.rest.calls ≡ None
 
 -- the moves of a run have their sizes
 sized_run : {F : Type 0} (run : List (Move × World F)) → AllByRecursion IsSizedMove (moves_of run) → AreSizedMoves run
@@ -121,6 +130,9 @@ module _ {F : Type 0} {S : ℕ} (as_flash : Flash F S) (setup : Setup) (identity
         reported_last = laws.reported_last meets first run begun made real;
         told = λ are. laws.told meets first run begun made real (known_first are) moves_sized;
         list = λ are. laws.list meets first run begun made real (known_first are) moves_sized;
+        station = laws.station meets first run begun made ∙ ap (λ (d : State F). d.station) of_device;
+        others = λ activity other none. laws.others meets first run begun made activity other (ap (λ (d : State F). kept_of activity d.live.rest.calls) of_device ∙ none);
+        known = λ are. laws.known meets first run begun made real (known_first are) moves_sized;
       })
 
   pub cut_so : (moves : List Move) (last : World F) → AllByRecursion IsSizedMove moves → ((count : ℕ) × (count < length moves) × Played as_flash first (take count moves) last) → IsBegunAndCut as_flash setup device moves last

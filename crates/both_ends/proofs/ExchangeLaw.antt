@@ -536,7 +536,7 @@ module _ {F : Type 0} where
     unmade = λ none. refl;
     unraised = λ none. refl;
     linked = λ l is. absurd (none_some l (small_of first.controller.setup.activity first.device.live).link (ap (λ (o : Option RelationState). option_map link_of o) begins.unrelated) is);
-    again = λ answer is. absurd (none_some answer (kept_at first.controller.setup first.device.live) (ap (λ (calls : List Answer). option_map kept_in (kept_of first.controller.setup.activity calls)) begins.uncalled) is);
+    again = λ answer is. absurd (none_some answer (kept_at first.controller.setup first.device.live) (ap (λ (kept : Option Answer). option_map kept_in kept) (subst (λ (s : Setup). kept_of s.activity first.device.live.rest.calls ≡ None) (sym begins.of_setup) begins.uncalled)) is);
     early = λ none. (
       subst (λ (l : ControllerLive). IsEarlyAt l) (sym (begins.made ∙ ap (λ (s : Setup). first_live s.plan) (sym begins.of_setup))) (record { phase = refl; waiting = refl }),
       subst (λ (frames : List (List ℕ)). AllByRecursion (IsEarlyFrame first.controller.setup first.device.station) frames) (sym begins.opened) (

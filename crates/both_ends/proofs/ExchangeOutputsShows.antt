@@ -155,32 +155,48 @@ all_taken P zero xs all = tt
 all_taken P (suc count) [] all = tt
 all_taken P (suc count) (x ∷ xs) all = (all.0, all_taken P count xs all.1)
 
-module _ (P : List ℕ → Type 0) where
-  -- a property of each response that is stored
-  abbrev AreKept : List Answer → Type 0
-  AreKept calls = AllByRecursion (λ (kept : Answer). P kept.frame) calls
+module _ (P : List ℕ → Type 0) (activity : List ℕ) where
+  -- a property of a response, if it is stored for this activity
+  abbrev pub IsKeptSo : Answer → Type 0
+  IsKeptSo kept = is_of activity kept ≡ true → P kept.frame
 
-  without_kept : (activity : List ℕ) (calls : List Answer) → AreKept calls → AreKept (without activity calls)
-  without_kept activity [] all = tt
-  without_kept activity (kept ∷ calls) all = by_name (is_of activity kept) (without_kept activity calls all.1)
+  -- a property of each response that is stored for this activity
+  abbrev pub AreKept : List Answer → Type 0
+  AreKept calls = AllByRecursion IsKeptSo calls
+
+  without_kept : (other : List ℕ) (calls : List Answer) → AreKept calls → AreKept (without other calls)
+  without_kept other [] all = tt
+  without_kept other (kept ∷ calls) all = by_name (is_of other kept) (without_kept other calls all.1)
     where
-      by_name : (b : Bool) → AreKept (without activity calls) → AreKept (cond b calls (kept ∷ without activity calls))
+      by_name : (b : Bool) → AreKept (without other calls) → AreKept (cond b calls (kept ∷ without other calls))
       by_name true others = all.1
       by_name false others = (all.0, others)
 
-  more_kept : (answer : Answer) (calls : List Answer) → P answer.frame → AreKept calls → AreKept (kept_more 4 answer calls)
-  more_kept answer calls one all = (one, all_taken (λ (kept : Answer). P kept.frame) 3 (without answer.activity calls) (without_kept answer.activity calls all))
+  pub more_kept : (answer : Answer) (calls : List Answer) → IsKeptSo answer → AreKept calls → AreKept (kept_more 4 answer calls)
+  more_kept answer calls one all = (one, all_taken IsKeptSo 3 (without answer.activity calls) (without_kept answer.activity calls all))
 
-  kept_at : (activity : List ℕ) (calls : List Answer) → AreKept calls → (kept : Answer) → kept_of activity calls ≡ Some kept → P kept.frame
-  kept_at activity [] all kept is = absurd cc
-  kept_at activity (other ∷ calls) all kept is = by_name (is_of activity other) is (λ there. kept_at activity calls all.1 kept there)
+  pub kept_at : (calls : List Answer) → AreKept calls → (kept : Answer) → kept_of activity calls ≡ Some kept → P kept.frame
+  kept_at [] all kept is = absurd cc
+  kept_at (other ∷ calls) all kept is = by_name (is_of activity other) refl is (λ there. kept_at calls all.1 kept there)
     where
-      by_name : (b : Bool) → cond b (Some other) (kept_of activity calls) ≡ Some kept → (kept_of activity calls ≡ Some kept → P kept.frame) → P kept.frame
-      by_name true e others = subst (λ (k : Answer). P k.frame) (same_some other kept e) all.0
+      by_name : (b : Bool) → is_of activity other ≡ b → cond b (Some other) (kept_of activity calls) ≡ Some kept → (kept_of activity calls ≡ Some kept → P kept.frame) → P kept.frame
+      by_name true own e others = subst (λ (k : Answer). P k.frame) (same_some other kept e) (all.0 own)
         where
           same_some : (x y : Answer) → Some x ≡ Some y → x ≡ y
           same_some x y f = cc
-      by_name false e others = others e
+      by_name false own e others = others e
+
+  -- no response is stored for this activity
+  pub none_kept : (calls : List Answer) → kept_of activity calls ≡ None → AreKept calls
+  none_kept [] none = tt
+  none_kept (kept ∷ calls) none = by_name (is_of activity kept) refl none (none_kept calls)
+    where
+      by_name : (b : Bool) → is_of activity kept ≡ b → cond b (Some kept) (kept_of activity calls) ≡ None → (kept_of activity calls ≡ None → AreKept calls) → IsKeptSo kept × AreKept calls
+      by_name true is e others = absurd cc
+      by_name false is e others = (λ own. absurd (not_own (sym own ∙ is)), others e)
+        where
+          not_own : true ≡ false → ⊥
+          not_own f = cc
 
 -- ---- steps
 
@@ -198,9 +214,13 @@ module _ (setup : Setup) (station : Station) where
   IsOursIn None = Unit {0}
   IsOursIn (Some link) = IsOurs link.flow.cyclic
 
-  -- the responses that are stored bring no outputs
+  -- the response that is stored for the activity of this set-up brings no outputs
   abbrev pub AreKeptSilent : List Answer → Type 0
-  AreKeptSilent calls = AreKept (BringsNone rules) calls
+  AreKeptSilent calls = AreKept (BringsNone rules) setup.activity calls
+
+  -- no response is stored for it
+  pub none_silent : (calls : List Answer) → kept_of setup.activity calls ≡ None → AreKeptSilent calls
+  none_silent calls none = none_kept (BringsNone rules) setup.activity calls none
 
   -- a frame that brings these octets is accepted
   pub record Accepts (brought : Option (List ℕ)) (after : Option RelationState) : Type 0 where
@@ -348,11 +368,14 @@ module _ (setup : Setup) (station : Station) where
           let answer = CallAnswer answers.caller answers.address answers.answer in
           let first : AreSendable station.identity (answer ∷ answers.others) = subst (λ (messages : List Sent). AreSendable station.identity messages) answers.sends can in
           subst (λ (c : List Answer). AreKeptSilent c) (sym answers.keeps)
-          (more_kept (BringsNone rules) (kept_for station.identity answers.call answer) live.rest.calls (message_silent setup station.identity sound apart answer first.0 tt) silent)
+          (more_kept (BringsNone rules) setup.activity (kept_for station.identity answers.call answer) live.rest.calls (λ own. message_silent setup station.identity sound apart answer first.0 tt) silent)
 
       owed_known : (message : Sent) → IsOwed heard live message → IsKnown rules message
       owed_known (Again frame) owed =
-          subst (λ (f : List ℕ). BringsNone rules f) owed.same (kept_at (BringsNone rules) owed.call.header.activity live.rest.calls silent owed.kept owed.there)
+          let plan : IsPlannedCall (rules_of setup station) setup.activity station.real owed.call =
+          subst (λ (h : Heard). IsPlanned (rules_of setup station) setup.activity station.real h) owed.is planned in
+          subst (λ (f : List ℕ). BringsNone rules f) owed.same
+          (kept_at (BringsNone rules) setup.activity live.rest.calls silent owed.kept (ap (λ (a : List ℕ). kept_of a live.rest.calls) (sym plan.own) ∙ owed.there))
       owed_known other owed = tt
 
       all_known : (sent : List Sent) → AllByRecursion (IsOwed heard live) sent → AllByRecursion (IsKnown rules) sent

@@ -9,7 +9,7 @@ use Rattle.wire.specs.Codec.{IsSound, IsSoundWhole}
 use Rattle.pn_values.specs.declared.identity.Identity.{Identity}
 use Rattle.frame_codec.specs.Frame.{ethernet, layers}
 use Rattle.frame_codec.specs.Sendable.{IsMac}
-use Rattle.rpc_core.specs.Cache.{Kept as Answer}
+use Rattle.rpc_core.specs.Cache.{Kept as Answer, kept_of}
 use Rattle.cyclic_data.specs.Image.{Shown as Image}
 use Rattle.relations.specs.RelationState.{RelationState}
 use Rattle.device_frames.specs.declared.event.Event.TheVariants.{Frame}
@@ -43,7 +43,7 @@ use Rattle.both_ends.proofs.ExchangeOutputsMoves.{ArePlacedOnce, Sets, first_ima
 use Rattle.both_ends.proofs.ExchangeOutputsBrings.{IsAddressed, IsNow, all_bring, request_silent}
 use Rattle.both_ends.proofs.ExchangeOutputsTurns.{IsKept, KindsSo, IsSaid, shown_behind, turn_tells}
 use Rattle.both_ends.proofs.ExchangeOutputsSix.{six_event}
-use Rattle.both_ends.proofs.ExchangeOutputsShows.{AreKeptSilent, IsOursIn, ShowsIn, frames_silent, turn_shows}
+use Rattle.both_ends.proofs.ExchangeOutputsShows.{AreKeptSilent, IsOursIn, ShowsIn, frames_silent, none_silent, turn_shows}
 
 controller_is : (old : Controlling) (event : Event) → (step_of old event).controller ≡ with_live old (turn_of old.setup old.live event).live
 unfolding step_of
@@ -294,11 +294,13 @@ module _ (turns : TurnsSo) (kinds : KindsSo) (sound : IsSound ethernet) (whole :
     kept = subst (λ (l : ControllerLive). IsKept (zeros_for first.controller.setup).data_length l) (sym begins.made)
         (subst (λ (s : Setup). IsKept (zeros_for s).data_length (first_live setup.plan)) (sym begins.of_setup) first_kept)
 
+    uncalled : kept_of first.controller.setup.activity first.device.live.rest.calls ≡ None
+    uncalled = subst (λ (s : Setup). kept_of s.activity first.device.live.rest.calls ≡ None) (sym begins.of_setup) begins.uncalled
+
     holds_first : Holds first
     holds_first =
         subst (λ (l : Option RelationState). HoldsBy first.controller.setup first.device.station l first.device.live.rest.calls first.controller.live) (sym begins.unrelated)
-        (subst (λ (c : List Answer). HoldsBy first.controller.setup first.device.station None c first.controller.live) (sym begins.uncalled)
-        (record { ours = tt; calls_silent = tt; kept = kept; apart = both.0; six = both.1 }))
+        (record { ours = tt; calls_silent = none_silent first.controller.setup first.device.station first.device.live.rest.calls uncalled; kept = kept; apart = both.0; six = both.1 })
 
     opening_silent : BringsNone (rules_at first) (opening_of first.controller)
     opening_silent = subst (λ (frame : List ℕ). BringsNone (rules_at first) frame) (sym (opening_is first.controller))

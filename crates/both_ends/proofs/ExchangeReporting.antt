@@ -190,6 +190,10 @@ module _ {F : Type 0} where
           knows = first_knows setup identity first begins known;
         }) run made meant sized
 
+    -- the diagnoses appeared one after the other
+    pub known_so : ElsewhereSo → AreKnown first.device.live.rest.diagnoses → AreSizedMoves run → AreKnown (last_world first run).device.live.rest.diagnoses
+    known_so elsewhere known sized = (reporting_so elsewhere known sized).knows.known
+
     -- where data is exchanged, what was reported and what waits lead to the diagnoses
     pub told_so : ElsewhereSo → AreKnown first.device.live.rest.diagnoses → AreSizedMoves run → (link : RelationState) → (last_world first run).device.live.rest.link ≡ Some link → is_exchanging link.phase ≡ true
         → IsTold link.flow.low (last_world first run).device.live.rest.diagnoses (reported_over first run)

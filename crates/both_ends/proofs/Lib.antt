@@ -49,3 +49,4 @@ pub mod ExchangeWell
 pub mod ExchangeLaw
 pub mod ExchangeReporting
 pub mod ExchangeBoth
+pub mod StartupLater

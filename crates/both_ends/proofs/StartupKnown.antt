@@ -300,7 +300,7 @@ module _ (so : HeardSo) (goes : GoesSo) where
 
     pub begins_small : BeginsSmall (rules_at first) (view_of first)
     begins_small = record {
-      uncalled = ap (λ (calls : List Answer). option_map kept_in (kept_of first.controller.setup.activity calls)) begins.uncalled;
+      uncalled = ap (λ (kept : Option Answer). option_map kept_in kept) begins.uncalled;
       unrelated = ap (λ (l : Option RelationState). option_map link_of l) begins.unrelated;
       seeking = ap (λ (l : ControllerLive). small_of first.controller.setup.plan l) begins.made;
       dull = subst (λ (frames : List (List ℕ)). AllByRecursion (IsDull (rules_at first)) frames) (sym begins.opened)
@@ -342,7 +342,7 @@ module _ (so : HeardSo) (goes : GoesSo) where
       of_device = begins.of_device;
       made = begins.made ∙ ap (λ (s : Setup). first_live s.plan) (sym begins.of_setup);
       opened = begins.opened;
-      uncalled = begins.uncalled;
+      uncalled = subst (λ (s : Setup). kept_of s.activity first.device.live.rest.calls ≡ None) (sym begins.of_setup) begins.uncalled;
       unrelated = begins.unrelated;
     }
 

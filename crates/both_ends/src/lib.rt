@@ -10,6 +10,6 @@ pub use exchange::{
 };
 pub use startup::{
     Fresh, Net, answer_blocks_are_read, answers_are_read, begin_world, can_meet,
-    connect_answer_is_read, connect_is_taken, fresh_world, plans_have_parameters,
-    requests_are_read, responses_are_no_calls, worlds_start_up,
+    connect_answer_is_read, connect_is_taken, fresh_world, later_worlds_begin,
+    plans_have_parameters, requests_are_read, responses_are_no_calls, worlds_start_up,
 };

@@ -5,6 +5,7 @@
 
 mod answer;
 mod fresh;
+mod later;
 mod meeting;
 mod request;
 mod start_up;
@@ -14,6 +15,7 @@ pub use answer::{
     answer_blocks_are_read, answers_are_read, connect_answer_is_read, responses_are_no_calls,
 };
 pub use fresh::{Fresh, Net, fresh_world};
+pub use later::later_worlds_begin;
 pub use meeting::{begin_world, can_meet};
 pub use request::{connect_is_taken, requests_are_read};
 pub use start_up::worlds_start_up;

@@ -7,7 +7,7 @@ use Rattle.wire.specs.Codec.{IsSound, IsSoundWhole}
 use Rattle.flash_model.specs.declared.flash.Flash.{Ghosts as Flash}
 use Rattle.pn_values.specs.declared.identity.Identity.{Identity}
 use Rattle.frame_codec.specs.Frame.{ethernet, layers}
-use Rattle.rpc_core.specs.Cache.{Kept as Answer}
+use Rattle.rpc_core.specs.Cache.{kept_of}
 use Rattle.cyclic_data.specs.declared.place.Place.{Place}
 use Rattle.cyclic_data.specs.declared.place.PlaceKind.TheVariants.{Data}
 use Rattle.cyclic_data.specs.Image.{Cell, Shown as Image, cell_at, octets_of, output_of, with_frame}
@@ -47,7 +47,7 @@ use Rattle.inputs_law.proofs.ControllerShows.{IsShowing, fresh_showing, inputs_o
 use Rattle.inputs_law.proofs.GivenCells.{Values}
 use Rattle.inputs_law.proofs.InputsPlaced.{ArePlaced}
 use Rattle.inputs_law.proofs.RunShows.{IsUnmade, image_shown, input_more, iops_shown, reported_iops, said_more, values_given, values_shown, values_statuses, zeros_shown}
-use Rattle.inputs_law.proofs.WorldSteps.{AreKeptSilent, Holds, Provides, heard_with, image_with, images_same, mirrored, provides_same, rules_for, seen, seen_as, step_holds, unmade_by, values_after}
+use Rattle.inputs_law.proofs.WorldSteps.{Holds, Provides, heard_with, image_with, images_same, mirrored, none_silent, provides_same, rules_for, seen, seen_as, step_holds, unmade_by, values_after}
 
 -- ---- moves, with the ends exchanged
 
@@ -289,7 +289,8 @@ module _ (turns : TurnsSo) (kinds : KindsSo) (so : DeviceSo) (hears : HearsSo) (
       setup_is = refl;
       station_is = refl;
       holds = record {
-        silent = subst (λ (c : List Answer). AreKeptSilent first.controller.setup first.device.station c) (sym begins.uncalled) tt;
+        silent = none_silent first.controller.setup first.device.station first.device.live.rest.calls
+            (subst (λ (s : Setup). kept_of s.activity first.device.live.rest.calls ≡ None) (sym begins.of_setup) begins.uncalled);
         many = (first_live setup.plan).cyclic.shown.data_length;
         kept = kept;
         showing = showing;

@@ -1,5 +1,5 @@
 -- Each move of a world gives and shows inputs as the small machines do, with the ends exchanged.
-use Rattle.std.proofs.Common.{◌≡◌, ◌⊎◌, inl, inr, ◌==◌, ◌&&◌, ◌||◌, ◌++◌, ℕ, zero, suc, Bool, true, false, cond, List, [], ◌∷◌, take, map, Option, Some, None, option_map, Result, Ok, Err, refl, sym, ap, subst, ◌∙◌}
+use Rattle.std.proofs.Common.{◌≡◌, ◌⊎◌, inl, inr, ◌==◌, ◌&&◌, ◌||◌, ◌++◌, ℕ, Bool, true, false, List, [], ◌∷◌, map, Option, Some, None, option_map, Result, Ok, Err, refl, sym, ap, subst, ◌∙◌}
 use Rattle.std.specs.Prelude.{slice_get, nat_eq}
 use Rattle.std.specs.Cmp.Lexicographic.{pointwise}
 use Rattle.std.specs.List.{AllByRecursion}
@@ -16,7 +16,7 @@ use Rattle.frame_codec.specs.Frame.{ethernet, frame_of, layers}
 use Rattle.dcp_core.specs.declared.request.DcpFault.{DcpFault}
 use Rattle.dcp_core.specs.Reading.{request_of as read_request}
 use Rattle.dcp_core.specs.Request.{Asked}
-use Rattle.rpc_core.specs.Cache.{Kept as Answer, is_of, kept_of, kept_more, without}
+use Rattle.rpc_core.specs.Cache.{Kept as Answer, kept_of}
 use Rattle.record_blocks.specs.declared.alarm_notification.AlarmNotification.{AlarmNotification}
 use Rattle.records.specs.declared.status.call_fault.CallFault.{CallFault}
 use Rattle.records.specs.declared.status.operation.Operation.{Operation}
@@ -71,6 +71,7 @@ use Rattle.both_ends.proofs.ExchangeLists.{holds_if}
 use Rattle.both_ends.proofs.ExchangeMessages.{HearsSo}
 use Rattle.both_ends.proofs.ExchangeOutputsOneFrame.{other_mac}
 use Rattle.both_ends.proofs.ExchangeOutputsBrings.{IsAddressed}
+use Rattle.both_ends.proofs.ExchangeOutputsShows.{AreKept, kept_at, more_kept, none_kept}
 use Rattle.both_ends.proofs.ExchangeOutputsSix.{six_event}
 use Rattle.both_ends.proofs.ExchangeOutputsTurns.{IsKept, IsSaid, KindsSo, turn_tells}
 use Rattle.both_ends.proofs.ExchangeOutputsWorlds.{TurnsSo}
@@ -168,37 +169,6 @@ frame_after None before real heard values is = ap (λ (s : List InputStatus). fi
 frame_after (Some next) None real heard values is = ap (λ (s : List InputStatus). first_values s) (frame_said real heard values.statuses is)
 frame_after (Some next) (Some link) real heard values is = frame_values real heard values is
 
--- ---- responses that are stored
-
-all_taken : {A : Type 0} (P : A → Type 0) (count : ℕ) (xs : List A) → AllByRecursion P xs → AllByRecursion P (take count xs)
-all_taken P zero xs all = tt
-all_taken P (suc count) [] all = tt
-all_taken P (suc count) (x ∷ xs) all = (all.0, all_taken P count xs all.1)
-
-module _ (P : List ℕ → Type 0) where
-  -- a property of each response that is stored
-  abbrev AreKept : List Answer → Type 0
-  AreKept calls = AllByRecursion (λ (kept : Answer). P kept.frame) calls
-
-  without_kept : (activity : List ℕ) (calls : List Answer) → AreKept calls → AreKept (without activity calls)
-  without_kept activity [] all = tt
-  without_kept activity (kept ∷ calls) all = by_name (is_of activity kept) (without_kept activity calls all.1)
-    where
-      by_name : (b : Bool) → AreKept (without activity calls) → AreKept (cond b calls (kept ∷ without activity calls))
-      by_name true others = all.1
-      by_name false others = (all.0, others)
-
-  more_kept : (answer : Answer) (calls : List Answer) → P answer.frame → AreKept calls → AreKept (kept_more 4 answer calls)
-  more_kept answer calls one all = (one, all_taken (λ (kept : Answer). P kept.frame) 3 (without answer.activity calls) (without_kept answer.activity calls all))
-
-  kept_at : (activity : List ℕ) (calls : List Answer) → AreKept calls → (kept : Answer) → kept_of activity calls ≡ Some kept → P kept.frame
-  kept_at activity [] all kept is = absurd cc
-  kept_at activity (other ∷ calls) all kept is = by_name (is_of activity other) is (λ there. kept_at activity calls all.1 kept there)
-    where
-      by_name : (b : Bool) → cond b (Some other) (kept_of activity calls) ≡ Some kept → (kept_of activity calls ≡ Some kept → P kept.frame) → P kept.frame
-      by_name true e others = subst (λ (k : Answer). P k.frame) (some_is other kept e) all.0
-      by_name false e others = others e
-
 -- ---- a device
 
 module _ (setup : Setup) (station : Station) where
@@ -206,7 +176,11 @@ module _ (setup : Setup) (station : Station) where
   BringsNothing frame = brought_by setup station.identity frame ≡ None
 
   abbrev pub AreKeptSilent : List Answer → Type 0
-  AreKeptSilent calls = AreKept BringsNothing calls
+  AreKeptSilent calls = AreKept BringsNothing setup.activity calls
+
+  -- no response is stored for the activity of this set-up
+  pub none_silent : (calls : List Answer) → kept_of setup.activity calls ≡ None → AreKeptSilent calls
+  none_silent calls none = none_kept BringsNothing setup.activity calls none
 
   -- a relation sends what was given in it
   abbrev pub Sends : Values → RelationState → Type 0
@@ -369,7 +343,10 @@ module _ (sound : IsSound ethernet) (setup : Setup) (station : Station) (there :
     one_known : AreKeptSilent setup station live.rest.calls → (shown : Image) (message : Sent) → IsOfImage shown message → IsOwed heard live message → IsKnown setup station.identity sound shown message
     one_known silent shown (Exchanges route (Inputs has_problem inputs counter)) is owed = is
     one_known silent shown (Again frame) is owed =
-        subst (λ (f : List ℕ). BringsNothing setup station f) owed.same (kept_at (BringsNothing setup station) owed.call.header.activity live.rest.calls silent owed.kept owed.there)
+        let plan : IsPlannedCall (rules_of setup station) setup.activity station.real owed.call =
+        subst (λ (h : Heard). IsPlanned (rules_of setup station) setup.activity station.real h) owed.is planned in
+        subst (λ (f : List ℕ). BringsNothing setup station f) owed.same
+        (kept_at (BringsNothing setup station) setup.activity live.rest.calls silent owed.kept (ap (λ (a : List ℕ). kept_of a live.rest.calls) (sym plan.own) ∙ owed.there))
     one_known silent shown (Exchanges route (Notifies header alarm)) is owed = tt
     one_known silent shown (Exchanges route (Replies header)) is owed = tt
     one_known silent shown (Exchanges route (Reports tag header alarm)) is owed = tt
@@ -396,7 +373,7 @@ module _ (sound : IsSound ethernet) (setup : Setup) (station : Station) (there :
             let answer = CallAnswer answers.caller answers.address answers.answer in
             let first : AreSendable station.identity (answer ∷ answers.others) = subst (λ (messages : List Sent). AreSendable station.identity messages) answers.sends can in
             subst (λ (c : List Answer). AreKeptSilent setup station c) (sym answers.keeps)
-            (more_kept (BringsNothing setup station) (kept_for station.identity answers.call answer) live.rest.calls (answer_silent setup station.identity sound answers.caller answers.address answers.answer first.0) silent)
+            (more_kept (BringsNothing setup station) setup.activity (kept_for station.identity answers.call answer) live.rest.calls (λ own. answer_silent setup station.identity sound answers.caller answers.address answers.answer first.0) silent)
 
 -- ---- worlds
 

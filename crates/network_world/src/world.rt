@@ -255,6 +255,13 @@ impl<F: Flash<S>, const S: usize> World<F, S> {
         &self.device
     }
 
+    /// The device, without the controller and what was sent. The next controller may begin with it.
+    pub fn into_device(self) -> Device<F, S>
+        ensures { result ≡ self.device }
+    {
+        self.device
+    }
+
     /// Its controller.
     pub fn controller(&self) -> &Controller
         ensures { result.now ≡ self.now.controller }

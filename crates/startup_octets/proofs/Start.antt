@@ -4,6 +4,7 @@ use Rattle.std.proofs.lemmas.List.{append-nil}
 use Rattle.std.specs.Prelude.{slice_get, unwrap_or}
 use Rattle.flash_model.specs.declared.flash.Flash.{Ghosts as Flash}
 use Rattle.pn_values.specs.declared.identity.Identity.{Identity}
+use Rattle.rpc_core.specs.Cache.{kept_of}
 use Rattle.connects.specs.requests.Handled.{request_of}
 use Rattle.plans.specs.Connect.{connect_of}
 use Rattle.plans.specs.declared.parts.PlanRecord.{PlanRecord}
@@ -125,7 +126,7 @@ module _ (laws : Laws) {F : Type 0} (setup : Setup) (identity : Identity) (good 
     of_device = begins.of_device;
     made = begins.made ∙ ap (λ (s : Setup). first_live s.plan) (sym begins.of_setup);
     opened = begins.opened;
-    uncalled = begins.uncalled;
+    uncalled = subst (λ (s : Setup). kept_of s.activity first.device.live.rest.calls ≡ None) (sym begins.of_setup) begins.uncalled;
     unrelated = begins.unrelated;
   }
 

@@ -3,6 +3,7 @@
 
 mod alarms;
 mod diagnosis;
+mod later;
 mod lists;
 mod memory;
 mod octets;

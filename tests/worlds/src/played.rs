@@ -68,19 +68,19 @@ pub(crate) fn to_controller(number: usize) -> Move {
 }
 
 /// So many units of time at the controller.
-fn wait(moves: &mut Vec<Move>, units: usize) {
+pub(crate) fn wait(moves: &mut Vec<Move>, units: usize) {
     moves.extend((0..units).map(|_| Move::Tick(End::Controller)));
 }
 
 /// These frames were sent, in this order, and no other.
-fn are_sent(world: &Net, wanted: &[Kind]) {
+pub(crate) fn are_sent(world: &Net, wanted: &[Kind]) {
     let frames = (0..).map_while(|number| world.sent(number));
     let kinds: Vec<Kind> = frames.map(|frame| Kind::of(frame.as_slice())).collect();
     assert_eq!(kinds, wanted);
 }
 
 /// The records that the device took: the two of the plan, in its order.
-fn are_taken(world: &Net) {
+pub(crate) fn are_taken(world: &Net) {
     let taken: Vec<(u16, &[u8])> = world
         .device()
         .taken()

@@ -1,7 +1,8 @@
 -- What holds of a world that was begun and played: its start-up, its outputs, its alarms and its reported diagnosis, over one run
--- of its moves.
+-- of its moves, and that the next controller can begin at its device.
 use Rattle.std.specs.Prelude.{◌≡◌, ◌≤◌, ◌<◌, ◌+◌, ℕ, true, false, List, [], length, take, Some, None}
 use Rattle.flash_model.specs.declared.flash.Flash.{Ghosts as Flash}
+use Rattle.rpc_core.specs.Cache.{kept_of}
 use Rattle.both_ends.specs.startup.request.Request.{request_for}
 use Rattle.relations.specs.Exchanged.{output_in}
 use Rattle.relations.specs.RelationState.{RelationState, is_exchanging}
@@ -65,6 +66,12 @@ pub record IsBegunAndPlayed {F : Type 0} {S : ℕ} (as_flash : Flash F S) (setup
   pub list : AreKnown device.live.rest.diagnoses → length (reported_over first run) ≤ 32768 → (link : RelationState) → last.device.live.rest.link ≡ Some link
       → is_exchanging link.phase ≡ true → link.flow.low.alarms.sender.standing ≡ None → link.flow.low.waiting ≡ [] → last.controller.live.stands ≡ true
       → last.controller.live.diagnosis ≡ known_at link.flow.low last.device.live.rest.diagnoses
+  -- The device is the same, and has stored no answer to a call of another activity that it had not stored before. So when it has no
+  -- relation, a controller can begin whose calls have such an activity; `told` and `list` hold of its relation if they hold of this one.
+  pub station : last.device.station ≡ device.station
+  pub others : (activity : List ℕ) → (setup.activity ≡ activity → ⊥) → kept_of activity device.live.rest.calls ≡ None
+      → kept_of activity last.device.live.rest.calls ≡ None
+  pub known : AreKnown device.live.rest.diagnoses → AreKnown last.device.live.rest.diagnoses
 
 -- If memory ran out, all of this holds of the moves before the one for which it did.
 pub record IsBegunAndCut {F : Type 0} {S : ℕ} (as_flash : Flash F S) (setup : Setup) (device : State F) (moves : List Move) (last : World F) : Type 0 where

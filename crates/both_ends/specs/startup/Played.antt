@@ -5,6 +5,7 @@ use Rattle.pn_values.specs.declared.identity.Identity.{Identity}
 use Rattle.flash_model.specs.declared.flash.Flash.{Ghosts as Flash}
 use Rattle.controller_core.specs.Machine.{first as first_live, opening_of}
 use Rattle.connect_blocks.specs.ArBlock.{is_some_uuid}
+use Rattle.rpc_core.specs.Cache.{kept_of}
 use Rattle.plans.specs.declared.parts.PlanRecord.{PlanRecord}
 use Rattle.controller_messages.specs.declared.setup.Setup.{Setup}
 use Rattle.network_world.specs.declared.moves.Move.{Move}
@@ -41,13 +42,15 @@ abbrev pub ArePlaced : List PlanRecord → Type 0
 ArePlaced records = AllByRecursion IsPlaced records
 
 -- A world at the start: the controller was just made from this set-up, and has sent only its opening frame. The device
--- of this identity has answered no call since its start and has no relation.
+-- of this identity has no relation, and has stored no answer to a call of the activity of this controller. It may have
+-- stored answers to calls of other activities, and all else that earlier relations leave: the log, the units since its
+-- start, its settings, the statuses that its application gave, its neighbour and the diagnoses that exist.
 pub record Begins {F : Type 0} (setup : Setup) (identity : Identity) (world : World F) : Type 0 where
   pub of_setup : world.controller.setup ≡ setup
   pub of_device : world.device.station.identity ≡ identity
   pub made : world.controller.live ≡ first_live setup.plan
   pub opened : world.sent ≡ opening_of world.controller ∷ []
-  pub uncalled : world.device.live.rest.calls ≡ []
+  pub uncalled : kept_of setup.activity world.device.live.rest.calls ≡ None
   pub unrelated : world.device.live.rest.link ≡ None
 
 -- The premises about a set-up and a device: their MAC addresses differ, the ARUUID is not zero, and the plan's records

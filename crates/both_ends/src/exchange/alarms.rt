@@ -83,6 +83,13 @@ pub fn worlds_take_alarms<F: Flash<S>, const S: usize>(setup: &Setup, identity: 
         → (last_world first run).controller.live.stands ≡ true
         → (last_world first run).controller.live.diagnosis
         ≡ known_at link.flow.low (last_world first run).device.live.rest.diagnoses }
+    // The diagnoses of a device appeared one after the other after any moves, if they did at the beginning: so `told` and `list`
+    // hold of its next relation too.
+    ensures known { CanMeet setup.now identity.now →
+        (first : World F) (run : List (Move × World F)) → Begins setup.now identity.now first
+        → AreMade F.Flash first run → AreSizedModules first.device.station.real.modules.items
+        → AreKnown first.device.live.rest.diagnoses → AreSizedMoves run
+        → AreKnown (last_world first run).device.live.rest.diagnoses }
 {
     stations_are_real(setup, identity);
     frames_are_read();

@@ -1,7 +1,8 @@
 //! A world that meets the premises of the law of a start-up.
-ghost use Rattle.std.specs.Prelude.{◌≡◌, ◌↔◌, IsTrue, [], None};
+ghost use Rattle.std.specs.Prelude.{◌≡◌, ◌↔◌, IsTrue, None};
 ghost use Rattle.std.specs.List.{AllByRecursion};
 ghost use Rattle.connect_blocks.specs.ArBlock.{is_some_uuid};
+ghost use Rattle.rpc_core.specs.Cache.{kept_of};
 ghost use Rattle.both_ends.specs.startup.Played.{Begins, CanMeet, IsParameter};
 
 use controller_core::Controller;
@@ -39,14 +40,15 @@ pub fn can_meet(setup: &Setup, identity: &Identity) -> bool
         && are_parameters(setup.plan.records())
 }
 
-/// The world of a device that has answered no call since its start and has no relation, and of a controller that was
-/// just made from this set-up. It meets the premises of the law of a start-up.
+/// The world of a device that has no relation and has stored no answer to a call of the activity of this set-up, and of a
+/// controller that was just made from this set-up. It meets the premises of the law of a start-up. The device may have had
+/// any relations before.
 pub fn begin_world<F: Flash<S>, const S: usize>(
     alloc: Global,
     device: Device<F, S>,
     setup: Setup,
 ) -> World<F, S>
-    requires uncalled { device.live.rest.calls ≡ [] }
+    requires uncalled { kept_of setup.activity device.live.rest.calls ≡ None }
     requires unrelated { device.live.rest.link ≡ None }
     // The world begins as the law of a start-up requires.
     ensures begins { Begins setup device.station.identity result }

@@ -1,6 +1,6 @@
 use Rattle.both_ends.proofs.ExchangeLaw.{DeviceSo, high_so, in_order, lacks_one, last_shown, shows}
 use Rattle.both_ends.proofs.ExchangeMessages.{HearsSo}
-use Rattle.both_ends.proofs.ExchangeReporting.{list_so, low_so, told_so}
+use Rattle.both_ends.proofs.ExchangeReporting.{known_so, list_so, low_so, told_so}
 use Rattle.both_ends.specs.exchange.Over.{raised_over, reported_over, taken_over}
 use Rattle.diagnosis.specs.declared.reports.priority.Priority.TheVariants.{High, Low}
 use Rattle.both_ends.specs.startup.Played.{last_world}
@@ -92,3 +92,8 @@ returns-clause-list g c = λ can first run begins made real known sized few link
     list_so (device_so g c) (hears_so g c) c.args.setup.now c.args.identity.now c.stations_are_real.ensures.setup can g.F.Flash first run begins real made
     (c.worlds_start_up.ensures.meant can first run begins made) c.reports_are_followed.ensures.elsewhere c.reports_are_followed.ensures.follows
     c.alarms_are_taken_in_order.ensures.all c.alarms_are_taken_in_order.ensures.listed known sized few link is on none empty up
+
+pub returns-clause-known : goal.returns-clause-known
+returns-clause-known g c = λ can first run begins made real known sized.
+    known_so (device_so g c) (hears_so g c) c.args.setup.now c.args.identity.now c.stations_are_real.ensures.setup can g.F.Flash first run begins real made
+    (c.worlds_start_up.ensures.meant can first run begins made) c.reports_are_followed.ensures.elsewhere known sized

@@ -21,6 +21,9 @@ laws g c = record {
   reported_last = c.worlds_take_alarms.ensures.reported_last;
   told = c.worlds_take_alarms.ensures.told;
   list = c.worlds_take_alarms.ensures.list;
+  known = c.worlds_take_alarms.ensures.known;
+  station = c.later_worlds_begin.ensures.station;
+  others = c.later_worlds_begin.ensures.others;
 }
 
 pub returns-clause-played : goal.returns-clause-played
