@@ -101,7 +101,9 @@ enum {
     PN_OP_CONFLICTS = 20,
     PN_OP_LINK = 21,
     PN_OP_PASSED = 22,
-    PN_OP_PASSED_ON = 23
+    PN_OP_PASSED_ON = 23,
+    PN_OP_FRAME_AFTER = 24,
+    PN_OP_RECEIVED = 25
 };
 
 /* A parameter record that a submodule accepts: its index, 0 to 32,767 and no other record's of the submodule, and its exact length, 1 to
@@ -171,14 +173,15 @@ typedef struct pn_op {
     uint32_t what;    /* PN_OP_SECTOR ..; the functions below set it */
     uint32_t slot;
     uint32_t subslot;
-    uint32_t units;   /* pn_tick: remaining units; pn_due: units until something is due; pn_state: units for which the lamp still flashes;
+    uint32_t units;   /* pn_tick, pn_frame_after: remaining units; pn_due: units until something is due; pn_state: units for which the lamp still flashes;
                        * pn_diagnosis: the channel */
     uint32_t note;    /* PN_DONE .. */
     uint32_t phase;   /* PN_NONE .. */
     uint32_t work;    /* PN_NOTHING ..: after an event the next piece of work, after pn_next the one that it handed out */
     uint32_t more;    /* PN_NOTHING ..: after pn_next the piece of work after the one that it handed out */
-    uint32_t sector;  /* 0 or 1; pn_diagnosis: the ChannelErrorType */
-    uint32_t place;   /* the first octet of a program call in its sector; pn_taken: a number, then the record's index; pn_left; pn_status: 0 is bad; pn_diagnosis: 0 disappears */
+    uint32_t sector;  /* 0 or 1; pn_diagnosis: the ChannelErrorType; pn_received: IOPS */
+    uint32_t place;   /* the first octet of a program call in its sector; pn_taken: a number, then the record's index; pn_left; pn_status: 0 is bad; pn_diagnosis: 0 disappears;
+                       * pn_received: DataStatus */
     uint32_t length;  /* how many of `octets` are valid; pn_next: how many octets lie at `data` */
     uint32_t due;     /* pn_tick: units until something is due after it, as pn_due says */
     uint8_t octets[PN_OP_SIZE];
@@ -314,6 +317,18 @@ static inline uint32_t pn_boot(pn_device *device, pn_op *op, const uint8_t first
 static inline uint32_t pn_frame(pn_device *device, pn_op *op, const uint8_t *octets, size_t length)
 {
     return pn_ask(device, op, PN_OP_FRAME, octets, length);
+}
+
+/* The same of a frame before which `units` units of time have passed, in one call in place of pn_tick and pn_frame. As many of them as bring nothing pass
+ * first, so that the timers that the frame starts begin with its own time. `units` of the operation is then the number that remain, for the next
+ * pn_tick: those from the next one on that brings something, or all of them if the device is still to be told of its neighbour. Do not hand in
+ * more than one less than pn_due or the last pn_tick returned, and none remain. */
+static inline uint32_t pn_frame_after(pn_device *device, pn_op *op, uint32_t units, const uint8_t *octets, size_t length)
+{
+    if (op == NULL)
+        return PN_NULL;
+    op->units = units;
+    return pn_ask(device, op, PN_OP_FRAME_AFTER, octets, length);
 }
 
 /* `units` units of time have passed (PN_UNIT_NS each; 0 is allowed). It stops after a unit that sends something: then `units` of the
@@ -532,6 +547,23 @@ static inline uint32_t pn_provider(const pn_device *device, pn_op *op, uint16_t 
     if (answer == PN_OK) {
         *iops = op->octets[0];
         *data_status = op->octets[1];
+    }
+    return answer;
+}
+
+/* The output of a submodule in the last accepted cyclic frame, in `length` and `octets`, and what the controller says of it, as pn_provider: pn_output and
+ * pn_provider in one call. IOPS and DataStatus are in `sector` and `place` of the operation too. May return PN_NO_FRAME. */
+static inline uint32_t pn_received(const pn_device *device, pn_op *op, uint16_t slot, uint16_t subslot, uint8_t *iops, uint8_t *data_status)
+{
+    uint32_t answer;
+    if (op == NULL || iops == NULL || data_status == NULL)
+        return PN_NULL;
+    op->slot = slot;
+    op->subslot = subslot;
+    answer = pn_read(device, op, PN_OP_RECEIVED);
+    if (answer == PN_OK) {
+        *iops = (uint8_t)op->sector;
+        *data_status = (uint8_t)op->place;
     }
     return answer;
 }

@@ -112,8 +112,8 @@ void application_was_reset(void)
 /* The drive, in each millisecond: the wanted position while there is one, otherwise the safe one. */
 static void step_drive(uint32_t units)
 {
-    uint8_t wanted[2];
-    uint16_t position = host_output(DRIVE, 1, wanted, sizeof wanted) ? read16(wanted) : used.safe_position;
+    const uint8_t *wanted = host_output(DRIVE, 1, 2);
+    uint16_t position = wanted != NULL ? read16(wanted) : used.safe_position;
     plant_drive(position, (uint16_t)(used.speed * units / UNITS_OF_STEP));
     give16(DRIVE, plant_position());
 }
@@ -144,7 +144,7 @@ static void step_alarm(void)
 /* What is slow: the gauge, the purge valve and the button, each ten milliseconds. */
 static void step_slowly(void)
 {
-    uint8_t purge = 0;
+    const uint8_t *purge;
     plant_step();
     if (plant_button()) {
         console_say("button\n");
@@ -152,7 +152,8 @@ static void step_slowly(void)
     }
     step_gauge();
     step_alarm();
-    plant_purge(host_output(GAUGE, 1, &purge, sizeof purge) && purge != 0);
+    purge = host_output(GAUGE, 1, 1);
+    plant_purge(purge != NULL && purge[0] != 0);
 }
 
 void application_step(uint32_t units)

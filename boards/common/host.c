@@ -183,14 +183,13 @@ int host_input(uint16_t slot, uint16_t subslot, const uint8_t *octets, uint32_t 
     return op.note == PN_DONE;
 }
 
-int host_output(uint16_t slot, uint16_t subslot, uint8_t *octets, uint32_t length)
+const uint8_t *host_output(uint16_t slot, uint16_t subslot, uint32_t length)
 {
     uint8_t iops, data_status;
-    if (own.phase != PN_EXCHANGING || pn_provider(&device, &op, slot, subslot, &iops, &data_status) != PN_OK || iops != PN_IOPS_GOOD
-        || (data_status & PN_PROVIDER_RUNS) == 0 || pn_output(&device, &op, slot, subslot) != PN_OK || op.length != length)
-        return 0;
-    memcpy(octets, op.octets, length);
-    return 1;
+    if (own.phase != PN_EXCHANGING || pn_received(&device, &op, slot, subslot, &iops, &data_status) != PN_OK || iops != PN_IOPS_GOOD
+        || (data_status & PN_PROVIDER_RUNS) == 0 || op.length != length)
+        return NULL;
+    return op.octets;
 }
 
 int host_status(uint16_t slot, uint16_t subslot, int is_good)
@@ -272,23 +271,18 @@ APART static void follow_frame(void)
         look();
 }
 
-/* The units before a frame with which nothing is due: so the timers that the frame starts begin with its own time. */
-static void pass_quiet(void)
-{
-    uint32_t quiet = own.due - 1 < own.waited ? own.due - 1 : own.waited;
-    if (quiet != 0)
-        pass(quiet);
-}
-
-/* A cyclic frame that is accepted only puts off what is due. */
+/* A frame, and before it the units that passed and with which nothing is due: so the timers that it starts begin with its own time. A cyclic frame
+ * that is accepted only puts off what is due. */
 static void take_frame(size_t length)
 {
     const uint8_t *octets = (const uint8_t *)room.frame;
     int is_data = is_cyclic(room.frame, length);
-    pass_quiet();
+    uint32_t quiet = own.due - 1 < own.waited ? own.due - 1 : own.waited;
     if (!is_data)
         pn_watch_frame(&watch, octets, length);
-    must(pn_frame(&device, &op, octets, length), "pn_frame");
+    must(pn_frame_after(&device, &op, quiet, octets, length), "pn_frame_after");
+    own.waited -= quiet - op.units;
+    own.due -= quiet - op.units;
     own.has_outputs |= is_data;
     if (!is_data || op.note != PN_DONE || op.work != PN_NOTHING)
         follow_frame();

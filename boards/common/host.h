@@ -12,9 +12,9 @@ _Noreturn void host_run(void);
 /* A new value of an input. */
 int host_input(uint16_t slot, uint16_t subslot, const uint8_t *octets, uint32_t length);
 
-/* Copies an output to `octets`, if data is exchanged, the controller runs and the output is good. Otherwise it returns 0: the output has to
- * be safe. */
-int host_output(uint16_t slot, uint16_t subslot, uint8_t *octets, uint32_t length);
+/* An output of this length, if data is exchanged, the controller runs and the output is good. Otherwise NULL: the output has to be safe. The octets
+ * are valid until the next call of the host. */
+const uint8_t *host_output(uint16_t slot, uint16_t subslot, uint32_t length);
 
 /* Whether the inputs of a submodule are good; a diagnosis that appears or disappears; a process alarm. */
 int host_status(uint16_t slot, uint16_t subslot, int is_good);

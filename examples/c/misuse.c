@@ -179,6 +179,7 @@ int main(void)
 
     ask_all("before the start");
     wants("a frame before the start", pn_frame(&device, &op, set, sizeof set), PN_NOT_BOOTED);
+    wants("a frame after units before the start", pn_frame_after(&device, &op, 1, set, sizeof set), PN_NOT_BOOTED);
     wants("time before the start", pn_tick(&device, &op, 1), PN_NOT_BOOTED);
     wants("an input before the start", pn_input(&device, &op, 0, 1, octets, 1), PN_NOT_BOOTED);
     wants("an alarm before the start", pn_alarm(&device, &op, 0, 1, octets, 1), PN_NOT_BOOTED);
@@ -196,6 +197,7 @@ int main(void)
     wants("a status before the start", pn_status(&device, &op, 0, 1, 1), PN_NOT_BOOTED);
     wants("ready before the start", pn_ready(&device, &op), PN_NOT_BOOTED);
     wants("a provider before the start", pn_provider(&device, &op, 0, 1, octets, octets + 1), PN_NOT_BOOTED);
+    wants("a received output before the start", pn_received(&device, &op, 0, 1, octets, octets + 1), PN_NOT_BOOTED);
     wants("news before the start", pn_news(&device, &op, &watch, &left), PN_NOT_BOOTED);
     wants("no sector", pn_boot(&device, &op, NULL, erased), PN_NULL);
     op.sector = 0;
@@ -213,9 +215,11 @@ int main(void)
         return 1;
     wants("a second start", pn_boot(&device, &op, erased, erased), PN_IS_BOOTED);
     wants("no operation", pn_ask(&device, &op, 0, NULL, 0), PN_UNKNOWN);
-    wants("another operation", pn_ask(&device, &op, 24, NULL, 0), PN_UNKNOWN);
+    wants("another operation", pn_ask(&device, &op, 26, NULL, 0), PN_UNKNOWN);
     wants("no operation's room", pn_frame(&device, NULL, set, sizeof set), PN_NULL);
     wants("no octets", pn_frame(&device, &op, NULL, 1), PN_NULL);
+    wants("no operation for a frame after units", pn_frame_after(&device, NULL, 1, set, sizeof set), PN_NULL);
+    wants("no octets after units", pn_frame_after(&device, &op, 1, NULL, 1), PN_NULL);
     wants("no device for a frame", pn_frame(NULL, &op, set, sizeof set), PN_NULL);
     wants("an output that is not plugged", pn_output(&device, &op, 9, 9), PN_NO_SLOT);
     wants("no place for settings", pn_running(&device, &op, NULL), PN_NULL);
@@ -224,6 +228,9 @@ int main(void)
     wants("no place for IOPS", pn_provider(&device, &op, 0, 1, NULL, octets), PN_NULL);
     wants("no place for DataStatus", pn_provider(&device, &op, 0, 1, octets, NULL), PN_NULL);
     wants("no frame", pn_provider(&device, &op, 0, 1, octets, octets + 1), PN_NO_FRAME);
+    wants("no place for received IOPS", pn_received(&device, &op, 0, 1, NULL, octets), PN_NULL);
+    wants("no place for received DataStatus", pn_received(&device, &op, 0, 1, octets, NULL), PN_NULL);
+    wants("no received output", pn_received(&device, &op, 0, 1, octets, octets + 1), PN_NO_FRAME);
     wants("no place for the end of parameters", pn_parameters_end(&device, &op, NULL), PN_NULL);
     wants("a status for no operation", pn_status(&device, NULL, 0, 1, 0), PN_NULL);
     wants("no watch", pn_news(&device, &op, NULL, &left), PN_NULL);
@@ -300,6 +307,7 @@ int main(void)
     wants("work after a loss", pn_next(&device, &op), PN_LOST);
     wants("work after a loss, carried out", pn_carry_out(&device, &op, &failing), PN_LOST);
     wants("a frame after a loss", pn_frame(&device, &op, set, sizeof set), PN_LOST);
+    wants("a frame after units and a loss", pn_frame_after(&device, &op, 1, set, sizeof set), PN_LOST);
     wants("time after a loss", pn_tick(&device, &op, 1), PN_LOST);
     wants("an input after a loss", pn_input(&device, &op, 0, 1, octets, 1), PN_LOST);
     wants("an alarm after a loss", pn_alarm(&device, &op, 0, 1, octets, 1), PN_LOST);
@@ -314,6 +322,7 @@ int main(void)
     wants("a status after a loss", pn_status(&device, &op, 0, 1, 1), PN_LOST);
     wants("ready after a loss", pn_ready(&device, &op), PN_LOST);
     wants("a provider after a loss", pn_provider(&device, &op, 0, 1, octets, octets + 1), PN_LOST);
+    wants("a received output after a loss", pn_received(&device, &op, 0, 1, octets, octets + 1), PN_LOST);
     wants("news after a loss", pn_news(&device, &op, &watch, &left), PN_LOST);
     ask_all("after a loss");
     wants("a start after a loss", pn_boot(&device, &op, erased, erased), PN_LOST);

@@ -12,6 +12,7 @@ static pn_device device;
 static pn_op op;
 static uint8_t chip[2][PN_SECTOR_SIZE];
 static int is_off, is_cut_armed;
+static uint32_t waiting; /* units that passed, with which nothing is due, and that were not handed in yet */
 static unsigned long cut_after;
 static uint8_t cut_mask[8];
 static char sent[4 * (2 * PN_FRAME_SIZE + 5)]; /* the output of one step */
@@ -93,6 +94,7 @@ static void boot(void)
     if (answer != PN_OK && answer != PN_FOREIGN)
         stop("pn_boot", answer);
     is_off = answer == PN_FOREIGN;
+    waiting = 0;
     puts(is_off ? "boot foreign" : "boot ok");
 }
 
@@ -139,6 +141,39 @@ static void tick(uint32_t units)
         op.units = left;
     }
     puts("note done");
+}
+
+/* Units with which nothing is due wait for the next line: a frame is handed in with them. */
+static void pass(uint32_t units)
+{
+    uint32_t due, answer = pn_due(&device, &op, &due);
+    if (answer != PN_OK)
+        stop("pn_due", answer);
+    if (units < due - waiting) {
+        waiting += units;
+        puts("note done");
+    } else {
+        tick(waiting + units);
+        waiting = 0;
+    }
+}
+
+static void frame(const uint8_t *octets, size_t length)
+{
+    uint32_t answer = pn_frame_after(&device, &op, waiting, octets, length);
+    if (answer == PN_OK && op.units != 0)
+        stop("pn_frame_after leaves units", op.units);
+    waiting = 0;
+    end_of(answer);
+}
+
+/* Before any other line. */
+static void settle(void)
+{
+    uint32_t answer = pn_tick(&device, &op, waiting);
+    if (answer != PN_OK || op.units != 0 || op.work != PN_NOTHING)
+        stop("units with which nothing is due bring something", answer);
+    waiting = 0;
 }
 
 static void hex(const char *label, const uint8_t *octets, size_t length)
@@ -237,6 +272,8 @@ static int play(const char *line)
     unsigned long a, b;
     const char *at = strchr(line, ' ');
     size_t length;
+    if (waiting != 0 && !begins(line, "tick ") && !begins(line, "frame "))
+        settle();
     if (strcmp(line, "restart") == 0) {
         boot();
     } else if (is_off) {
@@ -248,11 +285,11 @@ static int play(const char *line)
     } else if (begins(line, "frame ")) {
         if ((length = octets_of(at, octets)) == 0)
             return 3;
-        end_of(pn_frame(&device, &op, octets, length));
+        frame(octets, length);
     } else if (begins(line, "tick ")) {
         if (!number(&at, 1000000, &a) || a == 0 || *at != '\0')
             return 3;
-        tick((uint32_t)a);
+        pass((uint32_t)a);
     } else if (begins(line, "input ") || begins(line, "alarm ")) {
         if (!number(&at, 65535, &a) || !number(&at, 65535, &b) || (length = octets_of(at, octets)) == 0)
             return 3;

@@ -10,4 +10,3 @@ pub mod ExchangeInputs
 pub mod ExchangeLeaps
 mod DueLater
 mod InputsDue
-mod MarksAwaited

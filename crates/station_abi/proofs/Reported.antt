@@ -1,7 +1,9 @@
 -- What is reported of a port.
 use Rattle.std.proofs.Common.{◌≡◌, ℕ, List, [], ◌∷◌, Option, Some, None, refl, sym, ap, subst, ◌∙◌}
 use Rattle.flash_model.specs.Calls.{Call}
-use Rattle.std.specs.Prelude.{if◌then◌else◌, min, Ok}
+use Rattle.std.specs.Prelude.{if◌then◌else◌, IfSome, min, option_map, Ok}
+use Rattle.pn_values.specs.declared.real.Real.{Real}
+use Rattle.relations.specs.Outputs.{output_of}
 use Rattle.device_abi.specs.port.State.{IsUnreported, has_some, waiting}
 use Rattle.device_abi.specs.port.Refusals.{refusal_number}
 use Rattle.device_abi.specs.declared.port.refusal.Refusal.{Refusal}
@@ -9,8 +11,9 @@ use Rattle.c_layout.specs.declared.op.Op.{Op}
 use Rattle.station_port.specs.State.{Served, barred_both, due_both, or_own, waiting_both}
 use Rattle.station_port.specs.Steps.{PassesBoth}
 use Rattle.pn_values.specs.declared.settings.Settings.{Settings}
+use Rattle.cyclic_data.specs.declared.exchange.exchange.ProviderStatus.{ProviderStatus}
 use Rattle.c_layout.specs.Reported.{with_octets}
-use Rattle.station_abi.specs.Serves.{IsConflicts, IsDue, IsHanded, IsLeft, IsNumber, IsPassedOn, IsSettings, IsTick, IsValue, IsValueOf, settings_octets, with_frame, with_nothing, with_passed}
+use Rattle.station_abi.specs.Serves.{IsConflicts, IsDue, IsHanded, IsLeft, IsNumber, IsPassedOn, IsReceivedAt, IsSettings, IsTick, IsValue, IsValueOf, settings_octets, with_frame, with_nothing}
 
 -- The next piece of work, as it is reported, is what is handed out.
 pub handed_nothing : (calls : List Call) (frames : List (List ℕ)) (asked : Op) (octets : List ℕ) (reported : Op) → calls ≡ [] → frames ≡ [] → octets ≡ [] → reported ≡ with_nothing asked
@@ -29,6 +32,14 @@ pub unreported : (why : Option Refusal) (value : Option (List ℕ)) (refusal : R
 unreported (Some late) value refusal asked answer reported is at same = (at ∙ ap refusal_number is, same)
 unreported None value refusal asked answer reported is at same =
     subst (λ v. IsValue v asked answer reported) (sym is.0) (at ∙ ap refusal_number is.1, same)
+
+-- An output that was found is the one that is reported without what the controller says of it.
+pub received_known : {T : Type 0} (status : T → ProviderStatus) (octets : T → List ℕ) (found : Option T) (real : Real) (slot subslot : ℕ) (inside : Option (List ℕ))
+    → IfSome found (λ value. inside ≡ Some (octets value)) → (asked : Op) (answer : ℕ) (reported : Op) → IsReceivedAt (option_map status found) (option_map octets found) asked answer reported
+    → IsReceivedAt (option_map status found) (output_of real slot subslot inside) asked answer reported
+received_known status octets None real slot subslot inside holds asked answer reported is = is
+received_known status octets (Some value) real slot subslot inside holds asked answer reported is =
+    subst (λ o. IsReceivedAt (Some (status value)) (output_of real slot subslot o) asked answer reported) (sym holds) is
 
 -- Units that all passed, as they are reported.
 pub passed_all : (old new : Served) (asked reported : Op) (answer due work : ℕ) → barred_both old ≡ None → PassesBoth old asked.units 0 new → due ≡ due_both new → work ≡ waiting_both new

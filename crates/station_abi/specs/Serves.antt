@@ -29,7 +29,7 @@ use Rattle.device_abi.specs.declared.port.refusal.Refusal.TheVariants as refusal
 use Rattle.device_abi.specs.port.Refusals.{refusal_number}
 use Rattle.device_abi.specs.port.State.{State, closed}
 use Rattle.station_port.specs.State.{Served, advanced_both, conflicts_of, due_both, frames_of, linked_both, lost_both, waiting_both}
-use Rattle.station_port.specs.Steps.{AnswersBoth, KnowsBothOrNot, PassesBothOrNot, StartsBothOrNot}
+use Rattle.station_port.specs.Steps.{AnswersBoth, KnowsBothOrNot, PassesBothOrNot, QuietOrNot, StartsBothOrNot}
 use Rattle.station_abi.specs.declared.operation.Operation.{Operation}
 use Rattle.station_abi.specs.declared.operation.Operation.TheVariants as operation
 
@@ -57,7 +57,9 @@ operation_of what =
     if what == 20 then Some operation.Conflicts else
     if what == 21 then Some operation.Link else
     if what == 22 then Some operation.Passed else
-    if what == 23 then Some operation.PassedOn else None
+    if what == 23 then Some operation.PassedOn else
+    if what == 24 then Some operation.FrameAfter else
+    if what == 25 then Some operation.Received else None
 
 -- The result of what was done, or of what was refused.
 abbrev pub answer_of : {T : Type 0} → Result T Refusal → ℕ
@@ -75,6 +77,17 @@ noted (Err refusal) new asked = asked
 abbrev pub IsEvent : Served → Event → Op → ℕ → Served → Op → Type 0
 IsEvent old event asked answer new reported =
     (result : Result Note Refusal) × AnswersBoth old event result new × (answer ≡ answer_of result) × (reported ≡ noted result new asked)
+
+-- A frame after units of time that passed before it: as many of them as bring nothing pass, the number of the others is reported, and then the
+-- frame is handled; or nothing changes.
+abbrev pub IsAfter : Result ℕ Refusal → Served → List ℕ → Op → ℕ → Served → Op → Type 0
+IsAfter (Ok left) middle given asked answer new reported =
+    IsEvent middle (Frame (record { items = take 1519 given })) (record asked { units = left }) answer new reported
+IsAfter (Err refusal) middle given asked answer new reported = (answer ≡ refusal_number refusal) × (new ≡ middle) × (reported ≡ asked)
+
+abbrev pub IsFrameAfter : Served → List ℕ → Op → ℕ → Served → Op → Type 0
+IsFrameAfter old given asked answer new reported =
+    (passed : Result ℕ Refusal) × (middle : Served) × QuietOrNot old asked.units passed middle × IsAfter passed middle given asked answer new reported
 
 -- 9 if the slot or the subslot is not a number of 16 bits: nothing is plugged there.
 abbrev pub IsInput : Option (ℕ × ℕ) → Served → List ℕ → Op → ℕ → Served → Op → Type 0
@@ -244,6 +257,25 @@ IsProvider (Some place) port asked answer reported =
     IsProviderOf (closed port.stage) (provider_in place.0 place.1 port.device.live.rest.link) asked answer reported
 IsProvider None port asked answer reported = (answer ≡ 24) × (reported ≡ asked)
 
+-- The output of a submodule, and in `sector` and `place` what the controller says of it: its IOPS, and the DataStatus of the frame. 24 if no frame
+-- with it was accepted.
+abbrev pub with_received : ProviderStatus → List ℕ → Op → Op
+with_received status value asked = record (with_octets value asked) { sector = status.iops; place = status.data_status.0 }
+
+abbrev pub IsReceivedAt : Option ProviderStatus → Option (List ℕ) → Op → ℕ → Op → Type 0
+IsReceivedAt (Some status) (Some value) asked answer reported = (answer ≡ 0) × (reported ≡ with_received status value asked)
+IsReceivedAt (Some status) None asked answer reported = (answer ≡ 9) × (reported ≡ asked)
+IsReceivedAt None value asked answer reported = (answer ≡ 24) × (reported ≡ asked)
+
+abbrev pub IsReceivedOf : Option Refusal → Option ProviderStatus → Option (List ℕ) → Op → ℕ → Op → Type 0
+IsReceivedOf (Some refusal) status value asked answer reported = (answer ≡ refusal_number refusal) × (reported ≡ asked)
+IsReceivedOf None status value asked answer reported = IsReceivedAt status value asked answer reported
+
+abbrev pub IsReceived : Option (ℕ × ℕ) → State → Op → ℕ → Op → Type 0
+IsReceived (Some place) port asked answer reported =
+    IsReceivedOf (closed port.stage) (provider_in place.0 place.1 port.device.live.rest.link) (value_of port place.0 place.1) asked answer reported
+IsReceived None port asked answer reported = (answer ≡ 24) × (reported ≡ asked)
+
 -- A parameter record that the relation accepted: its submodule, its index and its octets; 15 if no record has this
 -- number.
 abbrev pub with_record : TakenRecord → Op → Op
@@ -335,4 +367,7 @@ Serves (Some operation.Passed) old asked given answer new reported =
     (new ≡ old) × IsRecordOf (closed old.port.stage) (back_at (passed_of old.port.device.live.rest.link).last asked.place) asked answer reported
 Serves (Some operation.PassedOn) old asked given answer new reported =
     (new ≡ old) × IsPassedOn (closed old.port.stage) (passed_of old.port.device.live.rest.link).count asked answer reported
+Serves (Some operation.FrameAfter) old asked given answer new reported = IsFrameAfter old given asked answer new reported
+Serves (Some operation.Received) old asked given answer new reported =
+    (new ≡ old) × IsReceived (place_in asked.slot asked.subslot) old.port asked answer reported
 Serves None old asked given answer new reported = (answer ≡ 10) × (new ≡ old) × (reported ≡ asked)

@@ -27,6 +27,8 @@ pub enum Operation {
     Link,
     Passed,
     PassedOn,
+    FrameAfter,
+    Received,
 }
 
 // The operation of this number, if it exists.
@@ -56,6 +58,8 @@ pub(crate) fn operation_of(what: u32) -> Option<Operation>
         21 => Some(Operation::Link),
         22 => Some(Operation::Passed),
         23 => Some(Operation::PassedOn),
+        24 => Some(Operation::FrameAfter),
+        25 => Some(Operation::Received),
         _ => None,
     }
 }

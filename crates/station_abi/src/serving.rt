@@ -1,5 +1,5 @@
 //! One operation of the host.
-ghost use Rattle.std.specs.Prelude.{◌≡◌, ℕ, Ok, Option, Some, [], min, slice_get, take, true};
+ghost use Rattle.std.specs.Prelude.{◌≡◌, ◌≤◌, ℕ, IfSome, Ok, Option, Some, [], length, min, option_map, slice_get, take, true};
 ghost use Rattle.device_frames.specs.declared.event.Event.TheVariants.{Frame as Framed, Ready as IsReady};
 ghost use Rattle.device_abi.specs.recorded.Entry.{call_of};
 ghost use Rattle.device_abi.specs.recorded.Fits.{fits_in};
@@ -14,8 +14,8 @@ ghost use Rattle.device_abi.specs.port.State.{closed, has_some};
 ghost use Rattle.station_port.specs.State.{advanced_both, conflicts_of, due_both, frames_of, waiting_both};
 ghost use Rattle.c_layout.specs.Places.{place_in};
 ghost use Rattle.c_layout.specs.Reported.{with_octets};
-ghost use Rattle.station_abi.specs.Serves.{IsAlarm, IsBoot, IsCall, IsDiagnosis, IsEvent, IsInput, IsLink, IsLoss, HandsOut, IsHanded, IsOutput, with_frame, with_nothing};
-ghost use Rattle.station_abi.specs.Serves.{IsNumber, IsRead, IsRecordAt, IsRecordOf, IsProvider, IsProviderAt, IsProviderOf, IsSector, IsSettings, IsState, IsStatus, IsTick, IsValueOf, Serves, answer_of, back_at, link_of};
+ghost use Rattle.station_abi.specs.Serves.{IsAlarm, IsBoot, IsCall, IsDiagnosis, IsEvent, IsFrameAfter, IsInput, IsLink, IsLoss, HandsOut, IsHanded, IsOutput, with_frame, with_nothing};
+ghost use Rattle.station_abi.specs.Serves.{IsNumber, IsRead, IsReceived, IsReceivedAt, IsReceivedOf, IsRecordAt, IsRecordOf, IsProvider, IsProviderAt, IsProviderOf, IsSector, IsSettings, IsState, IsStatus, IsTick, IsValueOf, Serves, answer_of, back_at, link_of};
 ghost use Rattle.station_abi.specs.Serves.{noted as is_noted, operation_of as operation_in, with_passed, phase_number};
 ghost use Rattle.station_abi.specs.Serves.{sector_number as number_of, sector_of, settings_octets, value_of};
 
@@ -30,20 +30,25 @@ use frame_codec::Frame;
 use lldp::Link;
 use pn_values::Settings;
 use records::TakenRecord;
-use relations::{Phase, ProviderStatus};
+use relations::{Phase, ProviderStatus, ReceivedValue};
 use station_port::ServedPort;
 
 /// Carries out one operation, with the given octets. Returns 0, or why nothing changed.
 pub fn serve(port: &mut ServedPort, op: &mut Op, given: &[u8]) -> u32
     ensures { Serves (operation_in op.old.what) port.old op.old given.now result port.new op.new }
 {
-    // Units of time are the most frequent operation, and then frames. Most units bring nothing; those have a function of their
-    // own, so that no other saves the registers that they need.
+    // What happens in each millisecond of an exchange makes few comparisons.
     if op.what == 4 {
-        if port.is_quiet(op.units) {
-            return tick(port, op);
-        }
-        return tick_more(port, op);
+        return tick(port, op);
+    }
+    if op.what == 24 {
+        return frame_after(port, op, given);
+    }
+    if op.what == 5 {
+        return input(port, op, given);
+    }
+    if op.what == 25 {
+        return received(port.port(), op);
     }
     if op.what == 3 {
         return frame(port, op, given);
@@ -51,7 +56,7 @@ pub fn serve(port: &mut ServedPort, op: &mut Op, given: &[u8]) -> u32
     serve_other(port, op, given)
 }
 
-// The same. It has a function of its own, so that units of time and a frame make few comparisons.
+// The same of any operation.
 #[inline(never)]
 fn serve_other(port: &mut ServedPort, op: &mut Op, given: &[u8]) -> u32
     ensures { Serves (operation_in op.old.what) port.old op.old given.now result port.new op.new }
@@ -90,6 +95,8 @@ fn perform(operation: Operation, port: &mut ServedPort, op: &mut Op, given: &[u8
         Operation::Link => link(port, op, given),
         Operation::Passed => tell_passed_record(port.port(), op),
         Operation::PassedOn => tell_number(port.port().passed_on(), &mut op.units),
+        Operation::FrameAfter => frame_after(port, op, given),
+        Operation::Received => received(port.port(), op),
     }
 }
 
@@ -141,14 +148,43 @@ fn done(outcome: Result<(), Refusal>) -> u32
 fn frame(port: &mut ServedPort, op: &mut Op, given: &[u8]) -> u32
     ensures { IsEvent port.old (Framed (record { items = take 1519 given.now })) op.old result port.new op.new }
 {
+    hear(port, op, given)
+}
+
+// The same. It is part of both functions that handle a frame.
+#[inline(always)]
+fn hear(port: &mut ServedPort, op: &mut Op, given: &[u8]) -> u32
+    ensures { IsEvent port.old (Framed (record { items = take 1519 given.now })) op.old result port.new op.new }
+{
     match port.frame(given) {
         Some(outcome) => noted(outcome, port, op),
-        None => {
-            op.note = 0;
-            op.work = 0;
-            0
-        }
+        None => silent(op),
     }
+}
+
+// A frame after units of time that passed before it: those that bring nothing pass first.
+#[inline(never)]
+fn frame_after(port: &mut ServedPort, op: &mut Op, given: &[u8]) -> u32
+    ensures { IsFrameAfter port.old given.now op.old result port.new op.new }
+{
+    match port.pass_quiet(op.units) {
+        Ok(left) => {
+            op.units = left;
+            hear(port, op, given)
+        }
+        Err(refusal) => refusal.number(),
+    }
+}
+
+// An event was accepted, and no work remains.
+#[inline(always)]
+fn silent(op: &mut Op) -> u32
+    ensures answer { result ≡ 0 }
+    ensures reported { op.new ≡ record op.old { note = 0; work = 0 } }
+{
+    op.note = 0;
+    op.work = 0;
+    0
 }
 
 #[inline(never)]
@@ -156,11 +192,19 @@ fn input(port: &mut ServedPort, op: &mut Op, given: &[u8]) -> u32
     ensures { IsInput (place_in op.old.slot op.old.subslot) port.old given.now op.old result port.new op.new }
 {
     match place_of(op) {
-        Some(place) => {
-            let outcome = port.input(place.0, place.1, given);
-            noted(outcome, port, op)
-        }
+        Some(place) => get_input(port, op, place, given),
         None => NO_SLOT,
+    }
+}
+
+// The same of the submodule in this slot and subslot.
+#[inline(always)]
+fn get_input(port: &mut ServedPort, op: &mut Op, place: (u16, u16), given: &[u8]) -> u32
+    ensures { IsInput (Some place) port.old given.now op.old result port.new op.new }
+{
+    match port.input(place.0, place.1, given) {
+        Some(outcome) => noted(outcome, port, op),
+        None => silent(op),
     }
 }
 
@@ -252,7 +296,7 @@ fn tick(port: &mut ServedPort, op: &mut Op) -> u32
     }
 }
 
-// The same if the units may bring something. Of these most are handed in one at a time.
+// The same if the units may bring something.
 #[inline(never)]
 fn tick_more(port: &mut ServedPort, op: &mut Op) -> u32
     ensures { IsTick port.old op.old result port.new op.new }
@@ -610,6 +654,45 @@ fn tell_statuses(status: Option<ProviderStatus>, op: &mut Op) -> u32
     match status {
         Some(status) => {
             put(op, &[status.iops, status.data_status.0]);
+            0
+        }
+        None => NO_FRAME,
+    }
+}
+
+// The output of a submodule in the last accepted frame, with what the controller says of it.
+#[inline(never)]
+fn received(port: &Port, op: &mut Op) -> u32
+    ensures { IsReceived (place_in op.old.slot op.old.subslot) port.now op.old result op.new }
+{
+    match place_of(op) {
+        Some(place) => tell_received(port, place.0, place.1, op),
+        None => NO_FRAME,
+    }
+}
+
+// The same, or why nothing is known of it.
+fn tell_received(port: &Port, slot: u16, subslot: u16, op: &mut Op) -> u32
+    ensures { IsReceivedOf (closed port.now.stage) (provider_in slot subslot port.now.device.live.rest.link) (value_of port.now slot subslot) op.old
+        result op.new }
+{
+    match port.received_value(slot, subslot) {
+        Ok(found) => tell_found(found, op),
+        Err(refusal) => refusal.number(),
+    }
+}
+
+// The output that was found, if one was.
+#[inline(always)]
+fn tell_found(found: Option<ReceivedValue<'_>>, op: &mut Op) -> u32
+    requires { IfSome found (λ value. length value.octets.now ≤ 1440) }
+    ensures { IsReceivedAt (option_map (λ value. value.status) found.entry) (option_map (λ value. value.octets.now) found.entry) op.old result op.new }
+{
+    match found {
+        Some(value) => {
+            put(op, value.octets);
+            op.sector = u32::from(value.status.iops);
+            op.place = u32::from(value.status.data_status.0);
             0
         }
         None => NO_FRAME,

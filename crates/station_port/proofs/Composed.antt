@@ -167,6 +167,23 @@ settled_same served note fetched known = (
   },
 )
 
+-- Services that rest have no part in it.
+pub app_calm : QuietUnitsCount → QuietUnitsBringNoNews → (rest limit : ℕ) (serves : Bool) (old new : State) (services : Option Serving) (frames : List (List ℕ)) (event : Event) (result : Result Note Refusal) → 0 < rest
+    → IsPaced rest limit old.device.live.values services frames → IsOfApplication event → Answers old event result new
+    → AnswersBoth (at serves old (caught_up (limit - rest) services) frames) event result (at serves new (caught_up (limit - rest) services) frames)
+app_calm counts news rest limit serves old new services frames event (Ok note) some paced is answers =
+    let mid = at serves old (caught_up (limit - rest) services) frames in
+    let after = at serves new (caught_up (limit - rest) services) frames in
+    let fetched = (resting_of rest limit old.device.live.values services frames some paced).fetched in
+    let free = barred_alone mid fetched ∙ answers.0 in
+    let known = knows_paced rest limit new.device.live.values services frames some (app_paced rest limit old new services frames event (Ok note) is answers paced) in
+    app_answers mid mid new (Ok note) (Ok note) after event free (tells_calm counts news rest limit serves old services frames some paced) free is answers (settled_same after note fetched known)
+app_calm counts news rest limit serves old new services frames event (Err refusal) some paced is answers =
+    let fetched = (resting_of rest limit old.device.live.values services frames some paced).fetched in (
+      barred_alone (at serves old (caught_up (limit - rest) services) frames) fetched ∙ answers.0,
+      ap (λ (p : State). at serves p (caught_up (limit - rest) services) frames) answers.1,
+    )
+
 -- ---- frames
 
 pub noticed_of : ConflictsAreNoticed → (old new : State) (bytes : ArrayVec ℕ) (note : Note) (services : Option Serving) → Takes old (Frame bytes) note new → IsNoticed new services bytes.items note
@@ -210,6 +227,14 @@ pub silent_paced : (rest limit : ℕ) (old new : State) (services : Option Servi
     → IsPaced rest limit old.device.live.values services frames → IsPaced rest limit new.device.live.values services frames
 silent_paced rest limit old new services frames bytes answers none paced =
     subst (λ (v : Values). IsPaced rest limit v services frames) (sym (silent_values old new (Frame bytes) Done answers.1 none)) paced
+
+-- Cyclic data that is accepted in silence, or not, and then nothing changes.
+pub cyclic_paced : (taken : Bool) (rest limit : ℕ) (old new : State) (services : Option Serving) (frames : List (List ℕ)) (bytes : ArrayVec ℕ) → barred old ≡ None
+    → (taken ≡ true → Takes old (Frame bytes) Done new) → new.frames ≡ [] → (taken ≡ false → new ≡ old) → IsPaced rest limit old.device.live.values services frames
+    → IsPaced rest limit new.device.live.values services frames
+cyclic_paced true rest limit old new services frames bytes free takes none kept paced = silent_paced rest limit old new services frames bytes (free, takes refl) none paced
+cyclic_paced false rest limit old new services frames bytes free takes none kept paced =
+    subst (λ (p : State). IsPaced rest limit p.device.live.values services frames) (sym (kept refl)) paced
 
 -- What the services do beside the step of the port, and the step with the call that the frame completed.
 pub frame_steps : (behind : ℕ) (serves : Bool) (old middle new : State) (services after : Option Serving) (frames sent : List (List ℕ)) (event : Event) (said note : Note) → Takes old event said middle

@@ -10,7 +10,7 @@ use Rattle.station.specs.Serving.{Serving, due_in, knows, serving_ticks, ticked}
 use Rattle.device_abi.specs.declared.port.refusal.Refusal.{Refusal}
 use Rattle.device_abi.specs.port.State.{State, has_some}
 use Rattle.device_abi.specs.port.Steps.{Ticks}
-use Rattle.station_port.specs.Pace.{AreCalm, Calm, HasNoNews, IsBehind, IsKnown, IsPaced, Known, Resting, caught_up, soonest}
+use Rattle.station_port.specs.Pace.{AreCalm, Calm, HasNoNews, IsBehind, IsPaced, Resting, caught_up, soonest}
 use Rattle.station_port.specs.State.{due_with}
 use Rattle.station_port.specs.Steps.{RestsFor, TicksBoth}
 use Rattle.station_port.proofs.Ticking.{at, ticks_alone, ticks_quiet}
@@ -124,10 +124,10 @@ due_soonest counts down news due rest limit live (Some state) is some inside cal
     let own = calm_rest counts down news rest limit live.values state some inside calm in
     omega (arith, is, own)
 
--- If something is known, it is this.
-pub known_of : (units due rest : ℕ) (port : State) (frames : List (List ℕ)) → units < due → IsKnown due rest port frames → Known due rest port frames
-known_of units due rest port frames few (inl none) = absurd (omega (arith, few, none))
-known_of units due rest port frames few (inr known) = known
+-- So fewer units than the rest, and than are due of the device, are fewer than are due of both.
+pub few_soonest : (units due rest : ℕ) (services : Option Serving) → units < due → units < rest → units < soonest due rest services
+few_soonest units due rest None few inside = few
+few_soonest units due rest (Some state) few inside = omega (arith, few, inside)
 
 -- ---- services that are told of units
 
@@ -144,10 +144,6 @@ behind_few behind state (inr few) some = few
 pub some_paced : (rest limit : ℕ) (values : Values) (services : Option Serving) (frames after : List (List ℕ)) → has_some frames ≡ true → IsPaced rest limit values services frames → IsPaced rest limit values services after
 some_paced rest limit values services frames after some (inl none) = inl none
 some_paced rest limit values services frames after some (inr resting) = cc (sym (ap has_some resting.fetched) ∙ some)
-
-pub some_known : (due rest : ℕ) (port : State) (frames after : List (List ℕ)) → has_some frames ≡ true → IsKnown due rest port frames → IsKnown due rest port after
-some_known due rest port frames after some (inl none) = inl none
-some_known due rest port frames after some (inr known) = cc (sym (ap has_some known.fetched) ∙ some)
 
 -- ---- what is due of the services is known again
 

@@ -3,11 +3,9 @@ use Rattle.std.specs.Prelude.{◌≡◌, ◌-◌, ◌<◌, ◌≤◌, ◌⊎◌,
 use Rattle.std.specs.Option.{option_map}
 use Rattle.settings_journal.specs.settings_store.State.{Values}
 use Rattle.services.specs.Leaps.{never}
-use Rattle.device_core.specs.Leaps.{live_due_in}
 use Rattle.pn_values.specs.declared.identity.Identity.{Identity}
 use Rattle.station.specs.Leaps.{NoNewsBeside, NoneSendsBeside, beside_ticks, tick_beside}
 use Rattle.station.specs.Serving.{Serving, due_in, knows, serving_ticks}
-use Rattle.device_abi.specs.port.State.{State, barred}
 
 -- Services that have nothing to see or to tell beside a device with these settings: it has power, they know its running settings,
 -- and it knows its neighbour. The unit of this number is the next one with which something is due of them.
@@ -38,17 +36,6 @@ IsPaced rest limit values services frames = ((rest ≡ 0) × (limit ≡ 0)) ⊎ 
 abbrev pub soonest : ℕ → ℕ → Option Serving → ℕ
 soonest due rest None = due
 soonest due rest (Some state) = min due rest
-
--- No work remains, and fewer units than this many bring nothing to the device and to the services.
-pub record Known (due rest : ℕ) (port : State) (frames : List (List ℕ)) : Type 0 where
-  pub free : barred port ≡ None
-  pub fetched : frames ≡ []
-  pub device : due ≤ live_due_in port.device.live
-  pub inside : due ≤ rest
-
--- Either nothing is known, or this.
-abbrev pub IsKnown : ℕ → ℕ → State → List (List ℕ) → Type 0
-IsKnown due rest port frames = (due ≡ 0) ⊎ Known due rest port frames
 
 -- Fewer units than are due of the services, if there are any.
 abbrev pub IsBehind : ℕ → Option Serving → Type 0

@@ -16,6 +16,7 @@ use Rattle.device_abi.specs.declared.port.refusal.Refusal.{Refusal}
 use Rattle.device_abi.specs.declared.port.refusal.Refusal.TheVariants as refusal
 use Rattle.device_abi.specs.port.State.{State, barred}
 use Rattle.device_abi.specs.port.Steps.{KnowsOrNot, StartsOrNot, Takes}
+use Rattle.station_port.specs.Pace.{Calm}
 use Rattle.station_port.specs.State.{Served, barred_both, due_both, waiting_both}
 
 -- What the services, if there are any, do beside a step that left the device with these settings and gave this note: the
@@ -107,10 +108,26 @@ abbrev pub PassesBothOrNot : Served → ℕ → Result Passed Refusal → Served
 PassesBothOrNot old units (Ok passed) new = (barred_both old ≡ None) × PassesBoth old units passed.left new × (passed.due ≡ due_both new)
 PassesBothOrNot old units (Err refusal) new = (barred_both old ≡ Some refusal) × (new ≡ old)
 
--- Units pass that bring nothing, with what is due then, or none passes and nothing changes.
+-- Units pass that bring nothing, fewer than are due, with what is due then, or none passes and nothing changes.
 abbrev pub SkipsOrNot : Served → ℕ → Option ℕ → Served → Type 0
 SkipsOrNot old units None new = new ≡ old
-SkipsOrNot old units (Some due) new = (barred_both old ≡ None) × PassesBoth old units 0 new × (due ≡ due_both new) × (waiting_both new ≡ 0)
+SkipsOrNot old units (Some due) new =
+    (barred_both old ≡ None) × PassesBoth old units 0 new × (due ≡ due_both new) × (waiting_both new ≡ 0) × (units < due_both old) × (barred_both new ≡ None)
+
+-- Units pass that bring nothing, all except the remaining ones: fewer than are due. Some remain beside services only if the next one brings
+-- something, or if these have something to see or to tell first.
+pub record Quiet (old : Served) (units left : ℕ) (new : Served) : Type 0 where
+  pub few : left ≤ units
+  pub ticks : TicksBoth (units - left) old new
+  pub none : left < units → units - left < due_both old
+  pub free : barred_both new ≡ None
+  pub stops : left ≢ 0 → (state : Serving) → old.services ≡ Some state → (limit : ℕ) → 1 < limit → Calm limit old.port.device.live.values state
+      → due_both old ≡ suc (units - left)
+
+-- The same, or no unit passed.
+abbrev pub QuietOrNot : Served → ℕ → Result ℕ Refusal → Served → Type 0
+QuietOrNot old units (Ok left) new = (barred_both old ≡ None) × Quiet old units left new
+QuietOrNot old units (Err refusal) new = (barred_both old ≡ Some refusal) × (new ≡ old)
 
 -- One unit passes, after which at most frames of the device remain, with what is due then; or none passes and nothing changes.
 abbrev pub PassesOneOrNot : Served → Option ℕ → Served → Type 0

@@ -6,7 +6,7 @@ ghost use Rattle.device_abi.specs.declared.port.stage.Stage.TheVariants.{Booted,
 ghost use Rattle.device_frames.specs.declared.event.Event.TheVariants.{Alarm, Diagnosis, Frame as Framed, Input, Ready, Status};
 ghost use Rattle.station_port.specs.Pace.{AreCalm};
 ghost use Rattle.station_port.specs.State.{IsFetched, barred_both, conflicts_of, due_both, frames_of, linked_both, lost_both, or_own as kind_or_own, waiting_both};
-ghost use Rattle.station_port.specs.Steps.{AnswersBoth, HearsBoth, KnowsBothOrNot, PassesBothOrNot, PassesOneOrNot, PreparesOrNot, Settles, SkipsOrNot};
+ghost use Rattle.station_port.specs.Steps.{AnswersBoth, HearsBoth, KnowsBothOrNot, PassesBothOrNot, PassesOneOrNot, PreparesOrNot, QuietOrNot, Settles, SkipsOrNot};
 ghost use Rattle.station_port.specs.Steps.{StartsBothOrNot, StepsOrNot, TellsBoth, TicksBoth};
 
 use crate::beside::{
@@ -35,8 +35,6 @@ pub struct ServedPort {
     /// Whether services begin when the device starts.
     serves: bool,
     services: Option<DeviceServices>,
-    /// Fewer units than this many surely bring nothing, and no work remains; 0 if that is not known.
-    due: u32,
     /// Fewer units than this many surely bring nothing to the services, and they have nothing to see or to tell before; 0 if that is
     /// not known.
     rest: u32,
@@ -53,7 +51,7 @@ pub struct ServedPort {
 impl Model for ServedPort {
     ghost use Rattle.std.specs.Prelude.{◌-◌, drop};
     ghost use Rattle.frame_codec.specs.Outbox.{boxed};
-    ghost use Rattle.station_port.specs.Pace.{IsKnown, IsPaced, caught_up};
+    ghost use Rattle.station_port.specs.Pace.{IsPaced, caught_up};
     ghost use Rattle.station_port.specs.State.{Served};
 
     ghost Value = { Served };
@@ -65,8 +63,7 @@ impl Model for ServedPort {
       frames = drop all.frames_past (boxed all.outbox);
     } };
 
-    ghost invariant = { λ all. IsPaced all.rest all.limit all.port.device.live.values all.services (drop all.frames_past (boxed all.outbox))
-        × IsKnown all.due all.rest all.port (drop all.frames_past (boxed all.outbox)) };
+    ghost invariant = { λ all. IsPaced all.rest all.limit all.port.device.live.values all.services (drop all.frames_past (boxed all.outbox)) };
 }
 
 impl ServedPort {
@@ -92,7 +89,6 @@ impl ServedPort {
             port: Port::new(identity, real, options),
             serves,
             services: None,
-            due: 0,
             rest: 0,
             limit: 0,
             outbox: Outbox::new(),
@@ -128,7 +124,6 @@ impl ServedPort {
             return Err(refusal);
         }
         catch_up(&mut self.services, self.limit - self.rest);
-        self.due = 0;
         self.rest = 0;
         self.limit = 0;
         if let Some(services) = &mut self.services {
@@ -144,7 +139,6 @@ impl ServedPort {
         ensures { KnowsBothOrNot self.old sector octets.now result self.new }
     {
         catch_up(&mut self.services, self.limit - self.rest);
-        self.due = 0; // the port changes
         self.rest = 0;
         self.limit = 0;
         self.port.fill(sector, octets)
@@ -155,7 +149,6 @@ impl ServedPort {
         ensures { StartsBothOrNot self.old result self.new }
     {
         catch_up(&mut self.services, self.limit - self.rest);
-        self.due = 0; // the port changes
         self.rest = 0;
         self.limit = 0;
         match self.port.boot() {
@@ -177,15 +170,44 @@ impl ServedPort {
     pub fn frame(&mut self, octets: &[u8]) -> Option<Result<Note, Refusal>>
         ensures { HearsBoth self.old (Framed (record { items = take 1519 octets.now })) result self.new }
     {
+        // Most frames are cyclic data: the services have no part in them.
+        if self.take_cyclic(octets) {
+            return None;
+        }
+        self.take_other(octets)
+    }
+
+    // A cyclic frame, if it is known that events are accepted and that the services have no part in it. Returns whether it was accepted;
+    // if not, nothing changes.
+    #[inline(always)]
+    fn take_cyclic(&mut self, octets: &[u8]) -> bool
+        ensures taken { result ≡ true → HearsBoth self.old (Framed (record { items = take 1519 octets.now })) None self.new }
+        ensures left { result ≡ false → self.new ≡ self.old }
+    {
+        if self.rest == 0 {
+            return false;
+        }
+        if !self.port.is_quiet(0) {
+            return false;
+        }
+        quiet_units_are_ticks();
+        conflicts_are_noticed();
+        only_conflicts_are_counted();
+        self.port.take_cyclic(octets)
+    }
+
+    // Any frame.
+    #[inline(never)]
+    fn take_other(&mut self, octets: &[u8]) -> Option<Result<Note, Refusal>>
+        ensures { HearsBoth self.old (Framed (record { items = take 1519 octets.now })) result self.new }
+    {
         if self.rest == 0 {
             return Some(self.hear(octets));
         }
-        self.due = 0; // the frame may change it
         quiet_units_are_ticks();
         conflicts_are_noticed();
         only_conflicts_are_counted();
         match self.port.frame(octets) {
-            // Most frames are cyclic data: the services have no part in them.
             Ok(Note::Done) if !self.port.has_work() => None,
             Ok(note) => {
                 let said = follow(
@@ -220,7 +242,6 @@ impl ServedPort {
         requires { barred_both self.old ≡ None }
         ensures { StepsOrNot self.old (Framed (record { items = take 1519 octets.now })) result self.new }
     {
-        self.due = 0; // the frame may change it
         conflicts_are_noticed();
         match self.port.frame(octets) {
             Ok(note) => {
@@ -242,13 +263,30 @@ impl ServedPort {
         }
     }
 
-    /// Sets the input of a submodule.
+    /// Sets the input of a submodule. Returns `None` if it was accepted in silence, as most are: the note is `Done`, and no work remains.
+    #[inline(always)]
+    pub fn input(&mut self, slot: u16, subslot: u16, octets: &[u8]) -> Option<Result<Note, Refusal>>
+        ensures { HearsBoth self.old (Input slot subslot (record { items = take 1519 octets.now })) result self.new }
+    {
+        if self.rest == 0 {
+            return Some(self.get_input(slot, subslot, octets));
+        }
+        if !self.port.is_quiet(0) {
+            return Some(self.get_input(slot, subslot, octets));
+        }
+        quiet_units_are_ticks();
+        match self.port.take_input(slot, subslot, octets) {
+            Note::Done => None,
+            note => Some(Ok(note)),
+        }
+    }
+
+    // The same of any input.
     #[inline(never)]
-    pub fn input(&mut self, slot: u16, subslot: u16, octets: &[u8]) -> Result<Note, Refusal>
+    fn get_input(&mut self, slot: u16, subslot: u16, octets: &[u8]) -> Result<Note, Refusal>
         ensures { AnswersBoth self.old (Input slot subslot (record { items = take 1519 octets.now })) result self.new }
     {
         self.prepare()?;
-        self.due = 0; // the event may change it
         let outcome = self.port.input(slot, subslot, octets);
         self.settle(outcome)
     }
@@ -259,7 +297,6 @@ impl ServedPort {
         ensures { AnswersBoth self.old (Alarm slot subslot (record { items = take 1519 octets.now })) result self.new }
     {
         self.prepare()?;
-        self.due = 0; // the event may change it
         let outcome = self.port.alarm(slot, subslot, octets);
         self.settle(outcome)
     }
@@ -270,7 +307,6 @@ impl ServedPort {
         ensures { AnswersBoth self.old (Status slot subslot is_good) result self.new }
     {
         self.prepare()?;
-        self.due = 0; // the event may change it
         let outcome = self.port.status(slot, subslot, is_good);
         self.settle(outcome)
     }
@@ -288,7 +324,6 @@ impl ServedPort {
         ensures { AnswersBoth self.old (Diagnosis slot subslot channel error appears) result self.new }
     {
         self.prepare()?;
-        self.due = 0; // the event may change it
         let outcome = self.port.diagnosis(slot, subslot, channel, error, appears);
         self.settle(outcome)
     }
@@ -299,16 +334,16 @@ impl ServedPort {
         ensures { AnswersBoth self.old Ready result self.new }
     {
         self.prepare()?;
-        self.due = 0; // the event may change it
         let outcome = self.port.ready();
         self.settle(outcome)
     }
 
     /// Whether so many units of time surely bring nothing, and no work remains.
+    #[inline(always)]
     pub fn is_quiet(&self, units: u32) -> bool
         ensures { result ≡ true → barred_both self.now ≡ None }
     {
-        units < self.due
+        units < self.rest && self.port.is_quiet(units)
     }
 
     /// Lets units of time pass if they surely bring nothing, as most do, and returns what is due then. No work remains then. `None`
@@ -317,15 +352,61 @@ impl ServedPort {
     pub fn skip(&mut self, units: u32) -> Option<u32>
         ensures { SkipsOrNot self.old units result self.new }
     {
-        if units >= self.due {
+        if units >= self.rest {
+            return None;
+        }
+        if !self.port.is_quiet(units) {
             return None;
         }
         quiet_units_are_ticks();
         let due = self.port.skip(units);
         // The services are not told of them yet.
         self.rest -= units;
-        self.due = due.min(self.rest);
         Some(soonest(due, self.rest, &self.services))
+    }
+
+    /// Lets units of time pass before a frame, as far as they bring nothing. Returns how many remain: some only if the next one brings
+    /// something, or if the services have something to see or to tell first.
+    #[inline(always)]
+    pub fn pass_quiet(&mut self, units: u32) -> Result<u32, Refusal>
+        ensures { QuietOrNot self.old units result self.new }
+    {
+        if units >= self.rest {
+            return self.pass_some(units);
+        }
+        if !self.port.is_quiet(units) {
+            return self.pass_some(units);
+        }
+        quiet_units_are_ticks();
+        self.port.pass_quietly(units);
+        // The services are not told of them yet.
+        self.rest -= units;
+        Ok(0)
+    }
+
+    // The same if it is not known how many bring nothing.
+    #[inline(never)]
+    fn pass_some(&mut self, units: u32) -> Result<u32, Refusal>
+        ensures { QuietOrNot self.old units result self.new }
+    {
+        if let Some(refusal) = self.barred() {
+            return Err(refusal);
+        }
+        catch_up(&mut self.services, self.limit - self.rest);
+        let rest = rest_of(&self.port, &self.services);
+        self.rest = rest;
+        self.limit = rest;
+        if rest <= 1 {
+            return Ok(units);
+        }
+        quiet_units_are_ticks();
+        let due = self.port.device().due();
+        let first = due.min(rest);
+        let quiet = units.min(first - 1);
+        self.port.pass_quietly(quiet);
+        // The services are not told of them yet.
+        self.rest = rest - quiet;
+        Ok(units - quiet)
     }
 
     /// Lets one unit of time pass if no work remains and the services have no part in it, and returns what is due then. Only frames
@@ -347,11 +428,6 @@ impl ServedPort {
         let due = self.port.unit();
         // The services are not told of it yet.
         self.rest -= 1;
-        self.due = if self.port.has_frames() {
-            0
-        } else {
-            due.min(self.rest)
-        };
         Some(soonest(due, self.rest, &self.services))
     }
 
@@ -367,7 +443,6 @@ impl ServedPort {
         }
         catch_up(&mut self.services, self.limit - self.rest);
         let rest = rest_of(&self.port, &self.services);
-        self.due = 0;
         self.rest = rest;
         self.limit = rest;
         if rest <= 1 {
@@ -377,11 +452,6 @@ impl ServedPort {
         let due = self.port.unit();
         // The services are not told of it yet.
         self.rest = rest - 1;
-        self.due = if self.port.has_frames() {
-            0
-        } else {
-            due.min(rest - 1)
-        };
         Some(soonest(due, rest - 1, &self.services))
     }
 
@@ -397,11 +467,6 @@ impl ServedPort {
         quiet_units_are_ticks();
         let passed = self.port.tick(units)?;
         self.rest -= units - passed.left;
-        self.due = if self.port.has_frames() {
-            0
-        } else {
-            passed.due.min(self.rest)
-        };
         Ok(Passed {
             left: passed.left,
             due: soonest(passed.due, self.rest, &self.services),
@@ -414,7 +479,6 @@ impl ServedPort {
         ensures { MatchResult result (λ _. (closed self.old.port.stage ≡ None)
             × (self.new ≡ lost_both self.old)) (λ refusal. (closed self.old.port.stage ≡ Some refusal) × (self.new ≡ self.old)) }
     {
-        self.due = 0;
         match self.port.lose() {
             Ok(()) => {
                 self.frames_past = self.outbox.len();
@@ -449,7 +513,22 @@ impl ServedPort {
 
     /// The kind of the next piece of work, as of a port: 1 for a program call, 2 for an erase, 3 for a frame, 0 if no work
     /// remains.
+    #[inline(always)]
     pub fn waiting(&self) -> u32
+        ensures { result ≡ waiting_both self.now }
+    {
+        if self.port.has_calls() {
+            return self.waiting_call();
+        }
+        if self.port.has_frames() {
+            return 3;
+        }
+        self.waiting_own()
+    }
+
+    // The same if a flash call may remain. It has a function of its own: most events make none.
+    #[inline(never)]
+    fn waiting_call(&self) -> u32
         ensures { result ≡ waiting_both self.now }
     {
         or_own(self.port.waiting(), self.waiting_own())
@@ -535,7 +614,6 @@ impl ServedPort {
         ensures same { self.new ≡ self.old }
         ensures due { result ≡ due_both self.old }
     {
-        let is_free = self.barred().is_none();
         let has_own = self.has_own_frames();
         catch_up(&mut self.services, self.limit - self.rest);
         let due = due_of(&self.port, &self.services);
@@ -546,7 +624,6 @@ impl ServedPort {
         };
         self.rest = rest;
         self.limit = rest;
-        self.due = if is_free { due.min(rest) } else { 0 };
         due
     }
 
@@ -625,7 +702,6 @@ impl ServedPort {
         ensures free { barred_both self.new ≡ None }
     {
         catch_up(&mut self.services, self.limit - self.rest);
-        self.due = 0;
         self.rest = 0;
         self.limit = 0;
         tell_neighbour(&mut self.port, &mut self.services);
@@ -680,7 +756,6 @@ impl ServedPort {
         ensures quiet { self.new.port.calls ≡ [] }
     {
         catch_up(&mut self.services, self.limit - self.rest);
-        self.due = 0;
         self.rest = 0;
         self.limit = 0;
         self.frames_past = 0;

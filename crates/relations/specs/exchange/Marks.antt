@@ -44,9 +44,6 @@ abbrev pub iops_of : Option Mark → ℕ
 iops_of None = 0
 iops_of (Some mark) = iops_by mark
 
-abbrev pub is_awaited : Mark → Bool
-is_awaited mark = mark.is_awaited
-
 abbrev pub is_awaited_in : Option Mark → Bool
 is_awaited_in None = false
 is_awaited_in (Some mark) = mark.is_awaited

@@ -3,8 +3,9 @@ ghost use Rattle.std.specs.Prelude.{◌≡◌, ◌≤◌, IfSome, None, [], fals
 ghost use Rattle.relations.specs.exchange.Opening.{begun_of, opened};
 ghost use Rattle.relations.specs.exchange.Process.{given_at, output_at, rated_at, remarked};
 
-use crate::exchange::marks::{Marks, Starting};
+use crate::exchange::marks::{Mark, Starting, awaits, begin, change, iops_in};
 use crate::exchange::opening::{Differing, route_of};
+use arrayvec::ArrayVec;
 use connects::ConnectRequest;
 use cyclic_data::{Consumer, CyclicExchange, Provider, Route};
 use diagnosis::{DiagnosisAlarms, Terms};
@@ -20,7 +21,7 @@ pub struct DataExchange {
     pub(crate) alarms: DeviceAlarms,
     pub(crate) low: DiagnosisAlarms,
     /// Why the IOPS of inputs are not good, for each place.
-    pub(crate) marks: Marks,
+    pub(crate) marks: ArrayVec<Mark, 128>,
     /// Whether the last frame of inputs said that a submodule of the relation has a diagnosis.
     pub(crate) problem_sent: bool,
 }
@@ -31,7 +32,7 @@ impl Model for DataExchange {
 
     ghost Value = { Flow };
 
-    ghost view = { λ exchange. record { cyclic = exchange.cyclic; alarms = exchange.alarms; low = exchange.low; marks = exchange.marks; problem_sent = exchange.problem_sent } };
+    ghost view = { λ exchange. record { cyclic = exchange.cyclic; alarms = exchange.alarms; low = exchange.low; marks = exchange.marks.items; problem_sent = exchange.problem_sent } };
 }
 
 impl DataExchange {
@@ -47,7 +48,7 @@ impl DataExchange {
             cyclic: CyclicExchange::new(),
             alarms: DeviceAlarms::new(1, 1),
             low: DiagnosisAlarms::new(),
-            marks: Marks::new(),
+            marks: ArrayVec::new(),
             problem_sent: false,
         }
     }
@@ -60,7 +61,7 @@ impl DataExchange {
             (record { begin_bad = starting.entry.begin_bad; statuses = starting.entry.statuses.now; units = starting.entry.units; diagnoses = starting.entry.diagnoses.now }) }
     {
         let (input, output, alarm) = (request.input(), request.output(), request.alarm());
-        self.marks.begin(input.layout.places(), rows, starting);
+        begin(&mut self.marks, input.layout.places(), rows, starting);
         self.cyclic.open(
             route_of(request),
             Provider::start(input.send_clock_factor, input.reduction_ratio),
@@ -116,7 +117,7 @@ impl DataExchange {
         if !self.cyclic.give(slot, subslot, value) {
             return false;
         }
-        if self.marks.await_input(slot, subslot) {
+        if awaits(self.marks.as_slice(), slot, subslot) {
             self.remark(slot, subslot, None);
         }
         true
@@ -133,8 +134,8 @@ impl DataExchange {
     fn remark(&mut self, slot: u16, subslot: u16, status: Option<bool>)
         ensures { self.new ≡ remarked self.old slot subslot status }
     {
-        self.marks.change(slot, subslot, status);
-        let iops = self.marks.iops(slot, subslot);
+        change(&mut self.marks, slot, subslot, status);
+        let iops = iops_in(self.marks.as_slice(), slot, subslot);
         self.cyclic.state(slot, subslot, iops);
     }
 

@@ -6,7 +6,7 @@ use Rattle.station_port.specs.State.{Served, advanced_both}
 use Rattle.device_abi.specs.port.State.{waiting}
 use Rattle.station_port.proofs.Fetching.{after_own, own_frames, own_waits}
 use Rattle.station_port.proofs.Left.{next_of, some_left}
-use Rattle.station_port.proofs.Pacing.{some_known, some_paced}
+use Rattle.station_port.proofs.Pacing.{some_paced}
 use Rattle.station_port.proofs.Ticking.{at}
 use Rattle.station_port.proofs.served.ServedPort.fetch_own.Goals as goal
 
@@ -15,20 +15,16 @@ invariant_of-self-2 c =
     let all = c.self.inside in
     let frames : List (List ℕ) = map (λ frame. frame.items) all.outbox.items in
     let long = length-map all.outbox.items (λ frame. frame.items) in
-    let some = some_left all.frames_past frames (omega (arith, c.if-past-len.false, c.len.ensures.value, long)) in (
-      some_paced all.rest all.limit all.port.device.live.values all.services (drop all.frames_past frames) (drop (all.frames_past + 1) frames) some c.self.invariant.0,
-      some_known all.due all.rest all.port (drop all.frames_past frames) (drop (all.frames_past + 1) frames) some c.self.invariant.1,
-    )
+    let some = some_left all.frames_past frames (omega (arith, c.if-past-len.false, c.len.ensures.value, long)) in
+    some_paced all.rest all.limit all.port.device.live.values all.services (drop all.frames_past frames) (drop (all.frames_past + 1) frames) some c.self.invariant
 
 pub invariant_of-self-3 : goal.invariant_of-self-3
 invariant_of-self-3 c =
     let all = c.self.inside in
     let frames : List (List ℕ) = map (λ frame. frame.items) all.outbox.items in
     let long = length-map all.outbox.items (λ frame. frame.items) in
-    let some = some_left all.frames_past frames (omega (arith, c.if-past-len.false, c.len.ensures.value, long)) in (
-      some_paced all.rest all.limit all.port.device.live.values all.services (drop all.frames_past frames) (drop (all.frames_past + 1) frames) some c.self.invariant.0,
-      some_known all.due all.rest all.port (drop all.frames_past frames) (drop (all.frames_past + 1) frames) some c.self.invariant.1,
-    )
+    let some = some_left all.frames_past frames (omega (arith, c.if-past-len.false, c.len.ensures.value, long)) in
+    some_paced all.rest all.limit all.port.device.live.values all.services (drop all.frames_past frames) (drop (all.frames_past + 1) frames) some c.self.invariant
 
 pub returns : goal.returns
 returns c =

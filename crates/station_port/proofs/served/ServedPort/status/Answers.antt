@@ -1,5 +1,5 @@
 -- The port handles the event, and the services see the settings, which it keeps.
-use Rattle.std.proofs.Common.{◌≡◌, ◌-◌, ◌∙◌, None, ap, drop, refl, subst, sym, inl}
+use Rattle.std.proofs.Common.{◌≡◌, ◌-◌, ◌∙◌, None, ap, drop, subst, sym}
 use Rattle.frame_codec.specs.Outbox.{boxed}
 use Rattle.device_frames.specs.declared.event.Event.TheVariants.{Status}
 use Rattle.station_port.specs.Pace.{caught_up}
@@ -13,7 +13,7 @@ use Rattle.station_port.proofs.served.ServedPort.status.Goals as goal
 pub invariant_of-self : goal.invariant_of-self
 invariant_of-self c =
     let all = c.self.inside in
-    (app_paced all.rest all.limit all.port c.status-outcome.new.self all.services (drop all.frames_past (boxed all.outbox)) (Status c.args.slot c.args.subslot c.args.is_good) c.status-outcome.result tt c.status-outcome.ensures c.self.invariant.0, inl refl)
+    app_paced all.rest all.limit all.port c.status-outcome.new.self all.services (drop all.frames_past (boxed all.outbox)) (Status c.args.slot c.args.subslot c.args.is_good) c.status-outcome.result tt c.status-outcome.ensures c.self.invariant
 
 pub settle-requires : goal.settle-requires
 settle-requires c = ap (λ (s : Served). s.frames) c.self.view_is ∙ (free_parts c.prepare.new.self c.in_ok-prepare.ensures.2).2

@@ -8,4 +8,4 @@ pub returns-else-self-eq0-clause-tells : goal.returns-else-self-eq0-clause-tells
 returns-else-self-eq0-clause-tells c =
     let all = c.self.inside in
     let laws = c.quiet_units_are_ticks.ensures in
-    rw (← c.self.view_is) (tells_calm laws.count laws.news all.rest all.limit all.serves all.port all.services (drop all.frames_past (boxed all.outbox)) (omega (arith, c.if-self-eq0.false)) c.self.invariant.0)
+    rw (← c.self.view_is) (tells_calm laws.count laws.news all.rest all.limit all.serves all.port all.services (drop all.frames_past (boxed all.outbox)) (omega (arith, c.if-self-eq0.false)) c.self.invariant)

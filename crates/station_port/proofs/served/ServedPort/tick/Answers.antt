@@ -1,12 +1,11 @@
 -- Units pass in which the services have no part: they are counted for these.
-use Rattle.std.proofs.Common.{◌-◌, ◌∙◌, ◌<◌, drop, sym, arith, inl, inr}
+use Rattle.std.proofs.Common.{◌-◌, ◌∙◌, ◌<◌, drop, arith}
 use Rattle.frame_codec.specs.Outbox.{boxed}
 use Rattle.station_port.specs.Pace.{caught_up}
 use Rattle.station_port.proofs.Barring.{barred_alone}
-use Rattle.station_port.proofs.Composed.{due_calm, passed_paced, passes_left, ticks_free}
+use Rattle.station_port.proofs.Composed.{due_calm, passed_paced, passes_left}
 use Rattle.station_port.proofs.Pacing.{resting_of}
 use Rattle.station_port.proofs.Ticking.{at}
-use Rattle.station_port.proofs.served.ServedPort.tick.Goals.{then-has_frames, else-has_frames}
 use Rattle.station_port.proofs.served.ServedPort.tick.Goals as goal
 
 pub invariant_of-self-2 : goal.invariant_of-self-2
@@ -17,18 +16,7 @@ invariant_of-self-2 c =
     let count = c.args.units - c.in_ok-passed.passed.left in
     let passes = c.in_ok-passed.ensures.passes.1 in
     let few : count < all.rest = omega (arith, c.if-units-self.false) in
-    let fetched = (resting_of all.rest all.limit all.port.device.live.values all.services frames (omega (arith, few)) c.self.invariant.0).fetched in (
-      passed_paced count all.rest all.limit all.port new all.services frames few c.self.invariant.0 passes.ticks,
-      elim c.if-has_frames.branch [
-        | then-has_frames w ↦ inl w.self-is
-        | else-has_frames w ↦ inr (record {
-          free = ticks_free count all.port new c.in_ok-passed.ensures.passes.0 passes.ticks c.in_ok-passed.ensures.quiet (sym c.has_frames.ensures ∙ w.if-has_frames.false);
-          fetched = fetched;
-          device = omega (arith, w.self-is, w.min-self-inside.ensures, c.in_ok-passed.ensures.passes.2);
-          inside = omega (arith, w.self-is, w.min-self-inside.ensures);
-        })
-      ],
-    )
+    passed_paced count all.rest all.limit all.port new all.services frames few c.self.invariant passes.ticks
 
 pub returns : goal.returns
 returns c =
@@ -40,11 +28,11 @@ returns c =
     let passes = c.in_ok-passed.ensures.passes.1 in
     let few : c.args.units < all.rest = omega (arith, c.if-units-self.false) in
     let some : c.args.units - left < all.rest = omega (arith, few) in
-    let fetched = (resting_of all.rest all.limit all.port.device.live.values all.services frames (omega (arith, few)) c.self.invariant.0).fetched in
-    let paced = passed_paced (c.args.units - left) all.rest all.limit all.port new all.services frames some c.self.invariant.0 passes.ticks in
+    let fetched = (resting_of all.rest all.limit all.port.device.live.values all.services frames (omega (arith, few)) c.self.invariant).fetched in
+    let paced = passed_paced (c.args.units - left) all.rest all.limit all.port new all.services frames some c.self.invariant passes.ticks in
     rw (← c.self.view_is) (
       barred_alone (at all.serves all.port (caught_up (all.limit - all.rest) all.services) frames) fetched ∙ c.in_ok-passed.ensures.passes.0,
-      passes_left laws.ticks laws.count laws.news c.args.units left all.rest all.limit all.serves all.port new all.services frames few c.self.invariant.0 passes,
+      passes_left laws.ticks laws.count laws.news c.args.units left all.rest all.limit all.serves all.port new all.services frames few c.self.invariant passes,
       due_calm laws.count laws.down laws.news c.soonest.result c.in_ok-passed.passed.due (all.rest - (c.args.units - left)) all.limit new all.services frames c.soonest.ensures c.in_ok-passed.ensures.passes.2
           (omega (arith, some)) paced,
     )

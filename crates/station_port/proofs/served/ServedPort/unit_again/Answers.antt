@@ -1,15 +1,14 @@
 -- A unit passes if it is found that the services have no part in it.
-use Rattle.std.proofs.Common.{◌≡◌, ◌-◌, ◌∙◌, ◌<◌, Option, drop, refl, sym, ap, subst, arith, inl, inr}
+use Rattle.std.proofs.Common.{◌≡◌, ◌-◌, ◌∙◌, ◌<◌, Option, drop, sym, ap, subst, arith}
 use Rattle.frame_codec.specs.Outbox.{boxed}
 use Rattle.station.specs.Serving.{Serving}
 use Rattle.station_port.specs.Pace.{AreCalm, caught_up}
 use Rattle.station_port.specs.State.{Served}
 use Rattle.station_port.specs.Steps.{PassesBoth}
-use Rattle.station_port.proofs.Barring.{free_by, free_parts}
+use Rattle.station_port.proofs.Barring.{free_parts}
 use Rattle.station_port.proofs.Composed.{due_calm, passed_paced, passes_calm}
 use Rattle.station_port.proofs.Pacing.{caught_zero, none_of, renewed}
 use Rattle.station_port.proofs.Ticking.{at}
-use Rattle.station_port.proofs.served.ServedPort.unit_again.Goals.{then-has_frames, else-has_frames}
 use Rattle.station_port.proofs.served.ServedPort.unit_again.Goals as goal
 
 pub invariant_of-self : goal.invariant_of-self
@@ -20,7 +19,7 @@ invariant_of-self c =
     let free = sym c.barred.ensures ∙ none_of c.barred.result (sym c.is_some.ensures ∙ c.if-is_some.false) in
     let fetched = ap (λ (s : Served). s.frames) c.self.view_is ∙ (free_parts c.args.self.now free).2 in
     let paced = renewed rest all.port.device.live.values c.catch_up.new.services frames fetched c.rest_of-rest.ensures.calm in
-    (paced, inl refl)
+    paced
 
 pub returns-then-rest-le1-clause-done : goal.returns-then-rest-le1-clause-done
 returns-then-rest-le1-clause-done c = λ free limit some calm.
@@ -37,18 +36,8 @@ invariant_of-self-2 c =
     let fetched = ap (λ (s : Served). s.frames) c.self.view_is ∙ (free_parts c.args.self.now free).2 in
     let paced = renewed rest all.port.device.live.values c.catch_up.new.services frames fetched c.rest_of-rest.ensures.calm in
     let new = c.unit-due.new.self in
-    let few : 1 < rest = omega (arith, c.if-rest-le1.false) in (
-      passed_paced 1 rest rest all.port new c.catch_up.new.services frames few paced c.unit-due.ensures.ticks,
-      elim c.if-has_frames.branch [
-        | then-has_frames w ↦ inl w.self-is
-        | else-has_frames w ↦ inr (record {
-          free = free_by new c.unit-due.ensures.ticks.4.stage c.unit-due.ensures.quiet (sym c.has_frames.ensures ∙ w.if-has_frames.false);
-          fetched = fetched;
-          device = omega (arith, w.self-is, w.min-self-inside.ensures, c.unit-due.ensures.due);
-          inside = omega (arith, w.self-is, w.min-self-inside.ensures);
-        })
-      ],
-    )
+    let few : 1 < rest = omega (arith, c.if-rest-le1.false) in
+    passed_paced 1 rest rest all.port new c.catch_up.new.services frames few paced c.unit-due.ensures.ticks
 
 pub returns-clause-passes : goal.returns-clause-passes
 returns-clause-passes c =

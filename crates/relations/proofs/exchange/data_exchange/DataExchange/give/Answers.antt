@@ -6,10 +6,10 @@ use Rattle.relations.specs.exchange.Marks.{awaits}
 use Rattle.relations.proofs.ExchangeAwaited.{given_first}
 use Rattle.relations.proofs.exchange.data_exchange.DataExchange.give.Goals as goal
 
-pub returns-then-await_input-clause-state : goal.returns-then-await_input-clause-state
-returns-then-await_input-clause-state c =
-    let flow : Flow = record { cyclic = c.self.inside.cyclic; alarms = c.self.inside.alarms; low = c.self.inside.low; marks = c.self.inside.marks; problem_sent = c.self.inside.problem_sent } in
+pub returns-then-awaits-clause-state : goal.returns-then-awaits-clause-state
+returns-then-awaits-clause-state c =
+    let flow : Flow = record { cyclic = c.self.inside.cyclic; alarms = c.self.inside.alarms; low = c.self.inside.low; marks = c.self.inside.marks.items; problem_sent = c.self.inside.problem_sent } in
     let given = cyclic_given flow.cyclic c.args.slot c.args.subslot c.args.value.now in
     let is : is_some given ≡ true = sym c.give.ensures.done ∙ c.if-not-give.false in
-    let first : awaits c.args.slot c.args.subslot flow.marks ≡ true = sym c.await_input.ensures ∙ c.if-await_input.true in
+    let first : awaits c.args.slot c.args.subslot flow.marks ≡ true = rw c.as_slice.ensures.value at (sym c.awaits.ensures ∙ c.if-awaits.true) in
     rw (← c.self.view_is, c.remark.ensures, c.give.ensures.state) (given_first flow c.args.slot c.args.subslot given is first)

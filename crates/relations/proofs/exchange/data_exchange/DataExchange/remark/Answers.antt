@@ -3,4 +3,4 @@ use Rattle.std.proofs.Common.{refl}
 use Rattle.relations.proofs.exchange.data_exchange.DataExchange.remark.Goals as goal
 
 pub returns : goal.returns
-returns c = rw (← c.self.view_is, c.state.ensures, c.iops-iops.ensures, c.change.ensures) refl
+returns c = rw (← c.self.view_is, c.state.ensures, c.iops_in-iops.ensures, c.as_slice.ensures.value, c.change.ensures) refl
