@@ -9,3 +9,7 @@ pub mod Sending
 pub mod Floods
 pub mod Controllers
 pub mod Besides
+pub mod Clocks
+pub mod Resets
+pub mod Endings
+pub mod Timed

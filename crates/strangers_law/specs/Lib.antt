@@ -2,3 +2,4 @@ pub mod Strange
 pub mod Device
 pub mod Controller
 pub mod Station
+pub mod Silence

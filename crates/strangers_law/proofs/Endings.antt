@@ -1,0 +1,352 @@
+-- Any events at which the controller of a relation is silent.
+use Rattle.std.proofs.Common.{◌≡◌, ◌⊎◌, ◌≤◌, ◌+◌, ◌||◌, inl, inr, ℕ, suc, Bool, true, false, List, [], ◌∷◌, map}
+use Rattle.std.proofs.Common.{Option, Some, None, refl, sym, ap, subst, ◌∙◌, if◌then◌else◌, arith}
+use Rattle.std.specs.List.{AllByRecursion, list_any}
+use Rattle.flash_model.specs.declared.flash.Flash.{Ghosts as Flash}
+use Rattle.settings_journal.specs.settings_store.Machine.{Outcome}
+use Rattle.connects.specs.requests.Request.{Request}
+use Rattle.cyclic_data.specs.declared.exchange.route.Route.{Route}
+use Rattle.pn_alarms.specs.declared.abort.Abort.TheVariants.{Other}
+use Rattle.relations.specs.Farewells.{farewell_of}
+use Rattle.relations.specs.RelationState.{RelationState}
+use Rattle.device_frames.specs.declared.event.Event.{Event}
+use Rattle.device_frames.specs.declared.event.Event.TheVariants.{Frame, Call as Joined, Tick, Input, Alarm, Status, Diagnosis, Neighbour, Ready}
+use Rattle.device_frames.specs.Heard.{Ticks, heard_of}
+use Rattle.device_frames.specs.Sent.{Ends, bytes_of}
+use Rattle.device_frames.specs.declared.note.Note.{Note}
+use Rattle.device_core.specs.State.{Live, State, Station}
+use Rattle.device_core.specs.Steps.{Steps}
+use Rattle.device_core.specs.Machine.{Stepped, first_step, handled_step, heard_step, later_steps, run_of, step_of}
+use Rattle.octets_law.specs.Octets.{untagged}
+use Rattle.strangers_law.specs.Device.{IsStrange, is_unit, marks_of, units_in}
+use Rattle.strangers_law.specs.Silence.{AreSilent, AreTimed, AreUnplugged, CountsDown, EndsAmong, EndsWith, IsSilent}
+use Rattle.strangers_law.specs.Silence.{IsStill, IsTimed, SaysEnd, is_event_of, is_received, limit_in, remaining, silence_limit}
+use Rattle.strangers_law.specs.Strange.{Marks, belongs}
+use Rattle.strangers_law.proofs.Clocks.{Goes, IsBeside, IsOn, IsOver, Lasts, beside_goes, clock_remaining, clock_timed}
+use Rattle.strangers_law.proofs.Clocks.{free_beside, free_tick, remains_most, remains_one, tick_goes}
+use Rattle.strangers_law.proofs.Floods.{strange_left}
+use Rattle.strangers_law.proofs.Resets.{reset_beside}
+
+-- ---- one event
+
+-- A relation after an event that does not end it.
+record IsKept (link : RelationState) (units : ℕ) (now : Option RelationState) : Type 0 where
+  next : RelationState
+  is : now ≡ Some next
+  request : next.request ≡ link.request
+  route : next.flow.cyclic.route ≡ link.flow.cyclic.route
+  timed : IsTimed next
+  left : remaining next + units ≡ remaining link
+
+abbrev Moves : Station → RelationState → Event → Stepped → Type 0
+Moves station link event step = EndsWith station link event step ⊎ IsKept link (units_in (event ∷ [])) step.live.rest.link
+
+abbrev marks_by : Request → Route → Marks
+marks_by request route = record {
+  uuid = request.ar.uuid;
+  provider = route.partner.octets;
+  frame_id = route.taken_id;
+  notifier = request.ar.initiator.octets;
+  their_endpoint = request.alarm.reference;
+  own_endpoint = 1;
+}
+
+kept_marks : (link next : RelationState) → next.request ≡ link.request → next.flow.cyclic.route ≡ link.flow.cyclic.route → marks_of next ≡ marks_of link
+kept_marks link next request route = ap (λ r. marks_by r next.flow.cyclic.route) request ∙ ap (marks_by link.request) route
+
+units_none : (event : Event) → is_unit event ≡ false → units_in (event ∷ []) ≡ 0
+units_none event none = ap (λ (b : Bool). let n : ℕ = if b then suc (units_in []) else units_in [] in n) none
+
+none_more : (n : ℕ) → n + 0 ≡ n
+none_more n = omega arith
+
+-- The frames of a step are those of its messages.
+frames_are : (outcomes : List Outcome) (station : Station) (live : Live) (event : Event)
+    → (step_of outcomes station live event).frames ≡ map (bytes_of station.identity) (step_of outcomes station live event).sent
+unfolding heard_step handled_step
+frames_are outcomes station live event = refl
+
+module _ (outcomes : List Outcome) (station : Station) (live : Live) (link : RelationState) (exists : live.rest.link ≡ Some link) (timed : IsTimed link) where
+  abbrev step : Event → Stepped
+  step event = step_of outcomes station live event
+
+  -- The relation is the same.
+  same_moves : (event : Event) → is_unit event ≡ false → (step event).live.rest.link ≡ Some link → Moves station link event (step event)
+  same_moves event none is = inr (record {
+    next = link;
+    is = is;
+    request = refl;
+    route = refl;
+    timed = timed;
+    left = ap (λ n. remaining link + n) (units_none event none) ∙ none_more (remaining link);
+  })
+
+  no_tick : (event : Event) (others : List (List ℕ)) → is_unit event ≡ false → event ≡ Tick → others ≡ []
+  no_tick event others none is = absurd (let e = ap is_unit is in cc)
+
+  beside_moves : (event : Event) → is_unit event ≡ false → IsBeside (heard_of station.identity event) → Moves station link event (step event)
+  beside_moves event none beside = by_after (step event).live.rest.link refl
+    where
+      goes : Goes link (step event).live.rest.link (step event).sent
+      goes = beside_goes outcomes station live link (heard_of station.identity event) exists beside
+
+      by_after : (after : Option RelationState) → (step event).live.rest.link ≡ after → Moves station link event (step event)
+      by_after None is =
+          let said = goes.says is in
+          inl (record {
+            none = is;
+            reason = Other;
+            cause = inl refl;
+            others = map (bytes_of station.identity) said.others;
+            says = frames_are outcomes station live event ∙ ap (map (bytes_of station.identity)) said.says;
+            alone = no_tick event _ none;
+          })
+      by_after (Some next) is =
+          let same = subst (Lasts link) is goes.lasts in
+          inr (record {
+            next = next;
+            is = is;
+            request = ap (λ c. c.request) same;
+            route = ap (λ c. c.times.route) same;
+            timed = clock_timed link next same timed;
+            left = ap (λ n. remaining next + n) (units_none event none) ∙ none_more (remaining next) ∙ clock_remaining link next same;
+          })
+
+  unit_moves : Moves station link Tick (step Tick)
+  unfolding heard_of
+  unit_moves = by_unit (tick_goes outcomes station live link exists timed)
+    where
+      by_unit : IsOver link (heard_step outcomes station live Ticks).live.rest.link (heard_step outcomes station live Ticks).sent
+          ⊎ IsOn link (heard_step outcomes station live Ticks).live.rest.link → Moves station link Tick (step Tick)
+      by_unit (inl over) = inl (record {
+        none = over.none;
+        reason = over.reason;
+        cause = over.cause;
+        others = [];
+        says = frames_are outcomes station live Tick ∙ ap (map (bytes_of station.identity)) over.says;
+        alone = λ _. refl;
+      })
+      by_unit (inr on) = inr (record {
+        next = on.next;
+        is = on.is;
+        request = on.passed.request;
+        route = on.passed.route;
+        timed = on.passed.timed;
+        left = on.passed.left;
+      })
+
+  strange_moves : (event : Event) → is_unit event ≡ false → IsStrange station link event → Moves station link event (step event)
+  strange_moves event none strange = same_moves event none ((strange_left outcomes station live link event exists strange).link ∙ exists)
+
+  moves : (event : Event) → IsSilent station link event → Moves station link event (step event)
+  unfolding heard_of
+  moves (Frame bytes) silent = by_own (belongs station.identity.mac.octets (marks_of link) (untagged bytes.items)) refl
+    where
+      by_own : (own : Bool) → belongs station.identity.mac.octets (marks_of link) (untagged bytes.items) ≡ own
+          → Moves station link (Frame bytes) (step (Frame bytes))
+      by_own false is = strange_moves (Frame bytes) refl is
+      by_own true is = beside_moves (Frame bytes) refl (reset_beside station.identity station.identity.mac.octets (marks_of link) bytes.items silent is)
+  moves (Joined caller address octets) silent = strange_moves (Joined caller address octets) refl silent
+  moves Tick silent = unit_moves
+  moves (Input slot subslot value) silent = beside_moves (Input slot subslot value) refl tt
+  moves (Alarm slot subslot octets) silent = beside_moves (Alarm slot subslot octets) refl tt
+  moves (Status slot subslot is_good) silent = beside_moves (Status slot subslot is_good) refl tt
+  moves (Diagnosis slot subslot channel error appears) silent = beside_moves (Diagnosis slot subslot channel error appears) refl tt
+  moves (Neighbour neighbour) silent = beside_moves (Neighbour neighbour) refl tt
+  moves Ready silent = beside_moves Ready refl tt
+
+-- ---- any events
+
+units_more : (event : Event) (events : List Event) → units_in (event ∷ events) ≡ units_in events + units_in (event ∷ [])
+units_more event events = by_unit (is_unit event)
+  where
+    by_unit : (b : Bool)
+        → (let n : ℕ = if b then suc (units_in events) else units_in events in n) ≡ units_in events +
+        (let n : ℕ = if b then suc (units_in []) else units_in [] in n)
+    by_unit true = omega arith
+    by_unit false = omega arith
+
+added : (a b c k n m : ℕ) → a + k ≡ b → b + n ≡ c → m ≡ k + n → a + m ≡ c
+added a b c k n m one other sum = omega arith
+
+module _ (station : Station) where
+  abbrev AreSilentBy : Marks → List Event → Type 0
+  AreSilentBy marks events = AllByRecursion (λ event. is_event_of station.identity.mac.octets marks event ≡ false) events
+
+  abbrev Counted : List (List Outcome) → Live → RelationState → List Event → Type 0
+  Counted outcomes live link events =
+      EndsAmong outcomes station live link events ⊎ IsStill link (units_in events) (run_of outcomes station live events).live.rest.link
+
+  -- One event, and then the others.
+  then_counted : (outcomes : List (List Outcome)) (event : Event) (events : List Event) (live : Live) (link : RelationState)
+      → AreSilentBy (marks_of link) events → Moves station link event (step_of (first_step outcomes) station live event)
+      → ((next : RelationState) → (step_of (first_step outcomes) station live event).live.rest.link ≡ Some next → IsTimed next
+      → AreSilentBy (marks_of next) events → Counted (later_steps outcomes) (step_of (first_step outcomes) station live event).live next events)
+      → Counted outcomes live link (event ∷ events)
+  then_counted outcomes event events live link silent (inl ends) others = inl (inl ends)
+  then_counted outcomes event events live link silent (inr kept) others =
+      by_rest (others kept.next kept.is kept.timed
+      (subst (λ m. AreSilentBy m events) (sym (kept_marks link kept.next kept.request kept.route)) silent))
+    where
+      by_rest : Counted (later_steps outcomes) (step_of (first_step outcomes) station live event).live kept.next events
+          → Counted outcomes live link (event ∷ events)
+      by_rest (inl among) = inl (inr (record { next = kept.next; is = kept.is; request = kept.request; left = kept.left }, among))
+      by_rest (inr still) = inr (record {
+        next = still.next;
+        is = still.is;
+        request = still.request ∙ kept.request;
+        left = added _ _ _ _ _ _ still.left kept.left (units_more event events);
+      })
+
+  counted : (outcomes : List (List Outcome)) (events : List Event) (live : Live) (link : RelationState) → live.rest.link ≡ Some link → IsTimed link
+      → AreSilentBy (marks_of link) events → Counted outcomes live link events
+  counted outcomes [] live link exists timed silent = inr (record { next = link; is = exists; request = refl; left = none_more (remaining link) })
+  counted outcomes (event ∷ events) live link exists timed silent =
+      then_counted outcomes event events live link silent.1 (moves (first_step outcomes) station live link exists timed event silent.0)
+      (λ next is later others. counted (later_steps outcomes) events (step_of (first_step outcomes) station live event).live next is later others)
+
+pub counts_down : CountsDown
+counts_down station live link outcomes events exists timed silent = counted station outcomes events live link exists timed silent
+
+-- ---- the limit
+
+too_many : (left units all limit : ℕ) → 1 ≤ left → left + units ≡ all → all ≤ limit → limit ≤ units → ⊥
+too_many left units all limit one sum most many = omega arith
+
+pub ends_in_time : (station : Station) (live : Live) (link : RelationState) (outcomes : List (List Outcome)) (events : List Event)
+    → live.rest.link ≡ Some link → IsTimed link → AreSilent station link events → silence_limit link ≤ units_in events
+    → EndsAmong outcomes station live link events
+ends_in_time station live link outcomes events exists timed silent many = by_count (counts_down station live link outcomes events exists timed silent)
+  where
+    by_count : EndsAmong outcomes station live link events ⊎ IsStill link (units_in events) (run_of outcomes station live events).live.rest.link
+        → EndsAmong outcomes station live link events
+    by_count (inl among) = among
+    by_count (inr still) = absurd (too_many _ _ _ _ (remains_one still.next) still.left (remains_most link) many)
+
+either_none : (a b : Bool) → a || b ≡ false → (a ≡ false) × (b ≡ false)
+either_none false false is = (refl, refl)
+either_none true b is = absurd cc
+either_none false true is = absurd cc
+
+none_of : (f : Event → Bool) (events : List Event) → list_any f events ≡ false → AllByRecursion (λ event. f event ≡ false) events
+none_of f [] is = tt
+none_of f (event ∷ events) is = let parts = either_none (f event) (list_any f events) is in (parts.0, none_of f events parts.1)
+
+pub ends_or_hears : (station : Station) (live : Live) (link : RelationState) (outcomes : List (List Outcome)) (events : List Event)
+    → live.rest.link ≡ Some link → IsTimed link → silence_limit link ≤ units_in events
+    → EndsAmong outcomes station live link events ⊎ (list_any (is_event_of station.identity.mac.octets (marks_of link)) events ≡ true)
+ends_or_hears station live link outcomes events exists timed many = by_any (list_any (is_event_of station.identity.mac.octets (marks_of link)) events) refl
+  where
+    by_any : (b : Bool) → list_any (is_event_of station.identity.mac.octets (marks_of link)) events ≡ b
+        → EndsAmong outcomes station live link events ⊎ (list_any (is_event_of station.identity.mac.octets (marks_of link)) events ≡ true)
+    by_any true is = inr is
+    by_any false is = inl (ends_in_time station live link outcomes events exists timed
+        (none_of (is_event_of station.identity.mac.octets (marks_of link)) events is) many)
+
+-- ---- the cable is pulled
+
+-- What is heard of an event that is not received.
+quiet_heard : (station : Station) (event : Event) → is_received event ≡ false
+    → (heard_of station.identity event ≡ Ticks) ⊎ IsBeside (heard_of station.identity event)
+unfolding heard_of
+quiet_heard station (Frame bytes) none = absurd cc
+quiet_heard station (Joined caller address octets) none = absurd cc
+quiet_heard station Tick none = inl refl
+quiet_heard station (Input slot subslot value) none = inr tt
+quiet_heard station (Alarm slot subslot octets) none = inr tt
+quiet_heard station (Status slot subslot is_good) none = inr tt
+quiet_heard station (Diagnosis slot subslot channel error appears) none = inr tt
+quiet_heard station (Neighbour neighbour) none = inr tt
+quiet_heard station Ready none = inr tt
+
+free_stays : (outcomes : List Outcome) (station : Station) (live : Live) (event : Event) → is_received event ≡ false → live.rest.link ≡ None
+    → (step_of outcomes station live event).live.rest.link ≡ None
+free_stays outcomes station live event none is = by_heard (quiet_heard station event none)
+  where
+    by_heard : (heard_of station.identity event ≡ Ticks) ⊎ IsBeside (heard_of station.identity event)
+        → (heard_step outcomes station live (heard_of station.identity event)).live.rest.link ≡ None
+    by_heard (inl ticks) = subst (λ h. (heard_step outcomes station live h).live.rest.link ≡ None) (sym ticks) (free_tick outcomes station live is)
+    by_heard (inr beside) = free_beside outcomes station live (heard_of station.identity event) beside is
+
+free_run : (station : Station) (outcomes : List (List Outcome)) (events : List Event) (live : Live) → AreUnplugged events → live.rest.link ≡ None
+    → (run_of outcomes station live events).live.rest.link ≡ None
+free_run station outcomes [] live none is = is
+free_run station outcomes (event ∷ events) live none is =
+    free_run station (later_steps outcomes) events (step_of (first_step outcomes) station live event).live none.1
+    (free_stays (first_step outcomes) station live event none.0 is)
+
+ended_run : (station : Station) (outcomes : List (List Outcome)) (events : List Event) (live : Live) (link : RelationState) → AreUnplugged events
+    → EndsAmong outcomes station live link events
+    → (run_of outcomes station live events).live.rest.link ≡ None
+ended_run station outcomes [] live link none among = absurd among
+ended_run station outcomes (event ∷ events) live link none (inl ends) =
+    free_run station (later_steps outcomes) events (step_of (first_step outcomes) station live event).live none.1 ends.none
+ended_run station outcomes (event ∷ events) live link none (inr (still, among)) =
+    ended_run station (later_steps outcomes) events (step_of (first_step outcomes) station live event).live still.next none.1 among
+
+unplugged_silent : (station : Station) (link : RelationState) (events : List Event) → AreUnplugged events → AreSilent station link events
+unplugged_silent station link [] none = tt
+unplugged_silent station link (event ∷ events) none = (by_event event none.0, unplugged_silent station link events none.1)
+  where
+    by_event : (one : Event) → is_received one ≡ false → IsSilent station link one
+    by_event (Frame bytes) none = absurd cc
+    by_event (Joined caller address octets) none = absurd cc
+    by_event Tick none = refl
+    by_event (Input slot subslot value) none = refl
+    by_event (Alarm slot subslot octets) none = refl
+    by_event (Status slot subslot is_good) none = refl
+    by_event (Diagnosis slot subslot channel error appears) none = refl
+    by_event (Neighbour neighbour) none = refl
+    by_event Ready none = refl
+
+pub ends_unplugged : (station : Station) (live : Live) (outcomes : List (List Outcome)) (events : List Event)
+    → AreTimed live.rest.link → AreUnplugged events → limit_in live.rest.link ≤ units_in events → (run_of outcomes station live events).live.rest.link ≡ None
+ends_unplugged station live outcomes events timed none many = by_link live.rest.link refl
+  where
+    by_link : (now : Option RelationState) → live.rest.link ≡ now → (run_of outcomes station live events).live.rest.link ≡ None
+    by_link None is = free_run station outcomes events live none is
+    by_link (Some link) is =
+        ended_run station outcomes events live link none (ends_in_time station live link outcomes events is (subst AreTimed is timed)
+        (unplugged_silent station link events none)
+        (subst (λ l. limit_in l ≤ units_in events) is many))
+
+-- ---- a unit at a device
+
+none_some : {A : Type 0} {P : Type 0} (x : A) (now : Option A) → now ≡ None → now ≡ Some x → P
+none_some x now none some = absurd (never (sym none ∙ some))
+  where
+    never : None ≡ Some x → ⊥
+    never e = cc
+
+never_none : (left all : ℕ) → 1 ≤ left → left + 1 ≡ all → all ≡ 1 → ⊥
+never_none left all one sum last = omega arith
+
+-- What a unit makes of a relation.
+pub record UnitPasses (station : Station) (link : RelationState) (now : Option RelationState) (sent : List (List ℕ)) : Type 0 where
+  pub left : (now ≡ None) ⊎ IsStill link 1 now
+  pub ends : remaining link ≡ 1 → now ≡ None
+  pub says : now ≡ None → SaysEnd station link sent
+
+of_unit : (station : Station) (link : RelationState) (step : Stepped) → Moves station link Tick step → UnitPasses station link step.live.rest.link step.frames
+of_unit station link step (inl over) = record {
+  left = inl over.none;
+  ends = λ _. over.none;
+  says = λ _. record {
+    reason = over.reason;
+    cause = over.cause;
+    says = over.says ∙ ap (λ (l : List (List ℕ)). bytes_of station.identity (Ends (farewell_of over.reason link)) ∷ l) (over.alone refl);
+  };
+}
+of_unit station link step (inr kept) = record {
+  left = inr (record { next = kept.next; is = kept.is; request = kept.request; left = kept.left });
+  ends = λ last. absurd (never_none _ _ (remains_one kept.next) kept.left last);
+  says = λ none. none_some kept.next step.live.rest.link none kept.is;
+}
+
+pub unit_passes : {F : Type 0} {S : ℕ} (as_flash : Flash F S) (old new : State F) (link : RelationState) (sent : List (List ℕ)) (said : Note)
+    → Steps as_flash old (heard_of old.station.identity Tick) sent said new → old.live.rest.link ≡ Some link → IsTimed link
+    → UnitPasses old.station link new.live.rest.link sent
+unit_passes as_flash old new link sent said steps exists timed =
+    subst (λ (l : Live). UnitPasses old.station link l.rest.link sent) (sym steps.live)
+    (subst (λ (l : List (List ℕ)). UnitPasses old.station link (step_of steps.outcomes old.station old.live Tick).live.rest.link l) (sym steps.frames)
+    (of_unit old.station link (step_of steps.outcomes old.station old.live Tick) (unit_moves steps.outcomes old.station old.live link exists timed)))

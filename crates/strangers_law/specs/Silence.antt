@@ -1,0 +1,137 @@
+-- A device whose controller is silent: how long its relation lasts.
+use Rattle.std.specs.Prelude.{◌≡◌, ◌⊎◌, ◌+◌, ◌-◌, ◌*◌, ◌==◌, ◌&&◌, ◌||◌, ℕ, Bool, true, false, max}
+use Rattle.std.specs.Prelude.{if◌then◌else◌, List, [], ◌∷◌, take, drop, Option, Some, None}
+use Rattle.std.specs.List.{AllByRecursion}
+use Rattle.connects.specs.requests.Request.{Request}
+use Rattle.pn_alarms.specs.declared.abort.Abort.{Abort}
+use Rattle.pn_alarms.specs.declared.abort.Abort.TheVariants.{Other}
+use Rattle.relations.specs.Farewells.{farewell_of}
+use Rattle.relations.specs.RelationState.{RelationState}
+use Rattle.relations.specs.Timers.{is_timed, limit_of}
+use Rattle.relations.specs.exchange.Opening.{interval_of}
+use Rattle.device_frames.specs.declared.event.Event.{Event}
+use Rattle.device_frames.specs.declared.event.Event.TheVariants.{Frame, Call as Joined, Tick}
+use Rattle.device_frames.specs.Sent.{Ends, bytes_of}
+use Rattle.settings_journal.specs.settings_store.Machine.{Outcome}
+use Rattle.device_core.specs.State.{Live, Station}
+use Rattle.device_core.specs.Machine.{Stepped, first_step, later_steps, run_of, step_of}
+use Rattle.octets_law.specs.Octets.{number, untagged}
+use Rattle.strangers_law.specs.Device.{marks_of, units_in}
+use Rattle.strangers_law.specs.Strange.{Marks, is_alarm_of, is_cyclic_of, is_said_of, same}
+
+-- ---- silence
+
+-- A frame to this station that is a cyclic frame, an alarm frame, a call or a response of the relation, by its octets.
+abbrev pub is_frame_of : List ℕ → Marks → List ℕ → Bool
+is_frame_of station marks frame =
+    same (take 6 frame) station
+    && (is_cyclic_of marks frame || is_alarm_of marks frame || (number 12 2 frame == 0x0800 && is_said_of marks (drop 42 frame)))
+
+-- The same of an event at a device: a frame, or a call that was joined of fragments. A unit of time, and what its application says,
+-- comes from no controller.
+abbrev pub is_event_of : List ℕ → Marks → Event → Bool
+is_event_of station marks (Frame frame) = is_frame_of station marks (untagged frame.items)
+is_event_of station marks (Joined caller address call) = is_said_of marks call.items
+is_event_of station marks event = false
+
+-- The controller of a relation is silent: none of these events is one of the relation. Frames of anybody else may be among them, resets
+-- of the settings too, and anything that the application of the device says.
+abbrev pub IsSilent : Station → RelationState → Event → Type 0
+IsSilent station link event = is_event_of station.identity.mac.octets (marks_of link) event ≡ false
+
+abbrev pub AreSilent : Station → RelationState → List Event → Type 0
+AreSilent station link events = AllByRecursion (IsSilent station link) events
+
+-- The cable is pulled: none of these events is a frame or a joined call.
+abbrev pub is_received : Event → Bool
+is_received (Frame frame) = true
+is_received (Joined caller address call) = true
+is_received event = false
+
+abbrev pub AreUnplugged : List Event → Type 0
+AreUnplugged events = AllByRecursion (λ event. is_received event ≡ false) events
+
+-- ---- how long a relation lasts
+
+-- The data hold time of a request, in units: DataHoldFactor times SendClockFactor times ReductionRatio of the outputs.
+abbrev pub hold_of : Request → ℕ
+hold_of request = request.output.data_hold_factor * interval_of request.output
+
+-- The units after which a relation is over if its controller is silent. Until data is exchanged, that is
+-- CMInitiatorActivityTimeoutFactor times 100 ms, of 3,200 units each; while data is exchanged, the data hold time. One unit at least.
+abbrev pub silence_limit : RelationState → ℕ
+silence_limit link = max 1 (if is_timed link.phase then limit_of link else hold_of link.request)
+
+-- The units that remain, with the one that ends it: those that have passed since the controller was heard are taken off.
+abbrev pub left_of : ℕ → ℕ → ℕ
+left_of limit passed = max 1 (limit - passed)
+
+abbrev pub remaining : RelationState → ℕ
+remaining link = if is_timed link.phase then left_of (limit_of link) link.inactive else left_of (hold_of link.request) link.flow.cyclic.hearing.held
+
+-- The clocks of a relation are those of its request: while data is exchanged its data hold time runs, and it is that of the request.
+pub record IsTimed (link : RelationState) : Type 0 where
+  pub runs : is_timed link.phase ≡ false → link.flow.cyclic.begun ≡ true
+  pub limit : link.flow.cyclic.hearing.limit ≡ hold_of link.request
+
+-- The same, if there is a relation.
+abbrev pub AreTimed : Option RelationState → Type 0
+AreTimed None = Unit {0}
+AreTimed (Some link) = IsTimed link
+
+-- The limit of a relation, if there is one.
+abbrev pub limit_in : Option RelationState → ℕ
+limit_in None = 0
+limit_in (Some link) = silence_limit link
+
+-- ---- the end of a relation
+
+-- A relation is now this one: of the same request, and this many units nearer to its end.
+pub record IsStill (link : RelationState) (units : ℕ) (now : Option RelationState) : Type 0 where
+  pub next : RelationState
+  pub is : now ≡ Some next
+  pub request : next.request ≡ link.request
+  pub left : remaining next + units ≡ remaining link
+
+-- The reason of an end: the unit is the last one that remains to a silent controller; or another reason, that the data of an alarm was not
+-- acknowledged or the settings were reset.
+abbrev pub IsDue : RelationState → Abort → Type 0
+IsDue link reason = (reason ≡ Other) ⊎ (remaining link ≡ 1)
+
+-- With an event the relation ends: there is none after it, and the first frame that is sent with it is the ERR of the relation. With a unit
+-- of time no other frame is sent.
+pub record EndsWith (station : Station) (link : RelationState) (event : Event) (step : Stepped) : Type 0 where
+  pub none : step.live.rest.link ≡ None
+  pub reason : Abort
+  pub cause : IsDue link reason
+  pub others : List (List ℕ)
+  pub says : step.frames ≡ bytes_of station.identity (Ends (farewell_of reason link)) ∷ others
+  pub alone : event ≡ Tick → others ≡ []
+
+-- All that is sent is the ERR of the relation, with a reason that is due.
+pub record SaysEnd (station : Station) (link : RelationState) (sent : List (List ℕ)) : Type 0 where
+  pub reason : Abort
+  pub cause : IsDue link reason
+  pub says : sent ≡ bytes_of station.identity (Ends (farewell_of reason link)) ∷ []
+
+-- One of these events ends the relation. With each event before it the relation is still the same, one unit nearer to its end if the event
+-- is a unit.
+abbrev pub EndsAmong : List (List Outcome) → Station → Live → RelationState → List Event → Type 0
+EndsAmong outcomes station live link [] = ⊥
+EndsAmong outcomes station live link (event ∷ events) =
+    let step = step_of (first_step outcomes) station live event in
+    EndsWith station link event step
+    ⊎ ((still : IsStill link (units_in (event ∷ [])) step.live.rest.link) × EndsAmong (later_steps outcomes) station step.live still.next events)
+
+-- For any events at which the controller is silent: one of them ends the relation, or it is still the same after all of them, as many
+-- units nearer to its end as there are units among them.
+abbrev pub CountsDown : Type 0
+CountsDown = (station : Station) (live : Live) (link : RelationState) (outcomes : List (List Outcome)) (events : List Event)
+    → live.rest.link ≡ Some link → IsTimed link → AreSilent station link events
+    → EndsAmong outcomes station live link events ⊎ IsStill link (units_in events) (run_of outcomes station live events).live.rest.link
+
+-- The clocks are those of the request in each state of a device: a device that starts has no relation, and each event keeps this, of
+-- anybody.
+abbrev pub StayTimed : Type 0
+StayTimed = (station : Station) (live : Live) (outcomes : List (List Outcome)) (events : List Event)
+    → AreTimed live.rest.link → AreTimed (run_of outcomes station live events).live.rest.link
