@@ -26,8 +26,7 @@ fn host(
         for frame in outbox.device().iter().chain(outbox.services()) {
             send(frame.as_slice());
         }
-        let valve = station.device().output(2, 1);
-        act(note, valve);
+        act(note, station.device().output(2, 1));
     }
 }
 

@@ -11,6 +11,7 @@ mod otherwise;
 mod patience;
 mod played;
 mod requests;
+mod rounds;
 mod shown;
 mod witness;
 

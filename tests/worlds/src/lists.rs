@@ -25,7 +25,7 @@ pub(crate) fn listing() -> String {
 }
 
 /// The same with this many records, of index 1 and 2 in turn; the last octet of each is its number.
-fn counting(count: usize) -> String {
+pub(crate) fn counting(count: usize) -> String {
     let records: Vec<String> = (0..count)
         .map(|number| {
             let index = number % 2 + 1;

@@ -1,0 +1,166 @@
+-- What a device does with the requests of a controller while it has an earlier relation.
+use Rattle.std.proofs.Common.{◌≡◌, ℕ, zero, suc, Bool, true, false, List, [], ◌∷◌, Option, Some, None, Result, Ok, Err, refl, sym, ap, subst, ◌∙◌}
+use Rattle.std.specs.Prelude.{if◌then◌else◌, take}
+use Rattle.std.specs.Cmp.Lexicographic.{same_text}
+use Rattle.pn_values.specs.declared.identity.Identity.{Identity}
+use Rattle.frame_codec.specs.declared.udp.Caller.{Caller}
+use Rattle.wire.specs.Codec.{◌>>=◌}
+use Rattle.rpc_core.specs.Call.{Asked as Call}
+use Rattle.rpc_core.specs.Cache.{Kept, Reported as Looked, is_of, kept_more, kept_of, without}
+use Rattle.rpc_core.specs.Response.{is_done}
+use Rattle.connects.specs.declared.requests.parts.Ar.{Ar}
+use Rattle.connects.specs.requests.Request.{Request}
+use Rattle.connects.specs.requests.Pieces.{Piece, pieces_of}
+use Rattle.connects.specs.requests.Handled.{admitted, any_short, ar_in, conflict, request_behind, request_in, request_of, request_within}
+use Rattle.records.specs.declared.status.call_fault.CallFault.{CallFault}
+use Rattle.records.specs.declared.status.call_fault.CallFault.TheVariants as fault
+use Rattle.records.specs.declared.status.operation.Operation.{Operation}
+use Rattle.records.specs.declared.status.operation.Operation.TheVariants.{Connect}
+use Rattle.records.specs.status.Status.{status_of}
+use Rattle.settings_journal.specs.settings_store.Machine.{Outcome}
+use Rattle.relations.specs.Connect.{connect_answer, connect_blocks, connect_within, differing_of, making}
+use Rattle.relations.specs.Phases.{updated}
+use Rattle.relations.specs.RelationState.{RelationState}
+use Rattle.device_frames.specs.Heard.{Calls, Reported, heard_of}
+use Rattle.device_frames.specs.Sendable.{AreSendable}
+use Rattle.device_frames.specs.Sent.{Sent, bytes_of}
+use Rattle.device_core.specs.State.{Live, Rest, Station}
+use Rattle.device_core.specs.Log.{connect_log, with_log}
+use Rattle.device_core.specs.Handled.{Moves, answer_from, handled_call, handled_looked, handled_said}
+use Rattle.device_core.specs.Handled.{is_running, kept_behind, kept_for, partner_of, starting_of}
+use Rattle.device_core.specs.Machine.{Stepped}
+use Rattle.controller_messages.specs.declared.setup.Setup.{Setup}
+use Rattle.controller_messages.specs.declared.request.Request.TheVariants as asks
+use Rattle.controller_messages.specs.Requests.{blocks_of, call_for}
+use Rattle.end_laws.specs.hearing.Hearing.{comes}
+use Rattle.both_ends.specs.startup.answer.Answer.{caller_of}
+use Rattle.rounds_law.specs.Path.{IsAddressed, device_step, request_to}
+use Rattle.rounds_law.specs.Again.{HasEarlier, IsRefusal}
+use Rattle.rounds_law.proofs.DeviceCallingSteps.{first_new, step_is}
+use Rattle.rounds_law.proofs.DeviceCallingConnected.{is_connect}
+
+-- ---- no relation is established while one exists
+
+refused_ar : (standing : List ℕ) (pieces : List Piece) (read : Result Ar CallFault)
+    → (refusal : CallFault) × ((read >>= λ ar. admitted (Some standing) ar >>= λ _. request_behind ar pieces) ≡ Err refusal)
+refused_ar standing pieces (Ok ar) = (conflict standing ar.uuid, refl)
+refused_ar standing pieces (Err refusal) = (refusal, refl)
+
+refused_pieces : (standing : List ℕ) (pieces : List Piece) → (refusal : CallFault) × (request_in (Some standing) pieces ≡ Err refusal)
+unfolding request_in
+refused_pieces standing [] = (fault.BlockMissing, refl)
+refused_pieces standing (piece ∷ pieces) = refused_ar standing pieces (ar_in piece)
+
+refused_within : (smallest : ℕ) (standing blocks : List ℕ) → (refusal : CallFault) × (request_within smallest (Some standing) blocks ≡ Err refusal)
+unfolding request_within request_of any_short
+refused_within smallest standing blocks = refused_pieces standing (pieces_of blocks)
+
+-- what the device does then
+abbrev pub IsRefused : Setup → Identity → Live → Stepped → Type 0
+IsRefused setup identity live step =
+    (octets : List ℕ) × (step.frames ≡ octets ∷ []) × IsRefusal setup identity octets
+    × (step.live.values ≡ live.values) × (step.live.rest.link ≡ live.rest.link)
+    × ((activity : List ℕ) → (activity ≡ setup.activity → ⊥) → kept_of activity live.rest.calls ≡ None → kept_of activity step.live.rest.calls ≡ None)
+
+-- ---- the answers to other calls
+
+other_kept : (activity : List ℕ) (kept : Kept) (others : List Kept) → (activity ≡ kept.activity → ⊥)
+    → kept_of activity (kept ∷ others) ≡ kept_of activity others
+other_kept activity kept others other = by_test (is_of activity kept) refl
+  where
+    by_test : (is : Bool) → is_of activity kept ≡ is → (if is then Some kept else kept_of activity others) ≡ kept_of activity others
+    by_test true e = absurd (other (sym (same_text kept.activity activity (sym e))))
+    by_test false e = refl
+
+none_first : (is : Bool) (kept : Kept) (rest : Option Kept) → (if is then Some kept else rest) ≡ None → (is ≡ false) × (rest ≡ None)
+none_first true kept rest e = absurd cc
+none_first false kept rest e = (refl, e)
+
+none_taken : (activity : List ℕ) (n : ℕ) (calls : List Kept) → kept_of activity calls ≡ None → kept_of activity (take n calls) ≡ None
+none_taken activity zero calls none = refl
+none_taken activity (suc n) [] none = refl
+none_taken activity (suc n) (kept ∷ calls) none =
+    let both = none_first (is_of activity kept) kept (kept_of activity calls) none in
+    ap (λ (is : Bool). if is then Some kept else kept_of activity (take n calls)) both.0 ∙ none_taken activity n calls both.1
+
+none_without : (activity other : List ℕ) (calls : List Kept) → kept_of activity calls ≡ None → kept_of activity (without other calls) ≡ None
+none_without activity other [] none = refl
+none_without activity other (kept ∷ calls) none =
+    let both = none_first (is_of activity kept) kept (kept_of activity calls) none in
+    either (is_of other kept) both (none_without activity other calls both.1)
+  where
+    either : (is : Bool) → (is_of activity kept ≡ false) × (kept_of activity calls ≡ None) → kept_of activity (without other calls) ≡ None
+        → kept_of activity (if is then calls else kept ∷ without other calls) ≡ None
+    either true both later = both.1
+    either false both later = ap (λ (b : Bool). if b then Some kept else kept_of activity (without other calls)) both.0 ∙ later
+
+none_more : (activity : List ℕ) (kept : Kept) (calls : List Kept) → (activity ≡ kept.activity → ⊥)
+    → kept_of activity calls ≡ None → kept_of activity (kept_more 4 kept calls) ≡ None
+none_more activity kept calls other none =
+    other_kept activity kept (take 3 (without kept.activity calls)) other
+    ∙ none_taken activity 3 (without kept.activity calls) (none_without activity kept.activity calls none)
+
+module _ (setup : Setup) (identity : Identity) (station : Station) (live : Live) where
+  abbrev caller : Caller
+  caller = caller_of setup.plan.controller
+
+  abbrev call : Call
+  call = call_for setup asks.Connect
+
+  abbrev blocks : List ℕ
+  blocks = blocks_of setup asks.Connect
+
+  abbrev outcome : Option RelationState → Result (List ℕ) CallFault
+  outcome link = connect_answer station.identity station.real station.options caller.mac link blocks
+
+  abbrev sent : Sent
+  sent = answer_from live.values.running.suite.address caller call Connect (outcome live.rest.link)
+
+  abbrev link_by : Result Request CallFault → Option RelationState
+  link_by asked = updated (making station.real (partner_of caller) station.options (starting_of station live) asked) live.rest.link
+
+  abbrev rest : Rest
+  rest = kept_behind station.identity (with_log (connect_log blocks (outcome live.rest.link)) live.rest) call sent
+      (link_by (connect_within station.options caller.mac live.rest.link blocks))
+
+  is_handled : kept_of setup.activity live.rest.calls ≡ None → handled_said station live caller (Calls call) ≡ Moves rest (sent ∷ [])
+  is_handled free =
+      ap (λ (o : Option Operation). handled_call station live caller call o) is_connect
+      ∙ ap (λ (l : Looked). handled_looked station live caller call blocks Connect l) (first_new setup.activity 0 live.rest.calls free)
+
+  refused_by : (link : RelationState) → live.rest.link ≡ Some link → (refusal : CallFault)
+      × (connect_within station.options caller.mac live.rest.link blocks ≡ Err refusal)
+  refused_by link has =
+      let because = refused_within station.options.smallest_interval link.request.ar.uuid blocks in
+      (because.0, ap (λ (l : Option RelationState). connect_within station.options caller.mac l blocks) has ∙ because.1)
+
+  pub refuses : (outcomes : List Outcome) (left : ℕ) → station.identity ≡ identity → IsAddressed setup live
+      → HasEarlier setup left live → kept_of setup.activity live.rest.calls ≡ None
+      → ((operation : Operation) (refusal : CallFault) → is_done (status_of operation refusal) ≡ false)
+      → heard_of station.identity (comes (request_to setup identity asks.Connect)) ≡ Reported caller setup.plan.station.suite.address (Calls call)
+      → is_running live.values.running setup.plan.station.suite.address ≡ true
+      → AreSendable identity (device_step outcomes station live (request_to setup identity asks.Connect)).sent
+      → IsRefused setup identity live (device_step outcomes station live (request_to setup identity asks.Connect))
+  refuses outcomes left same addressed earlier uncalled negative hears running sendable =
+      let stepped = step_is outcomes station live (request_to setup identity asks.Connect) caller setup.plan.station.suite.address
+      (Calls call) rest (sent ∷ []) hears running
+      (is_handled uncalled) in
+      let because = refused_by earlier.link earlier.has in
+      let message = ap (λ (asked : Result Request CallFault). answer_from live.values.running.suite.address caller call Connect
+      (asked >>= λ request. Ok (connect_blocks station.identity request (differing_of request station.real)))) because.1
+      ∙ ap (λ suite. answer_from suite.address caller call Connect (Err because.0)) addressed.suite in
+      subst (λ (step : Stepped). IsRefused setup identity live step) (sym stepped) (
+        bytes_of station.identity sent,
+        refl,
+        record {
+          status = status_of Connect because.0;
+          negative = negative Connect because.0;
+          fits = (subst (λ (messages : List Sent). AreSendable identity messages)
+              (ap (λ (step : Stepped). step.sent) stepped ∙ ap (λ (s : Sent). s ∷ []) message) sendable).0.1;
+          frame = ap (λ (s : Sent). bytes_of station.identity s) message
+              ∙ ap (λ (i : Identity). bytes_of i (answer_from setup.plan.station.suite.address caller call Connect (Err because.0))) same;
+        },
+        refl,
+        ap link_by because.1,
+        λ activity other none. none_more activity (kept_for station.identity call sent) live.rest.calls other none,
+      )

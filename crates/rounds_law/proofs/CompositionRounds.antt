@@ -1,0 +1,439 @@
+-- The rounds of a start-up, one lemma each.
+use Rattle.std.proofs.Common.{◌≡◌, ◌⊎◌, inl, inr, ◌≤◌, ◌<◌, ◌+◌, ◌*◌, ℕ, zero, suc, Bool, true, false, List}
+use Rattle.std.proofs.Common.{[], ◌∷◌, ◌++◌, map, take, if◌then◌else◌, refl, sym, ap, subst, ◌∙◌, arith}
+use Rattle.std.specs.Prelude.{nat_lt}
+use Rattle.std.specs.List.{AllByRecursion}
+use Rattle.std.proofs.lemmas.Bool.{lt-ltb, ltb-true}
+use Rattle.flash_model.specs.declared.flash.Flash.{Ghosts as Flash}
+use Rattle.pn_values.specs.declared.identity.Identity.{Identity}
+use Rattle.settings_journal.specs.settings_store.State.{Values}
+use Rattle.records.specs.declared.writes.taken.TakenRecord.{TakenRecord}
+use Rattle.relations.specs.declared.phase.Phase.TheVariants.{Awaiting, Started}
+use Rattle.device_frames.specs.Heard.{Ticks}
+use Rattle.device_frames.specs.Sendable.{AreSendable}
+use Rattle.device_core.specs.State.{Live, State, Station}
+use Rattle.plans.specs.declared.parts.Parts.{Parts}
+use Rattle.controller_messages.specs.declared.setup.Setup.{Setup}
+use Rattle.controller_messages.specs.declared.request.Request.{Request}
+use Rattle.controller_messages.specs.declared.request.Request.TheVariants as wants
+use Rattle.controller_messages.specs.Requests.{first_of, write_count, writing_from}
+use Rattle.controller_core.specs.declared.stored.event.Event.TheVariants.{Tick}
+use Rattle.controller_core.specs.declared.stored.state.State.{State as Phases}
+use Rattle.controller_core.specs.declared.stored.state.State.TheVariants.{Addressing, Connecting, Ending, Exchanging, Looking, Writing}
+use Rattle.controller_core.specs.stored.State.{Controlling, is_limited, phase_for}
+use Rattle.controller_core.specs.Machine.{Stepped, first as first_live, opening_of, step_of}
+use Rattle.network_world.specs.World.{is_ended}
+use Rattle.both_ends.specs.startup.View.{taken_for}
+use Rattle.both_ends.specs.startup.answer.Answer.{answer_frame}
+use Rattle.rounds_law.specs.Path.{Asks, AsksNext, Controls, Exchanges, FindsIt, IsAddressed, IsFree, IsIgnored}
+use Rattle.rounds_law.specs.Path.{IsInputs, IsOutputs, IsReport, confirmed_frame, controller_step, device_step}
+use Rattle.rounds_law.specs.Path.{ended_frame, found_frame, readied_frame, request_to, set_frame}
+use Rattle.rounds_law.specs.Rounds.{BothExchange, Net, Round, hears_all}
+use Rattle.rounds_law.specs.Stages.{IsAddressing, IsConnecting, IsLooking, Leads}
+use Rattle.rounds_law.specs.Start.{CanBeAddressed, CanStart, IsOfPlan}
+use Rattle.rounds_law.proofs.CompositionLaws.{Laws}
+use Rattle.rounds_law.proofs.CompositionLists.{arrive_first, arrives_as, hears_one, keep, keep_state, never, went_at}
+use Rattle.rounds_law.proofs.CompositionEnds.{Asked, IsRelated, Passed, addressed_by, asked_after, can_by, free_unit}
+use Rattle.rounds_law.proofs.CompositionEnds.{ignore, named_by, passed, related_outputs, related_unit}
+
+-- ---- small facts
+
+pub two_more : (n : ℕ) → n + 2 ≡ suc (n + 1)
+two_more n = omega arith
+
+-- the opening frame is the Identify
+pub opening_is : (setup : Setup) (identity : Identity) (controller : Controlling) → controller.setup ≡ setup
+    → opening_of controller ≡ request_to setup identity wants.Identify
+unfolding opening_of
+opening_is setup identity controller of_setup = ap (λ (s : Setup). request_to s identity wants.Identify) of_setup
+
+-- a request of the parameters
+chosen_limited : (b : Bool) (number : ℕ) → is_limited (phase_for (if b then wants.Write number else wants.PrmEnd)) ≡ true
+chosen_limited true number = refl
+chosen_limited false number = refl
+
+pub writing_limited : (plan : Parts) (number : ℕ) → is_limited (phase_for (writing_from plan number)) ≡ true
+writing_limited plan number = chosen_limited (nat_lt number (write_count plan)) number
+
+chosen_open : (b : Bool) (number : ℕ) → is_ended (phase_for (if b then wants.Write number else wants.PrmEnd)) ≡ false
+chosen_open true number = refl
+chosen_open false number = refl
+
+pub writing_open : (plan : Parts) (number : ℕ) → is_ended (phase_for (writing_from plan number)) ≡ false
+writing_open plan number = chosen_open (nat_lt number (write_count plan)) number
+
+pub writes : (plan : Parts) (number : ℕ) → number < write_count plan → writing_from plan number ≡ wants.Write number
+writes plan number below = ap (λ (b : Bool). if b then wants.Write number else wants.PrmEnd) (lt-ltb number (write_count plan) below)
+
+pub ends : (plan : Parts) (number : ℕ) → number ≡ write_count plan → writing_from plan number ≡ wants.PrmEnd
+ends plan number last = by_test (nat_lt number (write_count plan)) refl
+  where
+    by_test : (b : Bool) → nat_lt number (write_count plan) ≡ b → (if b then wants.Write number else wants.PrmEnd) ≡ wants.PrmEnd
+    by_test true e = let below = ltb-true number (write_count plan) e in absurd (omega (arith, below, last))
+    by_test false e = refl
+
+first_zero : (plan : Parts) → first_of plan 0 ≡ 0
+first_zero plan = by_kind plan.multiple_write
+  where
+    by_kind : (b : Bool) → (if b then 0 * 10 else 0) ≡ 0
+    by_kind true = refl
+    by_kind false = refl
+
+-- the records of the Writes before this one
+abbrev pub before_write : Setup → ℕ → List TakenRecord
+before_write setup number = map taken_for (take (first_of setup.plan number) setup.plan.records.items)
+
+before_first : (setup : Setup) → [] ≡ before_write setup 0
+before_first setup = sym (ap (λ (n : ℕ). map taken_for (take n setup.plan.records.items)) (first_zero setup.plan))
+
+-- ---- the stages after the Connect
+
+-- A Write is under way, or PrmEnd after the last one.
+pub record IsWriting {F : Type 0} (setup : Setup) (identity : Identity) (number spare : ℕ) (net : Net F) : Type 0 where
+  pub of_device : net.device.station.identity ≡ identity
+  pub of_plan : IsOfPlan setup net.device.station
+  pub is : IsRelated setup Started (before_write setup number) number 1 net.device.live
+  pub asked : Asked setup identity (phase_for (writing_from setup.plan number)) (writing_from setup.plan number) true spare net.controller net.to_device
+  pub inputs : AllByRecursion (IsInputs setup identity) net.to_controller
+
+-- The answer to ApplicationReady is under way.
+pub record IsConfirming {F : Type 0} (setup : Setup) (identity : Identity) (net : Net F) : Type 0 where
+  pub of_device : net.device.station.identity ≡ identity
+  pub of_plan : IsOfPlan setup net.device.station
+  pub taken : List TakenRecord
+  pub last : ℕ
+  pub is : IsRelated setup Awaiting taken last 1 net.device.live
+  pub controls : Controls setup identity.mac 1 net.controller
+  pub outputs : List (List ℕ)
+  pub under_way : net.to_device ≡ confirmed_frame setup identity ∷ outputs
+  pub are : AllByRecursion (IsOutputs setup identity.mac) outputs
+  pub inputs : AllByRecursion (IsInputs setup identity) net.to_controller
+
+module _ {F : Type 0} {S : ℕ} (as_flash : Flash F S) (setup : Setup) (identity : Identity) (laws : Laws setup identity) (can : CanStart setup identity) where
+  of_device_by : (before after : State F) → after.station ≡ before.station → before.station.identity ≡ identity → after.station.identity ≡ identity
+  of_device_by before after same own = ap (λ (s : Station). s.identity) same ∙ own
+
+  of_plan_by : (before after : State F) → after.station ≡ before.station → IsOfPlan setup before.station → IsOfPlan setup after.station
+  of_plan_by before after same plan = subst (λ (s : Station). IsOfPlan setup s) (sym same) plan
+
+  -- ---- the search
+
+  is_looking : Controlling → Type 0
+  is_looking controller = (controller.setup ≡ setup) × (controller.live ≡ first_live setup.plan)
+
+  pub looking : (net next : Net F) → IsLooking setup identity net → Round as_flash net next
+      → IsAddressing setup identity next ⊎ IsConnecting setup identity next
+  looking net next at round =
+      let station = net.device.station in
+      let settings = net.device.live.values.running in
+      let found = laws.device_found [] station net.device.live at.of_device at.named in
+      let all = arrive_first as_flash station (λ (live : Live). live ≡ net.device.live) (λ (octets : List ℕ). ⊥)
+      (never (λ (live : Live). live ≡ net.device.live) station)
+      net.device (request_to setup identity wants.Identify) [] round.answers round.device refl (λ sendable. found.0) tt
+      (arrives_as as_flash net next round (request_to setup identity wants.Identify ∷ [])
+      (at.opened ∙ ap (λ (f : List ℕ). f ∷ []) (opening_is setup identity net.controller at.of_setup))) in
+      let unit = free_unit as_flash setup identity laws round.device station next.to_controller next.device all.0.of_station round.unit
+      (subst (λ (live : Live). IsFree setup live) (sym all.0.is) at.free) in
+      let values : next.device.live.values ≡ net.device.live.values = unit.values ∙ ap (λ (live : Live). live.values) all.0.is in
+      let kept = ignore setup (λ (c : Controlling). (c.setup ≡ setup) × (c.live ≡ first_live setup.plan)) (λ c is. (is.0, ap (λ l. l.stands) is.1))
+      net.controller net.to_controller (found_frame setup identity settings ∷ []) at.ignored (at.of_setup, at.made) in
+      let step = controller_step kept.between (found_frame setup identity settings) in
+      let u = passed as_flash net next round (found_frame setup identity settings ∷ []) step (all.0.sent ∙ found.1)
+      (kept.goes_on ∙ hears_one kept.between (found_frame setup identity settings)) in
+      let vendor = ap (λ (i : Identity). i.vendor_id) (sym at.of_device) ∙ at.of_plan.vendor in
+      let device = ap (λ (i : Identity). i.device_id) (sym at.of_device) ∙ at.of_plan.device in
+      by_found net next at unit.of_station values unit.none unit.free step u
+      (laws.controller_found can.patient vendor device settings kept.between at.named.name at.sized kept.is.0 kept.is.1)
+    where
+      by_found : (net next : Net F) → IsLooking setup identity net → next.device.station ≡ net.device.station → next.device.live.values ≡ net.device.live.values
+          → next.to_controller ≡ [] → IsFree setup next.device.live → (step : Stepped) → Passed step next
+          → FindsIt setup identity net.device.live.values.running (write_count setup.plan + 2) step
+          → IsAddressing setup identity next ⊎ IsConnecting setup identity next
+      by_found net next at same values none free step u (inl found) =
+          let asked = asked_after setup identity laws step next Connecting wants.Connect false (write_count setup.plan + 1) refl u
+          (subst (λ (n : ℕ). AsksNext setup identity Connecting wants.Connect false n step) (two_more (write_count setup.plan)) found.1) in
+          inr (record {
+            spare = write_count setup.plan + 1;
+            asks = asked.asks;
+            under_way = asked.under_way ∙ ap (λ (fs : List (List ℕ)). request_to setup identity wants.Connect ∷ fs) (asked.unsent refl);
+            ignored = subst (λ (fs : List (List ℕ)). AllByRecursion (IsIgnored setup) fs) (sym none) tt;
+            of_device = of_device_by net.device next.device same at.of_device;
+            of_plan = of_plan_by net.device next.device same at.of_plan;
+            addressed = record { suite = ap (λ (v : Values). v.running.suite) values ∙ found.0 };
+            free = free;
+          })
+      by_found net next at same values none free step u (inr found) =
+          let asked = asked_after setup identity laws step next Addressing wants.Address false (write_count setup.plan + 1) refl u
+          (subst (λ (n : ℕ). AsksNext setup identity Addressing wants.Address false n step) (two_more (write_count setup.plan)) found.1) in
+          inl (record {
+            spare = write_count setup.plan + 1;
+            asks = asked.asks;
+            under_way = asked.under_way ∙ ap (λ (fs : List (List ℕ)). request_to setup identity wants.Address ∷ fs) (asked.unsent refl);
+            ignored = subst (λ (fs : List (List ℕ)). AllByRecursion (IsIgnored setup) fs) (sym none) tt;
+            of_device = of_device_by net.device next.device same at.of_device;
+            of_plan = of_plan_by net.device next.device same at.of_plan;
+            named = named_by setup net.device.live next.device.live values at.named;
+            free = free;
+            can = can_by net.device.live next.device.live values (room at.addressed found.0);
+          })
+        where
+          room : IsAddressed setup net.device.live ⊎ CanBeAddressed net.device.live
+              → (net.device.live.values.running.suite ≡ setup.plan.station.suite → ⊥) → CanBeAddressed net.device.live
+          room (inl has) not = absurd (not has.suite)
+          room (inr can) not = can
+
+  -- The IP suite is set.
+  pub addressing : (net next : Net F) → IsAddressing setup identity net → Round as_flash net next → IsConnecting setup identity next
+  addressing net next at round =
+      let station = net.device.station in
+      let law = laws.device_set station net.device.live at.of_device at.named at.free at.can in
+      let all = arrive_first as_flash station (λ (live : Live). IsAddressed setup live × IsFree setup live) (λ (octets : List ℕ). ⊥)
+      (never (λ (live : Live). IsAddressed setup live × IsFree setup live) station)
+      net.device (request_to setup identity wants.Address) [] round.answers round.device refl (λ sendable. (law.2, law.3)) tt
+      (arrives_as as_flash net next round (request_to setup identity wants.Address ∷ []) at.under_way) in
+      let unit = free_unit as_flash setup identity laws round.device station next.to_controller next.device all.0.of_station round.unit all.0.is.1 in
+      let kept = ignore setup (λ (c : Controlling). Asks setup identity.mac Addressing wants.Address false at.spare c) (λ c is. (is.of_setup, is.established))
+      net.controller net.to_controller (set_frame setup identity ∷ []) at.ignored at.asks in
+      let step = controller_step kept.between (set_frame setup identity) in
+      let u = passed as_flash net next round (set_frame setup identity ∷ []) step (all.0.sent ∙ law.0)
+      (kept.goes_on ∙ hears_one kept.between (set_frame setup identity)) in
+      let asked = asked_after setup identity laws step next Connecting wants.Connect false (write_count setup.plan + 1) refl u
+      (subst (λ (n : ℕ). AsksNext setup identity Connecting wants.Connect false n step) (two_more (write_count setup.plan))
+      (laws.controller_set can.patient kept.between at.spare kept.is)) in
+      record {
+        spare = write_count setup.plan + 1;
+        asks = asked.asks;
+        under_way = asked.under_way ∙ ap (λ (fs : List (List ℕ)). request_to setup identity wants.Connect ∷ fs) (asked.unsent refl);
+        ignored = subst (λ (fs : List (List ℕ)). AllByRecursion (IsIgnored setup) fs) (sym unit.none) tt;
+        of_device = of_device_by net.device next.device unit.of_station at.of_device;
+        of_plan = of_plan_by net.device next.device unit.of_station at.of_plan;
+        addressed = addressed_by setup round.device.live next.device.live unit.values all.0.is.0;
+        free = unit.free;
+      }
+
+  -- ---- the calls
+
+  -- The Connect is accepted.
+  pub connecting : (net next : Net F) → IsConnecting setup identity net → Round as_flash net next
+      → IsWriting setup identity 0 (suc (write_count setup.plan)) next
+  connecting net next at round =
+      let station = net.device.station in
+      let answer = answer_frame setup identity station.options setup.plan.station.suite.address in
+      let law = laws.device_connected can.can_meet can.has_address [] station net.device.live at.of_device at.of_plan at.addressed at.free in
+      let connect = request_to setup identity wants.Connect in
+      let related : IsRelated setup Started [] 0 0 (device_step [] station net.device.live connect).live = record {
+        related = law.2;
+        addressed = addressed_by setup net.device.live (device_step [] station net.device.live connect).live law.1 at.addressed;
+      } in
+      let all = arrive_first as_flash station (IsRelated setup Started [] 0 0) (λ (octets : List ℕ). ⊥) (never (IsRelated setup Started [] 0 0) station)
+      net.device connect [] round.answers round.device refl (λ sendable. related) tt
+      (arrives_as as_flash net next round (connect ∷ []) at.under_way) in
+      let unit = related_unit as_flash setup identity laws round.device station next.to_controller next.device all.0.of_station at.of_device round.unit
+      Started [] 0 0 refl (omega arith) all.0.is in
+      let kept = ignore setup (λ (c : Controlling). Asks setup identity.mac Connecting wants.Connect false at.spare c) (λ c is. (is.of_setup, is.established))
+      net.controller net.to_controller (answer ∷ []) at.ignored at.asks in
+      let step = controller_step kept.between answer in
+      let u = passed as_flash net next round (answer ∷ []) step (all.0.sent ∙ law.0) (kept.goes_on ∙ hears_one kept.between answer) in
+      let spared : write_count setup.plan + 2 ≡ suc (suc (write_count setup.plan)) = omega arith in
+      record {
+        of_device = of_device_by net.device next.device unit.of_station at.of_device;
+        of_plan = of_plan_by net.device next.device unit.of_station at.of_plan;
+        is = subst (λ (taken : List TakenRecord). IsRelated setup Started taken 0 1 next.device.live) (before_first setup) unit.is;
+        asked = asked_after setup identity laws step next (phase_for (writing_from setup.plan 0))
+            (writing_from setup.plan 0) true (suc (write_count setup.plan))
+            (writing_limited setup.plan 0) u
+            (subst (λ (n : ℕ). AsksNext setup identity (phase_for (writing_from setup.plan 0)) (writing_from setup.plan 0) true n step) spared
+            (laws.controller_connected can.can_meet can.patient station.options at.of_plan.interval kept.between at.spare kept.is));
+        inputs = unit.inputs;
+      }
+
+  -- The device and the controller at a request of the parameters, known by name.
+  asked_as : (net : Net F) (request : Request) (number spare : ℕ) → writing_from setup.plan number ≡ request → IsWriting setup identity number spare net
+      → Asked setup identity (phase_for request) request true spare net.controller net.to_device
+  asked_as net request number spare is at =
+      subst (λ (r : Request). Asked setup identity (phase_for r) r true spare net.controller net.to_device) is at.asked
+
+  -- A Write is accepted.
+  pub writing : (number spare : ℕ) → number < write_count setup.plan → spare ≤ write_count setup.plan + 1 → (net next : Net F)
+      → IsWriting setup identity number (suc spare) net → Round as_flash net next → IsWriting setup identity (number + 1) spare next
+  writing number spare below few net next at round =
+      let station = net.device.station in
+      let request = request_to setup identity (wants.Write number) in
+      let law = laws.device_written can.can_meet can.has_address can.records [] station net.device.live number
+      1 at.of_device at.of_plan at.is.addressed below at.is.related in
+      let asked = asked_as net (wants.Write number) number (suc spare) (writes setup.plan number below) at in
+      let taken = before_write setup (number + 1) in
+      let related : IsRelated setup Started taken (number + 1) 0 (device_step [] station net.device.live request).live = record {
+        related = law.4;
+        addressed = addressed_by setup net.device.live (device_step [] station net.device.live request).live law.3 at.is.addressed;
+      } in
+      let all = arrive_first as_flash station (IsRelated setup Started taken (number + 1) 0) (IsOutputs setup identity.mac)
+      (λ live octets outputs is. related_outputs as_flash setup identity laws station at.of_device Started taken (number + 1) 0 live octets outputs is)
+      net.device request asked.outputs round.answers round.device refl (λ sendable. related) asked.are
+      (arrives_as as_flash net next round (request ∷ asked.outputs) asked.under_way) in
+      let unit = related_unit as_flash setup identity laws round.device station next.to_controller next.device all.0.of_station at.of_device round.unit
+      Started taken (number + 1) 0 refl (omega arith) all.0.is in
+      let kept = keep (λ (c : Controlling). Asks setup identity.mac Writing (wants.Write number) true (suc spare) c) (IsInputs setup identity)
+      (λ c octets inputs is. laws.controller_inputs c Writing (wants.Write number) true (suc spare) octets inputs is)
+      net.controller net.to_controller (law.0 ∷ []) at.inputs asked.asks in
+      let step = controller_step kept.between law.0 in
+      let u = passed as_flash net next round (law.0 ∷ []) step (all.0.sent ∙ law.1) (kept.goes_on ∙ hears_one kept.between law.0) in
+      record {
+        of_device = of_device_by net.device next.device unit.of_station at.of_device;
+        of_plan = of_plan_by net.device next.device unit.of_station at.of_plan;
+        is = unit.is;
+        asked = asked_after setup identity laws step next (phase_for (writing_from setup.plan (number + 1))) (writing_from setup.plan (number + 1)) true spare
+            (writing_limited setup.plan (number + 1)) u
+            (laws.controller_written can.can_meet can.patient kept.between number (suc spare) law.0 below (omega (arith, few)) kept.is law.2);
+        inputs = unit.inputs;
+      }
+
+  -- PrmEnd is accepted, and ApplicationReady is sent and answered.
+  pub ending : (number spare : ℕ) → number ≡ write_count setup.plan → (net next : Net F)
+      → IsWriting setup identity number spare net → Round as_flash net next → IsConfirming setup identity next
+  ending number spare last net next at round =
+      let station = net.device.station in
+      let request = request_to setup identity wants.PrmEnd in
+      let taken = before_write setup number in
+      let many : number ≤ write_count setup.plan = omega (arith, last) in
+      let law = laws.device_ended can.can_meet can.has_address [] station net.device.live taken number
+      1 at.of_device at.of_plan at.is.addressed many at.is.related in
+      let asked = asked_as net wants.PrmEnd number spare (ends setup.plan number last) at in
+      let related : IsRelated setup Awaiting taken (write_count setup.plan + 1) 0 (device_step [] station net.device.live request).live = record {
+        related = law.2;
+        addressed = addressed_by setup net.device.live (device_step [] station net.device.live request).live law.1 at.is.addressed;
+      } in
+      let all = arrive_first as_flash station (IsRelated setup Awaiting taken (write_count setup.plan + 1) 0) (IsOutputs setup identity.mac)
+      (λ live octets outputs is. related_outputs as_flash setup identity laws station at.of_device Awaiting taken
+      (write_count setup.plan + 1) 0 live octets outputs is)
+      net.device request asked.outputs round.answers round.device refl (λ sendable. related) asked.are
+      (arrives_as as_flash net next round (request ∷ asked.outputs) asked.under_way) in
+      let unit = related_unit as_flash setup identity laws round.device station next.to_controller next.device all.0.of_station at.of_device round.unit
+      Awaiting taken (write_count setup.plan + 1) 0 refl (omega arith) all.0.is in
+      let answers = ended_frame setup identity ∷ readied_frame setup identity ∷ [] in
+      let kept = keep (λ (c : Controlling). Asks setup identity.mac Ending wants.PrmEnd true spare c) (IsInputs setup identity)
+      (λ c octets inputs is. laws.controller_inputs c Ending wants.PrmEnd true spare octets inputs is)
+      net.controller net.to_controller answers at.inputs asked.asks in
+      let heard = hears_all kept.between answers in
+      let ready = laws.controller_readied can.can_meet kept.between spare kept.is in
+      let u = passed as_flash net next round answers heard (all.0.sent ∙ law.0) kept.goes_on in
+      let later = laws.controller_later_unit heard.controller 0 (omega (arith, can.holds)) (omega arith) ready.1 in
+      record {
+        of_device = of_device_by net.device next.device unit.of_station at.of_device;
+        of_plan = of_plan_by net.device next.device unit.of_station at.of_plan;
+        taken = taken;
+        last = write_count setup.plan + 1;
+        is = unit.is;
+        controls = subst (λ (c : Controlling). Controls setup identity.mac 1 c) (sym u.controller) later.0;
+        outputs = (step_of heard.controller Tick).frames;
+        under_way = u.to_device ∙ ap (λ (fs : List (List ℕ)). fs ++ (step_of heard.controller Tick).frames) ready.0;
+        are = (later.1 ready.2).0;
+        inputs = unit.inputs;
+      }
+
+  -- ---- data is exchanged
+
+  both_of : (net : Net F) → Exchanges setup 1 net.device.live → Controls setup identity.mac 2 net.controller → BothExchange net
+  both_of net device controller = record {
+    link = device.link;
+    device = device.has;
+    exchanges = device.in_phase;
+    ar = ap (λ r. r.ar.uuid) device.request ∙ ap (λ (s : Setup). s.ar) (sym controller.of_setup);
+    controller = controller.in_phase;
+  }
+
+  -- what the device does with the answer to ApplicationReady
+  confirmed_by : (net : Net F) (at : IsConfirming setup identity net)
+      → AreSendable net.device.station.identity (device_step [] net.device.station net.device.live (confirmed_frame setup identity)).sent
+      → AllByRecursion (IsReport setup identity) (device_step [] net.device.station net.device.live (confirmed_frame setup identity)).frames
+      × ((device_step [] net.device.station net.device.live (confirmed_frame setup identity)).live.values ≡ net.device.live.values)
+      × Exchanges setup 0 (device_step [] net.device.station net.device.live (confirmed_frame setup identity)).live
+  confirmed_by net at sendable =
+      laws.device_confirmed can.can_meet can.has_address [] net.device.station net.device.live at.taken
+      at.last 1 at.of_device at.of_plan at.is.addressed at.is.related
+      (subst (λ (i : Identity). AreSendable i (device_step [] net.device.station net.device.live (confirmed_frame setup identity)).sent) at.of_device sendable)
+
+  pub confirming : (net next : Net F) → IsConfirming setup identity net → Round as_flash net next → BothExchange next
+  confirming net next at round =
+      let station = net.device.station in
+      let frame = confirmed_frame setup identity in
+      let step = device_step [] station net.device.live frame in
+      let all = arrive_first as_flash station (Exchanges setup 0) (IsOutputs setup identity.mac)
+      (λ live octets outputs is. let law = laws.device_later_outputs [] station live 0 octets at.of_device outputs is in (law.0, law.2))
+      net.device frame at.outputs round.answers round.device refl
+      (λ sendable. (confirmed_by net at sendable).2)
+      at.are
+      (arrives_as as_flash net next round (frame ∷ at.outputs) at.under_way) in
+      let reports = (confirmed_by net at all.1).0 in
+      let w = went_at as_flash round.device station Ticks next.to_controller next.device all.0.of_station round.unit in
+      let later = laws.device_later_unit [] station round.device.live 0 at.of_device (omega (arith, can.holds)) (omega arith) all.0.is in
+      let kept = keep (λ (c : Controlling). Controls setup identity.mac 1 c) (IsInputs setup identity)
+      (λ c octets inputs is. laws.controller_later_inputs c 1 octets inputs is)
+      net.controller net.to_controller step.frames at.inputs at.controls in
+      let heard = hears_all kept.between step.frames in
+      let controls = keep_state (λ (c : Controlling). Controls setup identity.mac 1 c) (IsReport setup identity)
+      (λ c octets report is. laws.controller_reported c 1 octets report is) kept.between step.frames reports kept.is in
+      let u = passed as_flash net next round step.frames heard all.0.sent kept.goes_on in
+      let unit = laws.controller_later_unit heard.controller 1 (omega (arith, can.holds)) (omega arith) controls in
+      both_of next (subst (λ (live : Live). Exchanges setup 1 live) (sym w.state) later.1)
+      (subst (λ (c : Controlling). Controls setup identity.mac 2 c) (sym u.controller) unit.0)
+
+  -- ---- what follows each stage
+
+  more_time : (limit : ℕ) (net : Net F) → Leads as_flash limit net → Leads as_flash (suc limit) net
+  more_time zero net both = inl both
+  more_time (suc limit) net (inl both) = inl both
+  more_time (suc limit) net (inr leads) = inr (leads.0, λ next round. more_time limit next (leads.1 next round))
+
+  open_at : (net : Net F) (phase : Phases) → net.controller.live.phase ≡ phase → is_ended phase ≡ false → is_ended net.controller.live.phase ≡ false
+  open_at net phase in_phase open_phase = ap (λ (p : Phases). is_ended p) in_phase ∙ open_phase
+
+  writing_leads : (rest number : ℕ) → number + rest ≡ write_count setup.plan → (net : Net F)
+      → IsWriting setup identity number (suc rest) net → Leads as_flash (suc (suc rest)) net
+  writing_leads zero number sum net at =
+      inr (
+        open_at net (phase_for (writing_from setup.plan number)) at.asked.asks.in_phase (writing_open setup.plan number),
+        λ next round.
+            let ended = ending number 1 (omega (arith, sum)) net next at round in
+            inr (open_at next Exchanging ended.controls.in_phase refl, λ last later. confirming next last ended later),
+      )
+  writing_leads (suc rest) number sum net at =
+      inr (
+        open_at net (phase_for (writing_from setup.plan number)) at.asked.asks.in_phase (writing_open setup.plan number),
+        λ next round.
+            writing_leads rest (number + 1) (omega (arith, sum)) next (writing number (suc rest) (omega (arith, sum)) (omega (arith, sum)) net next at round),
+      )
+
+  connecting_leads : (net : Net F) → IsConnecting setup identity net → Leads as_flash (suc (suc (suc (write_count setup.plan)))) net
+  connecting_leads net at =
+      inr (
+        open_at net Connecting at.asks.in_phase refl,
+        λ next round. writing_leads (write_count setup.plan) 0 (omega arith) next (connecting net next at round),
+      )
+
+  addressing_leads : (net : Net F) → IsAddressing setup identity net → Leads as_flash (suc (suc (suc (suc (write_count setup.plan))))) net
+  addressing_leads net at = inr (open_at net Addressing at.asks.in_phase refl, λ next round. connecting_leads next (addressing net next at round))
+
+  looking_leads : (net : Net F) → IsLooking setup identity net → Leads as_flash (suc (suc (suc (suc (suc (write_count setup.plan)))))) net
+  looking_leads net at = inr (open_at net Looking (ap (λ l. l.phase) at.made) refl, λ next round. by_stage next (looking net next at round))
+    where
+      by_stage : (next : Net F) → IsAddressing setup identity next ⊎ IsConnecting setup identity next
+          → Leads as_flash (suc (suc (suc (suc (write_count setup.plan))))) next
+      by_stage next (inl addresses) = addressing_leads next addresses
+      by_stage next (inr connects) = more_time (suc (suc (suc (write_count setup.plan)))) next (connecting_leads next connects)
+
+  -- the same, as the clauses say it
+  pub connecting_law : (net : Net F) → IsConnecting setup identity net → Leads as_flash (write_count setup.plan + 3) net
+  connecting_law net at =
+      let same : suc (suc (suc (write_count setup.plan))) ≡ write_count setup.plan + 3 = omega arith in
+      subst (λ (n : ℕ). Leads as_flash n net) same (connecting_leads net at)
+
+  pub addressing_law : (net : Net F) → IsAddressing setup identity net → Leads as_flash (write_count setup.plan + 4) net
+  addressing_law net at =
+      let same : suc (suc (suc (suc (write_count setup.plan)))) ≡ write_count setup.plan + 4 = omega arith in
+      subst (λ (n : ℕ). Leads as_flash n net) same (addressing_leads net at)
+
+  pub looking_law : (net : Net F) → IsLooking setup identity net → Leads as_flash (write_count setup.plan + 5) net
+  looking_law net at =
+      let same : suc (suc (suc (suc (suc (write_count setup.plan))))) ≡ write_count setup.plan + 5 = omega arith in
+      subst (λ (n : ℕ). Leads as_flash n net) same (looking_leads net at)

@@ -1,0 +1,255 @@
+-- A unit of time at a controller.
+use Rattle.std.proofs.Common.{◌≡◌, ◌⊎◌, inl, inr, ◌+◌, ◌-◌, ◌==◌, ◌&&◌, ◌++◌, ◌≤◌, ◌<◌, ℕ, suc, Bool, true, false}
+use Rattle.std.proofs.Common.{List, [], ◌∷◌, map, Option, None, if◌then◌else◌, refl, sym, ap, subst, ◌∙◌, arith}
+use Rattle.std.specs.List.{AllByRecursion}
+use Rattle.std.proofs.lemmas.Bool.{ne_eqb}
+use Rattle.pn_values.specs.declared.mac.Mac.{Mac}
+use Rattle.pn_alarms.specs.declared.repeats.Due.{Due}
+use Rattle.pn_alarms.specs.declared.repeats.Due.TheVariants.{Nothing}
+use Rattle.pn_alarms.specs.Controller.{controller_later}
+use Rattle.pn_alarms.specs.Ends.{ControllerEnd}
+use Rattle.pn_alarms.specs.Sending.{due, due_behind, either_due, waiting_behind}
+use Rattle.pn_alarms.specs.Sending.{is_again as is_repeated}
+use Rattle.cyclic_data.specs.Image.{Shown}
+use Rattle.cyclic_data.specs.Timing.{is_due}
+use Rattle.cyclic_data.specs.declared.exchange.route.Route.{Route}
+use Rattle.cyclic_data.specs.exchange.Cyclic.{Cyclic}
+use Rattle.cyclic_data.specs.exchange.Units.{Brought, cyclic_later, ending_by, is_silent}
+use Rattle.controller_messages.specs.declared.record_request.RecordRequest.{RecordRequest}
+use Rattle.controller_messages.specs.declared.request.Request.{Request}
+use Rattle.controller_messages.specs.declared.setup.Setup.{Setup}
+use Rattle.controller_messages.specs.Sent.{Cycles, Sent, bytes_of}
+use Rattle.controller_core.specs.declared.stored.event.Event.TheVariants.{Tick}
+use Rattle.controller_core.specs.declared.stored.state.Cause.TheVariants.{NoProgress}
+use Rattle.controller_core.specs.declared.stored.state.State.{State as Phases}
+use Rattle.controller_core.specs.Machine.{Stepped, Turn, accesses_by, brought, due_frames, exchange_later, flow_later, flowed, gone_on, is_again}
+use Rattle.controller_core.specs.Machine.{is_spent, later, outputs_of, pending_by, pending_of, quit, step_of, stepped, ticked, where_due}
+use Rattle.controller_core.specs.stored.Opening.{route_of as outputs_route}
+use Rattle.controller_core.specs.stored.State.{Controlling, Live, is_limited, with_live}
+use Rattle.rounds_law.specs.Path.{Asks, Controls, IsOutputs, IsRoute, hold_of}
+use Rattle.rounds_law.proofs.ControllerPassingParts.{brings, either_kept, held_later, kept_by, limit_later, unbegun_heard, unheld, waits_on}
+use Rattle.rounds_law.proofs.Choices.{and_false}
+
+abbrev turn_with : Live → List Sent → Turn
+turn_with live sent = record { live = live; sent = sent }
+
+-- ---- one unit
+
+by_turn : (controller : Controlling) (turn : Turn) → ticked controller.setup controller.live ≡ turn → step_of controller Tick ≡ stepped controller turn
+unfolding step_of
+by_turn controller turn is = ap (stepped controller) is
+
+-- The patience of the phase does not end with this unit.
+unspent : (live : Live) → (live.left == 1) ≡ false → is_spent live ≡ false
+unspent live more = ap (λ (b : Bool). is_limited live.phase && b) more ∙ and_false (is_limited live.phase)
+
+goes_on : (setup : Setup) (live : Live) → is_spent live ≡ false → ticked setup live ≡ gone_on (later live) (is_again live)
+goes_on setup live more = ap (λ (b : Bool). if b then quit setup NoProgress (later live) live.phase else gone_on (later live) (is_again live)) more
+
+gone_off : (live : Live) (is_request : Bool) → live.stands ≡ false → is_request ≡ false → gone_on live is_request ≡ turn_with live []
+gone_off live is_request stands none = rw (stands, none) refl
+
+-- What is sent with a unit that does not end the relation.
+abbrev sent_at : Live → Due → Due → List Sent
+sent_at live high low = due_frames (flow_later live) (is_repeated high) (is_repeated low) (is_again live) (is_due live.cyclic.sending)
+
+gone_there : (live : Live) (is_request : Bool) → live.stands ≡ true → is_silent live.cyclic ≡ false → ending_by (due live.alarms.sending) ≡ None
+    → ending_by (due live.low_alarms.sending) ≡ None
+    → gone_on live is_request
+    ≡ turn_with (exchange_later live)
+    (due_frames (exchange_later live) (is_repeated (due live.alarms.sending)) (is_repeated (due live.low_alarms.sending)) is_request
+    (is_due live.cyclic.sending))
+gone_there live is_request stands heard one other =
+    let high = due live.alarms.sending in
+    let low = due live.low_alarms.sending in
+    let moved : gone_on live is_request ≡ flowed (exchange_later live) high low is_request (brought live) (brought live).ending = rw stands refl in
+    moved ∙ ap (λ (b : Brought). flowed (exchange_later live) high low is_request b b.ending)
+    (brings live.cyclic (either_due high low) heard (either_kept high low one other))
+
+-- If the relation is established, and nothing ends it.
+turn_there : (setup : Setup) (live : Live) → is_spent live ≡ false → live.stands ≡ true → is_silent live.cyclic ≡ false
+    → ending_by (due live.alarms.sending) ≡ None
+    → ending_by (due live.low_alarms.sending) ≡ None
+    → ticked setup live ≡ turn_with (flow_later live) (sent_at live (due live.alarms.sending) (due live.low_alarms.sending))
+turn_there setup live more stands heard one other =
+    goes_on setup live more ∙ gone_there (later live) (is_again live) stands heard one other
+
+-- ---- frames
+
+outputs_are : (setup own : Setup) (device : Mac) (route : Route) (shown : Shown) (counter : ℕ) → own ≡ setup → route ≡ outputs_route device 0xC000 1
+    → IsOutputs setup device (bytes_of own (Cycles route shown counter))
+outputs_are setup own device route shown counter of to = record {
+  shown = shown;
+  counter = counter;
+  frame = ap (λ (s : Setup). bytes_of s (Cycles route shown counter)) of ∙ ap (λ (r : Route). bytes_of setup (Cycles r shown counter)) to;
+}
+
+only_outputs : (setup own : Setup) (device : Mac) (route : Route) (shown : Shown) (counter : ℕ) (is_due : Bool) → own ≡ setup
+    → route ≡ outputs_route device 0xC000 1
+    → AllByRecursion (IsOutputs setup device) (map (bytes_of own) (where_due is_due (Cycles route shown counter ∷ [])))
+only_outputs setup own device route shown counter true of to = (outputs_are setup own device route shown counter of to, tt)
+only_outputs setup own device route shown counter false of to = tt
+
+-- ---- while it waits for an answer
+
+lasts : (left spare : ℕ) → (left ≡ 0) ⊎ (suc spare < left) → (left == 1) ≡ false
+lasts left spare (inl none) = ne_eqb left 1 (λ one. omega (arith, none, one))
+lasts left spare (inr more) = ne_eqb left 1 (λ one. omega (arith, more, one))
+
+lasts_on : (left spare : ℕ) → (left ≡ 0) ⊎ (suc spare < left) → (left - 1 ≡ 0) ⊎ (spare < left - 1)
+lasts_on left spare (inl none) = inl (omega (arith, none))
+lasts_on left spare (inr more) = inr (omega (arith, more))
+
+unrepeated : (waited spare : ℕ) → waited + suc spare < 31999 → (waited + 1 == 32000) ≡ false
+unrepeated waited spare few = ne_eqb (waited + 1) 32000 (λ same. omega (arith, few, same))
+
+waits_longer : (waited spare : ℕ) (again : Bool) → again ≡ false → waited + suc spare < 31999 → (if again then 0 else waited + 1) + spare < 31999
+waits_longer waited spare true none few = absurd cc
+waits_longer waited spare false none few = omega (arith, few)
+
+-- The exchange is this after the unit.
+abbrev later_with : Live → Cyclic → ControllerEnd → ControllerEnd → Live
+later_with live cyclic high low = record (later live) { cyclic = cyclic; alarms = high; low_alarms = low }
+
+module _ (setup : Setup) (device : Mac) (phase : Phases) (request : Request) (spare : ℕ) (controller : Controlling) where
+  asks_on : (stands : Bool) → Asks setup device phase request stands (suc spare) controller → (cyclic : Cyclic) (high low : ControllerEnd)
+      → IsRoute stands device cyclic
+      → high.sending.waiting ≡ None → low.sending.waiting ≡ None → 3200 ≤ low.sending.limit → cyclic.begun ≡ false → cyclic.hearing.limit ≡ hold_of setup.plan
+      → Asks setup device phase request stands spare (with_live controller (later_with controller.live cyclic high low))
+  asks_on stands is cyclic high low route none none_low long unbegun limit = record {
+    of_setup = is.of_setup;
+    in_phase = is.in_phase;
+    asked = is.asked;
+    of_device = is.of_device;
+    unrepeated = waits_longer controller.live.waited spare (is_again controller.live) (unrepeated controller.live.waited spare is.unrepeated) is.unrepeated;
+    patient = lasts_on controller.live.left spare is.patient;
+    established = is.established;
+    route = route;
+    high = none;
+    low = none_low;
+    low_limit = long;
+    alone = is.alone;
+    unbegun = unbegun;
+    limit = limit;
+  }
+
+  abbrev GoesOn : Bool → Stepped → Type 0
+  GoesOn stands step = AllByRecursion (IsOutputs setup device) step.frames × Asks setup device phase request stands spare step.controller
+
+  -- Before its relation is established nothing is sent.
+  turn_before : Asks setup device phase request false (suc spare) controller
+      → step_of controller Tick ≡ stepped controller (turn_with (later controller.live) [])
+  turn_before is =
+      let live = controller.live in
+      by_turn controller (turn_with (later live) [])
+      (goes_on controller.setup live (unspent live (lasts live.left spare is.patient))
+      ∙ gone_off (later live) (is_again live) is.established (unrepeated live.waited spare is.unrepeated))
+
+  pub unsent : Asks setup device phase request false (suc spare) controller → (step_of controller Tick).frames ≡ []
+  unsent is = ap (λ (step : Stepped). step.frames) (turn_before is)
+
+  unit_before : Asks setup device phase request false (suc spare) controller → GoesOn false (step_of controller Tick)
+  unit_before is =
+      let live = controller.live in
+      subst (λ (step : Stepped). GoesOn false step) (sym (turn_before is))
+      (tt, asks_on false is live.cyclic live.alarms live.low_alarms tt is.high is.low is.low_limit is.unbegun is.limit)
+
+  -- After that, outputs at most.
+  unit_after : Asks setup device phase request true (suc spare) controller → GoesOn true (step_of controller Tick)
+  unit_after is =
+      let live = controller.live in
+      let none : due live.alarms.sending ≡ Nothing = ap (due_behind live.alarms.sending) is.high in
+      let none_low : due live.low_alarms.sending ≡ Nothing = ap (due_behind live.low_alarms.sending) is.low in
+      let turn = turn_there controller.setup live (unspent live (lasts live.left spare is.patient)) is.established (unbegun_heard live.cyclic is.unbegun)
+      (ap ending_by none) (ap ending_by none_low) in
+      let sent : sent_at live (due live.alarms.sending) (due live.low_alarms.sending) ≡ where_due (is_due live.cyclic.sending) (outputs_of (flow_later live)) =
+      ap (λ (d : Due). sent_at live d (due live.low_alarms.sending)) none ∙ ap (λ (d : Due). sent_at live Nothing d) none_low
+      ∙ ap (λ (b : Bool). where_due b (pending_of (flow_later live)) ++ where_due (is_due live.cyclic.sending) (outputs_of (flow_later live)))
+      (unrepeated live.waited spare is.unrepeated) in
+      let whole = turn ∙ ap (turn_with (flow_later live)) sent in
+      subst (λ (step : Stepped). GoesOn true step)
+      (sym (by_turn controller (turn_with (flow_later live) (where_due (is_due live.cyclic.sending) (outputs_of (flow_later live)))) whole)) (
+        only_outputs setup controller.setup device live.cyclic.route live.cyclic.shown (later live).units (is_due live.cyclic.sending) is.of_setup is.route,
+        asks_on true is (cyclic_later live.cyclic) (controller_later live.alarms) (controller_later live.low_alarms) is.route
+            (ap (waiting_behind live.alarms.sending) is.high) (ap (waiting_behind live.low_alarms.sending) is.low) is.low_limit is.unbegun
+            (limit_later live.cyclic.begun live.cyclic.hearing ∙ is.limit),
+      )
+
+  pub unit : (stands : Bool) → Asks setup device phase request stands (suc spare) controller → GoesOn stands (step_of controller Tick)
+  unit false is = unit_before is
+  unit true is = unit_after is
+
+-- ---- while it exchanges data
+
+idle : (is_due : Bool) → where_due is_due [] ≡ []
+idle true = refl
+idle false = refl
+
+none_pending : (live : Live) (asked : Option Request) → asked ≡ None → live.access.waiting ≡ None → pending_by live asked ≡ []
+none_pending live asked none alone = ap (pending_by live) none
+    ∙ ap (λ (waiting : Option RecordRequest). accesses_by live.device live.access.octets waiting) alone
+
+module _ (setup : Setup) (device : Mac) (age : ℕ) (controller : Controlling) (holds : age + 2 ≤ hold_of setup.plan) (young : age < 3000)
+    (is : Controls setup device age controller) where
+  none_high : due controller.live.alarms.sending ≡ Nothing
+  none_high = ap (due_behind controller.live.alarms.sending) is.high
+
+  controls_on : (sent : List Sent) → Controls setup device (suc age) (stepped controller (turn_with (flow_later controller.live) sent)).controller
+  controls_on sent =
+      let live = controller.live in
+      record {
+        of_setup = is.of_setup;
+        in_phase = is.in_phase;
+        established = is.established;
+        route = is.route;
+        high = ap (waiting_behind live.alarms.sending) is.high;
+        low = waits_on live.low_alarms.sending live.low_alarms.sending.waiting age is.low young is.low_limit;
+        low_limit = is.low_limit;
+        limit = limit_later live.cyclic.begun live.cyclic.hearing ∙ is.limit;
+        unasked = is.unasked;
+        alone = is.alone;
+        held_few = held_later live.cyclic.begun live.cyclic.hearing age is.held_few;
+      }
+
+  -- It is not limited.
+  unlimited : is_spent controller.live ≡ false
+  unlimited = ap (λ (p : Phases). is_limited p && controller.live.left == 1) is.in_phase
+
+  whole_step : step_of controller Tick ≡ stepped controller
+      (turn_with (flow_later controller.live) (sent_at controller.live (due controller.live.alarms.sending) (due controller.live.low_alarms.sending)))
+  whole_step =
+      let live = controller.live in
+      by_turn controller (turn_with (flow_later live) (sent_at live (due live.alarms.sending) (due live.low_alarms.sending)))
+      (turn_there controller.setup live unlimited is.established (unheld live.cyclic age (hold_of setup.plan) holds is.held_few is.limit)
+      (ap ending_by none_high)
+      (kept_by live.low_alarms.sending live.low_alarms.sending.waiting age is.low young is.low_limit))
+
+  -- Without an AlarmAck that waits for its ACK, outputs at most.
+  abbrev IsQuiet : Stepped → Type 0
+  IsQuiet step = AllByRecursion (IsOutputs setup device) step.frames × (step.controller.live.low_alarms.sending.waiting ≡ None)
+
+  quiet_on : controller.live.low_alarms.sending.waiting ≡ None
+      → IsQuiet (stepped controller (turn_with (flow_later controller.live)
+      (sent_at controller.live (due controller.live.alarms.sending) (due controller.live.low_alarms.sending))))
+  quiet_on rests =
+      let live = controller.live in
+      let none_low : due live.low_alarms.sending ≡ Nothing = ap (due_behind live.low_alarms.sending) rests in
+      let sent : sent_at live (due live.alarms.sending) (due live.low_alarms.sending) ≡ where_due (is_due live.cyclic.sending) (outputs_of (flow_later live)) =
+      ap (λ (d : Due). sent_at live d (due live.low_alarms.sending)) none_high ∙ ap (λ (d : Due). sent_at live Nothing d) none_low
+      ∙ ap (λ (sent : List Sent). where_due (is_again live) sent ++ where_due (is_due live.cyclic.sending) (outputs_of (flow_later live)))
+      (none_pending (flow_later live) live.asked is.unasked is.alone)
+      ∙ ap (λ (sent : List Sent). sent ++ where_due (is_due live.cyclic.sending) (outputs_of (flow_later live))) (idle (is_again live)) in (
+        subst (λ (messages : List Sent). AllByRecursion (IsOutputs setup device) (map (bytes_of controller.setup) messages)) (sym sent)
+            (only_outputs setup controller.setup device live.cyclic.route live.cyclic.shown (later live).units
+            (is_due live.cyclic.sending) is.of_setup is.route),
+        ap (waiting_behind live.low_alarms.sending) rests,
+      )
+
+  pub later_unit : Controls setup device (suc age) (step_of controller Tick).controller
+      × (controller.live.low_alarms.sending.waiting ≡ None → AllByRecursion (IsOutputs setup device) (step_of controller Tick).frames
+      × ((step_of controller Tick).controller.live.low_alarms.sending.waiting ≡ None))
+  later_unit = (
+    subst (λ (step : Stepped). Controls setup device (suc age) step.controller) (sym whole_step)
+        (controls_on (sent_at controller.live (due controller.live.alarms.sending) (due controller.live.low_alarms.sending))),
+    λ rests. subst (λ (step : Stepped). IsQuiet step) (sym whole_step) (quiet_on rests),
+  )

@@ -1,0 +1,165 @@
+-- What a unit of time does to a device.
+use Rattle.std.proofs.Common.{◌≡◌, ◌+◌, ◌-◌, ◌≤◌, ◌<◌, ◌&&◌, ◌++◌, ℕ, suc, Bool, true, false, List, [], ◌∷◌, map, Option, Some, None, refl, sym, ap, subst, ◌∙◌}
+use Rattle.std.specs.List.{AllByRecursion}
+use Rattle.pn_values.specs.declared.identity.Identity.{Identity}
+use Rattle.settings_journal.specs.settings_store.Machine.{Outcome}
+use Rattle.records.specs.declared.writes.taken.TakenRecord.{TakenRecord}
+use Rattle.cyclic_data.specs.Image.{Shown}
+use Rattle.cyclic_data.specs.declared.exchange.route.Route.{Route}
+use Rattle.pn_alarms.specs.declared.abort.Abort.{Abort}
+use Rattle.pn_alarms.specs.Device.{end_later}
+use Rattle.pn_alarms.specs.Ends.{DeviceEnd}
+use Rattle.relations.specs.declared.phase.Phase.{Phase}
+use Rattle.relations.specs.exchange.Frames.{Inputs}
+use Rattle.relations.specs.exchange.Opening.{route_of as inputs_route}
+use Rattle.relations.specs.exchange.Units.{repeated_of, tick_of}
+use Rattle.relations.specs.Phases.{passing, passing_by, updated}
+use Rattle.relations.specs.RelationState.{RelationState}
+use Rattle.relations.specs.Timers.{due_by, due_of, ending_of, is_again, is_timed, unit_later}
+use Rattle.device_frames.specs.Heard.{Ticks}
+use Rattle.device_frames.specs.Relation.{alarms_of, due_frames, inputs_of, low_alarms_of, ready_calls, where_due}
+use Rattle.device_frames.specs.Sent.{Exchanges as device_exchanges, Sent, bytes_of}
+use Rattle.device_core.specs.State.{Live, Station, counter_of, units_after}
+use Rattle.device_core.specs.Log.{err_log, with_log}
+use Rattle.device_core.specs.Handled.{Handled, Moves}
+use Rattle.device_core.specs.Machine.{Stepped, handled_step, heard_step}
+use Rattle.controller_messages.specs.declared.setup.Setup.{Setup}
+use Rattle.both_ends.specs.startup.request.Request.{request_for}
+use Rattle.rounds_law.specs.Path.{Exchanges, HasRelation, IsFree, IsInputs, hold_of}
+use Rattle.rounds_law.proofs.DevicePassingTimers.{active_more, calm_later, held_more, limit_later, no_alarm}
+use Rattle.rounds_law.proofs.DevicePassingTimers.{not_again, stays_before, stays_later, waited_more, waits_more}
+
+-- A unit at a device with this relation, and with one that ends for this reason, if it does.
+abbrev pub ticked_at : Live → Option RelationState → Handled
+ticked_at live link =
+    let due = due_of link in
+    let later = updated (passing link) link in
+    let units = units_after 1 live.rest.units in
+    Moves (with_log (err_log due.farewell) (record live.rest { lamp = live.rest.lamp - 1; link = later; units = units }))
+    (due_frames live.values.running.suite.address (counter_of units) due later)
+
+abbrev pub ticked_by : Live → RelationState → Option Abort → Handled
+ticked_by live link ending =
+    let due = due_by link ending in
+    let later = updated (passing_by ending) (Some link) in
+    let units = units_after 1 live.rest.units in
+    Moves (with_log (err_log due.farewell) (record live.rest { lamp = live.rest.lamp - 1; link = later; units = units }))
+    (due_frames live.values.running.suite.address (counter_of units) due later)
+
+-- ---- without a relation
+
+pub free_unit : (setup : Setup) (outcomes : List Outcome) (station : Station) (live : Live) → IsFree setup live
+    → ((heard_step outcomes station live Ticks).frames ≡ []) × ((heard_step outcomes station live Ticks).live.values ≡ live.values)
+    × IsFree setup (heard_step outcomes station live Ticks).live
+unfolding heard_step handled_step
+free_unit setup outcomes station live free =
+    subst (λ (l : Option RelationState). ((handled_step outcomes station live (ticked_at live l)).frames ≡ [])
+    × ((handled_step outcomes station live (ticked_at live l)).live.values ≡ live.values)
+    × IsFree setup (handled_step outcomes station live (ticked_at live l)).live) (sym free.unrelated)
+    (refl, refl, record { unrelated = refl; uncalled = free.uncalled })
+
+-- ---- with one that ends for this reason, or does not end
+
+pub unit_goes : (Goes : Stepped → Type 0) (outcomes : List Outcome) (station : Station) (live : Live) (link : RelationState) (reason : Option Abort)
+    → live.rest.link ≡ Some link → ending_of link ≡ reason
+    → Goes (handled_step outcomes station live (ticked_by live link reason)) → Goes (heard_step outcomes station live Ticks)
+unfolding heard_step
+unit_goes Goes outcomes station live link reason has ending goes =
+    subst (λ (l : Option RelationState). Goes (handled_step outcomes station live (ticked_at live l))) (sym has)
+    (subst (λ (e : Option Abort). Goes (handled_step outcomes station live (ticked_by live link e))) (sym ending) goes)
+
+-- ---- before data is exchanged
+
+only_cyclic : (alarm high low ready cyclic : Bool) (highs lows readies inputs : List Sent) → alarm ≡ false → ready ≡ false
+    → where_due (alarm && high) highs ++ (where_due (alarm && low) lows ++ (where_due ready readies ++ where_due cyclic inputs)) ≡ where_due cyclic inputs
+only_cyclic false high low false cyclic highs lows readies inputs none unready = refl
+only_cyclic true high low ready cyclic highs lows readies inputs none unready = absurd cc
+only_cyclic false high low true cyclic highs lows readies inputs none unready = absurd cc
+
+pub all_inputs : (setup : Setup) (identity : Identity) (route : Route) (has_problem : Bool) (inputs : Shown) (counter : ℕ) (due : Bool)
+    → route ≡ inputs_route (request_for setup.plan setup.ar)
+    → AllByRecursion (IsInputs setup identity) (map (bytes_of identity) (where_due due (device_exchanges route (Inputs has_problem inputs counter) ∷ [])))
+all_inputs setup identity route has_problem inputs counter true same = (
+  record {
+    has_problem = has_problem;
+    inputs = inputs;
+    counter = counter;
+    frame = ap (λ (r : Route). bytes_of identity (device_exchanges r (Inputs has_problem inputs counter))) same;
+  },
+  tt,
+)
+all_inputs setup identity route has_problem inputs counter false same = tt
+
+pub relation_unit : (setup : Setup) (identity : Identity) (outcomes : List Outcome) (station : Station) (live : Live)
+    (phase : Phase) (taken : List TakenRecord) (last age : ℕ)
+    → station.identity ≡ identity → is_timed phase ≡ true → age < 31000 → HasRelation setup phase taken last age live
+    → AllByRecursion (IsInputs setup identity) (heard_step outcomes station live Ticks).frames
+    × ((heard_step outcomes station live Ticks).live.values ≡ live.values)
+    × HasRelation setup phase taken last (suc age) (heard_step outcomes station live Ticks).live
+unfolding handled_step
+relation_unit setup identity outcomes station live phase taken last age same timed few before =
+    let link = before.link in
+    let later = unit_later link in
+    let counter = counter_of (units_after 1 live.rest.units) in
+    let inputs = inputs_of counter (Some later.flow) in
+    let address = live.values.running.suite.address in
+    let only = only_cyclic (tick_of link.flow).is_alarm (repeated_of link.flow).high (repeated_of link.flow).low (is_again link) (tick_of link.flow).is_cyclic
+    (alarms_of (Some later.flow)) (low_alarms_of (Some later.flow)) (ready_calls address (Some later)) inputs
+    (no_alarm link.flow before.calm) (not_again link phase age before.in_phase before.waited few) in
+    unit_goes (λ (step : Stepped). AllByRecursion (IsInputs setup identity) step.frames × (step.live.values ≡ live.values)
+    × HasRelation setup phase taken last (suc age) step.live) outcomes station live link None before.has
+    (stays_before setup link phase age before.request before.in_phase timed before.active few) (
+      subst (λ (i : Identity). AllByRecursion (IsInputs setup identity) (map (bytes_of i) (due_frames address counter (due_by link None) (Some later))))
+          (sym same)
+          (subst (λ (sent : List Sent). AllByRecursion (IsInputs setup identity) (map (bytes_of identity) sent)) (sym only)
+          (all_inputs setup identity later.flow.cyclic.route later.flow.low.has_problem later.flow.cyclic.shown counter (tick_of link.flow).is_cyclic
+          before.route)),
+      refl,
+      record {
+        link = later;
+        has = refl;
+        in_phase = before.in_phase;
+        request = before.request;
+        partner = before.partner;
+        taken_all = before.taken_all;
+        active = active_more link age before.active;
+        waited = waited_more link phase age before.in_phase before.waited;
+        calm = record {
+          high = calm_later link.flow.alarms.sender.sending before.calm.high;
+          low = calm_later link.flow.low.alarms.sender.sending before.calm.low;
+        };
+        route = before.route;
+        unbegun = before.unbegun;
+        limit = limit_later link.flow.cyclic.begun link.flow.cyclic.hearing ∙ before.limit;
+        low_limit = before.low_limit;
+        low_new = ap (λ (e : DeviceEnd). end_later e) before.low_new;
+        kept = before.kept;
+        answered = before.answered;
+        number = before.number;
+      },
+    )
+
+-- ---- while data is exchanged
+
+pub exchange_unit : (setup : Setup) (outcomes : List Outcome) (station : Station) (live : Live) (age : ℕ) → age + 2 ≤ hold_of setup.plan → age < 3000
+    → Exchanges setup age live
+    → ((heard_step outcomes station live Ticks).live.values ≡ live.values) × Exchanges setup (suc age) (heard_step outcomes station live Ticks).live
+unfolding handled_step
+exchange_unit setup outcomes station live age holds few before =
+    let link = before.link in
+    unit_goes (λ (step : Stepped). (step.live.values ≡ live.values) × Exchanges setup (suc age) step.live) outcomes station live link None before.has
+    (stays_later link age (hold_of setup.plan) before.in_phase before.limit before.held_few before.high before.low before.low_limit holds few) (
+      refl,
+      record {
+        link = unit_later link;
+        has = refl;
+        in_phase = before.in_phase;
+        request = before.request;
+        limit = limit_later link.flow.cyclic.begun link.flow.cyclic.hearing ∙ before.limit;
+        route = before.route;
+        held_few = held_more link.flow.cyclic.begun link.flow.cyclic.hearing age before.held_few;
+        high = calm_later link.flow.alarms.sender.sending before.high;
+        low = waits_more link.flow.low.alarms.sender.sending link.flow.low.alarms.sender.sending.waiting age before.low;
+        low_limit = before.low_limit;
+      },
+    )

@@ -1,0 +1,13 @@
+use Rattle.rounds_law.proofs.again.controller.controller_ends_refused.Goals as goal
+use Rattle.rounds_law.proofs.AgainRefused.{ended_unit, refused, unset}
+
+pub returns-clause-refused : goal.returns-clause-refused
+returns-clause-refused c = refused c.args.setup.now c.args.identity.now c.stations_are_real.ensures.setup c.stations_are_real.ensures.device
+    c.responses_are_heard.ensures.controller c.answers_are_heard.ensures.set
+
+pub returns-clause-unset : goal.returns-clause-unset
+returns-clause-unset c = unset c.args.setup.now c.args.identity.now c.stations_are_real.ensures.setup c.stations_are_real.ensures.device
+    c.responses_are_heard.ensures.controller c.answers_are_heard.ensures.set
+
+pub returns-clause-unit : goal.returns-clause-unit
+returns-clause-unit c = λ controller ended. ended_unit c.args.setup.now controller ended

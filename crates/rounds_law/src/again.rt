@@ -1,0 +1,9 @@
+//! A controller that starts while its device may still have an earlier relation.
+
+mod controller;
+mod device;
+mod law;
+
+pub use controller::controller_ends_refused;
+pub use device::device_keeps_an_earlier_relation;
+pub use law::both_ends_come_back;

@@ -1,0 +1,44 @@
+//! The law of a controller that starts again.
+ghost use Rattle.std.specs.Prelude.{◌≤◌, ◌+◌, ℕ, suc};
+ghost use Rattle.rounds_law.specs.Again.{AreStarts, IsRestart, LeadsBack, Plant};
+ghost use Rattle.rounds_law.specs.Start.{CanStart, start_up_limit};
+
+use crate::again::controller::controller_ends_refused;
+use crate::again::device::device_keeps_an_earlier_relation;
+use crate::controller::{
+    controller_finds_its_device, controller_goes_on_in_time, controller_takes_responses,
+};
+use crate::device::{
+    device_answers_the_search, device_goes_on_in_time, device_takes_calls, device_takes_writes,
+};
+use crate::law::both_ends_start;
+use controller_messages::Setup;
+use flash_model::Flash;
+use pn_values::Identity;
+
+/// A controller of this set-up that starts while its device still has the relation of an earlier start, and that is started again,
+/// with the next set-up, if it ended. Each frame is delivered within a unit, none is lost, and no call of the flash fails.
+pub fn both_ends_come_back<F: Flash<S>, const S: usize>(
+    setup: &Setup,
+    next: &Setup,
+    identity: &Identity,
+)
+    // If the pause before the next start is at least as long as the relation lasts without its controller, both ends exchange data within
+    // the pause, a unit, and the time of a start.
+    ensures again { CanStart setup.now identity.now → CanStart next.now identity.now → AreStarts setup.now next.now
+        → (pause left : ℕ) → left ≤ pause → (plant : Plant F) → IsRestart setup.now next.now identity.now left plant
+        → LeadsBack F.Flash pause (suc (pause + start_up_limit setup.now.plan)) plant }
+{
+    both_ends_start::<F, S>(setup, identity);
+    both_ends_start::<F, S>(next, identity);
+    device_answers_the_search(setup, identity);
+    device_takes_calls(setup, identity);
+    device_takes_writes(setup, identity);
+    device_goes_on_in_time(setup, identity);
+    controller_finds_its_device(setup, identity);
+    controller_takes_responses(setup, identity);
+    controller_goes_on_in_time(setup, identity);
+    device_keeps_an_earlier_relation(setup, identity);
+    controller_ends_refused(setup, identity);
+    device_keeps_an_earlier_relation(next, identity);
+}
