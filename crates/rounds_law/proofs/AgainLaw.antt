@@ -18,6 +18,8 @@ use Rattle.controller_messages.specs.declared.request.Request.TheVariants as wan
 use Rattle.controller_messages.specs.declared.setup.Setup.{Setup}
 use Rattle.controller_messages.specs.Requests.{write_count}
 use Rattle.controller_core.specs.declared.stored.event.Event.TheVariants.{Tick}
+use Rattle.controller_core.specs.declared.stored.state.Cause.{Cause}
+use Rattle.controller_core.specs.declared.stored.state.Cause.TheVariants.{DataHold, Refused}
 use Rattle.controller_core.specs.declared.stored.state.State.{State as Phases}
 use Rattle.controller_core.specs.declared.stored.state.State.TheVariants.{Addressing, Connecting}
 use Rattle.controller_core.specs.stored.State.{Controlling}
@@ -25,16 +27,16 @@ use Rattle.controller_core.specs.Machine.{Stepped, first as first_live, opening_
 use Rattle.network_world.specs.World.{is_ended}
 use Rattle.both_ends.specs.startup.Played.{CanMeet}
 use Rattle.both_ends.specs.startup.answer.Answer.{AcceptsInterval}
-use Rattle.rounds_law.specs.Rounds.{BothExchange, Net, Round, Goes}
-use Rattle.rounds_law.specs.Path.{Asks, AsksNext, FindsIt, IsAddressed, IsFree, IsIgnored, IsNamed}
+use Rattle.rounds_law.specs.Rounds.{BothExchange, Net, Round, Goes, hears_all}
+use Rattle.rounds_law.specs.Path.{Asks, AsksNext, FindsIt, IsAddressed, IsFree, IsIgnored, IsNamed, IsOutputs}
 use Rattle.rounds_law.specs.Path.{IsSized, controller_step, device_step, found_frame, request_to}
 use Rattle.rounds_law.specs.Stages.{IsAddressing, IsConnecting, IsLooking, Leads}
 use Rattle.rounds_law.specs.Start.{CanBeAddressed, CanStart, IsOfPlan, start_up_limit}
-use Rattle.rounds_law.specs.Again.{AreStarts, HasEarlier, HasEnded, IsRefusal, IsRestart, LeadsBack, Plant}
+use Rattle.rounds_law.specs.Again.{AreStarts, HasEarlier, HasEnded, HasLeft, HasWaited, IsAlone, IsDeserted, IsEnd, IsRefusal, IsRestart, LeadsBack, Plant}
 use Rattle.rounds_law.specs.Again.{PlantRound, after_round, begun_with, made, started, unset_frame}
 use Rattle.rounds_law.proofs.CompositionEnds.{Passed, addressed_by, asked_after, can_by, ignore, named_by, passed}
 use Rattle.rounds_law.proofs.CompositionLaws.{Laws}
-use Rattle.rounds_law.proofs.CompositionLists.{arrive_first, arrives_as, hears_one, never, went_at}
+use Rattle.rounds_law.proofs.CompositionLists.{arrive, arrive_first, arrives_as, hears_one, never, went_at}
 use Rattle.rounds_law.proofs.CompositionRounds.{opening_is, two_more}
 
 -- ---- more rounds
@@ -101,16 +103,21 @@ pub record AgainLaws (setup : Setup) (identity : Identity) : Type 0 where
   pub unrelated : (outcomes : List Outcome) (station : Station) (live : Live) → live.rest.link ≡ None
       → ((heard_step outcomes station live Ticks).frames ≡ []) × ((heard_step outcomes station live Ticks).live.values ≡ live.values)
       × ((heard_step outcomes station live Ticks).live.rest.calls ≡ live.rest.calls) × ((heard_step outcomes station live Ticks).live.rest.link ≡ None)
+  pub vain : (outcomes : List Outcome) (station : Station) (live : Live) (octets : List ℕ) → station.identity ≡ identity
+      → live.rest.link ≡ None → IsOutputs setup identity.mac octets ⊎ IsEnd setup identity.mac octets
+      → ((device_step outcomes station live octets).frames ≡ []) × ((device_step outcomes station live octets).live ≡ live)
 
 pub record EndedLaws (setup : Setup) (identity : Identity) : Type 0 where
   pub refused : (controller : Controlling) (spare : ℕ) (octets : List ℕ) → Asks setup identity.mac Connecting wants.Connect false spare controller
       → IsRefusal setup identity octets
-      → ((controller_step controller octets).frames ≡ []) × HasEnded setup (controller_step controller octets).controller
+      → ((controller_step controller octets).frames ≡ []) × HasEnded setup Refused (controller_step controller octets).controller
   pub unset : (controller : Controlling) (spare : ℕ) → Asks setup identity.mac Addressing wants.Address false spare controller
       → ((controller_step controller (unset_frame setup identity)).frames ≡ [])
-      × HasEnded setup (controller_step controller (unset_frame setup identity)).controller
-  pub unit : (controller : Controlling) → HasEnded setup controller
-      → ((step_of controller Tick).frames ≡ []) × HasEnded setup (step_of controller Tick).controller
+      × HasEnded setup Refused (controller_step controller (unset_frame setup identity)).controller
+  pub unit : (cause : Cause) (controller : Controlling) → HasEnded setup cause controller
+      → ((step_of controller Tick).frames ≡ []) × HasEnded setup cause (step_of controller Tick).controller
+  pub alone : (controller : Controlling) (left : ℕ) → IsAlone setup identity.mac left controller
+      → HasLeft setup identity.mac (step_of controller Tick) ⊎ HasWaited setup identity.mac left (step_of controller Tick)
 
 -- ---- a net whose device still has the earlier relation
 
@@ -156,7 +163,8 @@ record IsAsking {F : Type 0} (setup next : Setup) (identity : Identity) (left : 
 -- The controller has ended.
 record IsOver {F : Type 0} (setup next : Setup) (identity : Identity) (left : ℕ) (net : Net F) : Type 0 where
   stands : Stands setup next identity net
-  ended : HasEnded setup net.controller
+  cause : Cause
+  ended : HasEnded setup cause net.controller
   nothing : net.to_device ≡ []
   lasts : Lasts setup next left net.device.live
 
@@ -412,11 +420,11 @@ module _ {F : Type 0} {S : ℕ} (as_flash : Flash F S) (setup next : Setup) (ide
   -- ---- the device refuses
 
   -- The controller after the unit in which it ended.
-  over_after : (heard : Stepped) (after : Net F) → heard.frames ≡ [] → HasEnded setup heard.controller → Passed heard after
-      → HasEnded setup after.controller × (after.to_device ≡ [])
-  over_after heard after none ended u =
-      let law = ends.unit heard.controller ended in (
-        subst (λ (c : Controlling). HasEnded setup c) (sym u.controller) law.1,
+  over_after : (why : Cause) (heard : Stepped) (after : Net F) → heard.frames ≡ [] → HasEnded setup why heard.controller → Passed heard after
+      → HasEnded setup why after.controller × (after.to_device ≡ [])
+  over_after why heard after none ended u =
+      let law = ends.unit why heard.controller ended in (
+        subst (λ (c : Controlling). HasEnded setup why c) (sym u.controller) law.1,
         u.to_device ∙ (ap (λ (fs : List (List ℕ)). fs ++ (step_of heard.controller Tick).frames) none ∙ law.0),
       )
 
@@ -450,12 +458,13 @@ module _ {F : Type 0} {S : ℕ} (as_flash : Flash F S) (setup next : Setup) (ide
       net.controller net.to_controller (its.0 ∷ []) stands.ignored asking.asks in
       let step = controller_step kept.between its.0 in
       let ended = ends.refused kept.between asking.spare its.0 kept.is its.2 in
-      let over = over_after step after ended.0 ended.1
+      let over = over_after Refused step after ended.0 ended.1
       (passed as_flash net after round (its.0 ∷ []) step (all.0.sent ∙ its.1) (kept.goes_on ∙ hears_one kept.between its.0)) in
       record {
         stands = stays_on net after left round.device all.0.is.values all.0.is.uncalled stands unit;
         ended = over.0;
         nothing = over.1;
+        cause = Refused;
         lasts = unit.lasts;
       }
 
@@ -477,7 +486,7 @@ module _ {F : Type 0} {S : ℕ} (as_flash : Flash F S) (setup next : Setup) (ide
       net.controller net.to_controller (unset_frame setup identity ∷ []) stands.ignored asking.asks in
       let step = controller_step kept.between (unset_frame setup identity) in
       let ended = ends.unset kept.between asking.spare kept.is in
-      let over = over_after step after ended.0 ended.1
+      let over = over_after Refused step after ended.0 ended.1
       (passed as_flash net after round (unset_frame setup identity ∷ []) step (all.0.sent ∙ law.0)
       (kept.goes_on ∙ hears_one kept.between (unset_frame setup identity))) in
       record {
@@ -485,6 +494,7 @@ module _ {F : Type 0} {S : ℕ} (as_flash : Flash F S) (setup next : Setup) (ide
             (ap (λ (live : Live). kept_of next.activity live.rest.calls) all.0.is ∙ stands.uncalled_next) stands unit;
         ended = over.0;
         nothing = over.1;
+        cause = Refused;
         lasts = unit.lasts;
       }
 
@@ -495,14 +505,15 @@ module _ {F : Type 0} {S : ℕ} (as_flash : Flash F S) (setup next : Setup) (ide
       → IsOver setup next identity later after
   waits_with left later net after over round unit still silent =
       let stands = over.stands in
-      let kept = ignore setup (HasEnded setup) (λ c is. (is.of_setup, is.unestablished)) net.controller net.to_controller [] stands.ignored over.ended in
+      let kept = ignore setup (HasEnded setup over.cause) (λ c is. (is.of_setup, is.unestablished)) net.controller net.to_controller [] stands.ignored over.ended in
       let step : Stepped = record { controller = kept.between; frames = [] } in
-      let done = over_after step after refl kept.is (passed as_flash net after round [] step silent kept.goes_on) in
+      let done = over_after over.cause step after refl kept.is (passed as_flash net after round [] step silent kept.goes_on) in
       record {
         stands = stays_on net after later round.device (ap (λ (d : State F). d.live.values) still)
             (ap (λ (d : State F). kept_of next.activity d.live.rest.calls) still ∙ stands.uncalled_next) stands unit;
         ended = done.0;
         nothing = done.1;
+        cause = over.cause;
         lasts = unit.lasts;
       }
 
@@ -517,6 +528,101 @@ module _ {F : Type 0} {S : ℕ} (as_flash : Flash F S) (setup next : Setup) (ide
           → Aged setup next net.device.station round.device.live (less left) after.to_controller after.device
       by_left zero same own none = free_aged round.device net.device.station 0 after.to_controller after.device same round.unit none
       by_left (suc left) same own lasts = aged round.device net.device.station left after.to_controller after.device same own round.unit lasts
+
+  -- ---- the device lost its power while data was exchanged
+
+  -- It has no relation, its controller still exchanges data, and only outputs are under way.
+  record IsLeft (left : ℕ) (net : Net F) : Type 0 where
+    stands : Stands setup next identity net
+    alone : IsAlone setup identity.mac left net.controller
+    outputs : AllByRecursion (IsOutputs setup identity.mac) net.to_device
+    silent : net.to_controller ≡ []
+    unrelated : net.device.live.rest.link ≡ None
+
+  -- Its controller has ended, and the ERR is under way.
+  record IsEnding (net : Net F) : Type 0 where
+    stands : Stands setup next identity net
+    ended : HasEnded setup DataHold net.controller
+    octets : List ℕ
+    end : IsEnd setup identity.mac octets
+    under_way : net.to_device ≡ octets ∷ []
+    silent : net.to_controller ≡ []
+    unrelated : net.device.live.rest.link ≡ None
+
+  -- What a round does if nothing is under way to the controller, and what is under way to the device changes nothing there.
+  record Vain (net after : Net F) : Type 0 where
+    stands : Stands setup next identity after
+    silent : after.to_controller ≡ []
+    unrelated : after.device.live.rest.link ≡ None
+    passed : Passed (record { controller = net.controller; frames = [] }) after
+
+  in_vain : (net after : Net F) → Stands setup next identity net → net.to_controller ≡ [] → net.device.live.rest.link ≡ None
+      → AllByRecursion (λ (octets : List ℕ). IsOutputs setup identity.mac octets ⊎ IsEnd setup identity.mac octets) net.to_device
+      → Round as_flash net after → Vain net after
+  in_vain net after stands silent none said round =
+      let station = net.device.station in
+      let all = arrive as_flash station (λ (live : Live). live ≡ net.device.live)
+      (λ (octets : List ℕ). IsOutputs setup identity.mac octets ⊎ IsEnd setup identity.mac octets)
+      (λ live octets is same.
+      let law = again.vain [] station live octets stands.of_device (ap (λ (l : Live). l.rest.link) same ∙ none) is in (law.0, law.1 ∙ same))
+      net.device net.to_device round.answers round.device refl said refl round.arrives in
+      let still : round.device.live.rest.link ≡ None = ap (λ (live : Live). live.rest.link) all.is ∙ none in
+      let unit = free_aged round.device station 0 after.to_controller after.device all.of_station round.unit still in
+      let step : Stepped = record { controller = net.controller; frames = [] } in
+      record {
+        stands = stays_on net after 0 round.device (ap (λ (live : Live). live.values) all.is)
+            (ap (λ (live : Live). kept_of next.activity live.rest.calls) all.is ∙ stands.uncalled_next) stands unit;
+        silent = (went_at as_flash round.device station Ticks after.to_controller after.device all.of_station round.unit).sent
+            ∙ (again.unrelated [] station round.device.live still).0;
+        unrelated = unit.lasts;
+        passed = passed as_flash net after round [] step all.sent (ap (λ (fs : List (List ℕ)). hears_all net.controller (fs ++ [])) silent);
+      }
+
+  outputs_said : (frames : List (List ℕ)) → AllByRecursion (IsOutputs setup identity.mac) frames
+      → AllByRecursion (λ (octets : List ℕ). IsOutputs setup identity.mac octets ⊎ IsEnd setup identity.mac octets) frames
+  outputs_said [] all = tt
+  outputs_said (octets ∷ frames) all = (inl all.0, outputs_said frames all.1)
+
+  -- After a round with such a device: the controller has ended, or its data hold time has a unit less.
+  abbrev LeftAfter : ℕ → Net F → Type 0
+  LeftAfter left after = IsEnding after ⊎ ((fewer : ℕ) × (left ≡ suc fewer) × IsLeft fewer after)
+
+  left_after : (left : ℕ) (net after : Net F) → IsLeft left net → Round as_flash net after → LeftAfter left after
+  left_after left net after at round = by_law (ends.alone net.controller left at.alone)
+    where
+      vain : Vain net after
+      vain = in_vain net after at.stands at.silent at.unrelated (outputs_said net.to_device at.outputs) round
+
+      by_law : HasLeft setup identity.mac (step_of net.controller Tick) ⊎ HasWaited setup identity.mac left (step_of net.controller Tick) → LeftAfter left after
+      by_law (inl over) = inl (record {
+        stands = vain.stands;
+        ended = subst (λ (c : Controlling). HasEnded setup DataHold c) (sym vain.passed.controller) over.ended;
+        octets = over.octets;
+        end = over.end;
+        under_way = vain.passed.to_device ∙ over.frames;
+        silent = vain.silent;
+        unrelated = vain.unrelated;
+      })
+      by_law (inr waited) = inr (
+        waited.fewer,
+        waited.less,
+        record {
+          stands = vain.stands;
+          alone = subst (λ (c : Controlling). IsAlone setup identity.mac waited.fewer c) (sym vain.passed.controller) waited.alone;
+          outputs = subst (λ (fs : List (List ℕ)). AllByRecursion (IsOutputs setup identity.mac) fs) (sym vain.passed.to_device) waited.outputs;
+          silent = vain.silent;
+          unrelated = vain.unrelated;
+        },
+      )
+
+  -- After the round in which the ERR arrives.
+  over_then : (net after : Net F) → IsEnding net → Round as_flash net after → IsOver setup next identity 0 after
+  over_then net after at round =
+      let vain = in_vain net after at.stands at.silent at.unrelated
+      (subst (λ (fs : List (List ℕ)). AllByRecursion (λ (octets : List ℕ). IsOutputs setup identity.mac octets ⊎ IsEnd setup identity.mac octets) fs)
+      (sym at.under_way) (inr at.end, tt)) round in
+      let over = over_after DataHold (record { controller = net.controller; frames = [] }) after refl at.ended vain.passed in
+      record { stands = vain.stands; cause = DataHold; ended = over.0; nothing = over.1; lasts = vain.unrelated }
 
   -- ---- the next start
 
@@ -552,11 +658,11 @@ module _ {F : Type 0} {S : ℕ} (as_flash : Flash F S) (setup next : Setup) (ide
     limit = start_up_limit setup.plan
 
     -- after a round a controller that has ended is started again, or not yet
-    ended_round : (plant : Plant F) (net : Net F) → plant.later ≡ next ∷ more → HasEnded setup net.controller
+    ended_round : (plant : Plant F) (net : Net F) → plant.later ≡ next ∷ more → (why : Cause) → HasEnded setup why net.controller
         → (now : Bool) → nat_le pause (plant.idle + 1) ≡ now
         → after_round pause plant net
         ≡ (if now then record { net = begun_with next net; later = more; idle = 0 } else record { net = net; later = next ∷ more; idle = plant.idle + 1 })
-    ended_round plant net later ended now is =
+    ended_round plant net later why ended now is =
         ap (λ (p : Phases). if is_ended p then (if nat_le pause (plant.idle + 1) then started plant.later net (plant.idle + 1)
         else record { net = net; later = plant.later; idle = plant.idle + 1 }) else record { net = net; later = plant.later; idle = 0 }) ended.in_phase
         ∙ (ap (λ (l : List Setup). if nat_le pause (plant.idle + 1) then started l net (plant.idle + 1)
@@ -567,7 +673,7 @@ module _ {F : Type 0} {S : ℕ} (as_flash : Flash F S) (setup next : Setup) (ide
     starts_now : (plant after : Plant F) (round : PlantRound as_flash pause plant after) → plant.later ≡ next ∷ more → nat_le pause (plant.idle + 1) ≡ true
         → IsOver setup next identity 0 round.net → LeadsBack as_flash pause limit after
     starts_now plant after round later now over =
-        subst (LeadsBack as_flash pause limit) (sym (round.goes_on ∙ ended_round plant round.net later over.ended true now))
+        subst (LeadsBack as_flash pause limit) (sym (round.goes_on ∙ ended_round plant round.net later over.cause over.ended true now))
         (plant_leads as_flash pause limit (record { net = begun_with next round.net; later = more; idle = 0 })
         (next_starts (begun_with next round.net) (begins round.net over)))
 
@@ -589,7 +695,7 @@ module _ {F : Type 0} {S : ℕ} (as_flash : Flash F S) (setup next : Setup) (ide
         none_left n few = omega (arith, few)
     over_leads (suc r) plant left later is few over = inr (λ after round.
         let on = waits left plant.net round.net over round.round in
-        let goes = round.goes_on ∙ ended_round plant round.net later on.ended false (more_than pause (plant.idle + 1) (omega (arith, is))) in
+        let goes = round.goes_on ∙ ended_round plant round.net later on.cause on.ended false (more_than pause (plant.idle + 1) (omega (arith, is))) in
         subst (LeadsBack as_flash pause (suc (sum r limit))) (sym goes)
         (over_leads r (record { net = round.net; later = next ∷ more; idle = plant.idle + 1 })
         (less left) refl (omega (arith, is)) (less_few left (suc r) few) on))
@@ -612,9 +718,86 @@ module _ {F : Type 0} {S : ℕ} (as_flash : Flash F S) (setup next : Setup) (ide
         by_pause (suc (suc r)) e =
             leads_more as_flash pause (suc (sum r limit)) (pause + limit - 1) after (sum_few r e)
             (subst (LeadsBack as_flash pause (suc (sum r limit)))
-            (sym (round.goes_on ∙ ended_round plant round.net later over.ended false (more_than pause (plant.idle + 1) (omega (arith, e, idle)))))
+            (sym (round.goes_on ∙ ended_round plant round.net later over.cause over.ended false (more_than pause (plant.idle + 1) (omega (arith, e, idle)))))
             (over_leads r (record { net = round.net; later = next ∷ more; idle = plant.idle + 1 }) left refl
             (omega (arith, e, idle)) (omega (arith, few, e)) over))
+
+    -- after the round in which the ERR of a controller that was left arrived
+    ending_leads : (plant : Plant F) → plant.later ≡ next ∷ more → plant.idle ≡ 1 → 2 ≤ pause → IsEnding plant.net
+        → LeadsBack as_flash pause (suc (pause + limit - 2)) plant
+    ending_leads plant later idle long at = inr (λ after round. by_pause after round (over_then plant.net round.net at round.round) pause refl)
+      where
+        sum_few : (r : ℕ) → pause ≡ suc (suc (suc r)) → suc (sum r limit) ≤ pause + limit - 2
+        sum_few r e = let is : sum r limit ≡ r + limit = sum_is r limit in omega (arith, is, e)
+
+        by_pause : (after : Plant F) (round : PlantRound as_flash pause plant after) → IsOver setup next identity 0 round.net
+            → (p : ℕ) → pause ≡ p → LeadsBack as_flash pause (pause + limit - 2) after
+        by_pause after round over zero e = absurd (omega (arith, long, e))
+        by_pause after round over (suc zero) e = absurd (omega (arith, long, e))
+        by_pause after round over (suc (suc zero)) e =
+            leads_more as_flash pause limit (pause + limit - 2) after (omega (arith, e))
+            (starts_now plant after round later (at_most pause (plant.idle + 1) (omega (arith, e, idle))) over)
+        by_pause after round over (suc (suc (suc r))) e =
+            leads_more as_flash pause (suc (sum r limit)) (pause + limit - 2) after (sum_few r e)
+            (subst (LeadsBack as_flash pause (suc (sum r limit)))
+            (sym (round.goes_on ∙ ended_round plant round.net later over.cause over.ended false (more_than pause (plant.idle + 1) (omega (arith, e, idle)))))
+            (over_leads r (record { net = round.net; later = next ∷ more; idle = plant.idle + 1 }) 0 refl
+            (omega (arith, e, idle)) (omega arith) over))
+
+    abbrev end_limit : ℕ
+    end_limit = suc (pause + limit - 2)
+
+    enough_to_end : (left : ℕ) → end_limit ≤ sum left end_limit
+    enough_to_end left = let is : sum left end_limit ≡ left + end_limit = sum_is left end_limit in omega (arith, is)
+
+    -- after a round with such a device
+    left_round : (n left : ℕ) (plant after : Plant F) (round : PlantRound as_flash pause plant after) → plant.later ≡ next ∷ more → plant.idle ≡ 0 → 2 ≤ pause
+        → end_limit ≤ n → ((fewer : ℕ) → left ≡ suc fewer → IsLeft fewer round.net → LeadsBack as_flash pause n after)
+        → LeftAfter left round.net → LeadsBack as_flash pause n after
+    left_round n left plant after round later idle long enough on (inl ending) =
+        leads_more as_flash pause end_limit n after enough
+        (subst (LeadsBack as_flash pause end_limit)
+        (sym (round.goes_on ∙ ended_round plant round.net later DataHold ending.ended false (more_than pause (plant.idle + 1) (omega (arith, long, idle)))))
+        (ending_leads (record { net = round.net; later = next ∷ more; idle = plant.idle + 1 }) refl (omega (arith, idle)) long ending))
+    left_round n left plant after round later idle long enough on (inr still) = on still.0 still.1 still.2
+
+    left_leads : (left : ℕ) (plant : Plant F) → plant.later ≡ next ∷ more → plant.idle ≡ 0 → 2 ≤ pause → IsLeft left plant.net
+        → LeadsBack as_flash pause (suc (sum left end_limit)) plant
+    left_leads zero plant later idle long at = inr (λ after round.
+        left_round end_limit zero plant after round later idle long (enough_to_end zero) (λ fewer same still. absurd cc)
+        (left_after zero plant.net round.net at round.round))
+    left_leads (suc left) plant later idle long at = inr (λ after round.
+        left_round (suc (sum left end_limit)) (suc left) plant after round later idle long (enough_to_end (suc left))
+        (λ fewer same still.
+        subst (LeadsBack as_flash pause (suc (sum left end_limit)))
+        (sym (round.goes_on ∙ goes_on_with pause plant round.net (ap is_ended still.alone.in_phase)))
+        (left_leads left (record { net = round.net; later = plant.later; idle = 0 }) later refl long
+        (subst (λ (n : ℕ). IsLeft n round.net) (omega (arith, same)) still)))
+        (left_after (suc left) plant.net round.net at round.round))
+
+    pub comes_back_alone : (left : ℕ) → 2 ≤ pause → (plant : Plant F) → (at : IsDeserted setup next identity left plant) → at.more ≡ more
+        → LeadsBack as_flash pause (left + pause + limit) plant
+    comes_back_alone left long plant at same =
+        leads_more as_flash pause (suc (sum left end_limit)) (left + pause + limit) plant enough
+        (left_leads left plant (at.later ∙ ap (λ (l : List Setup). next ∷ l) same) at.idle long (record {
+          stands = record {
+            ignored = subst (λ (fs : List (List ℕ)). AllByRecursion (IsIgnored setup) fs) (sym at.silent) tt;
+            ignored_next = subst (λ (fs : List (List ℕ)). AllByRecursion (IsIgnored next) fs) (sym at.silent) tt;
+            of_device = at.of_device;
+            of_plan = at.of_plan;
+            named = at.named;
+            sized = at.sized;
+            addressed = at.addressed;
+            uncalled_next = at.uncalled_next;
+          };
+          alone = at.alone;
+          outputs = at.outputs;
+          silent = at.silent;
+          unrelated = at.unrelated;
+        }))
+      where
+        enough : suc (sum left end_limit) ≤ left + pause + limit
+        enough = let is : sum left end_limit ≡ left + end_limit = sum_is left end_limit in omega (arith, is, long)
 
     -- ---- the whole
 

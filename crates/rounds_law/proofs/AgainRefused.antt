@@ -22,6 +22,7 @@ use Rattle.controller_messages.specs.Heard.{Heard, Answers, Responds, heard_of}
 use Rattle.controller_messages.specs.Requests.{address_asked, call_for}
 use Rattle.controller_core.specs.declared.stored.state.State.{State}
 use Rattle.controller_core.specs.declared.stored.state.State.TheVariants.{Addressing, Connecting, Ended}
+use Rattle.controller_core.specs.declared.stored.state.Cause.{Cause}
 use Rattle.controller_core.specs.declared.stored.state.Cause.TheVariants as cause
 use Rattle.controller_core.specs.declared.stored.event.Event.TheVariants.{Frame, Tick}
 use Rattle.controller_core.specs.stored.State.{Controlling, Live, is_limited}
@@ -41,7 +42,7 @@ use Rattle.rounds_law.proofs.SearchingController.{mine_so}
 
 -- a controller that is over because it was refused, without an established relation and without a request of the application
 over_ended : (setup : Setup) (controller : Controlling) (live : Live) (step : Stepped) → controller.setup ≡ setup → live.access.waiting ≡ None
-    → step ≡ stepped controller (stays (over cause.Refused live)) → HasEnded setup step.controller
+    → step ≡ stepped controller (stays (over cause.Refused live)) → HasEnded setup cause.Refused step.controller
 over_ended setup controller live step same alone e =
     record {
       of_setup = ap (λ (s : Stepped). s.controller.setup) e ∙ same;
@@ -86,7 +87,7 @@ module _ (setup : Setup) (identity : Identity) (good : IsSetup setup) (device : 
 
   pub refused : (controller : Controlling) (spare : ℕ) (octets : List ℕ) → Asks setup identity.mac Connecting asks.Connect false spare controller
       → IsRefusal setup identity octets
-      → ((controller_step controller octets).frames ≡ []) × HasEnded setup (controller_step controller octets).controller
+      → ((controller_step controller octets).frames ≡ []) × HasEnded setup cause.Refused (controller_step controller octets).controller
   unfolding step_of
   refused controller spare octets asking refusal =
       let step_is = ap (λ (s : Setup). stepped controller (turn_of s controller.live (Frame (record { items = octets })))) asking.of_setup
@@ -112,7 +113,7 @@ module _ (setup : Setup) (identity : Identity) (good : IsSetup setup) (device : 
 
   pub unset : (controller : Controlling) (spare : ℕ) → Asks setup identity.mac Addressing asks.Address false spare controller
       → ((controller_step controller (unset_frame setup identity)).frames ≡ [])
-      × HasEnded setup (controller_step controller (unset_frame setup identity)).controller
+      × HasEnded setup cause.Refused (controller_step controller (unset_frame setup identity)).controller
   unfolding step_of
   unset controller spare asking =
       let step_is = ap (λ (s : Setup). stepped controller (turn_of s controller.live (Frame (record { items = unset_frame setup identity })))) asking.of_setup
@@ -124,9 +125,9 @@ module _ (setup : Setup) (identity : Identity) (good : IsSetup setup) (device : 
 -- ---- units
 
 -- the unit of a controller that has ended, without a request
-ended_turn : (setup : Setup) (live : Live) → live.phase ≡ Ended cause.Refused → live.asked ≡ None → live.stands ≡ false
+ended_turn : (setup : Setup) (why : Cause) (live : Live) → live.phase ≡ Ended why → live.asked ≡ None → live.stands ≡ false
     → turn_of setup live Tick ≡ stays (later live)
-ended_turn setup live ended none unrelated =
+ended_turn setup why live ended none unrelated =
     ap (λ (p : State). if is_limited p && live.left == 1 then quit setup cause.NoProgress (later live) live.phase
     else gone_on (later live) (is_again live)) ended
     ∙ (ap (λ (b : Bool). if b then flowed (exchange_later (later live)) (due live.alarms.sending) (due live.low_alarms.sending)
@@ -139,11 +140,11 @@ ended_turn setup live ended none unrelated =
     nothing_due true = refl
     nothing_due false = refl
 
-pub ended_unit : (setup : Setup) (controller : Controlling) → HasEnded setup controller
-    → ((step_of controller Tick).frames ≡ []) × HasEnded setup (step_of controller Tick).controller
+pub ended_unit : (setup : Setup) (why : Cause) (controller : Controlling) → HasEnded setup why controller
+    → ((step_of controller Tick).frames ≡ []) × HasEnded setup why (step_of controller Tick).controller
 unfolding step_of
-ended_unit setup controller ended =
-    let step_is = ap (stepped controller) (ended_turn controller.setup controller.live ended.in_phase ended.unasked ended.unestablished) in (
+ended_unit setup why controller ended =
+    let step_is = ap (stepped controller) (ended_turn controller.setup why controller.live ended.in_phase ended.unasked ended.unestablished) in (
       ap (λ (s : Stepped). s.frames) step_is,
       record {
         of_setup = ap (λ (s : Stepped). s.controller.setup) step_is ∙ ended.of_setup;

@@ -30,12 +30,12 @@ use Rattle.rounds_law.specs.Path.{Asks, Controls, IsOutputs, IsRoute, hold_of}
 use Rattle.rounds_law.proofs.ControllerPassingParts.{brings, either_kept, held_later, kept_by, limit_later, unbegun_heard, unheld, waits_on}
 use Rattle.rounds_law.proofs.Choices.{and_false}
 
-abbrev turn_with : Live → List Sent → Turn
+abbrev pub turn_with : Live → List Sent → Turn
 turn_with live sent = record { live = live; sent = sent }
 
 -- ---- one unit
 
-by_turn : (controller : Controlling) (turn : Turn) → ticked controller.setup controller.live ≡ turn → step_of controller Tick ≡ stepped controller turn
+pub by_turn : (controller : Controlling) (turn : Turn) → ticked controller.setup controller.live ≡ turn → step_of controller Tick ≡ stepped controller turn
 unfolding step_of
 by_turn controller turn is = ap (stepped controller) is
 
@@ -43,14 +43,14 @@ by_turn controller turn is = ap (stepped controller) is
 unspent : (live : Live) → (live.left == 1) ≡ false → is_spent live ≡ false
 unspent live more = ap (λ (b : Bool). is_limited live.phase && b) more ∙ and_false (is_limited live.phase)
 
-goes_on : (setup : Setup) (live : Live) → is_spent live ≡ false → ticked setup live ≡ gone_on (later live) (is_again live)
+pub goes_on : (setup : Setup) (live : Live) → is_spent live ≡ false → ticked setup live ≡ gone_on (later live) (is_again live)
 goes_on setup live more = ap (λ (b : Bool). if b then quit setup NoProgress (later live) live.phase else gone_on (later live) (is_again live)) more
 
 gone_off : (live : Live) (is_request : Bool) → live.stands ≡ false → is_request ≡ false → gone_on live is_request ≡ turn_with live []
 gone_off live is_request stands none = rw (stands, none) refl
 
 -- What is sent with a unit that does not end the relation.
-abbrev sent_at : Live → Due → Due → List Sent
+abbrev pub sent_at : Live → Due → Due → List Sent
 sent_at live high low = due_frames (flow_later live) (is_repeated high) (is_repeated low) (is_again live) (is_due live.cyclic.sending)
 
 gone_there : (live : Live) (is_request : Bool) → live.stands ≡ true → is_silent live.cyclic ≡ false → ending_by (due live.alarms.sending) ≡ None
@@ -67,7 +67,7 @@ gone_there live is_request stands heard one other =
     (brings live.cyclic (either_due high low) heard (either_kept high low one other))
 
 -- If the relation is established, and nothing ends it.
-turn_there : (setup : Setup) (live : Live) → is_spent live ≡ false → live.stands ≡ true → is_silent live.cyclic ≡ false
+pub turn_there : (setup : Setup) (live : Live) → is_spent live ≡ false → live.stands ≡ true → is_silent live.cyclic ≡ false
     → ending_by (due live.alarms.sending) ≡ None
     → ending_by (due live.low_alarms.sending) ≡ None
     → ticked setup live ≡ turn_with (flow_later live) (sent_at live (due live.alarms.sending) (due live.low_alarms.sending))
@@ -84,7 +84,7 @@ outputs_are setup own device route shown counter of to = record {
   frame = ap (λ (s : Setup). bytes_of s (Cycles route shown counter)) of ∙ ap (λ (r : Route). bytes_of setup (Cycles r shown counter)) to;
 }
 
-only_outputs : (setup own : Setup) (device : Mac) (route : Route) (shown : Shown) (counter : ℕ) (is_due : Bool) → own ≡ setup
+pub only_outputs : (setup own : Setup) (device : Mac) (route : Route) (shown : Shown) (counter : ℕ) (is_due : Bool) → own ≡ setup
     → route ≡ outputs_route device 0xC000 1
     → AllByRecursion (IsOutputs setup device) (map (bytes_of own) (where_due is_due (Cycles route shown counter ∷ [])))
 only_outputs setup own device route shown counter true of to = (outputs_are setup own device route shown counter of to, tt)
@@ -189,6 +189,22 @@ none_pending : (live : Live) (asked : Option Request) → asked ≡ None → liv
 none_pending live asked none alone = ap (pending_by live) none
     ∙ ap (λ (waiting : Option RecordRequest). accesses_by live.device live.access.octets waiting) alone
 
+-- Without an alarm that waits and without a request, outputs at most.
+pub quiet : (setup : Setup) (device : Mac) (controller : Controlling) → controller.setup ≡ setup → controller.live.cyclic.route ≡ outputs_route device 0xC000 1
+    → due controller.live.alarms.sending ≡ Nothing → due controller.live.low_alarms.sending ≡ Nothing
+    → controller.live.asked ≡ None → controller.live.access.waiting ≡ None
+    → AllByRecursion (IsOutputs setup device) (map (bytes_of controller.setup)
+    (sent_at controller.live (due controller.live.alarms.sending) (due controller.live.low_alarms.sending)))
+quiet setup device controller of_setup to none_high none_low unasked alone =
+    let live = controller.live in
+    let sent : sent_at live (due live.alarms.sending) (due live.low_alarms.sending) ≡ where_due (is_due live.cyclic.sending) (outputs_of (flow_later live)) =
+    ap (λ (d : Due). sent_at live d (due live.low_alarms.sending)) none_high ∙ ap (λ (d : Due). sent_at live Nothing d) none_low
+    ∙ ap (λ (sent : List Sent). where_due (is_again live) sent ++ where_due (is_due live.cyclic.sending) (outputs_of (flow_later live)))
+    (none_pending (flow_later live) live.asked unasked alone)
+    ∙ ap (λ (sent : List Sent). sent ++ where_due (is_due live.cyclic.sending) (outputs_of (flow_later live))) (idle (is_again live)) in
+    subst (λ (messages : List Sent). AllByRecursion (IsOutputs setup device) (map (bytes_of controller.setup) messages)) (sym sent)
+    (only_outputs setup controller.setup device live.cyclic.route live.cyclic.shown (later live).units (is_due live.cyclic.sending) of_setup to)
+
 module _ (setup : Setup) (device : Mac) (age : ℕ) (controller : Controlling) (holds : age + 2 ≤ hold_of setup.plan) (young : age < 3000)
     (is : Controls setup device age controller) where
   none_high : due controller.live.alarms.sending ≡ Nothing
@@ -232,16 +248,8 @@ module _ (setup : Setup) (device : Mac) (age : ℕ) (controller : Controlling) (
       → IsQuiet (stepped controller (turn_with (flow_later controller.live)
       (sent_at controller.live (due controller.live.alarms.sending) (due controller.live.low_alarms.sending))))
   quiet_on rests =
-      let live = controller.live in
-      let none_low : due live.low_alarms.sending ≡ Nothing = ap (due_behind live.low_alarms.sending) rests in
-      let sent : sent_at live (due live.alarms.sending) (due live.low_alarms.sending) ≡ where_due (is_due live.cyclic.sending) (outputs_of (flow_later live)) =
-      ap (λ (d : Due). sent_at live d (due live.low_alarms.sending)) none_high ∙ ap (λ (d : Due). sent_at live Nothing d) none_low
-      ∙ ap (λ (sent : List Sent). where_due (is_again live) sent ++ where_due (is_due live.cyclic.sending) (outputs_of (flow_later live)))
-      (none_pending (flow_later live) live.asked is.unasked is.alone)
-      ∙ ap (λ (sent : List Sent). sent ++ where_due (is_due live.cyclic.sending) (outputs_of (flow_later live))) (idle (is_again live)) in (
-        subst (λ (messages : List Sent). AllByRecursion (IsOutputs setup device) (map (bytes_of controller.setup) messages)) (sym sent)
-            (only_outputs setup controller.setup device live.cyclic.route live.cyclic.shown (later live).units
-            (is_due live.cyclic.sending) is.of_setup is.route),
+      let live = controller.live in (
+        quiet setup device controller is.of_setup is.route none_high (ap (due_behind live.low_alarms.sending) rests) is.unasked is.alone,
         ap (waiting_behind live.low_alarms.sending) rests,
       )
 

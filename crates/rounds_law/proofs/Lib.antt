@@ -33,6 +33,8 @@ pub mod SearchingDevice
 pub mod SearchingController
 pub mod AgainIgnored
 pub mod AgainKept
+pub mod AgainAlone
+pub mod AgainVain
 pub mod AgainLaw
 pub mod AgainRefused
 pub mod AgainUnits

@@ -3,6 +3,11 @@ use Rattle.std.specs.Prelude.{◌≡◌, ◌⊎◌, ◌≤◌, ◌+◌, ◌-◌,
 use Rattle.std.specs.List.{AllByRecursion}
 use Rattle.flash_model.specs.declared.flash.Flash.{Ghosts as Flash}
 use Rattle.pn_values.specs.declared.identity.Identity.{Identity}
+use Rattle.pn_values.specs.declared.mac.Mac.{Mac}
+use Rattle.pn_alarms.specs.declared.abort.Abort.{Abort}
+use Rattle.pn_alarms.specs.declared.pdu.Header.{Header}
+use Rattle.controller_core.specs.stored.Opening.{route_of as outputs_route}
+use Rattle.controller_messages.specs.Sent.{Ends, bytes_of as controller_bytes}
 use Rattle.pn_values.specs.declared.set_item.BlockError.TheVariants.{InOperation}
 use Rattle.rpc_core.specs.declared.response.Status.{Status}
 use Rattle.rpc_core.specs.Response.{answer_to, is_done}
@@ -17,14 +22,15 @@ use Rattle.device_core.specs.Handled.{partner_of}
 use Rattle.controller_messages.specs.declared.request.Request.TheVariants as asks
 use Rattle.controller_messages.specs.declared.setup.Setup.{Setup}
 use Rattle.controller_messages.specs.Requests.{address_asked, call_for}
-use Rattle.controller_core.specs.declared.stored.state.State.TheVariants.{Ended}
-use Rattle.controller_core.specs.declared.stored.state.Cause.TheVariants.{Refused}
+use Rattle.controller_core.specs.declared.stored.state.State.TheVariants.{Ended, Exchanging}
+use Rattle.controller_core.specs.declared.stored.state.Cause.{Cause}
+use Rattle.controller_core.specs.declared.stored.state.Cause.TheVariants.{DataHold}
 use Rattle.controller_core.specs.stored.State.{Controlling}
-use Rattle.controller_core.specs.Machine.{first as first_live, opening_of}
+use Rattle.controller_core.specs.Machine.{Stepped, first as first_live, opening_of}
 use Rattle.network_world.specs.World.{is_ended}
 use Rattle.both_ends.specs.startup.request.Request.{request_for}
 use Rattle.both_ends.specs.startup.answer.Answer.{caller_of}
-use Rattle.rounds_law.specs.Path.{IsAddressed, IsIgnored, IsNamed, IsSized}
+use Rattle.rounds_law.specs.Path.{IsAddressed, IsIgnored, IsNamed, IsOutputs, IsSized}
 use Rattle.rounds_law.specs.Rounds.{BothExchange, Net, Round}
 use Rattle.rounds_law.specs.Start.{CanBeAddressed, IsOfPlan}
 
@@ -66,13 +72,47 @@ unset_frame setup identity = device_bytes identity (SetAnswer setup.plan.control
 
 -- ---- the controller
 
--- The controller has ended because the device refused it. It has no open request.
-pub record HasEnded (setup : Setup) (controller : Controlling) : Type 0 where
+-- The controller has ended for this cause. It has no open request.
+pub record HasEnded (setup : Setup) (cause : Cause) (controller : Controlling) : Type 0 where
   pub of_setup : controller.setup ≡ setup
-  pub in_phase : controller.live.phase ≡ Ended Refused
+  pub in_phase : controller.live.phase ≡ Ended cause
   pub unasked : controller.live.asked ≡ None
   pub unestablished : controller.live.stands ≡ false
   pub alone : controller.live.access.waiting ≡ None
+
+-- It exchanges data and no frame of its device comes: its data hold time, which runs, lasts this many units at most. No AlarmAck waits for
+-- its ACK, and no request of the application is open.
+pub record IsAlone (setup : Setup) (device : Mac) (left : ℕ) (controller : Controlling) : Type 0 where
+  pub of_setup : controller.setup ≡ setup
+  pub in_phase : controller.live.phase ≡ Exchanging
+  pub established : controller.live.stands ≡ true
+  pub route : controller.live.cyclic.route ≡ outputs_route device 0xC000 1
+  pub high : controller.live.alarms.sending.waiting ≡ None
+  pub low : controller.live.low_alarms.sending.waiting ≡ None
+  pub unasked : controller.live.asked ≡ None
+  pub alone : controller.live.access.waiting ≡ None
+  pub begun : controller.live.cyclic.begun ≡ true
+  pub time : controller.live.cyclic.hearing.limit - controller.live.cyclic.hearing.held ≤ left
+
+-- Its ERR.
+pub record IsEnd (setup : Setup) (device : Mac) (octets : List ℕ) : Type 0 where
+  pub header : Header
+  pub reason : Abort
+  pub frame : octets ≡ controller_bytes setup (Ends (outputs_route device 0xC000 1) header reason)
+
+-- It has ended by its data hold time, and its ERR is all that it sends.
+pub record HasLeft (setup : Setup) (device : Mac) (step : Stepped) : Type 0 where
+  pub octets : List ℕ
+  pub frames : step.frames ≡ octets ∷ []
+  pub end : IsEnd setup device octets
+  pub ended : HasEnded setup DataHold step.controller
+
+-- It has a unit less, and sends outputs at most.
+pub record HasWaited (setup : Setup) (device : Mac) (left : ℕ) (step : Stepped) : Type 0 where
+  pub fewer : ℕ
+  pub less : left ≡ suc fewer
+  pub outputs : AllByRecursion (IsOutputs setup device) step.frames
+  pub alone : IsAlone setup device fewer step.controller
 
 -- ---- a controller that is started again
 
@@ -143,4 +183,21 @@ pub record IsRestart {F : Type 0} (setup next : Setup) (identity : Identity) (le
   pub earlier : HasEarlier setup left plant.net.device.live
   pub earlier_next : HasEarlier next left plant.net.device.live
   pub uncalled : kept_of setup.activity plant.net.device.live.rest.calls ≡ None
+  pub uncalled_next : kept_of next.activity plant.net.device.live.rest.calls ≡ None
+
+-- The device lost its power while data was exchanged, and has started again: it has no relation and has stored no answer of the next start.
+-- Its controller still exchanges data. Only outputs are under way to the device, and nothing to the controller.
+pub record IsDeserted {F : Type 0} (setup next : Setup) (identity : Identity) (left : ℕ) (plant : Plant F) : Type 0 where
+  pub alone : IsAlone setup identity.mac left plant.net.controller
+  pub outputs : AllByRecursion (IsOutputs setup identity.mac) plant.net.to_device
+  pub silent : plant.net.to_controller ≡ []
+  pub more : List Setup
+  pub later : plant.later ≡ next ∷ more
+  pub idle : plant.idle ≡ 0
+  pub of_device : plant.net.device.station.identity ≡ identity
+  pub of_plan : IsOfPlan setup plant.net.device.station
+  pub named : IsNamed setup plant.net.device.live
+  pub sized : IsSized plant.net.device.live.values.running.suite
+  pub addressed : IsAddressed setup plant.net.device.live ⊎ CanBeAddressed plant.net.device.live
+  pub unrelated : plant.net.device.live.rest.link ≡ None
   pub uncalled_next : kept_of next.activity plant.net.device.live.rest.calls ≡ None

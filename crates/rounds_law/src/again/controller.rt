@@ -1,30 +1,36 @@
-//! A controller that is refused.
-ghost use Rattle.std.specs.Prelude.{◌≡◌, ℕ, false, List, []};
+//! A controller that is refused, or whose device is silent.
+ghost use Rattle.std.specs.Prelude.{◌≡◌, ◌⊎◌, ℕ, false, List, []};
 ghost use Rattle.controller_core.specs.declared.stored.state.State.TheVariants.{Addressing, Connecting};
+ghost use Rattle.controller_core.specs.declared.stored.state.Cause.{Cause};
+ghost use Rattle.controller_core.specs.declared.stored.state.Cause.TheVariants.{Refused};
 ghost use Rattle.controller_core.specs.declared.stored.event.Event.TheVariants.{Tick};
 ghost use Rattle.controller_core.specs.stored.State.{Controlling};
 ghost use Rattle.controller_core.specs.Machine.{step_of};
 ghost use Rattle.controller_messages.specs.declared.request.Request.TheVariants.{Address, Connect};
 ghost use Rattle.rounds_law.specs.Path.{Asks, controller_step};
-ghost use Rattle.rounds_law.specs.Again.{HasEnded, IsRefusal, unset_frame};
+ghost use Rattle.rounds_law.specs.Again.{HasEnded, HasLeft, HasWaited, IsAlone, IsRefusal, unset_frame};
 
 use controller_messages::Setup;
 use end_laws::{answers_are_heard, responses_are_heard, stations_are_real};
 use pn_values::Identity;
 
-/// What a controller does if its device refuses it. These are laws of the machine by which each step of a controller is specified.
+/// What a controller does if its device refuses it or is silent. These are laws of the machine by which each step of a controller is specified.
 pub fn controller_ends_refused(setup: &Setup, identity: &Identity)
     // After a negative response to its Connect, the controller has ended.
     ensures refused { (controller : Controlling) (spare : ℕ) (octets : List ℕ) → Asks setup.now identity.now.mac Connecting Connect false spare controller
         → IsRefusal setup.now identity.now octets
-        → ((controller_step controller octets).frames ≡ []) × HasEnded setup.now (controller_step controller octets).controller }
+        → ((controller_step controller octets).frames ≡ []) × HasEnded setup.now Refused (controller_step controller octets).controller }
     // After a negative answer to the Set of the IP suite, the controller has ended.
     ensures unset { (controller : Controlling) (spare : ℕ) → Asks setup.now identity.now.mac Addressing Address false spare controller
         → ((controller_step controller (unset_frame setup.now identity.now)).frames ≡ [])
-        × HasEnded setup.now (controller_step controller (unset_frame setup.now identity.now)).controller }
+        × HasEnded setup.now Refused (controller_step controller (unset_frame setup.now identity.now)).controller }
     // A controller that has ended sends nothing, and remains ended.
-    ensures unit { (controller : Controlling) → HasEnded setup.now controller
-        → ((step_of controller Tick).frames ≡ []) × HasEnded setup.now (step_of controller Tick).controller }
+    ensures unit { (cause : Cause) (controller : Controlling) → HasEnded setup.now cause controller
+        → ((step_of controller Tick).frames ≡ []) × HasEnded setup.now cause (step_of controller Tick).controller }
+    // While data is exchanged and no frame comes, each unit brings the end of its data hold time one unit nearer. With that it ends.
+    ensures alone { (controller : Controlling) (left : ℕ) → IsAlone setup.now identity.now.mac left controller
+        → HasLeft setup.now identity.now.mac (step_of controller Tick)
+        ⊎ HasWaited setup.now identity.now.mac left (step_of controller Tick) }
 {
     stations_are_real(setup, identity);
     responses_are_heard();

@@ -10,8 +10,8 @@ ghost use Rattle.device_core.specs.State.{Live, Station};
 ghost use Rattle.device_core.specs.Machine.{heard_step};
 ghost use Rattle.controller_messages.specs.declared.request.Request.TheVariants.{Address, Connect};
 ghost use Rattle.both_ends.specs.startup.Played.{CanMeet};
-ghost use Rattle.rounds_law.specs.Path.{IsAddressed, IsIgnored, device_step, request_to};
-ghost use Rattle.rounds_law.specs.Again.{HasEarlier, IsRefusal, unset_frame};
+ghost use Rattle.rounds_law.specs.Path.{IsAddressed, IsIgnored, IsOutputs, device_step, request_to};
+ghost use Rattle.rounds_law.specs.Again.{HasEarlier, IsEnd, IsRefusal, unset_frame};
 
 use crate::device::suite_is_valid;
 use block_codec::blocks_are_read;
@@ -20,7 +20,7 @@ use end_laws::{
     calls_are_heard, calls_can_be_sent, ready_calls_are_heard, requests_are_heard,
     stations_are_real,
 };
-use frame_codec::frames_are_read;
+use frame_codec::{formats_are_sound, frames_are_read};
 use pn_values::Identity;
 use records::refusals_are_not_done;
 
@@ -56,6 +56,10 @@ pub fn device_keeps_an_earlier_relation(setup: &Setup, identity: &Identity)
     ensures unrelated { (outcomes : List Outcome) (station : Station) (live : Live) → live.rest.link ≡ None
         → ((heard_step outcomes station live Ticks).frames ≡ []) × ((heard_step outcomes station live Ticks).live.values ≡ live.values)
         × ((heard_step outcomes station live Ticks).live.rest.calls ≡ live.rest.calls) × ((heard_step outcomes station live Ticks).live.rest.link ≡ None) }
+    // Without a relation, frames of outputs and an ERR change nothing, and nothing is sent.
+    ensures vain { (outcomes : List Outcome) (station : Station) (live : Live) (octets : List ℕ) → station.identity ≡ identity.now
+        → live.rest.link ≡ None → IsOutputs setup.now identity.now.mac octets ⊎ IsEnd setup.now identity.now.mac octets
+        → ((device_step outcomes station live octets).frames ≡ []) × ((device_step outcomes station live octets).live ≡ live) }
     // A relation whose time ends with the next unit is over after it.
     ensures last { (outcomes : List Outcome) (station : Station) (live : Live) → station.identity ≡ identity.now → HasEarlier setup.now 1 live
         → (heard_step outcomes station live Ticks).live.rest.link ≡ None }
@@ -68,6 +72,7 @@ pub fn device_keeps_an_earlier_relation(setup: &Setup, identity: &Identity)
     calls_are_heard();
     ready_calls_are_heard();
     frames_are_read();
+    formats_are_sound();
     blocks_are_read();
     refusals_are_not_done();
 }

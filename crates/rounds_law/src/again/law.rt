@@ -1,6 +1,6 @@
 //! The law of a controller that starts again.
 ghost use Rattle.std.specs.Prelude.{◌≤◌, ◌+◌, ℕ, suc};
-ghost use Rattle.rounds_law.specs.Again.{AreStarts, IsRestart, LeadsBack, Plant};
+ghost use Rattle.rounds_law.specs.Again.{AreStarts, IsDeserted, IsRestart, LeadsBack, Plant};
 ghost use Rattle.rounds_law.specs.Start.{CanStart, start_up_limit};
 
 use crate::again::controller::controller_ends_refused;
@@ -16,8 +16,9 @@ use controller_messages::Setup;
 use flash_model::Flash;
 use pn_values::Identity;
 
-/// A controller of this set-up that starts while its device still has the relation of an earlier start, and that is started again,
-/// with the next set-up, if it ended. Each frame is delivered within a unit, none is lost, and no call of the flash fails.
+/// A controller of this set-up that starts while its device still has the relation of an earlier start, or whose device loses its power
+/// while data is exchanged, and that is started again, with the next set-up, if it ended. Each frame is delivered within a unit, none is
+/// lost, and no call of the flash fails.
 pub fn both_ends_come_back<F: Flash<S>, const S: usize>(
     setup: &Setup,
     next: &Setup,
@@ -28,6 +29,11 @@ pub fn both_ends_come_back<F: Flash<S>, const S: usize>(
     ensures again { CanStart setup.now identity.now → CanStart next.now identity.now → AreStarts setup.now next.now
         → (pause left : ℕ) → left ≤ pause → (plant : Plant F) → IsRestart setup.now next.now identity.now left plant
         → LeadsBack F.Flash pause (suc (pause + start_up_limit setup.now.plan)) plant }
+    // If the device loses its power while data is exchanged, both ends exchange data again within what is left of the data hold time of the
+    // controller, the pause, and the time of a start.
+    ensures deserted { CanStart setup.now identity.now → CanStart next.now identity.now → AreStarts setup.now next.now
+        → (pause left : ℕ) → 2 ≤ pause → (plant : Plant F) → IsDeserted setup.now next.now identity.now left plant
+        → LeadsBack F.Flash pause (left + pause + start_up_limit setup.now.plan) plant }
 {
     both_ends_start::<F, S>(setup, identity);
     both_ends_start::<F, S>(next, identity);

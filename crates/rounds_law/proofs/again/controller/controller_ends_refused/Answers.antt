@@ -1,4 +1,5 @@
 use Rattle.rounds_law.proofs.again.controller.controller_ends_refused.Goals as goal
+use Rattle.rounds_law.proofs.AgainAlone.{alone_unit}
 use Rattle.rounds_law.proofs.AgainRefused.{ended_unit, refused, unset}
 
 pub returns-clause-refused : goal.returns-clause-refused
@@ -10,4 +11,7 @@ returns-clause-unset c = unset c.args.setup.now c.args.identity.now c.stations_a
     c.responses_are_heard.ensures.controller c.answers_are_heard.ensures.set
 
 pub returns-clause-unit : goal.returns-clause-unit
-returns-clause-unit c = λ controller ended. ended_unit c.args.setup.now controller ended
+returns-clause-unit c = λ why controller ended. ended_unit c.args.setup.now why controller ended
+
+pub returns-clause-alone : goal.returns-clause-alone
+returns-clause-alone c = λ controller left is. alone_unit c.args.setup.now c.args.identity.now.mac left controller is

@@ -14,6 +14,7 @@ use Rattle.rounds_law.proofs.AgainIgnored.{HeardLaws}
 use Rattle.rounds_law.proofs.AgainKept.{refuses}
 use Rattle.rounds_law.proofs.AgainUnits.{earlier_last, earlier_unit, no_relation_unit}
 use Rattle.rounds_law.proofs.AgainUnset.{own_asked, unset_so}
+use Rattle.rounds_law.proofs.AgainVain.{said_in_vain}
 use Rattle.rounds_law.proofs.DeviceCallingSteps.{address_runs, own_heard}
 use Rattle.rounds_law.proofs.again.device.device_keeps_an_earlier_relation.Goals as goal
 
@@ -64,3 +65,7 @@ returns-clause-last c = λ outcomes station live same earlier.
 
 pub returns-clause-unrelated : goal.returns-clause-unrelated
 returns-clause-unrelated c = λ outcomes station live none. no_relation_unit outcomes station live none
+
+pub returns-clause-vain : goal.returns-clause-vain
+returns-clause-vain c = said_in_vain c.formats_are_sound.ensures.ethernet c.formats_are_sound.ensures.layers c.args.setup.now c.args.identity.now
+    c.stations_are_real.ensures.setup c.stations_are_real.ensures.device

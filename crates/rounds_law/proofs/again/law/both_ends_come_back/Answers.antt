@@ -2,7 +2,7 @@
 use Rattle.std.proofs.Common.{refl, subst}
 use Rattle.rounds_law.specs.Start.{start_up_limit}
 use Rattle.rounds_law.specs.Stages.{Leads}
-use Rattle.rounds_law.proofs.AgainLaw.{AgainLaws, EndedLaws, comes_back}
+use Rattle.rounds_law.proofs.AgainLaw.{AgainLaws, EndedLaws, comes_back, comes_back_alone}
 use Rattle.rounds_law.proofs.CompositionLaws.{Laws}
 use Rattle.rounds_law.proofs.again.law.both_ends_come_back.Goals as goal
 
@@ -39,6 +39,7 @@ again_of g c = record {
   unit = c.device_keeps_an_earlier_relation.ensures.unit;
   last = c.device_keeps_an_earlier_relation.ensures.last;
   unrelated = c.device_keeps_an_earlier_relation.ensures.unrelated;
+  vain = c.device_keeps_an_earlier_relation.ensures.vain;
 }
 
 again_next : (g : _) (c : goal.After-device_keeps_an_earlier_relation-2 g) → AgainLaws c.args.next.now c.args.identity.now
@@ -48,6 +49,7 @@ again_next g c = record {
   unit = c.device_keeps_an_earlier_relation-2.ensures.unit;
   last = c.device_keeps_an_earlier_relation-2.ensures.last;
   unrelated = c.device_keeps_an_earlier_relation-2.ensures.unrelated;
+  vain = c.device_keeps_an_earlier_relation-2.ensures.vain;
 }
 
 ended_of : (g : _) (c : goal.After-device_keeps_an_earlier_relation-2 g) → EndedLaws c.args.setup.now c.args.identity.now
@@ -55,6 +57,7 @@ ended_of g c = record {
   refused = c.controller_ends_refused.ensures.refused;
   unset = c.controller_ends_refused.ensures.unset;
   unit = c.controller_ends_refused.ensures.unit;
+  alone = c.controller_ends_refused.ensures.alone;
 }
 
 pub returns : goal.returns
@@ -64,4 +67,9 @@ returns g c = record {
       (again_next g c) (ended_of g c) can starts pause at.more
       (λ net looks. subst (λ plan. Leads g.F.Flash (start_up_limit plan) net) starts.plan (c.both_ends_start-2.ensures.looking can_next net looks))
       (c.both_ends_start.ensures.looking can) (c.both_ends_start.ensures.addressing can) (c.both_ends_start.ensures.connecting can) left few plant at refl;
+  deserted = λ can can_next starts pause left long plant at.
+      comes_back_alone g.F.Flash c.args.setup.now c.args.next.now c.args.identity.now (laws_of g c) (again_of g c)
+      (again_next g c) (ended_of g c) can starts pause at.more
+      (λ net looks. subst (λ plan. Leads g.F.Flash (start_up_limit plan) net) starts.plan (c.both_ends_start-2.ensures.looking can_next net looks))
+      left long plant at refl;
 }

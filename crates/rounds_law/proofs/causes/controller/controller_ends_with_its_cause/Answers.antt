@@ -2,7 +2,7 @@
 use Rattle.std.proofs.Common.{◌≤◌, ◌<◌, ℕ, List, [], ◌∷◌, length, sym, subst, arith}
 use Rattle.plans.specs.declared.parts.Station.{Station}
 use Rattle.controller_messages.specs.Requests.{address_asked}
-use Rattle.rounds_law.proofs.CauseController.{AreShort, ended_unit, other_so, unset_short, unstored_so}
+use Rattle.rounds_law.proofs.CauseController.{ended_unit, other_so, unset_short, unstored_so}
 use Rattle.rounds_law.proofs.CauseModules.{differing_so}
 use Rattle.rounds_law.proofs.SearchingSizes.{identify_short}
 use Rattle.rounds_law.proofs.causes.controller.controller_ends_with_its_cause.Goals as goal
