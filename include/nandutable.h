@@ -154,7 +154,7 @@ typedef struct pn_station {
     uint8_t serial_number[16];
     uint8_t software_revision[4]; /* a letter and three numbers */
     /* What the application decides. Zeros: any interval, inputs that are good from the start, ready when the parameters have ended, any
-     * station may hold a relation, each parameter record is kept, and services beside the device. */
+     * station may hold a relation, each parameter record is kept, each relation has the same numbers, and services beside the device. */
     uint32_t smallest_interval;    /* of cyclic frames, in units of PN_UNIT_NS, at most 65,536: a Connect with a smaller one is refused */
     uint16_t inputs_begin_bad;     /* not 0: the IOPS of a submodule with inputs is bad until its first pn_input in the relation */
     uint16_t ready_by_application; /* not 0: ApplicationReady is sent at pn_ready, and not with the answer to PrmEnd */
@@ -162,6 +162,10 @@ typedef struct pn_station {
                                     * (its MAC and IP address) keep a relation alive that does not exchange data yet */
     uint32_t records_passed_on;    /* not 0: records that are written while data is exchanged are passed on (pn_passed) and not kept
                                     * (pn_taken): without it a relation accepts 64 records in all */
+    uint32_t numbers_go_round;     /* not 0: each relation has the next of 14,336 numbers: the FrameID of its outputs, where the Connect leaves
+                                    * the choice to the device, and the endpoint of its alarms. So a late frame of an earlier one is refused */
+    uint32_t first_number;         /* with that, the number of the first relation since the start, modulo 65,536: choose another at each start,
+                                    * as 1,000 times the number of starts */
     uint32_t without_services;     /* not 0: the device alone, without the services of its IP address */
     uint32_t module_count;         /* at most PN_MODULES */
     pn_module modules[PN_MODULES];
@@ -203,9 +207,9 @@ typedef struct pn_device {
 
 /* The sizes that the library was built with. */
 #if defined(__cplusplus)
-static_assert(offsetof(pn_op, data) == PN_OP_LENGTH && sizeof(pn_station) == 1520, "another layout than the library's");
+static_assert(offsetof(pn_op, data) == PN_OP_LENGTH && sizeof(pn_station) == 1528, "another layout than the library's");
 #else
-_Static_assert(offsetof(pn_op, data) == PN_OP_LENGTH && sizeof(pn_station) == 1520, "another layout than the library's");
+_Static_assert(offsetof(pn_op, data) == PN_OP_LENGTH && sizeof(pn_station) == 1528, "another layout than the library's");
 #endif
 
 /* The settings that survive a power failure. */

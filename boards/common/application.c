@@ -32,6 +32,7 @@ const pn_station application_station = {
     .ready_by_application = 1, /* ready when the parameters are in use */
     .only_own_controller = 1,  /* nobody else keeps the relation */
     .records_passed_on = 1,    /* a controller may write parameters for months */
+    .numbers_go_round = 1,     /* a late frame of an earlier relation is refused; a product that counts its starts has `first_number` too */
     .module_count = 3,
     .modules = {
         {.ident = 1, .slot = 0, .submodule_count = 3,

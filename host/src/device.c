@@ -14,6 +14,7 @@
 #include <inttypes.h>
 #include <stdio.h>
 #include <string.h>
+#include <time.h>
 
 /* With a period: without a relation nothing is due at a unit of time, and a large number of units may pass at once. */
 #define IDLE_MOST 320000u /* units: ten seconds */
@@ -34,6 +35,7 @@ struct options {
     int is_without_services;
     int any_controller;
     int keeps_records;
+    int has_fixed_numbers;
 };
 
 /* From this many commits that the flash still takes on, the device reports that they are few, and again at each tenth of that. */
@@ -76,6 +78,7 @@ struct device {
     unsigned diagnosis_count;
     /* The last reported values. */
     pn_watch watch;
+    uint32_t starts; /* of the device, by this process */
     uint32_t phase;
     int is_lamp_on;
     int is_stopped; /* the controller; -1: it is not known */
@@ -122,12 +125,22 @@ static int transmit(void *context, const uint8_t *octets, uint32_t length)
     return wire_send(&device->loop.wire, octets, length);
 }
 
+/* The number of the first relation after a start: another one than that of each relation shortly before, also of an earlier process. The
+ * clock has counted further since then, by 100 a second, which is more than a device has relations. */
+static uint32_t first_number(struct device *device)
+{
+    struct timespec now;
+    clock_gettime(CLOCK_REALTIME, &now);
+    return (uint32_t)((uint64_t)now.tv_sec * 100u + (uint64_t)now.tv_nsec / 10000000u) + 1000u * device->starts++;
+}
+
 /* Starts from the contents of the file. */
 static void start(struct device *device)
 {
     uint32_t answer;
     device->conflicts = 0;
     device->has_told_link = 0;
+    device->station.first_number = first_number(device);
     if (chip_settle(&device->chip) != 0)
         fail(STATUS_INPUT, "the flash file '%s' cannot be read and written: %s. Nothing was sent of the step in which it failed; correct this and start again",
              device->chip.path, device->chip.why);
@@ -700,7 +713,8 @@ static void usage(void)
 {
     puts("Usage: nandutable-device IFACE --flash FILE [--station FILE] [--identity FILE] [--mac MAC] [--socket PATH]\n"
          "                         [--socket-group GROUP] [--period US] [--realtime N] [--sets-per-second N] [--smallest-interval N]\n"
-         "                         [--inputs-begin-bad] [--ready-by-application] [--any-controller] [--keep-records] [--no-services]\n"
+         "                         [--inputs-begin-bad] [--ready-by-application] [--any-controller] [--keep-records] [--fixed-numbers]\n"
+         "                         [--no-services]\n"
          "\n"
          "A PROFINET IO device on the network interface IFACE. Its name, address and I&M texts are in the flash file, and survive a power\n"
          "failure at any moment.\n"
@@ -726,6 +740,8 @@ static void usage(void)
          "  --any-controller      accepts a Connect for another controller than its sender, and calls of any station keep a relation that does not\n"
          "                        exchange data yet: for controllers whose calls pass a router\n"
          "  --keep-records        keeps the parameter records that are written while data is exchanged too: the 65th record of a relation is refused\n"
+         "  --fixed-numbers       the FrameID of outputs, if the controller leaves it to the device, and the endpoint of alarms are the same in\n"
+         "                        each relation: a late frame of an earlier relation may count in the next one\n"
          "  --no-services         the device alone: no answer to ping, to lookups of the endpoint mapper and to calls to other interfaces, no\n"
          "                        announcement of the address, and no LLDP\n"
          "  --help, --version\n"
@@ -774,6 +790,7 @@ static int take_option(void *context, int option, const char *word)
     case 'w': options->is_without_services = 1; return 1;
     case 'y': options->any_controller = 1; return 1;
     case 'k': options->keeps_records = 1; return 1;
+    case 'x': options->has_fixed_numbers = 1; return 1;
     case 'f': options->flash = word; return 1;
     case 's': options->station = word; return 1;
     case 'i': options->identity = word; return 1;
@@ -794,6 +811,7 @@ static const struct option known[] = {{"flash", required_argument, NULL, 'f'},
                                       {"no-services", no_argument, NULL, 'w'},
                                       {"any-controller", no_argument, NULL, 'y'},
                                       {"keep-records", no_argument, NULL, 'k'},
+                                      {"fixed-numbers", no_argument, NULL, 'x'},
                                       SHARED_OPTIONS};
 
 /* Checks only the flash file's name, before any message is printed: a message could go into that file. */
@@ -844,6 +862,7 @@ static int read_station(struct device *device, const struct options *options)
     device->station.ready_by_application = options->is_ready_by_application != 0;
     device->station.only_own_controller = options->any_controller == 0;
     device->station.records_passed_on = options->keeps_records == 0;
+    device->station.numbers_go_round = options->has_fixed_numbers == 0;
     device->station.without_services = options->is_without_services != 0;
     station_places(&device->inputs, device->station.modules, device->station.module_count, OF_INPUT);
     station_places(&device->outputs, device->station.modules, device->station.module_count, OF_OUTPUT);

@@ -309,6 +309,19 @@ def scapys_connect():
     return next(bytes.fromhex(frame)[RPC_AT + 100:] for frame in frames if frame[24:28] == "0800")
 
 
+def chosen_in(blocks):
+    """What the answer to a Connect chooses: the FrameID of outputs, and the endpoint of the device's alarms."""
+    frame_id = endpoint = None
+    while len(blocks) >= 4:
+        kind, length = struct.unpack_from(">HH", blocks)
+        if kind == 0x8102 and struct.unpack_from(">H", blocks, 6)[0] == 2:
+            frame_id = struct.unpack_from(">H", blocks, 10)[0]
+        if kind == 0x8103:
+            endpoint = struct.unpack_from(">H", blocks, 8)[0]
+        blocks = blocks[4 + length:]
+    return frame_id, endpoint
+
+
 def texts(number, count):
     """So many records of I&M2 and I&M3 in turn, each with a text of its own: slot, subslot, index and octets."""
     return [(0, 1, 0xAFF2 + at % 2, block_of(0x22 + at % 2, f"{number} {at}".encode().ljust((16, 54)[at % 2]))) for at in range(count)]

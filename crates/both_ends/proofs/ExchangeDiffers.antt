@@ -1,6 +1,6 @@
 -- The blocks of a device's response to the Connect of a plan choose a FrameID for outputs that is not one of alarms, and
--- the alarm endpoint 1, also if they say that modules differ.
-use Rattle.std.proofs.Common.{◌≡◌, ◌<◌, ◌==◌, ◌++◌, ℕ, suc, true, false, List, ◌∷◌, length, Option, Some, append_assoc, refl, sym, ap, subst, ◌∙◌, arith}
+-- the alarm endpoint of the relation's number, also if they say that modules differ.
+use Rattle.std.proofs.Common.{◌≡◌, ◌<◌, ◌==◌, ◌+◌, ◌++◌, ℕ, suc, true, false, List, ◌∷◌, length, Option, Some, append_assoc, refl, sym, ap, subst, ◌∙◌, arith}
 use Rattle.std.proofs.lemmas.Bool.{eqb-true, false_from_ne_true}
 use Rattle.pn_values.specs.declared.identity.Identity.{Identity}
 use Rattle.pn_values.specs.declared.real.Real.{Real}
@@ -12,10 +12,12 @@ use Rattle.block_codec.specs.Kinds.{number_of}
 use Rattle.block_codec.specs.Writable.{CanBeWritten}
 use Rattle.connects.specs.requests.Request.{Request}
 use Rattle.both_ends.specs.startup.request.Request.{request_for}
-use Rattle.relations.specs.Connect.{connect_blocks, differing_of}
+use Rattle.relations.specs.Connect.{alarm_answer, connect_blocks, differing_of}
+use Rattle.relations.specs.Numbers.{endpoint_of}
+use Rattle.both_ends.proofs.StartupAnswerFound.{ReadsAlarms, found_alarm}
 use Rattle.controller_messages.specs.declared.setup.Setup.{Setup}
 use Rattle.end_laws.specs.hearing.Stations.{IsDevice, IsSetup}
-use Rattle.connects.specs.answers.Connect.{Chosen, Keeps, chosen_by, found_in, is_looked_for, next_found, nothing, with_alarm, with_block}
+use Rattle.connects.specs.answers.Connect.{Chosen, Keeps, chosen_by, found_in, is_looked_for, next_found, nothing, with_block}
 use Rattle.end_laws.specs.sending.Sized.{Found}
 use Rattle.both_ends.specs.exchange.Sized.{IsChosenWell}
 
@@ -47,10 +49,9 @@ behind_one_another first second third fourth rest =
 module _ (read : (one : Block) (rest : List ℕ) → CanBeWritten one → block_of (block_bytes one ++ rest) ≡ front one rest)
     (known : (one : Block) (rest : List ℕ) (found : Found) → is_looked_for (number_of (kind_of one)) ≡ true → block_of (block_bytes one ++ rest) ≡ front one rest
     → next_found found (block_bytes one ++ rest) ≡ Some (with_block one found, rest))
-    (alarms : (rest : List ℕ) (found : Found) → next_found found (block_bytes (is.AlarmCrBlockRes (record {})) ++ rest)
-    ≡ Some (with_alarm (record { local_alarm_reference = 1; max_alarm_data_length = 200 }) found, rest))
+    (alarms : ReadsAlarms)
     (stays : (most : ℕ) (bytes : List ℕ) (found result : Found) → found_in most bytes found ≡ Some result → Keeps found result)
-    (setup : Setup) (identity : Identity) (good : IsSetup setup) (six : IsDevice identity) where
+    (setup : Setup) (identity : Identity) (good : IsSetup setup) (six : IsDevice identity) (number : ℕ) (few : number < 14336) where
   abbrev request : Request
   request = request_for setup.plan setup.ar
 
@@ -65,13 +66,10 @@ module _ (read : (one : Block) (rest : List ℕ) → CanBeWritten one → block_
   input_block = is.IocrBlockRes (record { iocr_type = 1; iocr_reference = 1; frame_id = 0xC001 })
 
   abbrev output_block : Block
-  output_block = is.IocrBlockRes (record { iocr_type = 2; iocr_reference = 2; frame_id = 0xC000 })
-
-  abbrev alarm_block : Block
-  alarm_block = is.AlarmCrBlockRes (record {})
+  output_block = is.IocrBlockRes (record { iocr_type = 2; iocr_reference = 2; frame_id = 0xC000 + number })
 
   abbrev whole : Found
-  whole = record nothing { relation = true; input = true; output = Some 0xC000; alarm = Some 1 }
+  whole = record nothing { relation = true; input = true; output = Some (0xC000 + number); alarm = Some (endpoint_of number) }
 
   ar_is : is_looked_for (number_of (kind_of relation_block)) ≡ true
   unfolding number_of
@@ -85,18 +83,25 @@ module _ (read : (one : Block) (rest : List ℕ) → CanBeWritten one → block_
   unfolding number_of
   output_is = refl
 
-  blocks_found : (differing : List ℕ) → found_in 400 (connect_blocks identity request differing) nothing ≡ found_in 396 differing whole
+  blocks_found : (differing : List ℕ) → found_in 400 (connect_blocks identity number request differing) nothing ≡ found_in 396 differing whole
   unfolding connect_blocks
   blocks_found differing =
       let one = record nothing { relation = true } in
       let two = record one { input = true } in
-      let three = record two { output = Some 0xC000 } in
-      ap (λ (bytes : List ℕ). found_in 400 bytes nothing) (behind_one_another (block_bytes relation_block) (block_bytes input_block) (block_bytes output_block) (block_bytes alarm_block) differing)
-      ∙ (found_behind 399 relation_block (block_bytes input_block ++ (block_bytes output_block ++ (block_bytes alarm_block ++ differing))) nothing ar_is
+      let three = record two { output = Some (0xC000 + number) } in
+      ap (λ (bytes : List ℕ). found_in 400 bytes nothing) (behind_one_another (block_bytes relation_block) (block_bytes input_block) (block_bytes output_block) (alarm_answer number) differing)
+      ∙ (found_behind 399 relation_block (block_bytes input_block ++ (block_bytes output_block ++ (alarm_answer number ++ differing))) nothing ar_is
       (record { ar_uuid = good.ar; session_key = omega arith; cm_responder_mac_add = six })
-      ∙ (found_behind 398 input_block (block_bytes output_block ++ (block_bytes alarm_block ++ differing)) one input_is (record { iocr_type = omega arith; iocr_reference = omega arith; frame_id = omega arith })
-      ∙ (found_behind 397 output_block (block_bytes alarm_block ++ differing) two output_is (record { iocr_type = omega arith; iocr_reference = omega arith; frame_id = omega arith })
-      ∙ found_next 396 alarm_block differing three whole (alarms differing three))))
+      ∙ (found_behind 398 input_block (block_bytes output_block ++ (alarm_answer number ++ differing)) one input_is (record { iocr_type = omega arith; iocr_reference = omega arith; frame_id = omega arith })
+      ∙ (found_behind 397 output_block (alarm_answer number ++ differing) two output_is (record { iocr_type = omega arith; iocr_reference = omega arith; frame_id = omega (arith, few) })
+      ∙ found_alarm alarms number few 396 differing three)))
+
+  -- the FrameID is not one of alarms
+  no_alarm : is_alarm (0xC000 + number) ≡ false
+  no_alarm =
+      let high = false_from_ne_true (0xC000 + number == 0xFC01) (λ t. let e = eqb-true (0xC000 + number) 0xFC01 t in absurd (omega (arith, e, few))) in
+      let low = false_from_ne_true (0xC000 + number == 0xFE01) (λ t. let e = eqb-true (0xC000 + number) 0xFE01 t in absurd (omega (arith, e, few))) in
+      rw (high, low) refl
 
   some_is : {A : Type 0} (x y : A) → Some x ≡ Some y → x ≡ y
   some_is x y e = cc
@@ -107,13 +112,13 @@ module _ (read : (one : Block) (rest : List ℕ) → CanBeWritten one → block_
   -- whatever follows, what was found stays
   chosen_in : (found : Found) (chosen : Chosen) → Keeps whole found → chosen_by found.output found.alarm found.deviates ≡ Some chosen → IsWell chosen
   chosen_in found chosen keeps there =
-      let output : found.output ≡ Some 0xC000 = keeps.output 0xC000 refl in
-      let alarm : found.alarm ≡ Some 1 = keeps.alarm 1 refl in
-      let is : chosen_by (Some 0xC000) (Some 1) found.deviates ≡ Some chosen =
-      ap (λ (o : Option ℕ). chosen_by o (Some 1) found.deviates) (sym output) ∙ (ap (λ (o : Option ℕ). chosen_by found.output o found.deviates) (sym alarm) ∙ there) in
-      subst IsWell (some_is _ chosen is) (omega arith, omega arith, refl)
+      let output : found.output ≡ Some (0xC000 + number) = keeps.output (0xC000 + number) refl in
+      let alarm : found.alarm ≡ Some (endpoint_of number) = keeps.alarm (endpoint_of number) refl in
+      let is : chosen_by (Some (0xC000 + number)) (Some (endpoint_of number)) found.deviates ≡ Some chosen =
+      ap (λ (o : Option ℕ). chosen_by o (Some (endpoint_of number)) found.deviates) (sym output) ∙ (ap (λ (o : Option ℕ). chosen_by found.output o found.deviates) (sym alarm) ∙ there) in
+      subst IsWell (some_is _ chosen is) (omega (arith, few), omega (arith, few), no_alarm)
 
-  pub chosen_well : (real : Real) → IsChosenWell (connect_blocks identity request (differing_of request real))
+  pub chosen_well : (real : Real) → IsChosenWell (connect_blocks identity number request (differing_of request real))
   chosen_well real found e all same chosen there =
       let differing : List ℕ = differing_of request real in
       chosen_in found chosen (stays 396 differing whole found (sym (blocks_found differing) ∙ e)) there

@@ -1,6 +1,6 @@
 -- The frames that bring outputs to a device: of all that either end sends, only a frame of outputs does, and it brings
 -- the octets of its image.
-use Rattle.std.proofs.Common.{◌≡◌, ◌⊎◌, inl, inr, ◌==◌, ◌&&◌, ◌||◌, ◌<◌, ℕ, Bool, true, false, cond, nat_lt, nat_eq, List, [], ◌∷◌, ◌++◌, length, take, drop, map, Option, Some, None, Result, Ok, Err, refl, sym, ap, subst, ◌∙◌, append_assoc, arith}
+use Rattle.std.proofs.Common.{◌≡◌, ◌⊎◌, inl, inr, ◌==◌, ◌&&◌, ◌||◌, ◌<◌, ℕ, Bool, true, false, cond, nat_le, nat_lt, nat_eq, List, [], ◌∷◌, ◌++◌, length, take, drop, map, Option, Some, None, Result, Ok, Err, refl, sym, ap, subst, ◌∙◌, append_assoc, arith}
 use Rattle.std.specs.Cmp.Lexicographic.{pointwise}
 use Rattle.std.specs.List.{AllByRecursion}
 use Rattle.std.proofs.Math.Seq.{take-append_seam}
@@ -23,7 +23,6 @@ use Rattle.cyclic_data.specs.Image.{Shown as Image, octet_at, octets_of}
 use Rattle.cyclic_data.specs.Tail.{cyclic_bytes, cyclic_frame, cyclic_of, cyclic_tail, short}
 use Rattle.cyclic_data.specs.declared.exchange.route.Route.{Route}
 use Rattle.cyclic_data.specs.exchange.Frames.{cyclic_body, running_at}
-use Rattle.cyclic_data.specs.exchange.Received.{is_of_partner}
 use Rattle.pn_alarms.specs.declared.fault.AlarmFault.{AlarmFault}
 use Rattle.pn_alarms.specs.declared.pdu.Header.{Header}
 use Rattle.pn_alarms.specs.Message.{ToDevice, message_of}
@@ -40,6 +39,8 @@ use Rattle.rpc_core.specs.Response.{response_bytes}
 use Rattle.pn_alarms.specs.declared.pdu.PduType.{PduType}
 use Rattle.pn_alarms.specs.declared.pdu.PduType.TheVariants as pdu
 use Rattle.pn_alarms.specs.Format.{Said, frame_id_of, pdu_bytes}
+use Rattle.relations.specs.declared.options.DeviceOptions.{DeviceOptions}
+use Rattle.relations.specs.Numbers.{is_id_from, is_own_id}
 use Rattle.relations.specs.exchange.Frames.{tag_of}
 use Rattle.plans.specs.Connect.{alarm_block}
 use Rattle.device_frames.specs.Sent.{Sent, IdentifyAnswer, GetAnswer, SetAnswer, ArpReply, CallAnswer, Again, ReadyCall, Ends, Exchanges, bytes_of, exchange_content, farewell_content, ready_content, reply_content, response_content}
@@ -56,7 +57,7 @@ use Rattle.device_frames.specs.Heard.{Heard, Cyclic, Elsewhere, Resolves, Report
 use Rattle.controller_messages.specs.declared.setup.Setup.{Setup}
 use Rattle.end_laws.specs.both.Outputs.{BringsNone, Outputs}
 use Rattle.both_ends.proofs.ExchangeHeardAlarm.{alarm_holds}
-use Rattle.both_ends.specs.exchange.Shown.{brought_in, octets_in, outputs_of, route_for, zeros_for}
+use Rattle.both_ends.specs.exchange.Shown.{brought_in, is_output, octets_in, outputs_of, zeros_for}
 use Rattle.both_ends.proofs.ExchangeOutputsRead.{IsReadAs, arp_other, datagram_other, real_time_is, reads_as, rest_of}
 
 holds_if : {A : Type 0} (P : A → Type 0) (b : Bool) (x y : A) → P x → P y → P (cond b x y)
@@ -113,6 +114,14 @@ and_false : (a b : Bool) → b ≡ false → (a && b) ≡ false
 and_false true b e = e
 and_false false b e = refl
 
+-- a FrameID that no device chooses for outputs
+abbrev IsNoChoice : ℕ → Type 0
+IsNoChoice frame_id = ((frame_id == 0xC000) ≡ false) × ((nat_le 0xC000 frame_id && nat_le frame_id 0xF7FF) ≡ false)
+
+no_choice : (numbers_from : Option ℕ) (frame_id : ℕ) → IsNoChoice frame_id → is_id_from numbers_from frame_id ≡ false
+no_choice None frame_id none = none.0
+no_choice (Some first) frame_id none = none.1
+
 -- a route on which a controller sends: the address of its partner and both tags have their sizes
 pub record IsWay (route : Route) : Type 0 where
   pub partner : IsMac route.partner
@@ -134,14 +143,14 @@ abbrev pub IsNow : Image → Message → Type 0
 IsNow shown (Cycles route other counter) = other ≡ shown
 IsNow shown other = Unit {0}
 
-module _ (setup : Setup) (identity : Identity) where
+module _ (options : DeviceOptions) (setup : Setup) (identity : Identity) where
   abbrev rules : Outputs Image Image
-  rules = outputs_of setup identity
+  rules = outputs_of options setup identity
 
   -- ---- what is heard of contents
 
   abbrev IsNone : Heard → Type 0
-  IsNone heard = brought_in setup heard ≡ None
+  IsNone heard = brought_in options setup heard ≡ None
 
   request_none : (source : Mac) (read : Result Asked DcpFault) → IsNone (heard_request source read)
   request_none source (Ok request) = refl
@@ -152,7 +161,7 @@ module _ (setup : Setup) (identity : Identity) where
 
   -- what a cyclic frame of real-time data would bring, or nothing
   abbrev IsAtMost : Mac → ℕ → List ℕ → Heard → Type 0
-  IsAtMost source frame_id body heard = IsNone heard ⊎ (brought_in setup heard ≡ brought_in setup (Cyclic source frame_id body))
+  IsAtMost source frame_id body heard = IsNone heard ⊎ (brought_in options setup heard ≡ brought_in options setup (Cyclic source frame_id body))
 
   abbrev cyclic_of_own : Mac → Mac → ℕ → List ℕ → Heard
   cyclic_of_own destination source frame_id body = cond (is_own identity destination && is_cyclic frame_id) (Cyclic source frame_id body) Elsewhere
@@ -223,9 +232,9 @@ module _ (setup : Setup) (identity : Identity) where
       let meaning = carrying destination source tag (ArpPacket packet) in
       by_frame sound IsNone meaning one other tagged refl (λ content read. other_none destination source content (arp_other (rest_of meaning) content read))
 
-  -- real-time data of another station than the partner, or with another FrameID, brings nothing
+  -- real-time data of another station than the controller, or with a FrameID that the device does not choose, brings nothing
   data_silent : IsSound ethernet → (destination source : Mac) (tag : Option ℕ) (frame_id : ℕ) (body : List ℕ) → IsMac destination → IsMac source → IsTag tag
-      → is_of_partner (route_for setup) source (big_number 2 (big_bytes 2 frame_id)) ≡ false
+      → is_output options setup source (big_number 2 (big_bytes 2 frame_id)) ≡ false
       → BringsNone rules (frame_bytes (carrying destination source tag (RealTime frame_id body)))
   data_silent sound destination source tag frame_id body one other tagged foreign =
       let id = big_number 2 (big_bytes 2 frame_id) in
@@ -233,15 +242,15 @@ module _ (setup : Setup) (identity : Identity) where
       real_time_heard sound IsNone destination source tag frame_id body one other tagged refl
       (by_choice (heard_content identity destination source (RealTime id behind)) id behind (real_time_at_most destination source id behind) foreign)
     where
-      none_if : (source : Mac) (id : ℕ) (behind : List ℕ) → is_of_partner (route_for setup) source id ≡ false → brought_in setup (Cyclic source id behind) ≡ None
+      none_if : (source : Mac) (id : ℕ) (behind : List ℕ) → is_output options setup source id ≡ false → brought_in options setup (Cyclic source id behind) ≡ None
       none_if source id behind e = ap (λ (b : Bool). cond b (octets_in (cyclic_of (zeros_for setup).data_length behind)) None) e
 
-      by_choice : (heard : Heard) (id : ℕ) (behind : List ℕ) → IsAtMost source id behind heard → is_of_partner (route_for setup) source id ≡ false → IsNone heard
+      by_choice : (heard : Heard) (id : ℕ) (behind : List ℕ) → IsAtMost source id behind heard → is_output options setup source id ≡ false → IsNone heard
       by_choice heard id behind (inl none) e = none
       by_choice heard id behind (inr same) e = same ∙ none_if source id behind e
 
   abbrev OneOf : Image → Heard → Type 0
-  OneOf shown heard = AreAtMost (octets_of shown) (brought_in setup heard)
+  OneOf shown heard = AreAtMost (octets_of shown) (brought_in options setup heard)
 
   -- a frame of outputs brings the octets of its image, or nothing
   pub outputs_bring : IsSound ethernet → (source : Mac) (route : Route) (shown : Image) (counter : ℕ) → IsMac route.partner → IsMac source → route.sent_tag < 65536
@@ -269,13 +278,13 @@ module _ (setup : Setup) (identity : Identity) where
       by_choice : (heard : Heard) (id : ℕ) (padding : List ℕ) → IsAtMost source id (cyclic_body shown counter ++ padding) heard → OneOf shown heard
       by_choice heard id padding (inl none) = inl none
       by_choice heard id padding (inr same) =
-          subst (λ (o : Option (List ℕ)). AreAtMost (octets_of shown) o) (sym same) (by_partner padding (is_of_partner (route_for setup) source id))
+          subst (λ (o : Option (List ℕ)). AreAtMost (octets_of shown) o) (sym same) (by_partner padding (is_output options setup source id))
 
   -- ---- what a device sends
 
   module _ (sound : IsSound ethernet) (apart : pointwise nat_eq identity.mac.octets setup.plan.controller.mac.octets ≡ false) where
-    own_foreign : (frame_id : ℕ) → is_of_partner (route_for setup) identity.mac frame_id ≡ false
-    own_foreign frame_id = ap (λ (b : Bool). b && frame_id == 0xC000) apart
+    own_foreign : (frame_id : ℕ) → is_output options setup identity.mac frame_id ≡ false
+    own_foreign frame_id = ap (λ (b : Bool). b && is_own_id options frame_id) apart
 
     own_silent : (destination : Mac) (tag : Option ℕ) (content : Content) → CanBeSent (carrying destination identity.mac tag content)
         → BringsNone rules (frame_bytes (carrying destination identity.mac tag content))
@@ -306,15 +315,17 @@ module _ (setup : Setup) (identity : Identity) where
     abbrev mine : Mac
     mine = setup.plan.controller.mac
 
-    other_id : (frame_id : ℕ) → (big_number 2 (big_bytes 2 frame_id) == 0xC000) ≡ false → is_of_partner (route_for setup) mine (big_number 2 (big_bytes 2 frame_id)) ≡ false
-    other_id frame_id e = and_false (pointwise nat_eq mine.octets setup.plan.controller.mac.octets) (big_number 2 (big_bytes 2 frame_id) == 0xC000) e
+    other_id : (frame_id : ℕ) → IsNoChoice (big_number 2 (big_bytes 2 frame_id)) → is_output options setup mine (big_number 2 (big_bytes 2 frame_id)) ≡ false
+    other_id frame_id none =
+        let id = big_number 2 (big_bytes 2 frame_id) in
+        and_false (pointwise nat_eq mine.octets setup.plan.controller.mac.octets) (is_own_id options id) (no_choice options.numbers_from id none)
 
-    alarm_id : (priority : Priority) (kind : PduType) → (big_number 2 (big_bytes 2 (frame_id_at priority kind)) == 0xC000) ≡ false
-    alarm_id Low kind = refl
-    alarm_id High pdu.Data = refl
-    alarm_id High pdu.Nack = refl
-    alarm_id High pdu.Ack = refl
-    alarm_id High pdu.Error = refl
+    alarm_id : (priority : Priority) (kind : PduType) → IsNoChoice (big_number 2 (big_bytes 2 (frame_id_at priority kind)))
+    alarm_id Low kind = (refl, refl)
+    alarm_id High pdu.Data = (refl, refl)
+    alarm_id High pdu.Nack = (refl, refl)
+    alarm_id High pdu.Ack = (refl, refl)
+    alarm_id High pdu.Error = (refl, refl)
 
     tag_small : (route : Route) (priority : Priority) → IsWay route → tag_at route priority < 65536
     tag_small route High way = way.alarm_tag
@@ -330,8 +341,8 @@ module _ (setup : Setup) (identity : Identity) where
 
     pub request_silent : (device : Mac) (request : Request) → IsMac device → BringsNone rules (request_frame setup device request)
     request_silent device asks.Identify one =
-        data_silent sound identify_multicast mine None 0xFEFE (request_bytes (identify_asked setup.plan)) multicast_six six tt (other_id 0xFEFE refl)
-    request_silent device asks.Address one = data_silent sound device mine None 0xFEFD (request_bytes (address_asked setup.plan)) one six tt (other_id 0xFEFD refl)
+        data_silent sound identify_multicast mine None 0xFEFE (request_bytes (identify_asked setup.plan)) multicast_six six tt (other_id 0xFEFE (refl, refl))
+    request_silent device asks.Address one = data_silent sound device mine None 0xFEFD (request_bytes (address_asked setup.plan)) one six tt (other_id 0xFEFD (refl, refl))
     request_silent device asks.Connect one = call_silent device (call_for setup asks.Connect) one
     request_silent device (asks.Write number) one = call_silent device (call_for setup (asks.Write number)) one
     request_silent device asks.PrmEnd one = call_silent device (call_for setup asks.PrmEnd) one
@@ -344,7 +355,7 @@ module _ (setup : Setup) (identity : Identity) where
 
     end_silent : (route : Route) (said : Said) → IsWay route → BringsNone rules (end_frame setup route said)
     end_silent route said way =
-        data_silent sound route.partner mine (Some alarm_block.tag_header_low) (frame_id_of pdu.Error) (pdu_bytes said) way.partner six (omega arith) (other_id (frame_id_of pdu.Error) refl)
+        data_silent sound route.partner mine (Some alarm_block.tag_header_low) (frame_id_of pdu.Error) (pdu_bytes said) way.partner six (omega arith) (other_id (frame_id_of pdu.Error) (refl, refl))
 
     pub message_brings : (shown : Image) → shown.data_length ≡ (zeros_for setup).data_length → (message : Message) → IsNow shown message → IsAddressed message
         → BringsNow shown (bytes_said setup message)

@@ -1,6 +1,7 @@
 -- Each turn of a device, as far as its outputs are concerned.
-use Rattle.std.proofs.Common.{◌≡◌, ◌⊎◌, inl, inr, ℕ, Bool, true, false, cond, List, [], ◌∷◌, map, Option, Some, None, option_map, Result, Ok, Err, refl, sym, ap, subst, ◌∙◌}
-use Rattle.std.specs.Prelude.{is_some, nat_eq}
+use Rattle.std.proofs.Common.{◌≡◌, ◌⊎◌, inl, inr, ◌==◌, ◌+◌, ◌<◌, ℕ, Bool, true, false, cond, List, [], ◌∷◌, map, Option, Some, None, option_map, Result, Ok, Err, refl, sym, ap, subst, ◌∙◌, arith}
+use Rattle.std.specs.Prelude.{is_some, nat_eq, nat_le}
+use Rattle.std.proofs.lemmas.Bool.{and_parts, and_from, eqb-true, le-leb}
 use Rattle.std.specs.List.{AllByRecursion}
 use Rattle.std.specs.Cmp.Lexicographic.{pointwise}
 use Rattle.wire.specs.Codec.{IsSound}
@@ -38,10 +39,10 @@ use Rattle.end_laws.specs.both.Outputs.{BringsNone, Outputs}
 use Rattle.end_laws.specs.device.Small.{IsPlanned}
 use Rattle.controller_messages.specs.declared.setup.Setup.{Setup}
 use Rattle.both_ends.specs.startup.View.{rules_of}
-use Rattle.end_laws.specs.device.Turn.{Answers, IsSameOr, IsTurn, Makes, Standing, Takes, Turn, standing_of}
+use Rattle.end_laws.specs.device.Turn.{Answers, BeginsNumbered, IsNumbered, IsSameOr, IsTurn, Makes, Standing, Takes, Turn, standing_of}
 use Rattle.end_laws.specs.device.Owed.{IsOwed}
 use Rattle.both_ends.proofs.ExchangeOutputsBrings.{IsKnown, message_silent}
-use Rattle.both_ends.specs.exchange.Shown.{accepted_in, brought_in, image_in, octets_in, outputs_of, route_for, zeros_for}
+use Rattle.both_ends.specs.exchange.Shown.{accepted_in, brought_in, image_in, is_output, octets_in, outputs_of, route_for, zeros_for}
 use Rattle.rpc_core.specs.Cache.{is_of, kept_of, without, kept_more}
 use Rattle.wire.specs.Codec.{◌>>=◌}
 use Rattle.connects.specs.requests.Pieces.{Piece, pieces_of}
@@ -50,6 +51,8 @@ use Rattle.records.specs.declared.status.call_fault.CallFault.{CallFault}
 use Rattle.records.specs.declared.status.operation.Operation.{Operation}
 use Rattle.records.specs.declared.status.operation.Operation.TheVariants as operation
 use Rattle.relations.specs.Connect.{connect_of}
+use Rattle.relations.specs.Numbers.{IsNumber, is_id_from, is_own_id}
+use Rattle.relations.specs.declared.options.DeviceOptions.{DeviceOptions}
 use Rattle.relations.specs.Phases.{made_of, with_flow, updated}
 use Rattle.relations.specs.Timers.{unit_later}
 use Rattle.end_laws.specs.device.Small.{IsPlannedAs, IsPlannedCall}
@@ -77,6 +80,22 @@ frame_again octets others image = ap (λ (cells : List Cell). record { data_leng
 held_last : (begun : Bool) (hearing : Hearing) → (cond begun (held_on hearing) hearing).last ≡ hearing.last
 held_last true hearing = refl
 held_last false hearing = refl
+
+-- ---- the FrameID of outputs
+
+own_id : (numbers_from : Option ℕ) (number : ℕ) → number < 14336 → (numbers_from ≡ None → number ≡ 0) → is_id_from numbers_from (0xC000 + number) ≡ true
+own_id None number few fixed = ap (λ (n : ℕ). 0xC000 + n == 0xC000) (fixed refl)
+own_id (Some first) number few fixed =
+    and_from (nat_le 0xC000 (0xC000 + number)) (nat_le (0xC000 + number) 0xF7FF) (le-leb 0xC000 (0xC000 + number) (omega arith)) (le-leb (0xC000 + number) 0xF7FF (omega (arith, few)))
+
+-- a frame that a device accepts in a relation of such a number brings outputs
+accepted_is_output : (options : DeviceOptions) (setup : Setup) (number : ℕ) → IsNumber options number → (source : Mac) (frame_id : ℕ)
+    → is_of_partner (route_for number setup) source frame_id ≡ true → is_output options setup source frame_id ≡ true
+accepted_is_output options setup number numbered source frame_id partner =
+    let own = pointwise nat_eq source.octets setup.plan.controller.mac.octets in
+    let parts = and_parts own (frame_id == 0xC000 + number) partner in
+    and_from own (is_own_id options frame_id) parts.0
+    (subst (λ (id : ℕ). is_own_id options id ≡ true) (sym (eqb-true frame_id (0xC000 + number) parts.1)) (own_id options.numbers_from number numbered.few numbered.fixed))
 
 -- ---- a relation
 
@@ -148,6 +167,11 @@ unfolding request_of
 made_from None blocks request asked is reads = same_ok request asked (sym is ∙ reads)
 made_from (Some link) blocks request asked is reads = absurd (none_beside link.request.ar.uuid (pieces_of blocks) request is)
 
+made_alone : (link : Option RelationState) (blocks : List ℕ) (request : Request) → connect_of link blocks ≡ Ok request → link ≡ None
+unfolding request_of
+made_alone None blocks request is = refl
+made_alone (Some link) blocks request is = absurd (none_beside link.request.ar.uuid (pieces_of blocks) request is)
+
 -- ---- responses that are stored
 
 all_taken : {A : Type 0} (P : A → Type 0) (count : ℕ) (xs : List A) → AllByRecursion P xs → AllByRecursion P (take count xs)
@@ -202,11 +226,13 @@ module _ (P : List ℕ → Type 0) (activity : List ℕ) where
 
 module _ (setup : Setup) (station : Station) where
   abbrev rules : Outputs Image Image
-  rules = outputs_of setup station.identity
+  rules = outputs_of station.options setup station.identity
 
-  -- what is accepted is of the plan
+  -- what is accepted is of the plan, in a relation of a number that the device may give
   pub record IsOurs (cyclic : Cyclic) : Type 0 where
-    pub route : cyclic.route ≡ route_for setup
+    pub number : ℕ
+    pub numbered : IsNumber station.options number
+    pub route : cyclic.route ≡ route_for number setup
     pub size : cyclic.taken.data_length ≡ (zeros_for setup).data_length
     pub places : (octets : List ℕ) → with_frame octets cyclic.taken ≡ with_frame octets (zeros_for setup)
 
@@ -243,6 +269,8 @@ module _ (setup : Setup) (station : Station) where
   stays_ours before None stays ours = tt
   stays_ours None (Some after) stays ours = absurd stays
   stays_ours (Some before) (Some after) stays ours = record {
+    number = ours.number;
+    numbered = ours.numbered;
     route = stays.route ∙ ours.route;
     size = ap (λ (image : Image). image.data_length) stays.taken ∙ ours.size;
     places = λ octets. ap (λ (image : Image). with_frame octets image) stays.taken ∙ ours.places octets;
@@ -258,23 +286,23 @@ module _ (setup : Setup) (station : Station) where
   module _ (sound : IsSound ethernet) (apart : pointwise nat_eq station.identity.mac.octets setup.plan.controller.mac.octets ≡ false) where
     all_silent : (sent : List Sent) → AreSendable station.identity sent → AllByRecursion (IsKnown rules) sent → AllByRecursion (BringsNone rules) (map (bytes_of station.identity) sent)
     all_silent [] can known = tt
-    all_silent (message ∷ sent) can known = (message_silent setup station.identity sound apart message can.0 known.0, all_silent sent can.1 known.1)
+    all_silent (message ∷ sent) can known = (message_silent station.options setup station.identity sound apart message can.0 known.0, all_silent sent can.1 known.1)
 
     -- ---- a cyclic frame
 
     module _ (source : Mac) (frame_id : ℕ) (body : List ℕ) where
       -- a frame that is accepted
       abbrev Shows_by : RelationState → Option RelationState → Type 0
-      Shows_by link after = ShowsIn (brought_in setup (Comes source frame_id body)) (Some link) after × IsOursIn after
+      Shows_by link after = ShowsIn (brought_in station.options setup (Comes source frame_id body)) (Some link) after × IsOursIn after
 
       brought_is : (link : RelationState) (x : List ℕ × CyclicTail) → IsOurs link.flow.cyclic → is_of_partner link.flow.cyclic.route source frame_id ≡ true
-          → cyclic_of link.flow.cyclic.taken.data_length body ≡ Ok x → brought_in setup (Comes source frame_id body) ≡ Some x.0
+          → cyclic_of link.flow.cyclic.taken.data_length body ≡ Ok x → brought_in station.options setup (Comes source frame_id body) ≡ Some x.0
       brought_is link x is partner read =
           ap (λ (b : Bool). cond b (octets_in (cyclic_of (zeros_for setup).data_length body)) None)
-          (ap (λ (r : Route). is_of_partner r source frame_id) (sym is.route) ∙ partner)
+          (accepted_is_output station.options setup is.number is.numbered source frame_id (ap (λ (r : Route). is_of_partner r source frame_id) (sym is.route) ∙ partner))
           ∙ ap (λ (r : Result (List ℕ × CyclicTail) ShortFrame). octets_in r) (ap (λ (n : ℕ). cyclic_of n body) (sym is.size) ∙ read)
 
-      new_as : (link : RelationState) (x : List ℕ × CyclicTail) → IsOurs link.flow.cyclic → brought_in setup (Comes source frame_id body) ≡ Some x.0 → (b : Bool)
+      new_as : (link : RelationState) (x : List ℕ × CyclicTail) → IsOurs link.flow.cyclic → brought_in station.options setup (Comes source frame_id body) ≡ Some x.0 → (b : Bool)
           → cond b received.Taken received.Stale ≡ received.Taken
           → Shows_by link (Some (record link {
             flow = record link.flow {
@@ -287,7 +315,7 @@ module _ (setup : Setup) (station : Station) where
           }))
       new_as link x is brings true e = (
         inr (inr (record { octets = x.0; brings = brings; accepted = refl; shown = is.places x.0 })),
-        record { route = is.route; size = is.size; places = λ octets. frame_again octets x.0 link.flow.cyclic.taken ∙ is.places octets },
+        record { number = is.number; numbered = is.numbered; route = is.route; size = is.size; places = λ octets. frame_again octets x.0 link.flow.cyclic.taken ∙ is.places octets },
       )
       new_as link x is brings false e = absurd cc
 
@@ -309,14 +337,14 @@ module _ (setup : Setup) (station : Station) where
         (planned : IsPlanned (rules_of setup station) setup.activity station.real heard) where
       -- what is shown after a turn, and that it is of the plan
       abbrev ShowsSo : Option RelationState → Type 0
-      ShowsSo after = ShowsIn (brought_in setup heard) live.rest.link after × IsOursIn after
+      ShowsSo after = ShowsIn (brought_in station.options setup heard) live.rest.link after × IsOursIn after
 
       stays_so : (after : Option RelationState) → Stays live.rest.link after → ShowsSo after
-      stays_so after stays = (stays_shows (brought_in setup heard) live.rest.link after stays, stays_ours live.rest.link after stays ours)
+      stays_so after stays = (stays_shows (brought_in station.options setup heard) live.rest.link after stays, stays_ours live.rest.link after stays ours)
 
       -- a relation that is made is that of the plan
-      makes_so : (after : Option RelationState) (sent : List Sent) → Makes live.rest.calls live.rest.link heard after sent → ShowsSo after
-      makes_so after sent makes =
+      makes_so : (after : Option RelationState) (sent : List Sent) → BeginsNumbered station.options live.rest.link after → Makes live.rest.calls live.rest.link heard after sent → ShowsSo after
+      makes_so after sent numbers makes =
           let plan : IsPlannedCall (rules_of setup station) setup.activity station.real makes.call =
           subst (λ (h : Heard). IsPlanned (rules_of setup station) setup.activity station.real h) makes.is planned in
           let asks : IsPlannedAs (rules_of setup station) station.real makes.call.header.sequence plan.blocks (Some operation.Connect) =
@@ -324,39 +352,43 @@ module _ (setup : Setup) (station : Station) where
           let same : plan.blocks ≡ makes.blocks = some_is plan.blocks makes.blocks (sym plan.counted ∙ makes.counted) in
           let request : makes.request ≡ request_for setup.plan setup.ar =
           made_from live.rest.link makes.blocks makes.request (request_for setup.plan setup.ar) makes.read (ap (λ (b : List ℕ). request_of None b) (sym same) ∙ asks) in
-          subst (λ (l : Option RelationState). ShowsSo l) (sym (makes.made ∙ ap (λ (r : Request). Some (made_of r makes.partner makes.rows makes.options makes.starting)) request))
-          (inr (inl (refl, refl)), record { route = refl; size = refl; places = λ octets. refl })
+          let link = made_of makes.request makes.partner makes.rows makes.options makes.starting in
+          let numbered = numbers link (made_alone live.rest.link makes.blocks makes.request makes.read) makes.made in
+          subst (λ (l : Option RelationState). ShowsSo l) (sym makes.made)
+          (subst (λ (r : Request). IsNumbered station.options (made_of r makes.partner makes.rows makes.options makes.starting) → ShowsSo (Some (made_of r makes.partner makes.rows makes.options makes.starting))) (sym request)
+          (λ has. (inr (inl (refl, refl)), record { number = has.number; numbered = has.is; route = has.route; size = refl; places = λ octets. refl })) numbered)
 
       takes_so : (after : Option RelationState) (sent : List Sent) → Takes live.rest.link heard after sent → ShowsSo after
       takes_so after sent takes =
           let link = takes.link in
           let here : IsOursIn (Some link) = subst (λ (l : Option RelationState). IsOursIn l) takes.was ours in
-          subst (λ (h : Heard). ShowsIn (brought_in setup h) live.rest.link after × IsOursIn after) (sym takes.is)
-          (subst (λ (l : Option RelationState). ShowsIn (brought_in setup (Comes takes.source takes.frame_id takes.body)) l after × IsOursIn after) (sym takes.was)
+          subst (λ (h : Heard). ShowsIn (brought_in station.options setup h) live.rest.link after × IsOursIn after) (sym takes.is)
+          (subst (λ (l : Option RelationState). ShowsIn (brought_in station.options setup (Comes takes.source takes.frame_id takes.body)) l after × IsOursIn after) (sym takes.was)
           (subst (λ (l : Option RelationState). Shows_by takes.source takes.frame_id takes.body link l) (sym takes.becomes)
           (partner_as takes.source takes.frame_id takes.body link here (is_of_partner link.flow.cyclic.route takes.source takes.frame_id) refl takes.taken)))
 
-      link_shows : (later : List Diagnosis) (after : Option RelationState) (sent : List Sent) → IsTurn station.real.modules.items live.rest.calls live.rest.diagnoses later live.rest.link heard after sent → ShowsSo after
-      link_shows later after sent (inl stays) = stays_so after (stays_by live.rest.link after stays.link)
-      link_shows later after sent (inr (inl makes)) = makes_so after sent makes
-      link_shows later after sent (inr (inr (inl raises))) =
+      link_shows : (later : List Diagnosis) (after : Option RelationState) (sent : List Sent) → (Makes live.rest.calls live.rest.link heard after sent → ShowsSo after)
+          → IsTurn station.real.modules.items live.rest.calls live.rest.diagnoses later live.rest.link heard after sent → ShowsSo after
+      link_shows later after sent made (inl stays) = stays_so after (stays_by live.rest.link after stays.link)
+      link_shows later after sent made (inr (inl makes)) = made makes
+      link_shows later after sent made (inr (inr (inl raises))) =
           let link = raises.link in
           let ident = module_ident station.real.modules.items raises.slot in
           let part = submodule_ident station.real.modules.items raises.slot raises.subslot in
           stays_so after (becomes_so live.rest.link after link (with_flow raises.flow link) raises.was raises.becomes
           (subst (λ (flow : Option Flow). IsSameFlow link flow) raises.raised (raised_same link raises.slot raises.subslot raises.octets ident part)))
-      link_shows later after sent (inr (inr (inr (inl acked)))) = stays_so after (becomes_so live.rest.link after acked.link _ acked.was acked.becomes (same acked.link.flow.cyclic))
-      link_shows later after sent (inr (inr (inr (inr (inl came))))) = stays_so after (becomes_so live.rest.link after came.link _ came.was came.becomes (same came.link.flow.cyclic))
-      link_shows later after sent (inr (inr (inr (inr (inr (inl passes)))))) =
+      link_shows later after sent made (inr (inr (inr (inl acked)))) = stays_so after (becomes_so live.rest.link after acked.link _ acked.was acked.becomes (same acked.link.flow.cyclic))
+      link_shows later after sent made (inr (inr (inr (inr (inl came))))) = stays_so after (becomes_so live.rest.link after came.link _ came.was came.becomes (same came.link.flow.cyclic))
+      link_shows later after sent made (inr (inr (inr (inr (inr (inl passes)))))) =
           let cyclic = passes.link.flow.cyclic in
           stays_so after (becomes_so live.rest.link after passes.link (unit_later passes.link) passes.was passes.becomes
           (record { route = refl; last = held_last cyclic.begun cyclic.hearing; taken = refl }))
-      link_shows later after sent (inr (inr (inr (inr (inr (inr (inl takes))))))) = takes_so after sent takes
-      link_shows later after sent (inr (inr (inr (inr (inr (inr (inr (inl acked)))))))) = stays_so after (becomes_so live.rest.link after acked.link _ acked.was acked.becomes (same acked.link.flow.cyclic))
-      link_shows later after sent (inr (inr (inr (inr (inr (inr (inr (inr (inl came))))))))) = stays_so after (becomes_so live.rest.link after came.link _ came.was came.becomes (same came.link.flow.cyclic))
-      link_shows later after sent (inr (inr (inr (inr (inr (inr (inr (inr (inr (inl begins)))))))))) =
+      link_shows later after sent made (inr (inr (inr (inr (inr (inr (inl takes))))))) = takes_so after sent takes
+      link_shows later after sent made (inr (inr (inr (inr (inr (inr (inr (inl acked)))))))) = stays_so after (becomes_so live.rest.link after acked.link _ acked.was acked.becomes (same acked.link.flow.cyclic))
+      link_shows later after sent made (inr (inr (inr (inr (inr (inr (inr (inr (inl came))))))))) = stays_so after (becomes_so live.rest.link after came.link _ came.was came.becomes (same came.link.flow.cyclic))
+      link_shows later after sent made (inr (inr (inr (inr (inr (inr (inr (inr (inr (inl begins)))))))))) =
           stays_so after (becomes_so live.rest.link after begins.link _ begins.was begins.becomes (record { route = refl; last = refl; taken = refl }))
-      link_shows later after sent (inr (inr (inr (inr (inr (inr (inr (inr (inr (inr changes)))))))))) = stays_so after (by_link live.rest.link changes.becomes)
+      link_shows later after sent made (inr (inr (inr (inr (inr (inr (inr (inr (inr (inr changes)))))))))) = stays_so after (by_link live.rest.link changes.becomes)
         where
           by_link : (link : Option RelationState) → after ≡ updated (diagnosing station.real.modules.items changes.change later link) link → Stays link after
           by_link None becomes = subst (λ (l : Option RelationState). Stays None l) (sym becomes) tt
@@ -368,7 +400,7 @@ module _ (setup : Setup) (station : Station) where
           let answer = CallAnswer answers.caller answers.address answers.answer in
           let first : AreSendable station.identity (answer ∷ answers.others) = subst (λ (messages : List Sent). AreSendable station.identity messages) answers.sends can in
           subst (λ (c : List Answer). AreKeptSilent c) (sym answers.keeps)
-          (more_kept (BringsNone rules) setup.activity (kept_for station.identity answers.call answer) live.rest.calls (λ own. message_silent setup station.identity sound apart answer first.0 tt) silent)
+          (more_kept (BringsNone rules) setup.activity (kept_for station.identity answers.call answer) live.rest.calls (λ own. message_silent station.options setup station.identity sound apart answer first.0 tt) silent)
 
       owed_known : (message : Sent) → IsOwed heard live message → IsKnown rules message
       owed_known (Again frame) owed =
@@ -382,9 +414,10 @@ module _ (setup : Setup) (station : Station) where
       all_known [] owed = tt
       all_known (message ∷ sent) owed = (owed_known message owed.0, all_known sent owed.1)
 
-      pub turn_shows : (after : Rest) (sent : List Sent) → Turn station live heard after sent → Goes (brought_in setup heard) live.rest after sent
-      turn_shows after sent turn =
-          let shows = link_shows after.diagnoses after.link sent turn.is in
+      pub turn_shows : (after : Rest) (sent : List Sent) → Turn station live heard after sent → BeginsNumbered station.options live.rest.link after.link
+          → Goes (brought_in station.options setup heard) live.rest after sent
+      turn_shows after sent turn numbers =
+          let shows = link_shows after.diagnoses after.link sent (makes_so after.link sent numbers) turn.is in
           record { shows = shows.0; ours = shows.1; calls = calls_silent after.calls sent turn.answers; known = all_known sent turn.owed }
 
     pub frames_silent : (outcomes : List Outcome) (live : Live) (heard : Heard) → AreSendable station.identity (heard_step outcomes station live heard).sent

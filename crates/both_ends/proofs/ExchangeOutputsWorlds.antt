@@ -36,7 +36,7 @@ use Rattle.settings_journal.specs.settings_store.Machine.{Outcome}
 use Rattle.connects.specs.requests.Request.{Request}
 use Rattle.records.specs.declared.writes.taken.TakenRecord.{TakenRecord}
 use Rattle.end_laws.specs.device.Small.{IsPlanned}
-use Rattle.end_laws.specs.device.Turn.{Turn}
+use Rattle.end_laws.specs.device.Turn.{BeginsNumbered, Turn}
 use Rattle.both_ends.specs.exchange.Shown.{accepted_in, brought_in, image_in, outputs_of, shown_of, shown_run, zeros_for}
 use Rattle.both_ends.specs.exchange.Given.{image_given}
 use Rattle.both_ends.proofs.ExchangeOutputsMoves.{ArePlacedOnce, Sets, first_image, given_more, sets_given, sets_of, shown_with}
@@ -66,7 +66,7 @@ abbrev seen : Setup → Option RelationState → Image → List (List ℕ) → S
 seen setup link given sent = record { accepted = accepted_in link; outputs = image_in setup link; given = given; sent = sent }
 
 shows_as : (setup : Setup) (station : Station) (brought : Option (List ℕ)) (before after : Option RelationState) (given now : Image) (sent all : List (List ℕ)) → ShowsIn setup station brought before after
-    → Shows (outputs_of setup station.identity) brought (seen setup before given sent) (seen setup after now all)
+    → Shows (outputs_of station.options setup station.identity) brought (seen setup before given sent) (seen setup after now all)
 shows_as setup station brought before after given now sent all (inl stays) = inl stays
 shows_as setup station brought before after given now sent all (inr (inl none)) = inr (inl none)
 shows_as setup station brought before after given now sent all (inr (inr accepts)) =
@@ -96,9 +96,14 @@ abbrev pub TurnsSo : Type 0
 TurnsSo = (rules : Rules TakenRecord Request) (activity : List ℕ) (outcomes : List Outcome) (station : Station) (live : Live) (heard : Heard) → IsPlanned rules activity station.real heard
     → Turn station live heard (heard_step outcomes station live heard).live.rest (heard_step outcomes station live heard).sent
 
-module _ (turns : TurnsSo) (kinds : KindsSo) (sound : IsSound ethernet) (whole : IsSoundWhole layers) {F : Type 0} where
+-- the law of the number of a relation that begins
+abbrev pub NumbersSo : Type 0
+NumbersSo = (rules : Rules TakenRecord Request) (activity : List ℕ) (outcomes : List Outcome) (station : Station) (live : Live) (heard : Heard) → IsPlanned rules activity station.real heard
+    → BeginsNumbered station.options live.rest.link (heard_step outcomes station live heard).live.rest.link
+
+module _ (turns : TurnsSo) (numbers : NumbersSo) (kinds : KindsSo) (sound : IsSound ethernet) (whole : IsSoundWhole layers) {F : Type 0} where
   abbrev rules_at : World F → Outputs Image Image
-  rules_at w = outputs_of w.controller.setup w.device.station.identity
+  rules_at w = outputs_of w.device.station.options w.controller.setup w.device.station.identity
 
   abbrev Holds : World F → Type 0
   Holds w = HoldsBy w.controller.setup w.device.station w.device.live.rest.link w.device.live.rest.calls w.controller.live
@@ -130,7 +135,7 @@ module _ (turns : TurnsSo) (kinds : KindsSo) (sound : IsSound ethernet) (whole :
           accepted = refl;
           outputs = refl;
           frames = map (bytes_of setup) turn.sent;
-          brings = all_bring setup before.device.station.identity sound holds.six shown tells.kept.size turn.sent (all_now shown turn.sent tells.reported) (all_addressed shown turn.sent tells.reported);
+          brings = all_bring before.device.station.options setup before.device.station.identity sound holds.six shown tells.kept.size turn.sent (all_now shown turn.sent tells.reported) (all_addressed shown turn.sent tells.reported);
           behind = refl;
         };
         sets_are = tells.same;
@@ -143,7 +148,7 @@ module _ (turns : TurnsSo) (kinds : KindsSo) (sound : IsSound ethernet) (whole :
 
   module _ {S : ℕ} (as_flash : Flash F S) where
     at_device_shows : (before after : World F) (heard : Heard) → Holds before → IsMeantAtDevice before heard → AtDevice as_flash before heard after
-        → Refines before after (sets_of before.controller.live) (ShowsAtDevice (rules_at before) (brought_in before.controller.setup heard) (shown_of before) (shown_of after))
+        → Refines before after (sets_of before.controller.live) (ShowsAtDevice (rules_at before) (brought_in before.device.station.options before.controller.setup heard) (shown_of before) (shown_of after))
     at_device_shows before after heard holds meant made =
         let hears = made.hears in
         let setup = before.controller.setup in
@@ -152,9 +157,10 @@ module _ (turns : TurnsSo) (kinds : KindsSo) (sound : IsSound ethernet) (whole :
         let live = before.device.live in
         let step = heard_step outcomes station live heard in
         let rules = rules_at before in
-        let brought = brought_in setup heard in
+        let brought = brought_in station.options setup heard in
         let goes = turn_shows setup station sound holds.apart live heard holds.ours holds.calls_silent meant.planned step.live.rest step.sent
-        (turns (rules_of setup station) setup.activity outcomes station live heard meant.planned) in
+        (turns (rules_of setup station) setup.activity outcomes station live heard meant.planned)
+        (numbers (rules_of setup station) setup.activity outcomes station live heard meant.planned) in
         let shows : Shows rules brought (shown_of before) (shown_of after) =
         subst (λ (c : Controlling). Shows rules brought (shown_of before) (seen c.setup after.device.live.rest.link after.controller.live.cyclic.shown after.sent)) (sym made.controller)
         (subst (λ (l : Live). Shows rules brought (shown_of before) (seen setup l.rest.link after.controller.live.cyclic.shown after.sent)) (sym hears.steps.live)
@@ -250,7 +256,7 @@ module _ (turns : TurnsSo) (kinds : KindsSo) (sound : IsSound ethernet) (whole :
     runs rules before (one ∷ run) same holds made meant =
         let step = happens_shows before one.1 holds one.0 meant.0 made.0 in
         let still : rules_at one.1 ≡ rules_at before =
-        ap (λ (s : Setup). outputs_of s one.1.device.station.identity) step.setup ∙ ap (λ (s : Station). outputs_of before.controller.setup s.identity) step.station in (
+        ap (λ (s : Setup). outputs_of one.1.device.station.options s one.1.device.station.identity) step.setup ∙ ap (λ (s : Station). outputs_of s.options before.controller.setup s.identity) step.station in (
           subst (λ (r : Outputs Image Image). ShowsBehind r (shown_of before) (move_of one.0) (shown_of one.1)) same step.is,
           runs rules one.1 run (still ∙ same) step.holds made.1 meant.1,
         )
@@ -278,8 +284,9 @@ module _ (turns : TurnsSo) (kinds : KindsSo) (sound : IsSound ethernet) (whole :
 
   module _ (setup : Setup) (identity : Identity) (apart : pointwise nat_eq identity.mac.octets setup.plan.controller.mac.octets ≡ false) (six : IsMac setup.plan.controller.mac)
       (first : World F) (begins : Begins setup identity first) where
-    rules_are : rules_at first ≡ outputs_of setup identity
-    rules_are = ap (λ (s : Setup). outputs_of s first.device.station.identity) begins.of_setup ∙ ap (λ (i : Identity). outputs_of setup i) begins.of_device
+    rules_are : rules_at first ≡ outputs_of first.device.station.options setup identity
+    rules_are = ap (λ (s : Setup). outputs_of first.device.station.options s first.device.station.identity) begins.of_setup
+        ∙ ap (λ (i : Identity). outputs_of first.device.station.options setup i) begins.of_device
 
     first_kept : IsKept (zeros_for setup).data_length (first_live setup.plan)
     first_kept = record { device = refl; way = record { partner = refl; sent_tag = omega arith; alarm_tag = omega arith }; size = refl }
@@ -304,9 +311,9 @@ module _ (turns : TurnsSo) (kinds : KindsSo) (sound : IsSound ethernet) (whole :
 
     opening_silent : BringsNone (rules_at first) (opening_of first.controller)
     opening_silent = subst (λ (frame : List ℕ). BringsNone (rules_at first) frame) (sym (opening_is first.controller))
-        (request_silent first.controller.setup first.device.station.identity sound both.1 first.controller.live.device asks.Identify kept.device)
+        (request_silent first.device.station.options first.controller.setup first.device.station.identity sound both.1 first.controller.live.device asks.Identify kept.device)
 
-    pub shows_none : ShowsNone (outputs_of setup identity) (shown_of first)
+    pub shows_none : ShowsNone (outputs_of first.device.station.options setup identity) (shown_of first)
     shows_none = subst (λ (r : Outputs Image Image). ShowsNone r (shown_of first)) rules_are (record {
       unaccepted = ap (λ (l : Option RelationState). accepted_in l) begins.unrelated;
       zeros = ap (λ (l : Option RelationState). image_in first.controller.setup l) begins.unrelated;
@@ -323,8 +330,8 @@ module _ (turns : TurnsSo) (kinds : KindsSo) (sound : IsSound ethernet) (whole :
         ap (λ (s : Sets). s.shown) (given_at as_flash setup once [] first run holds_first first_given made meant front one later e)
 
     pub shown_runs : {S : ℕ} (as_flash : Flash F S) (run : List (Move × World F)) → AreMade as_flash first run
-        → AreMeant first run → IsShownRun (outputs_of setup identity) (shown_of first) (shown_run run)
-    shown_runs as_flash run made meant = runs as_flash (outputs_of setup identity) first run rules_are holds_first made meant
+        → AreMeant first run → IsShownRun (outputs_of first.device.station.options setup identity) (shown_of first) (shown_run run)
+    shown_runs as_flash run made meant = runs as_flash (outputs_of first.device.station.options setup identity) first run rules_are holds_first made meant
 
 pub last_shown : {F : Type 0} (first : World F) (run : List (Move × World F)) → shown_last (shown_of first) (shown_run run) ≡ shown_of (last_world first run)
 last_shown first [] = refl

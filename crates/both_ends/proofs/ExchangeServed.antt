@@ -17,6 +17,7 @@ use Rattle.both_ends.specs.startup.request.Request.{request_for}
 use Rattle.relations.specs.declared.ready.Ready.{Ready}
 use Rattle.relations.specs.RelationState.{RelationState}
 use Rattle.relations.specs.Connect.{connect_blocks, connect_of, differing_of}
+use Rattle.relations.specs.Numbers.{IsNumber}
 use Rattle.device_frames.specs.Heard.{Heard, Reported, Calls}
 use Rattle.device_frames.specs.Sent.{Sent, Exchanges, CallAnswer, Again}
 use Rattle.device_core.specs.State.{Station, Live, Rest}
@@ -50,9 +51,10 @@ module _ (setup : Setup) (station : Station) (live : Live) where
   abbrev asked : Request
   asked = request_for setup.plan setup.ar
 
-  -- the blocks of the response to the Connect of the plan choose a suitable FrameID for outputs
+  -- the blocks of the response to the Connect of the plan choose a suitable FrameID for outputs, in a relation of any number that
+  -- the device may give
   abbrev pub Chooses : Type 0
-  Chooses = IsChosenWell (connect_blocks station.identity asked (differing_of asked station.real))
+  Chooses = (number : ℕ) → IsNumber station.options number → IsChosenWell (connect_blocks station.identity number asked (differing_of asked station.real))
 
   -- a positive response to a call of number 0 chooses a suitable FrameID for outputs
   abbrev pub IsServed : Sent → Type 0
@@ -91,7 +93,8 @@ module _ (setup : Setup) (station : Station) (live : Live) where
   outcome_well caller sequence blocks (Ok octets) operation.Connect after zero_is none early plan effect chooses =
       let is : effect.request ≡ asked = ok_is effect.request asked (sym effect.read ∙ (ap (λ (l : Option RelationState). connect_of l blocks) none ∙ plan)) in
       subst (λ (answer : List ℕ). IsChosenWell answer) (sym effect.answer)
-      (subst (λ (request : Request). IsChosenWell (connect_blocks station.identity request (differing_of request station.real))) (sym is) chooses)
+      (subst (λ (request : Request). IsChosenWell (connect_blocks station.identity effect.starting.number request (differing_of request station.real))) (sym is)
+      (chooses effect.starting.number effect.numbered))
   outcome_well caller sequence blocks (Ok octets) operation.Read after zero_is none early plan effect chooses = absurd (early refl)
   outcome_well caller sequence blocks (Ok octets) operation.Write after zero_is none early plan effect chooses = absurd (early (written_zero sequence blocks zero_is))
   outcome_well caller sequence blocks (Ok octets) operation.ReadImplicit after zero_is none early plan effect chooses = absurd plan

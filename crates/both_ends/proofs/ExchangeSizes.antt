@@ -81,10 +81,15 @@ pub record IsSizedEnd (end : DeviceEnd) : Type 0 where
   pub specifier : end.sender.specifier < 2048
   pub standing : IsAlarmOrNone end.sender.standing
 
+-- the frames of a relation go between the stations of the plan
+abbrev pub IsRouted : Request → Route → Type 0
+IsRouted request route = (number : ℕ) × (route ≡ route_of number request)
+
 -- the alarm part of the relation that a plan asks for
 pub record IsSizedWay (request : Request) (way : Way) : Type 0 where
   pub same : way.request ≡ request
-  pub routed : way.route ≡ route_of request
+  pub routed : IsRouted request way.route
+  pub endpoint : way.endpoint < 65536
   pub alarms : IsSizedEnd way.alarms
   pub low : IsSizedEnd way.low.alarms
 
@@ -188,21 +193,21 @@ module _ (identity : Identity) (plan : Parts) (ar : List ℕ) (apart : identity.
   abbrev AreSizedSent : List Sent → Type 0
   AreSizedSent messages = AllByRecursion (IsSizedSent identity) messages
 
-  to_other : (route : Route) → route ≡ route_of request → route.partner ≡ identity.mac → ⊥
-  to_other route routed e = apart (sym e ∙ ap (λ (r : Route). r.partner) routed)
+  to_other : (route : Route) → IsRouted request route → route.partner ≡ identity.mac → ⊥
+  to_other route routed e = apart (sym e ∙ ap (λ (r : Route). r.partner) routed.1)
 
   -- a header of either priority
-  end_header : (end : DeviceEnd) (route : Route) (kind : PduType) → route ≡ route_of request → IsSizedEnd end → IsHeader (header_now end kind route.reference 1)
-  end_header end route kind routed sized = record {
-    destination = subst (λ (r : Route). r.reference < 65536) (sym routed) (omega arith);
-    source = omega arith;
+  end_header : (end : DeviceEnd) (route : Route) (kind : PduType) (endpoint : ℕ) → IsRouted request route → endpoint < 65536 → IsSizedEnd end → IsHeader (header_now end kind route.reference endpoint)
+  end_header end route kind endpoint routed few sized = record {
+    destination = subst (λ (r : Route). r.reference < 65536) (sym routed.1) (omega arith);
+    source = few;
     send_number = send_short end.sender.sending.last sized.last;
     ack_number = ack_short end.seen sized.seen;
   }
 
   calm_sized : (before : Option RelationState) (message : Sent) → AreSizedIn request before → IsCalm before message → IsSizedSent identity message
   calm_sized before (Exchanges route (Inputs has_problem inputs counter)) sized calm =
-      ap (λ (r : Route). is_alarm r.sent_id) (calm.2 ∙ (sized calm.0 calm.1).routed)
+      ap (λ (r : Route). is_alarm r.sent_id) (calm.2 ∙ (sized calm.0 calm.1).routed.1)
   calm_sized before (Exchanges route (Notifies header alarm)) sized calm = absurd calm
   calm_sized before (Exchanges route (Answers header)) sized calm = absurd calm
   calm_sized before (Exchanges route (Reports tag header alarm)) sized calm = absurd calm
@@ -211,7 +216,7 @@ module _ (identity : Identity) (plan : Parts) (ar : List ℕ) (apart : identity.
       let way = sized calm.1 calm.2 in
       let said : IsHeader (said_by (farewell_of calm.0 calm.1)).header = record {
         destination = subst (λ (r : Request). r.alarm.reference < 65536) (sym way.same) (omega arith);
-        source = omega arith;
+        source = way.endpoint;
         send_number = send_short calm.1.flow.alarms.sender.sending.last way.alarms.last;
         ack_number = ack_short calm.1.flow.alarms.seen way.alarms.seen;
       } in (
@@ -233,22 +238,22 @@ module _ (identity : Identity) (plan : Parts) (ar : List ℕ) (apart : identity.
   becomes_sized : (after : Option RelationState) (link : RelationState) → after ≡ Some link → IsSizedWay request (way_of link) → AreSizedIn request after
   becomes_sized after link becomes sized l is = subst (λ (k : RelationState). IsSizedWay request (way_of k)) (some_is link l (sym becomes ∙ is)) sized
 
-  stands_sized : (flow : Flow) (standing : Option AlarmNotification) → flow.cyclic.route ≡ route_of request → IsSizedEnd flow.alarms → IsAlarmOrNone standing
+  stands_sized : (flow : Flow) (standing : Option AlarmNotification) → IsRouted request flow.cyclic.route → flow.endpoint < 65536 → IsSizedEnd flow.alarms → IsAlarmOrNone standing
       → AreSizedSent (frames_in flow.cyclic.route (option_map (Notifies (header_of flow pdu.Data)) standing))
-  stands_sized flow None routed sized is = tt
-  stands_sized flow (Some alarm) routed sized is = ((to_other flow.cyclic.route routed, refl, end_header flow.alarms flow.cyclic.route pdu.Data routed sized, is), tt)
+  stands_sized flow None routed few sized is = tt
+  stands_sized flow (Some alarm) routed few sized is = ((to_other flow.cyclic.route routed, refl, end_header flow.alarms flow.cyclic.route pdu.Data flow.endpoint routed few sized, is), tt)
 
-  low_stands : (flow : Flow) (standing : Option AlarmNotification) → flow.cyclic.route ≡ route_of request → IsSizedEnd flow.low.alarms → IsAlarmOrNone standing
+  low_stands : (flow : Flow) (standing : Option AlarmNotification) → IsRouted request flow.cyclic.route → flow.endpoint < 65536 → IsSizedEnd flow.low.alarms → IsAlarmOrNone standing
       → AreSizedSent (frames_in flow.cyclic.route (option_map (Reports flow.low.tag (low_header_of flow pdu.Data)) standing))
-  low_stands flow None routed sized is = tt
-  low_stands flow (Some alarm) routed sized is = ((to_other flow.cyclic.route routed, refl, end_header flow.low.alarms flow.cyclic.route pdu.Data routed sized, is), tt)
+  low_stands flow None routed few sized is = tt
+  low_stands flow (Some alarm) routed few sized is = ((to_other flow.cyclic.route routed, refl, end_header flow.low.alarms flow.cyclic.route pdu.Data flow.endpoint routed few sized, is), tt)
 
   due_sized : (b : Bool) (messages : List Sent) → AreSizedSent messages → AreSizedSent (where_due b messages)
   due_sized true messages sized = sized
   due_sized false messages sized = tt
 
-  lows_sized : (b : Bool) (flow : Flow) → flow.cyclic.route ≡ route_of request → IsSizedEnd flow.low.alarms → AreSizedSent (where_due b (low_alarms_of (Some flow)))
-  lows_sized b flow routed sized = due_sized b (low_alarms_of (Some flow)) (low_stands flow flow.low.alarms.sender.standing routed sized sized.standing)
+  lows_sized : (b : Bool) (flow : Flow) → IsRouted request flow.cyclic.route → flow.endpoint < 65536 → IsSizedEnd flow.low.alarms → AreSizedSent (where_due b (low_alarms_of (Some flow)))
+  lows_sized b flow routed few sized = due_sized b (low_alarms_of (Some flow)) (low_stands flow flow.low.alarms.sender.standing routed few sized sized.standing)
 
   pub record SizedTurn (after : Option RelationState) (sent : List Sent) : Type 0 where
     pub link : AreSizedIn request after
@@ -275,10 +280,10 @@ module _ (identity : Identity) (plan : Parts) (ar : List ℕ) (apart : identity.
         few = omega (arith, few);
       } in
       let now : IsSizedWay request (way_of (with_flow raises.flow raises.link)) =
-      subst (λ (f : Flow). IsSizedWay request (way_of (with_flow f raises.link))) (sym may.is) (record { same = way.same; routed = way.routed; alarms = with_sized flow.alarms _ way.alarms alarm; low = way.low }) in
+      subst (λ (f : Flow). IsSizedWay request (way_of (with_flow f raises.link))) (sym may.is) (record { same = way.same; routed = way.routed; endpoint = way.endpoint; alarms = with_sized flow.alarms _ way.alarms alarm; low = way.low }) in
       record {
         link = becomes_sized after (with_flow raises.flow raises.link) raises.becomes now;
-        messages = subst (λ (messages : List Sent). AreSizedSent messages) (sym raises.sends) (stands_sized raises.flow raises.flow.alarms.sender.standing now.routed now.alarms now.alarms.standing);
+        messages = subst (λ (messages : List Sent). AreSizedSent messages) (sym raises.sends) (stands_sized raises.flow raises.flow.alarms.sender.standing now.routed now.endpoint now.alarms now.alarms.standing);
       }
 
   acked_sized : (before : Option RelationState) (heard : Heard) (after : Option RelationState) (sent : List Sent) → AreSizedIn request before → HearsAck before heard after sent → SizedTurn after sent
@@ -286,7 +291,7 @@ module _ (identity : Identity) (plan : Parts) (ar : List ℕ) (apart : identity.
       let way = sized acked.link acked.was in
       record {
         link = becomes_sized after (with_flow (behind_message acked.link.flow (notice.Ack acked.number)) acked.link) acked.becomes
-            (record { same = way.same; routed = way.routed; alarms = ack_sized acked.link.flow.alarms acked.number way.alarms; low = way.low });
+            (record { same = way.same; routed = way.routed; endpoint = way.endpoint; alarms = ack_sized acked.link.flow.alarms acked.number way.alarms; low = way.low });
         messages = subst (λ (messages : List Sent). AreSizedSent messages) (sym acked.silent) tt;
       }
 
@@ -302,9 +307,9 @@ module _ (identity : Identity) (plan : Parts) (ar : List ℕ) (apart : identity.
       let end = data_sized came.link.flow.alarms came.number came.ack way.alarms in
       let as_what = taken_as came.link.flow.alarms.seen came.number in
       record {
-        link = becomes_sized after (with_flow flow came.link) came.becomes (record { same = way.same; routed = way.routed; alarms = end; low = way.low });
+        link = becomes_sized after (with_flow flow came.link) came.becomes (record { same = way.same; routed = way.routed; endpoint = way.endpoint; alarms = end; low = way.low });
         messages = subst (λ (messages : List Sent). AreSizedSent messages) (sym came.sends)
-            ((to_other flow.cyclic.route way.routed, answers_so as_what, end_header flow.alarms flow.cyclic.route (answer_to as_what) way.routed end), tt);
+            ((to_other flow.cyclic.route way.routed, answers_so as_what, end_header flow.alarms flow.cyclic.route (answer_to as_what) flow.endpoint way.routed way.endpoint end), tt);
       }
 
   passed_sized : (before : Option RelationState) (heard : Heard) (after : Option RelationState) (sent : List Sent) → AreSizedIn request before → Passes before heard after sent → SizedTurn after sent
@@ -316,12 +321,12 @@ module _ (identity : Identity) (plan : Parts) (ar : List ℕ) (apart : identity.
       let high_due = (tick_of passes.link.flow).is_alarm && (repeated_of passes.link.flow).high in
       let low_due = (tick_of passes.link.flow).is_alarm && (repeated_of passes.link.flow).low in
       record {
-        link = becomes_sized after (unit_later passes.link) passes.becomes (record { same = way.same; routed = way.routed; alarms = end; low = low });
+        link = becomes_sized after (unit_later passes.link) passes.becomes (record { same = way.same; routed = way.routed; endpoint = way.endpoint; alarms = end; low = low });
         messages = subst (λ (messages : List Sent). AreSizedSent messages) (sym passes.sends)
             (each_behind (IsSizedSent identity) (where_due high_due (alarms_of (Some flow))) (where_due low_due (low_alarms_of (Some flow)) ++ passes.others)
-            (due_sized high_due (alarms_of (Some flow)) (stands_sized flow flow.alarms.sender.standing way.routed end end.standing))
+            (due_sized high_due (alarms_of (Some flow)) (stands_sized flow flow.alarms.sender.standing way.routed way.endpoint end end.standing))
             (each_behind (IsSizedSent identity) (where_due low_due (low_alarms_of (Some flow))) passes.others
-            (lows_sized low_due flow way.routed low)
+            (lows_sized low_due flow way.routed way.endpoint low)
             (all_calm before passes.others sized passes.calm)));
       }
 
@@ -369,8 +374,8 @@ module _ (identity : Identity) (plan : Parts) (ar : List ℕ) (apart : identity.
       let next = next_reported real link.flow in
       let low = next_sized real link.flow.low all way.low in
       record {
-        link = becomes_sized after (with_flow next link) becomes (record { same = way.same; routed = way.routed; alarms = way.alarms; low = low });
-        messages = lows_sized b next way.routed low;
+        link = becomes_sized after (with_flow next link) becomes (record { same = way.same; routed = way.routed; endpoint = way.endpoint; alarms = way.alarms; low = low });
+        messages = lows_sized b next way.routed way.endpoint low;
       }
 
   low_acked_sized : (before : Option RelationState) (heard : Heard) (after : Option RelationState) (sent : List Sent) → AreSizedIn request before → HearsLowAck before heard after sent → SizedTurn after sent
@@ -378,7 +383,7 @@ module _ (identity : Identity) (plan : Parts) (ar : List ℕ) (apart : identity.
       let way = sized acked.link acked.was in
       record {
         link = becomes_sized after (with_flow (behind_low acked.link.flow (notice.Ack acked.number)) acked.link) acked.becomes
-            (record { same = way.same; routed = way.routed; alarms = way.alarms; low = ack_sized acked.link.flow.low.alarms acked.number way.low });
+            (record { same = way.same; routed = way.routed; endpoint = way.endpoint; alarms = way.alarms; low = ack_sized acked.link.flow.low.alarms acked.number way.low });
         messages = subst (λ (messages : List Sent). AreSizedSent messages) (sym acked.silent) tt;
       }
 
@@ -389,12 +394,12 @@ module _ (identity : Identity) (plan : Parts) (ar : List ℕ) (apart : identity.
       let flow = behind_low came.link.flow (notice.Data came.number came.ack) in
       let end = data_sized came.link.flow.low.alarms came.number came.ack way.low in
       let as_what = taken_as came.link.flow.low.alarms.seen came.number in
-      let next = reports_sized real (with_flow flow came.link) after all (record { same = way.same; routed = way.routed; alarms = way.alarms; low = end }) came.becomes (is_next real flow.low) in
+      let next = reports_sized real (with_flow flow came.link) after all (record { same = way.same; routed = way.routed; endpoint = way.endpoint; alarms = way.alarms; low = end }) came.becomes (is_next real flow.low) in
       record {
         link = next.link;
         messages = subst (λ (messages : List Sent). AreSizedSent messages) (sym came.sends)
             (each_behind (IsSizedSent identity) (low_replies_of as_what (Some flow)) (where_due (is_next real flow.low) (low_alarms_of (Some (next_reported real flow))))
-            ((to_other flow.cyclic.route way.routed, answers_so as_what, end_header flow.low.alarms flow.cyclic.route (answer_to as_what) way.routed end), tt) next.messages);
+            ((to_other flow.cyclic.route way.routed, answers_so as_what, end_header flow.low.alarms flow.cyclic.route (answer_to as_what) flow.endpoint way.routed way.endpoint end), tt) next.messages);
       }
 
   begins_sized : (real : List RealModule) (diagnoses : List Diagnosis) (before : Option RelationState) (after : Option RelationState) (sent : List Sent) → AreSizedModules real → AreSizedIn request before
@@ -404,7 +409,7 @@ module _ (identity : Identity) (plan : Parts) (ar : List ℕ) (apart : identity.
       let now = exchanging_from begins.link in
       let middle = with_flow (with_low now.flow (begun diagnoses now.flow.low)) now in
       subst (λ (messages : List Sent). SizedTurn after messages) (sym begins.sends)
-      (reports_sized real middle after all (record { same = way.same; routed = way.routed; alarms = way.alarms; low = way.low }) begins.becomes (begins_with_one real diagnoses now.flow))
+      (reports_sized real middle after all (record { same = way.same; routed = way.routed; endpoint = way.endpoint; alarms = way.alarms; low = way.low }) begins.becomes (begins_with_one real diagnoses now.flow))
 
   changed_sized : (real : List RealModule) (has_begun : Bool) (change : Change) (later : List Diagnosis) (low : Low) → AreSizedModules real → IsSizedEnd low.alarms → IsSizedEnd (low_changed real has_begun change later low).alarms
   changed_sized real has_begun change later low all sized = by_test (is_reported has_begun change low)
@@ -428,8 +433,8 @@ module _ (identity : Identity) (plan : Parts) (ar : List ℕ) (apart : identity.
           let flow = diagnosed real changes.change later link.flow in
           let low = changed_sized real link.flow.cyclic.begun changes.change later link.flow.low all way.low in
           record {
-            link = becomes_sized after (with_flow flow link) becomes (record { same = way.same; routed = way.routed; alarms = way.alarms; low = low });
-            messages = subst (λ (l : Option RelationState). AreSizedSent (where_due b (low_alarms_of (flow_of l)))) (sym becomes) (lows_sized b flow way.routed low);
+            link = becomes_sized after (with_flow flow link) becomes (record { same = way.same; routed = way.routed; endpoint = way.endpoint; alarms = way.alarms; low = low });
+            messages = subst (λ (l : Option RelationState). AreSizedSent (where_due b (low_alarms_of (flow_of l)))) (sym becomes) (lows_sized b flow way.routed way.endpoint low);
           }
 
   -- any turn, if a relation that is made now is that of the plan
@@ -440,7 +445,8 @@ module _ (identity : Identity) (plan : Parts) (ar : List ℕ) (apart : identity.
   turn_sized real calls diagnoses later before heard after sent all sized planned (inr (inl makes)) = record {
     link = becomes_sized after (made_of makes.request makes.partner makes.rows makes.options makes.starting) makes.made (record {
       same = planned makes;
-      routed = ap route_of (planned makes);
+      routed = (makes.starting.number, ap (route_of makes.starting.number) (planned makes));
+      endpoint = omega (arith, makes.few);
       alarms = record { last = tt; seen = tt; specifier = omega arith; standing = tt };
       low = record { last = tt; seen = tt; specifier = omega arith; standing = tt };
     });

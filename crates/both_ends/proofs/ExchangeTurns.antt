@@ -24,13 +24,14 @@ use Rattle.end_laws.specs.device.Turn as device
 -- ---- the alarm part of a relation
 
 -- the device's ends of alarms, of either priority, whether data is exchanged, by the exchange and by the phase, the stations
--- between which its frames go, and the request of the Connect
+-- between which its frames go, the endpoint of its alarms, and the request of the Connect
 pub record Way : Type 0 where
   pub alarms : DeviceEnd
   pub low : Low
   pub begun : Bool
   pub exchanges : Bool
   pub route : Route
+  pub endpoint : ℕ
   pub request : Request
 
 abbrev pub way_of : RelationState → Way
@@ -40,6 +41,7 @@ way_of link = record {
   begun = link.flow.cyclic.begun;
   exchanges = is_exchanging link.phase;
   route = link.flow.cyclic.route;
+  endpoint = link.flow.endpoint;
   request = link.request;
 }
 
@@ -72,7 +74,7 @@ IsTurn real calls diagnoses later before heard after sent =
 
 abbrev way_from : Standing → Way
 way_from standing =
-    record { alarms = standing.alarms; low = standing.low; begun = standing.begun; exchanges = standing.exchanges; route = standing.route; request = standing.request }
+    record { alarms = standing.alarms; low = standing.low; begun = standing.begun; exchanges = standing.exchanges; route = standing.route; endpoint = standing.endpoint; request = standing.request }
 
 ways_are : (link : Option RelationState) → option_map way_of link ≡ option_map way_from (option_map standing_of link)
 ways_are None = refl

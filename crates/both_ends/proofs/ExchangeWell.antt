@@ -130,7 +130,7 @@ module _ (so : HearsSo) (setup : Setup) (station : Station) (good : IsSetup setu
             few = leb-true (length answer.blocks) 1372 e;
           } in
           let well : IsWell setup (controller.Responds answer) = λ is done.
-          served (so.chosen setup station.identity station.real good can.0.source) (zero_is setup answer is) done in
+          served (λ number numbered. so.chosen setup station.identity station.real number good can.0.source numbered.few) (zero_is setup answer is) done in
           subst (λ (h : controller.Heard). IsWell setup h)
           (sym (so.response_at_controller setup.plan.controller station.identity caller address answer can.0.source calls can.0.content.0.0 answers))
           (holds_if (IsWell setup) (pointwise nat_eq caller.mac.octets setup.plan.controller.mac.octets) (cond (is_to setup.plan.controller.address caller.endpoint) (controller.Responds answer) controller.Nothing)

@@ -1,5 +1,5 @@
 -- The device's response to the Connect of a plan, and what its controller makes of it.
-use Rattle.std.proofs.Common.{◌≡◌, ◌==◌, ◌&&◌, ◌++◌, ℕ, Bool, true, List, [], ◌∷◌, Option, Some, None, Result, Ok, append_assoc, append-nil, refl, sym, ap, subst, ◌∙◌}
+use Rattle.std.proofs.Common.{◌≡◌, ◌==◌, ◌&&◌, ◌+◌, ◌++◌, ℕ, Bool, true, List, [], ◌∷◌, Option, Some, None, Result, Ok, append_assoc, append-nil, refl, sym, ap, subst, ◌∙◌}
 use Rattle.std.specs.Prelude.{if◌then◌else◌}
 use Rattle.std.proofs.lemmas.Cmp.{nat_list_eq_equiv}
 use Rattle.pn_values.specs.declared.identity.Identity.{Identity}
@@ -22,9 +22,12 @@ use Rattle.wire.specs.Codec.{◌>>=◌}
 use Rattle.relations.specs.declared.options.DeviceOptions.{DeviceOptions}
 use Rattle.relations.specs.RelationState.{RelationState}
 use Rattle.relations.specs.Phases.{differing_octets, updated}
-use Rattle.relations.specs.Connect.{connect_answer, connect_blocks, connect_within, differing_of, making}
+use Rattle.device_core.specs.State.{Station, station_with}
+use Rattle.connects.specs.answers.AlarmRelation.{alarm_relation}
+use Rattle.relations.specs.Numbers.{endpoint_of}
+use Rattle.relations.specs.Connect.{alarm_answer, connect_answer, connect_blocks, connect_within, differing_of, making}
 use Rattle.both_ends.specs.startup.request.Request.{no_rows, request_for}
-use Rattle.device_core.specs.Handled.{Moves, answer_from, kept_behind, partner_of}
+use Rattle.device_core.specs.Handled.{Moves, answer_from, counted_by, kept_behind, number_now, partner_of, starting_of}
 use Rattle.device_core.specs.Log.{connect_log, with_log}
 use Rattle.device_frames.specs.Sent.{bytes_of, response_frame}
 use Rattle.controller_messages.specs.declared.setup.Setup.{Setup}
@@ -42,32 +45,35 @@ use Rattle.both_ends.specs.startup.answer.Answer.{AnswersSo, IsAllThere, answer_
 
 pub answers_so : (setup : Setup) (identity : Identity) → AnswersSo setup identity
 answers_so setup identity options device none =
+    let station : Station = station_with identity setup.plan.real options in
     let call = call_for setup asks.Connect in
     let caller = caller_of setup.plan.controller in
     let blocks = blocks_of setup asks.Connect in
     let address = device.values.running.suite.address in
     let link = device.rest.link in
-    let logged = with_log (connect_log blocks (connect_answer identity setup.plan.real options caller.mac link blocks)) device.rest in
-    let rest = kept_behind identity logged call (answer_from address caller call Connect (connect_answer identity setup.plan.real options caller.mac link blocks))
-    (updated (making setup.plan.real (partner_of caller) options (record { begin_bad = options.inputs_begin_bad; statuses = device.rest.statuses; units = device.rest.units; diagnoses = device.rest.diagnoses }) (connect_within options caller.mac link blocks)) link) in
-    (rest, ap (λ (l : Option RelationState). Moves rest (answer_from address caller call Connect (connect_answer identity setup.plan.real options caller.mac l blocks) ∷ [])) none)
+    let number = number_now station device in
+    let answer = connect_answer identity setup.plan.real options number caller.mac link blocks in
+    let logged = counted_by answer (with_log (connect_log blocks answer) device.rest) in
+    let rest = kept_behind identity logged call (answer_from address caller call Connect answer)
+    (updated (making setup.plan.real (partner_of caller) options (starting_of station device) (connect_within options caller.mac link blocks)) link) in
+    (rest, ap (λ (l : Option RelationState). Moves rest (answer_from address caller call Connect (connect_answer identity setup.plan.real options number caller.mac l blocks) ∷ [])) none)
 
 -- if the device reads the plan's request and no module differs, it responds with these blocks
-blocks_by : (setup : Setup) (identity : Identity) (options : DeviceOptions) → connect_within options setup.plan.controller.mac None (blocks_of setup asks.Connect) ≡ Ok (request_for setup.plan setup.ar)
+blocks_by : (setup : Setup) (identity : Identity) (options : DeviceOptions) (number : ℕ) → connect_within options setup.plan.controller.mac None (blocks_of setup asks.Connect) ≡ Ok (request_for setup.plan setup.ar)
     → diff_of (request_for setup.plan setup.ar).expected setup.plan.real.modules.items ≡ no_rows
-    → connect_answer identity setup.plan.real options setup.plan.controller.mac None (blocks_of setup asks.Connect) ≡ Ok (answer_blocks setup identity)
-blocks_by setup identity options read same =
-    ap (λ (r : Result Request CallFault). r >>= λ request. Ok (connect_blocks identity request (differing_of request setup.plan.real))) read
-    ∙ ap (λ (rows : Listed DiffModule DiffSubmodule). Ok (connect_blocks identity (request_for setup.plan setup.ar) (differing_octets rows))) same
+    → connect_answer identity setup.plan.real options number setup.plan.controller.mac None (blocks_of setup asks.Connect) ≡ Ok (answer_blocks setup identity number)
+blocks_by setup identity options number read same =
+    ap (λ (r : Result Request CallFault). r >>= λ request. Ok (connect_blocks identity number request (differing_of request setup.plan.real))) read
+    ∙ ap (λ (rows : Listed DiffModule DiffSubmodule). Ok (connect_blocks identity number (request_for setup.plan setup.ar) (differing_octets rows))) same
 
 -- the frame is that of this response
-pub frame_by : (setup : Setup) (identity : Identity) (options : DeviceOptions) (address : List ℕ) → connect_within options setup.plan.controller.mac None (blocks_of setup asks.Connect) ≡ Ok (request_for setup.plan setup.ar)
+pub frame_by : (setup : Setup) (identity : Identity) (options : DeviceOptions) (number : ℕ) (address : List ℕ) → connect_within options setup.plan.controller.mac None (blocks_of setup asks.Connect) ≡ Ok (request_for setup.plan setup.ar)
     → diff_of (request_for setup.plan setup.ar).expected setup.plan.real.modules.items ≡ no_rows
-    → answer_frame setup identity options address
-    ≡ response_frame identity (caller_of setup.plan.controller) address (answer_to (call_for setup asks.Connect) done (answer_blocks setup identity))
-frame_by setup identity options address read same =
+    → answer_frame setup identity options number address
+    ≡ response_frame identity (caller_of setup.plan.controller) address (answer_to (call_for setup asks.Connect) done (answer_blocks setup identity number))
+frame_by setup identity options number address read same =
     ap (λ (r : Result (List ℕ) CallFault). bytes_of identity (answer_from address (caller_of setup.plan.controller) (call_for setup asks.Connect) Connect r))
-    (blocks_by setup identity options read same)
+    (blocks_by setup identity options number read same)
 
 -- ---- its blocks
 
@@ -77,33 +83,33 @@ relation_of setup identity = record { ar_uuid = setup.ar; session_key = 1; cm_re
 abbrev input_of : IocrBlockRes
 input_of = record { iocr_type = 1; iocr_reference = 1; frame_id = 0xC001 }
 
-abbrev output_of : IocrBlockRes
-output_of = record { iocr_type = 2; iocr_reference = 2; frame_id = 0xC000 }
-
-abbrev alarm_bytes : List ℕ
-alarm_bytes = block_bytes (is.AlarmCrBlockRes (record {}))
+abbrev output_of : ℕ → IocrBlockRes
+output_of number = record { iocr_type = 2; iocr_reference = 2; frame_id = 0xC000 + number }
 
 -- the blocks are these
-blocks_are : (setup : Setup) (identity : Identity) → answer_blocks setup identity
-    ≡ block_bytes (is.ArBlockRes (relation_of setup identity)) ++ (block_bytes (is.IocrBlockRes input_of) ++ block_bytes (is.IocrBlockRes output_of)) ++ alarm_bytes ++ []
+blocks_are : (setup : Setup) (identity : Identity) (number : ℕ) → answer_blocks setup identity number
+    ≡ block_bytes (is.ArBlockRes (relation_of setup identity)) ++ (block_bytes (is.IocrBlockRes input_of) ++ block_bytes (is.IocrBlockRes (output_of number))) ++ alarm_answer number ++ []
 unfolding connect_blocks
-blocks_are setup identity = refl
+blocks_are setup identity number = refl
 
-pub all_there : (setup : Setup) (identity : Identity)
-    → IsAllThere (block_bytes (is.ArBlockRes (relation_of setup identity)) ++ (block_bytes (is.IocrBlockRes input_of) ++ block_bytes (is.IocrBlockRes output_of)) ++ alarm_bytes ++ []) 0xC000
-    → IsAllThere (answer_blocks setup identity) 0xC000
-all_there setup identity there = subst (λ (blocks : List ℕ). IsAllThere blocks 0xC000) (sym (blocks_are setup identity)) there
+pub all_there : (setup : Setup) (identity : Identity) (number : ℕ)
+    → IsAllThere (block_bytes (is.ArBlockRes (relation_of setup identity)) ++ (block_bytes (is.IocrBlockRes input_of) ++ block_bytes (is.IocrBlockRes (output_of number))) ++ alarm_answer number ++ []) (0xC000 + number) (endpoint_of number)
+    → IsAllThere (answer_blocks setup identity number) (0xC000 + number) (endpoint_of number)
+all_there setup identity number there = subst (λ (blocks : List ℕ). IsAllThere blocks (0xC000 + number) (endpoint_of number)) (sym (blocks_are setup identity number)) there
 
 one_behind_another : (a b c d : List ℕ) → ((a ++ b) ++ c) ++ d ≡ ((a ++ (b ++ c)) ++ d) ++ []
 one_behind_another a b c d = ap (λ (front : List ℕ). front ++ d) (append_assoc a b c) ∙ sym (append-nil ((a ++ (b ++ c)) ++ d))
 
--- the blocks as they are written
-pub blocks_written : (setup : Setup) (identity : Identity)
-    → ((block_bytes (is.ArBlockRes (relation_of setup identity)) ++ block_bytes (is.IocrBlockRes input_of)) ++ block_bytes (is.IocrBlockRes output_of)) ++ alarm_bytes
-    ≡ answer_blocks setup identity
-blocks_written setup identity =
-    one_behind_another (block_bytes (is.ArBlockRes (relation_of setup identity))) (block_bytes (is.IocrBlockRes input_of)) (block_bytes (is.IocrBlockRes output_of)) alarm_bytes
-    ∙ sym (blocks_are setup identity)
+-- the blocks as they are written, with this alarm endpoint
+pub blocks_written : (setup : Setup) (identity : Identity) (number endpoint : ℕ) → endpoint ≡ endpoint_of number
+    → ((block_bytes (is.ArBlockRes (relation_of setup identity)) ++ block_bytes (is.IocrBlockRes input_of)) ++ block_bytes (is.IocrBlockRes (output_of number)))
+    ++ alarm_relation.write (record { local_alarm_reference = endpoint; max_alarm_data_length = 200 }) []
+    ≡ answer_blocks setup identity number
+blocks_written setup identity number endpoint same =
+    ap (λ (reference : ℕ). ((block_bytes (is.ArBlockRes (relation_of setup identity)) ++ block_bytes (is.IocrBlockRes input_of)) ++ block_bytes (is.IocrBlockRes (output_of number)))
+    ++ alarm_relation.write (record { local_alarm_reference = reference; max_alarm_data_length = 200 }) []) same
+    ∙ (one_behind_another (block_bytes (is.ArBlockRes (relation_of setup identity))) (block_bytes (is.IocrBlockRes input_of)) (block_bytes (is.IocrBlockRes (output_of number))) (alarm_answer number)
+    ∙ sym (blocks_are setup identity number))
 
 -- ---- at the controller
 
@@ -112,16 +118,16 @@ abbrev pub done_with : CallHeader → List ℕ → Answered
 done_with header blocks = record { header = header; status = done; maximum_count = 1372; blocks = blocks }
 
 -- the frame is heard as the response that it was made of
-pub heard_as_made : (setup : Setup) (identity : Identity) (options : DeviceOptions) (address blocks : List ℕ) (controller : Controller) (header : CallHeader)
+pub heard_as_made : (setup : Setup) (identity : Identity) (options : DeviceOptions) (number : ℕ) (address blocks : List ℕ) (controller : Controller) (header : CallHeader)
     → connect_within options setup.plan.controller.mac None (blocks_of setup asks.Connect) ≡ Ok (request_for setup.plan setup.ar)
     → diff_of (request_for setup.plan setup.ar).expected setup.plan.real.modules.items ≡ no_rows
-    → controller ≡ setup.plan.controller → header ≡ header_of setup asks.Connect → blocks ≡ answer_blocks setup identity
+    → controller ≡ setup.plan.controller → header ≡ header_of setup asks.Connect → blocks ≡ answer_blocks setup identity number
     → heard_of controller (response_frame identity (caller_of controller) address (done_with header blocks)) ≡ Responds (done_with header blocks)
-    → heard_of setup.plan.controller (answer_frame setup identity options address) ≡ Responds (answer_to (call_for setup asks.Connect) done (answer_blocks setup identity))
-heard_as_made setup identity options address blocks controller header read same at of these heard =
+    → heard_of setup.plan.controller (answer_frame setup identity options number address) ≡ Responds (answer_to (call_for setup asks.Connect) done (answer_blocks setup identity number))
+heard_as_made setup identity options number address blocks controller header read same at of these heard =
     let answer = ap (λ (h : CallHeader). done_with h blocks) of ∙ ap (λ (b : List ℕ). done_with (header_of setup asks.Connect) b) these in
     let one = subst (λ (c : Controller). heard_of c (response_frame identity (caller_of c) address (done_with header blocks)) ≡ Responds (done_with header blocks)) at heard in
-    ap (heard_of setup.plan.controller) (frame_by setup identity options address read same)
+    ap (heard_of setup.plan.controller) (frame_by setup identity options number address read same)
     ∙ subst (λ (a : Answered). heard_of setup.plan.controller (response_frame identity (caller_of setup.plan.controller) address a) ≡ Responds a) answer one
 
 -- the controller made this call
@@ -132,10 +138,10 @@ where_so : {A : Type 0} (is : Bool) (x y : A) → is ≡ true → (if is then x 
 where_so is x y e = ap (λ (b : Bool). if b then x else y) e
 
 -- the controller goes on
-pub goes_on : (setup : Setup) (live : Controls) (octets blocks : List ℕ) (frame_id : ℕ) → IsAllThere blocks frame_id
+pub goes_on : (setup : Setup) (live : Controls) (octets blocks : List ℕ) (number : ℕ) → IsAllThere blocks (0xC000 + number) (endpoint_of number)
     → heard_of setup.plan.controller octets ≡ Responds (answer_to (call_for setup asks.Connect) done blocks) → live.asked ≡ Some asks.Connect
-    → turn_of setup live (Frame (record { items = octets })) ≡ writing setup (writing_from setup.plan 0) (standing setup live (chosen_with frame_id))
-goes_on setup live octets blocks frame_id there heard asked =
+    → turn_of setup live (Frame (record { items = octets })) ≡ writing setup (writing_from setup.plan 0) (standing setup live (chosen_with number))
+goes_on setup live octets blocks number there heard asked =
     let answer = answer_to (call_for setup asks.Connect) done blocks in
     ap (λ (h : Heard). turned setup live h) heard
     ∙ (ap (λ (a : Option Asking). responded setup live answer a) asked

@@ -30,7 +30,7 @@ use station_names::check;
 use uuid::Uuid;
 
 /// The version of the header.
-const ABI: u32 = 4;
+const ABI: u32 = 5;
 
 /// The number of octets of the memory for a port.
 const ROOM: usize = 40960;

@@ -48,7 +48,7 @@ use Rattle.diagnosis.specs.declared.diagnosis.Change.{Change}
 use Rattle.diagnosis.specs.declared.diagnosis.Diagnosis.{Diagnosis}
 use Rattle.relations.specs.Diagnosed.{has_sent_low, heard_low, hearing_low, is_full_in}
 use Rattle.device_frames.specs.Heard.{Heard, Ticks, Unreadable, Elsewhere, Asks, Resolves, Reported, Cyclic, Alarms, LowReplies, LowConfirms, Given, Raised, Rated, Met, Diagnosed, Readied, Said, Calls, Responds, Garbled, heard_of}
-use Rattle.device_core.specs.Handled.{Handled, is_running, is_request, answer_from, kept_for, kept_answer, handled_request, handled_effect, handled_write, handled_new, handled_looked, handled_blocks, handled_call, handled_answer, handled_said, handled_pdu, handled_received, handled_input, handled_notice, kept_status, handled, known_of, handled_alarm, handled_change, handled_low, handled_low_pdu}
+use Rattle.device_core.specs.Handled.{Handled, is_running, is_request, answer_from, kept_for, kept_answer, handled_request, handled_effect, handled_write, handled_new, handled_looked, handled_blocks, handled_call, handled_answer, handled_said, handled_pdu, handled_received, handled_input, handled_notice, kept_status, handled, known_of, number_now, handled_alarm, handled_change, handled_low, handled_low_pdu}
 use Rattle.device_core.specs.Several.{judged_each}
 use Rattle.device_core.specs.Machine.{items_in, first_answer, several_answer, written_as, finished, heard_step, handled_step, step_of, first_step, later_steps, run_of}
 use Rattle.device_core.specs.Steps.{IsBehindCalls}
@@ -98,7 +98,7 @@ write_called station live answers caller call (Err fault) is_new = served_called
 new_called : (station : Station) (live : Live) (answers : List BlockError) (caller : Caller) (call : Called) (blocks : List ℕ) (operation : Operation)
     → looked call.header.activity call.header.sequence live.rest.calls ≡ new → IsKept station live answers (handled_new station live caller call blocks operation)
 new_called station live answers caller call blocks Connect is_new =
-    served_called station live caller call Connect (connect_answer station.identity station.real station.options caller.mac live.rest.link blocks) is_new
+    served_called station live caller call Connect (connect_answer station.identity station.real station.options (number_now station live) caller.mac live.rest.link blocks) is_new
 new_called station live answers caller call blocks Release is_new =
     served_called station live caller call Release (release_answer live.rest.link blocks) is_new
 new_called station live answers caller call blocks Read is_new =

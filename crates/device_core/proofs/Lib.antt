@@ -16,3 +16,4 @@ pub mod Leaping
 mod Logged
 mod Diagnosed
 mod Replies
+pub mod Numbered

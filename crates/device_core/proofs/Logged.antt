@@ -12,7 +12,7 @@ use Rattle.relations.specs.Ready.{handled_by}
 use Rattle.relations.specs.RelationState.{RelationState, uuid_of}
 use Rattle.records.specs.declared.status.call_fault.CallFault.{CallFault}
 use Rattle.device_records.specs.declared.log_data.entry.LogEntry.{LogEntry}
-use Rattle.device_core.specs.Handled.{came_with, handled_answer, handled_message, handled_pdu}
+use Rattle.device_core.specs.Handled.{came_with, count_after, handled_answer, handled_message, handled_pdu}
 use Rattle.device_core.specs.Log.{answer_log, connect_log, fate_log, release_log}
 use Rattle.device_core.specs.Machine.{end_of}
 use Rattle.device_core.specs.State.{Live, Station}
@@ -61,3 +61,7 @@ pub connected_log : (asked : List ℕ) (came : Result (Unit {0}) CallFault) (blo
     → connect_log asked (came_with came blocks) time log ≡ connect_log asked came time log
 connected_log asked (Ok it) blocks time log = refl
 connected_log asked (Err fault) blocks time log = refl
+
+pub connected_count : (came : Result (Unit {0}) CallFault) (blocks : List ℕ) (made : ℕ) → count_after (came_with came blocks) made ≡ count_after came made
+connected_count (Ok it) blocks made = refl
+connected_count (Err fault) blocks made = refl

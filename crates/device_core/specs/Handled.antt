@@ -56,6 +56,7 @@ use Rattle.device_records.specs.Reading.{implicit_read, relation_read}
 use Rattle.device_records.specs.Sources.{Known}
 use Rattle.relations.specs.Calls.{prm_end_of, release_of, prm_end_answer, release_answer}
 use Rattle.relations.specs.Connect.{connect_within, connect_answer, making}
+use Rattle.relations.specs.Numbers.{made_after, number_of}
 use Rattle.relations.specs.Ready.{answer_of as ready_answer, handled_by}
 use Rattle.relations.specs.Timers.{due_of}
 use Rattle.relations.specs.Phases.{Handled as Moving, Records, Parameterized, Prepared, Named, Ended, Exchanged, Unmoved, answered, keeping, updated, passing, taking}
@@ -178,10 +179,22 @@ handled_write station live caller call (Ok (Each header entries)) =
     WritesEach caller live.values.running.suite.address call header (judged_each (uuid_of live.rest.link) station.real entries)
 handled_write station live caller call (Err fault) = served station live caller call Write (Err fault) live.rest.link []
 
+-- The number of a relation that begins now.
+abbrev pub number_now : Station → Live → ℕ
+number_now station live = number_of station.options.numbers_from live.rest.made
+
+-- A relation that is made is counted.
+abbrev pub count_after : {A : Type 0} → Result A CallFault → ℕ → ℕ
+count_after (Ok answer) made = made_after made
+count_after (Err fault) made = made
+
+abbrev pub counted_by : {A : Type 0} → Result A CallFault → Rest → Rest
+counted_by answer rest = record rest { made = count_after answer rest.made }
+
 -- What a relation begins with.
 abbrev pub starting_of : Station → Live → Starting
 starting_of station live =
-    record { begin_bad = station.options.inputs_begin_bad; statuses = live.rest.statuses; units = live.rest.units; diagnoses = live.rest.diagnoses }
+    record { begin_bad = station.options.inputs_begin_bad; statuses = live.rest.statuses; units = live.rest.units; diagnoses = live.rest.diagnoses; number = number_now station live }
 
 -- What the records of the device are made of.
 abbrev pub known_of : Station → Live → Known
@@ -199,8 +212,8 @@ known_of station live = record {
 abbrev pub handled_new : Station → Live → Caller → Call → List ℕ → Operation → Handled
 handled_new station live caller call blocks Connect =
     let options = station.options in
-    let answer = connect_answer station.identity station.real options caller.mac live.rest.link blocks in
-    served station (but_rest live (with_log (connect_log blocks answer) live.rest)) caller call Connect answer
+    let answer = connect_answer station.identity station.real options (number_now station live) caller.mac live.rest.link blocks in
+    served station (but_rest live (counted_by answer (with_log (connect_log blocks answer) live.rest))) caller call Connect answer
     (updated (making station.real (partner_of caller) options (starting_of station live) (connect_within options caller.mac live.rest.link blocks)) live.rest.link) []
 handled_new station live caller call blocks Release =
     let answer = release_answer live.rest.link blocks in

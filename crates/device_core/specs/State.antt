@@ -31,7 +31,7 @@ plain identity real = station_with identity real default_options
 -- The state that a device has besides its settings, and loses with its power: the number of units for which the lamp
 -- still flashes, the answers to the last calls, newest first, its application relation, if there is one, the units since
 -- its start, modulo 2^64, the statuses that the application gave to its inputs, the log, its neighbour, if one is known,
--- and the diagnoses that exist.
+-- the diagnoses that exist, and how many relations it had since its start, modulo 14,336.
 pub record Rest : Type 0 where
   pub lamp : ℕ
   pub calls : List Kept
@@ -41,6 +41,7 @@ pub record Rest : Type 0 where
   pub log : List LogEntry
   pub peer : Option Peer
   pub diagnoses : List Diagnosis
+  pub made : ℕ
 
 -- The units one unit later, and several units later.
 abbrev pub units_after : ℕ → ℕ → ℕ
@@ -51,9 +52,9 @@ abbrev pub counter_of : ℕ → ℕ
 counter_of units = units % 65536
 
 -- The rest as a device starts: the lamp is off, no answer is kept, there is no relation, the application gave no status, the
--- log is empty, no neighbour is known, and no diagnosis exists.
+-- log is empty, no neighbour is known, no diagnosis exists, and it had no relation.
 abbrev pub at_start : Rest
-at_start = record { lamp = 0; calls = []; link = None; units = 0; statuses = []; log = []; peer = None; diagnoses = [] }
+at_start = record { lamp = 0; calls = []; link = None; units = 0; statuses = []; log = []; peer = None; diagnoses = []; made = 0 }
 
 -- The name of the station by its place (AliasName), while it knows its neighbour.
 abbrev pub alias_in : Option Peer → Option (List ℕ)

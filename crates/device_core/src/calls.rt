@@ -15,7 +15,7 @@ ghost use Rattle.records.specs.status.Operation.{operation_of};
 ghost use Rattle.device_frames.specs.Heard.{Heard as Hears, Reported, said_by};
 ghost use Rattle.device_frames.specs.Sendable.{IsSendable};
 ghost use Rattle.device_frames.specs.Sent.{bytes_of};
-ghost use Rattle.device_core.specs.Handled.{Writes, WritesEach, answer_from, came_with, kept_for, handled, handled_call, outcome_of, partner_of};
+ghost use Rattle.device_core.specs.Handled.{Writes, WritesEach, answer_from, came_with, count_after, kept_for, handled, handled_call, outcome_of, partner_of};
 ghost use Rattle.device_core.specs.Behind.{CanSend, answer_to, behind, brings, called, frames_of, responded, wrote};
 ghost use Rattle.device_core.specs.Log.{arguments_log, with_log};
 ghost use Rattle.device_core.specs.State.{with_rest};
@@ -38,7 +38,7 @@ use records::{
     Blocks, CallFault, Effect, Entries, Operation, TakenRecord, Write, Writing, done, judge_write,
     names_relation, put_write_answer,
 };
-use relations::{Application, Partner, ReadyAnswer};
+use relations::{Application, Partner, ReadyAnswer, made_after};
 use rpc_core::{Call, CallCache, Interface, Looked, Response, Status, read_call, read_response};
 
 impl<F: Flash<S>, const S: usize> Device<F, S> {
@@ -192,6 +192,7 @@ impl<F: Flash<S>, const S: usize> Device<F, S> {
             statuses: self.statuses.as_slice(),
             units: self.units,
             diagnoses: &self.diagnoses,
+            made: self.made,
         };
         self.answers.blocks.clear();
         let came = self.relation.connect(
@@ -203,6 +204,7 @@ impl<F: Flash<S>, const S: usize> Device<F, S> {
             &mut self.answers.blocks,
         );
         log_connect(&mut self.log, self.units, serving.blocks, came);
+        self.made = count_after(came, self.made);
         let address = self.store.running().suite.address();
         self.answers
             .give(&self.identity, address, serving, came, outbox);
@@ -481,6 +483,16 @@ struct Serving<'a> {
     call: &'a Call<'a>,
     operation: Operation,
     blocks: &'a [u8],
+}
+
+// How many relations the device had, after a Connect with this outcome.
+fn count_after(came: Result<(), CallFault>, made: u16) -> u16
+    ensures { result ≡ count_after came made }
+{
+    match came {
+        Ok(()) => made_after(made),
+        Err(_) => made,
+    }
 }
 
 // The station that sent a call.

@@ -47,6 +47,8 @@ pub struct Device<F: Flash<S>, const S: usize> {
     pub(crate) neighbour: Option<Neighbour>,
     // The diagnoses that exist.
     pub(crate) diagnoses: Diagnoses,
+    // How many relations there were since the start, modulo 14,336.
+    pub(crate) made: u16,
     // Room for the plan of a Set; it holds the last one.
     pub(crate) plan: ArrayVec<SetItem, 16>,
     // The settings, and the flash below them. It is the last: the size of a struct that the prover has to bound doubles with each
@@ -76,6 +78,7 @@ impl<F: Flash<S>, const S: usize> Model for Device<F, S> {
           log = device.log;
           peer = option_map peer_as device.neighbour;
           diagnoses = device.diagnoses;
+          made = device.made;
         };
       };
     } };
@@ -335,6 +338,7 @@ impl<F: Flash<S>, const S: usize> Device<F, S> {
             log: _,
             neighbour: _,
             diagnoses: _,
+            made: _,
             plan: _,
         } = self;
         (identity, real, options, store.into_flash())

@@ -44,6 +44,7 @@ impl<F: Flash<S>, const S: usize> Device<F, S> {
             log: Log::new(),
             neighbour: None,
             diagnoses: Diagnoses::new(),
+            made: 0,
             plan: ArrayVec::new(),
         }
     }
@@ -107,6 +108,7 @@ impl<F: Flash<S>, const S: usize> Device<F, S> {
         self.log = Log::new();
         self.neighbour = None;
         self.diagnoses = Diagnoses::new();
+        self.made = 0;
         self.answers.kept = CallCache::new();
         // No frame is sent: the controller that had the relation hears nothing, and notices by its own data hold.
         let _ = self.relation.end(Abort::Other);

@@ -6,6 +6,7 @@ use Rattle.connects.specs.declared.requests.parts.Iocr.{Iocr}
 use Rattle.connects.specs.requests.Request.{Request}
 use Rattle.cyclic_data.specs.declared.tail.CyclicTail.{CyclicTail}
 use Rattle.cyclic_data.specs.Tail.{cyclic_tail}
+use Rattle.cyclic_data.specs.declared.exchange.route.Route.{Route}
 use Rattle.cyclic_data.specs.exchange.Cyclic.{Cyclic}
 use Rattle.cyclic_data.specs.exchange.Frames.{tail_at}
 use Rattle.cyclic_data.specs.exchange.Process.{taken_tail}
@@ -25,15 +26,15 @@ sent_tail None problem_sent = record { counter = 0; data_status = record { 0 = 0
 
 -- A communication relation of cyclic frames: IOCRType, IOCRProperties, FrameID, CycleCounter, DataStatus and TransferStatus of
 -- the last frame, and the UDP ports of both stations, 0x8892.
-abbrev pub iocr_bytes : ℕ → Iocr → CyclicTail → List ℕ
-iocr_bytes type iocr tail = big_bytes 2 type ++ big_bytes 4 (number_of_class iocr.class) ++ big_bytes 2 iocr.frame_id
+abbrev pub iocr_bytes : ℕ → Iocr → ℕ → CyclicTail → List ℕ
+iocr_bytes type iocr frame_id tail = big_bytes 2 type ++ big_bytes 4 (number_of_class iocr.class) ++ big_bytes 2 frame_id
     ++ cyclic_tail.write tail [] ++ 0x88 ∷ 0x92 ∷ 0x88 ∷ 0x92 ∷ []
 
--- Both, in the order in which they were asked for.
-abbrev pub iocrs_bytes : Request → CyclicTail → CyclicTail → List ℕ
-iocrs_bytes request sent taken = if request.input_first
-    then iocr_bytes 1 request.input sent ++ iocr_bytes 2 request.output taken
-    else iocr_bytes 2 request.output taken ++ iocr_bytes 1 request.input sent
+-- Both, in the order in which they were asked for, with the FrameIDs of this route.
+abbrev pub iocrs_bytes : Request → Route → CyclicTail → CyclicTail → List ℕ
+iocrs_bytes request route sent taken = if request.input_first
+    then iocr_bytes 1 request.input route.sent_id sent ++ iocr_bytes 2 request.output route.taken_id taken
+    else iocr_bytes 2 request.output route.taken_id taken ++ iocr_bytes 1 request.input route.sent_id sent
 
 -- ARUUID, ARType 1, ARProperties, CMInitiatorObjectUUID, StationNameLength and CMInitiatorStationName.
 abbrev pub ar_bytes : Request → List ℕ
@@ -42,18 +43,18 @@ ar_bytes request = request.ar.uuid ++ big_bytes 2 1 ++ big_bytes 4 request.ar.pr
 
 -- AlarmCRType 1, the endpoints of alarms of the device and of the controller, ParameterServerObjectUUID and
 -- ParameterServerStationName, of which there is none, NumberOfAPIs 1, and API 0.
-abbrev pub alarm_bytes : Request → List ℕ
-alarm_bytes request =
-    big_bytes 2 1 ++ big_bytes 2 1 ++ big_bytes 2 request.alarm.reference ++ replicate 18 0 ++ 0 ∷ 1 ∷ 0 ∷ 0 ∷ 0 ∷ 0 ∷ []
+abbrev pub alarm_bytes : Request → ℕ → List ℕ
+alarm_bytes request endpoint =
+    big_bytes 2 1 ++ big_bytes 2 endpoint ++ big_bytes 2 request.alarm.reference ++ replicate 18 0 ++ 0 ∷ 1 ∷ 0 ∷ 0 ∷ 0 ∷ 0 ∷ []
 
--- The relation with this Connect, this cyclic data, and this beginning: NumberOfIOCRs 2.
-abbrev pub relation_bytes : ℕ → Request → Cyclic → ℕ → Bool → List ℕ
-relation_bytes units request cyclic began problem_sent = ar_bytes request ++ big_bytes 2 2
-    ++ iocrs_bytes request (sent_tail (last_sent began units (request.input.send_clock_factor * request.input.reduction_ratio)) problem_sent) (taken_tail cyclic)
-    ++ alarm_bytes request
+-- The relation with this Connect, this cyclic data, this beginning, and this endpoint of the device: NumberOfIOCRs 2.
+abbrev pub relation_bytes : ℕ → Request → Cyclic → ℕ → Bool → ℕ → List ℕ
+relation_bytes units request cyclic began problem_sent endpoint = ar_bytes request ++ big_bytes 2 2
+    ++ iocrs_bytes request cyclic.route (sent_tail (last_sent began units (request.input.send_clock_factor * request.input.reduction_ratio)) problem_sent) (taken_tail cyclic)
+    ++ alarm_bytes request endpoint
 
 -- ARData, of version 1.0: NumberOfARs, and the relation, if there is one, which has 104 octets and its station name.
-unfoldable pub ar_data : ℕ → Option (Request × Cyclic × ℕ × Bool) → List ℕ
+unfoldable pub ar_data : ℕ → Option (Request × Cyclic × ℕ × Bool × ℕ) → List ℕ
 ar_data units None = block_of 0x0018 (big_bytes 2 0)
 ar_data units (Some parts) = big_bytes 2 0x0018 ++ big_bytes 2 (2 + (2 + (104 + length parts.0.ar.name.items))) ++ 1 ∷ 0 ∷ 0 ∷ 1
-    ∷ relation_bytes units parts.0 parts.1 parts.2 parts.3
+    ∷ relation_bytes units parts.0 parts.1 parts.2 parts.3 parts.4

@@ -53,7 +53,7 @@ own_with request cyclic real level slot subslot listing.Interface = None
 own_with request cyclic real level slot subslot listing.Network = None
 
 -- The record, if there is a relation.
-abbrev pub own_in : Option (Request × Cyclic × ℕ × Bool) → Real → Level → ℕ → ℕ → Listing → Option (List ℕ)
+abbrev pub own_in : Option (Request × Cyclic × ℕ × Bool × ℕ) → Real → Level → ℕ → ℕ → Listing → Option (List ℕ)
 own_in None real level slot subslot kind = None
 own_in (Some parts) real level slot subslot kind = own_with parts.0 parts.1 real level slot subslot kind
 

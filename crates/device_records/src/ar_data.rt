@@ -9,8 +9,8 @@ use crate::elements::put_header;
 use crate::own::Own;
 use block_codec::RtClass;
 use connects::{ConnectRequest, Iocr};
-use cyclic_data::{CyclicTail, DataStatus};
-use relations::{OWN_REFERENCE, Relation, RelationParts};
+use cyclic_data::{CyclicTail, DataStatus, Route};
+use relations::{Relation, RelationParts};
 use wire::{append, append_u16, append_u32};
 
 /// BlockType of ARData.
@@ -57,30 +57,36 @@ fn number_of_class(class: RtClass) -> u32
 }
 
 /// Appends a communication relation of cyclic frames, 16 octets. There must be room.
-fn put_iocr(out: &mut Own, iocr_type: u16, iocr: &Iocr, tail: CyclicTail)
+fn put_iocr(out: &mut Own, iocr_type: u16, iocr: &Iocr, frame_id: u16, tail: CyclicTail)
     requires { array_vec_len out.old + 16 ≤ 2912 }
-    ensures items { out.new.items ≡ out.old.items ++ iocr_bytes iocr_type iocr.now tail }
+    ensures items { out.new.items ≡ out.old.items ++ iocr_bytes iocr_type iocr.now frame_id tail }
     ensures len { array_vec_len out.new ≡ array_vec_len out.old + 16 }
 {
     append_u16(out, iocr_type);
     append_u32(out, number_of_class(iocr.class));
-    append_u16(out, iocr.frame_id);
+    append_u16(out, frame_id);
     append(out, tail.octets().as_slice());
     append(out, &[0x88, 0x92, 0x88, 0x92]);
 }
 
 /// Appends both communication relations of cyclic frames, in the order in which they were asked for. There must be room.
-fn put_iocrs(out: &mut Own, request: &ConnectRequest, sent: CyclicTail, taken: CyclicTail)
+fn put_iocrs(
+    out: &mut Own,
+    request: &ConnectRequest,
+    route: &Route,
+    sent: CyclicTail,
+    taken: CyclicTail,
+)
     requires { array_vec_len out.old + 32 ≤ 2912 }
-    ensures items { out.new.items ≡ out.old.items ++ iocrs_bytes request.now sent taken }
+    ensures items { out.new.items ≡ out.old.items ++ iocrs_bytes request.now route.now sent taken }
     ensures len { array_vec_len out.new ≡ array_vec_len out.old + 32 }
 {
     if request.input_first() {
-        put_iocr(out, 1, request.input(), sent);
-        put_iocr(out, 2, request.output(), taken);
+        put_iocr(out, 1, request.input(), route.sent_id, sent);
+        put_iocr(out, 2, request.output(), route.taken_id, taken);
     } else {
-        put_iocr(out, 2, request.output(), taken);
-        put_iocr(out, 1, request.input(), sent);
+        put_iocr(out, 2, request.output(), route.taken_id, taken);
+        put_iocr(out, 1, request.input(), route.sent_id, sent);
     }
 }
 
@@ -100,12 +106,12 @@ fn put_ar(out: &mut Own, request: &ConnectRequest)
 }
 
 /// Appends the communication relation of alarms and what follows it, 30 octets. There must be room.
-fn put_alarm(out: &mut Own, request: &ConnectRequest)
+fn put_alarm(out: &mut Own, request: &ConnectRequest, endpoint: u16)
     requires { array_vec_len out.old + 30 ≤ 2912 }
-    ensures { out.new.items ≡ out.old.items ++ alarm_bytes request.now }
+    ensures { out.new.items ≡ out.old.items ++ alarm_bytes request.now endpoint }
 {
     append_u16(out, 1);
-    append_u16(out, OWN_REFERENCE);
+    append_u16(out, endpoint);
     append_u16(out, request.alarm().reference);
     append(out, &[0; 18]);
     append(out, &[0, 1, 0, 0, 0, 0]);
@@ -116,15 +122,21 @@ fn put_relation(out: &mut Own, units: u64, parts: RelationParts<'_>)
     requires room { array_vec_len out.old ≤ 100 }
     requires few { length parts.request.now.ar.name.items ≤ 240 }
     ensures { out.new.items ≡ out.old.items
-        ++ relation_bytes units parts.entry.request.now parts.entry.cyclic.now parts.entry.began parts.entry.problem_sent }
+        ++ relation_bytes units parts.entry.request.now parts.entry.cyclic.now parts.entry.began parts.entry.problem_sent parts.entry.endpoint }
 {
     let request = parts.request;
     let interval = u64::from(request.input().interval());
     let sent = sent_tail(last_sent(parts.began, units, interval), parts.problem_sent);
     put_ar(out, request);
     append_u16(out, 2);
-    put_iocrs(out, request, sent, parts.cyclic.taken_tail());
-    put_alarm(out, request);
+    put_iocrs(
+        out,
+        request,
+        parts.cyclic.route(),
+        sent,
+        parts.cyclic.taken_tail(),
+    );
+    put_alarm(out, request, parts.endpoint);
 }
 
 /// Puts ARData into an empty list.

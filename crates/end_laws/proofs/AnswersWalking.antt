@@ -32,7 +32,7 @@ use Rattle.relations.specs.Exchanged.{given_to, heard_by, hearing, raised_to, re
 use Rattle.relations.specs.declared.hearing.ReadyAnswer.{ReadyAnswer}
 use Rattle.relations.specs.declared.hearing.ReadyAnswer.TheVariants as to_ready
 use Rattle.device_records.specs.Reading.{implicit_read, relation_read}
-use Rattle.relations.specs.Connect.{connect_answer}
+use Rattle.relations.specs.Connect.{connect_answer, connect_within, making}
 use Rattle.relations.specs.Ready.{answer_of as ready_answer}
 use Rattle.frame_codec.specs.declared.udp.Caller.{Caller}
 use Rattle.pn_alarms.specs.declared.pdu.Header.{Header}
@@ -62,7 +62,8 @@ use Rattle.device_frames.specs.Sent.{Sent, IdentifyAnswer, GetAnswer, SetAnswer,
 use Rattle.rpc_core.specs.Response.{answer_to}
 use Rattle.device_core.specs.State.{Station, Live, alias_in, counter_of, units_after}
 use Rattle.device_core.specs.Several.{judged_each}
-use Rattle.device_core.specs.Handled.{Handled, is_running, is_request, answer_from, kept_for, kept_answer, outcome_of, partner_of, ready_behind, handled_request, handled_effect, handled_write, handled_new, handled_looked, handled_blocks, handled_call, handled_answer, handled_said, handled_pdu, handled_received, handled_input, handled_notice, kept_status, handled, known_of, handled_alarm, handled_change, handled_low, handled_low_pdu}
+use Rattle.device_core.specs.Log.{but_rest, connect_log, with_log}
+use Rattle.device_core.specs.Handled.{counted_by, number_now, starting_of, served as served_by, Handled, is_running, is_request, answer_from, kept_for, kept_answer, outcome_of, partner_of, ready_behind, handled_request, handled_effect, handled_write, handled_new, handled_looked, handled_blocks, handled_call, handled_answer, handled_said, handled_pdu, handled_received, handled_input, handled_notice, kept_status, handled, known_of, handled_alarm, handled_change, handled_low, handled_low_pdu}
 use Rattle.device_core.specs.Machine.{farewells_at, items_in, first_answer, resets, several_answer, written_as, finished, heard_step, handled_step}
 use Rattle.dcp_core.specs.Set.{plan_of}
 use Rattle.end_laws.specs.answers.Whole.{AreStoredWhole, IsAnsweredWhole, IsOneDatagram}
@@ -199,9 +200,15 @@ module _ (datagrams : DatagramsAreRead) (reads : ResponsesAreRead) (station : St
       served caller call Write (Ok (several_answer header (judged_each (uuid_of live.rest.link) station.real entries) answers live.rest.link)) [] tt
   write_good caller call (Err fault) = served caller call Write (Err fault) [] tt
 
+  connect_good : (caller : Caller) (call : Called) (blocks : List ℕ) (answer : Result (List ℕ) CallFault) (link : Option RelationState)
+      → IsGood (served_by station (but_rest live (counted_by answer (with_log (connect_log blocks answer) live.rest))) caller call Connect answer link [])
+  connect_good caller call blocks (Ok octets) link = served caller call Connect (Ok octets) [] tt
+  connect_good caller call blocks (Err why) link = served caller call Connect (Err why) [] tt
+
   new_good : (caller : Caller) (call : Called) (blocks : List ℕ) (operation : Operation) → IsGood (handled_new station live caller call blocks operation)
   new_good caller call blocks Connect =
-      served caller call Connect (connect_answer station.identity station.real station.options caller.mac live.rest.link blocks) [] tt
+      connect_good caller call blocks (connect_answer station.identity station.real station.options (number_now station live) caller.mac live.rest.link blocks)
+      (updated (making station.real (partner_of caller) station.options (starting_of station live) (connect_within station.options caller.mac live.rest.link blocks)) live.rest.link)
   new_good caller call blocks Release = served caller call Release (release_answer live.rest.link blocks) [] tt
   new_good caller call blocks Read =
       served caller call Read (relation_read (known_of station live) station.identity station.real live.values.running blocks) [] tt

@@ -88,7 +88,7 @@ use Rattle.device_frames.specs.declared.note.Note.{Note}
 use Rattle.device_frames.specs.declared.note.Note.TheVariants as note
 use Rattle.settings_journal.specs.settings_store.Machine.{Outcome, carried}
 use Rattle.device_core.specs.State.{Station, Live, alias_in}
-use Rattle.device_core.specs.Handled.{Handled, Refuses, Sets, Moves, handled, handled_alarm, handled_answer, handled_blocks, handled_call, handled_change, handled_effect, handled_input, handled_looked, handled_low, handled_low_message, handled_low_pdu, handled_message, handled_new, handled_notice, handled_pdu, handled_received, handled_request, handled_said, handled_write, implicitly, is_request, is_running, kept_answer, kept_status, known_of, may_be_diagnosed, partner_of, ready_behind, served, starting_of, ticked}
+use Rattle.device_core.specs.Handled.{counted_by, number_now, Handled, Refuses, Sets, Moves, handled, handled_alarm, handled_answer, handled_blocks, handled_call, handled_change, handled_effect, handled_input, handled_looked, handled_low, handled_low_message, handled_low_pdu, handled_message, handled_new, handled_notice, handled_pdu, handled_received, handled_request, handled_said, handled_write, implicitly, is_request, is_running, kept_answer, kept_status, known_of, may_be_diagnosed, partner_of, ready_behind, served, starting_of, ticked}
 use Rattle.device_core.specs.Several.{Judged, judged_each}
 use Rattle.device_core.specs.Machine.{Stepped, Finished, effect_link, farewells_at, finished, first_answer, handled_step, heard_step, items_in, link_after, link_behind, one_link, resets, written_as}
 use Rattle.end_laws.specs.device.Exchange.{IsUnaccepted, given_with, is_inputs, is_unit, sends_inputs}
@@ -446,7 +446,8 @@ module _ (station : Station) (before : Live) (link : RelationState) where
 
     new_call : (call : Call) (blocks : List ℕ) (which : Operation) → Done now (handled_new station live caller call blocks which)
     new_call call blocks operation.Connect =
-        serves (but_rest live (with_log (connect_log blocks (connect_answer station.identity station.real station.options caller.mac live.rest.link blocks)) live.rest)) call operation.Connect (connect_answer station.identity station.real station.options caller.mac live.rest.link blocks) _ []
+        let answer = connect_answer station.identity station.real station.options (number_now station live) caller.mac live.rest.link blocks in
+        serves (but_rest live (counted_by answer (with_log (connect_log blocks answer) live.rest))) call operation.Connect answer _ []
         (connects blocks (connect_within station.options caller.mac live.rest.link blocks) refl) refl
     new_call call blocks operation.Release =
         serves (but_rest live (with_log (release_log (uuid_of live.rest.link) (release_answer live.rest.link blocks)) live.rest)) call operation.Release _ _ [] (calm_answered Ended (release_of live.rest.link blocks) live.rest.link calm_none calm_stands) refl

@@ -63,7 +63,7 @@ use Rattle.device_frames.specs.declared.note.Note.{Note}
 use Rattle.device_frames.specs.declared.note.Note.TheVariants as note
 use Rattle.settings_journal.specs.settings_store.Machine.{Outcome, carried}
 use Rattle.device_core.specs.State.{Station, Live, Rest, alias_in, counter_of, units_after}
-use Rattle.device_core.specs.Handled.{Handled, Refuses, Sets, Moves, is_running, is_request, outcome_of, served, ready_behind, partner_of, kept_answer, handled_effect, handled_write, handled_new, handled_looked, handled_blocks, handled_call, handled_alarm, handled_answer, handled_beginning, handled_change, handled_low, handled_low_message, handled_low_pdu, handled_said, handled_received, handled_input, handled_met, handled_notice, handled_pdu, handled_message, handled_request, goes_on_with, kept_status, starting_of, handled, known_of}
+use Rattle.device_core.specs.Handled.{Handled, Refuses, Sets, Moves, is_running, is_request, outcome_of, served, ready_behind, partner_of, kept_answer, handled_effect, handled_write, handled_new, handled_looked, handled_blocks, handled_call, handled_alarm, handled_answer, handled_beginning, handled_change, handled_low, handled_low_message, handled_low_pdu, handled_said, handled_received, handled_input, handled_met, handled_notice, handled_pdu, handled_message, handled_request, goes_on_with, kept_status, starting_of, number_now, counted_by, handled, known_of}
 use Rattle.device_core.specs.Several.{Judged, judged_each}
 use Rattle.device_core.specs.Machine.{effect_link, first_answer, link_behind, one_link, several_answer, resets, farewells_at, finished, items_in, handled_step, heard_step, link_after, written_as}
 use Rattle.device_records.specs.declared.log_data.entry.LogEntry.{LogEntry}
@@ -74,6 +74,8 @@ use Rattle.end_laws.proofs.DeviceConnects.{unlimited}
 use Rattle.end_laws.proofs.DeviceOwing.{IsPlainIn, connect_plain, keeping_plain, outcome_sized, prm_plain, read_plain, release_plain, stored_plain, writing_plain, IsPlain, bind_ok}
 use Rattle.rpc_core.specs.Response.{Answered as Response, answer_to, is_done}
 use Rattle.relations.specs.Farewells.{farewell_of}
+use Rattle.relations.specs.Numbers.{made_after}
+use Rattle.end_laws.proofs.DeviceNumbers.{does_numbered, number_now_is}
 use Rattle.relations.specs.exchange.Notices.{behind_message}
 use Rattle.relations.specs.exchange.Process.{with_input}
 use Rattle.relations.specs.exchange.Marks.{awaits}
@@ -107,7 +109,7 @@ use Rattle.relations.specs.declared.ready.Ready.{Ready}
 use Rattle.end_laws.specs.both.Small as small
 use Rattle.end_laws.specs.device.Small.{IsPlanned, IsPlannedAs, IsPlannedIn, Planned, confirms, heard_as, link_of, names_own, phase_in}
 use Rattle.end_laws.specs.device.Does.{AreReadied, GoesBy, IsEffect, IsExchange, IsOther, IsRestarted, readied_from, with_more}
-use Rattle.end_laws.specs.device.Turn.{AreCalm, Diagnoses, IsCalm, IsHigh, IsLow, IsRaise, IsSameOr, IsTurn, Raises, Standing, Turn, standing_of}
+use Rattle.end_laws.specs.device.Turn.{AreCalm, BeginsNumbered, Diagnoses, IsCalm, IsHigh, IsLow, IsRaise, IsSameOr, IsTurn, Raises, Standing, Turn, standing_of}
 
 -- ---- what is sent
 
@@ -786,6 +788,7 @@ module _ (rules : Rules TakenRecord Request) (activity : List ℕ) (station : St
       rows = rows_of it.request station.real;
       options = it.options;
       starting = it.starting;
+      few = it.numbered.few;
       read = it.read;
       made = it.made;
       calm = calm;
@@ -813,9 +816,13 @@ module _ (rules : Rules TakenRecord Request) (activity : List ℕ) (station : St
       abbrev logging : List LogEntry → Live
       logging log = but_rest live (record live.rest { log = log })
 
-      serves : (log : List LogEntry) (which : Operation) (outcome : Result (List ℕ) CallFault) (link : Option RelationState) (ready : Option Ready) → operation_of call.header.operation ≡ Some which → IsPlainIn outcome
-          → IsEffect station caller blocks outcome which before link → AreReadied live link ready → Comes_to heard (served station (logging log) caller call which outcome link (readied_from from ready))
-      serves log which outcome link ready asks plain effect readied = λ answers. record {
+      -- and this many relations were made
+      abbrev counting : ℕ → List LogEntry → Live
+      counting made log = but_rest live (record live.rest { log = log; made = made })
+
+      serves_with : (made : ℕ) (log : List LogEntry) (which : Operation) (outcome : Result (List ℕ) CallFault) (link : Option RelationState) (ready : Option Ready) → operation_of call.header.operation ≡ Some which → IsPlainIn outcome
+          → IsEffect station caller blocks outcome which before link → AreReadied live link ready → Comes_to heard (served station (counting made log) caller call which outcome link (readied_from from ready))
+      serves_with made log which outcome link ready asks plain effect readied = λ answers. record {
         does = inr (inr (inr (inr (record {
           caller = caller;
           address = address;
@@ -848,6 +855,10 @@ module _ (rules : Rules TakenRecord Request) (activity : List ℕ) (station : St
         owed = (record { address = address; call = call; is = refl; header = refl; maximum = refl; status = outcome_sized which outcome plain }, readied_owed link ready readied);
       }
 
+      serves : (log : List LogEntry) (which : Operation) (outcome : Result (List ℕ) CallFault) (link : Option RelationState) (ready : Option Ready) → operation_of call.header.operation ≡ Some which → IsPlainIn outcome
+          → IsEffect station caller blocks outcome which before link → AreReadied live link ready → Comes_to heard (served station (logging log) caller call which outcome link (readied_from from ready))
+      serves = serves_with live.rest.made
+
       fails : (log : List LogEntry) (which : Operation) (why : CallFault) (link : Option RelationState) → operation_of call.header.operation ≡ Some which → IsPlain why → before ≡ link
           → Comes_to heard (served station (logging log) caller call which (Err why) link [])
       fails log which why link asks plain was = serves log which (Err why) link None asks plain (sym was) tt
@@ -856,12 +867,15 @@ module _ (rules : Rules TakenRecord Request) (activity : List ℕ) (station : St
       abbrev unlogged : List LogEntry
       unlogged = live.rest.log
 
+      abbrev answer_for : Result Request CallFault → Result (List ℕ) CallFault
+      answer_for request = request >>= λ r. Ok (connect_blocks station.identity (number_now station live) r (differing_of r station.real))
+
       connects_as : (request : Result Request CallFault) → operation_of call.header.operation ≡ Some operation.Connect → connect_within station.options caller.mac before blocks ≡ request → IsPlainIn request
-          → Comes_to heard (served station (logging (connect_log blocks (request >>= λ r. Ok (connect_blocks station.identity r (differing_of r station.real))) live.rest.units live.rest.log)) caller call operation.Connect (request >>= λ r. Ok (connect_blocks station.identity r (differing_of r station.real)))
+          → Comes_to heard (served station (but_rest live (counted_by (answer_for request) (record live.rest { log = connect_log blocks (answer_for request) live.rest.units live.rest.log }))) caller call operation.Connect (answer_for request)
           (updated (making station.real (partner_of caller) station.options (starting_of station live) request) before) [])
       connects_as (Ok request) asks read plain =
-          serves unlogged operation.Connect (Ok (connect_blocks station.identity request (differing_of request station.real))) (Some (made_of request (partner_of caller) (rows_of request station.real) station.options (starting_of station live))) None asks tt
-          (record { request = request; options = station.options; starting = starting_of station live; read = unlimited station.options caller.mac before blocks request read; made = refl; answer = refl }) tt
+          serves_with (made_after live.rest.made) unlogged operation.Connect (answer_for (Ok request)) (Some (made_of request (partner_of caller) (rows_of request station.real) station.options (starting_of station live))) None asks tt
+          (record { request = request; options = station.options; starting = starting_of station live; read = unlimited station.options caller.mac before blocks request read; made = refl; numbered = number_now_is station live; answer = refl }) tt
       connects_as (Err why) asks read plain = fails (connect_log {A = List ℕ} blocks (Err why) live.rest.units live.rest.log) operation.Connect why before asks plain refl
 
       keeps_as : (header : IodWriteReq) (write : Write) (value : TakenRecord) (link : Option RelationState) (kept : Result Records CallFault) → operation_of call.header.operation ≡ Some operation.Write
@@ -1035,6 +1049,12 @@ pub step_turns : (rules : Rules TakenRecord Request) (activity : List ℕ) (outc
 unfolding heard_step handled_step
 step_turns rules activity outcomes station live heard plan =
     turns rules activity station live heard plan (carried outcomes live.values (items_in (handled station live heard))).answers
+
+pub step_numbers : (rules : Rules TakenRecord Request) (activity : List ℕ) (outcomes : List Outcome) (station : Station) (live : Live) (heard : Heard)
+    → IsPlanned rules activity station.real heard → BeginsNumbered station.options live.rest.link (heard_step outcomes station live heard).live.rest.link
+step_numbers rules activity outcomes station live heard plan =
+    does_numbered station live heard (heard_step outcomes station live heard).live.rest (heard_step outcomes station live heard).sent
+    (step_turns rules activity outcomes station live heard plan).does
 
 pub step_raises : (outcomes : List Outcome) (station : Station) (live : Live) (slot subslot : ℕ) (octets : List ℕ)
     → IsRaise station.real.modules.items live.rest.link slot subslot octets (heard_step outcomes station live (Raised slot subslot octets)).live.rest.link

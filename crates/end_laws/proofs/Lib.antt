@@ -27,6 +27,7 @@ pub mod DeviceTurns
 mod DeviceConnects
 pub mod DeviceOwing
 pub mod DeviceLists
+pub mod DeviceNumbers
 pub mod DeviceWalk
 pub mod DeviceExchange
 pub mod DeviceExchangeLaws

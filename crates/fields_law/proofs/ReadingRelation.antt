@@ -8,13 +8,14 @@ use Rattle.connect_blocks.specs.declared.iocr.RtClass.{RtClass}
 use Rattle.connect_blocks.specs.declared.iocr.RtClass.TheVariants.{Class1, Class2}
 use Rattle.connects.specs.declared.requests.parts.Iocr.{Iocr}
 use Rattle.connects.specs.requests.Request.{Request}
+use Rattle.cyclic_data.specs.declared.exchange.route.Route.{Route}
 use Rattle.cyclic_data.specs.declared.tail.CyclicTail.{CyclicTail}
 use Rattle.cyclic_data.specs.Tail.{cyclic_tail}
 use Rattle.cyclic_data.specs.exchange.Cyclic.{Cyclic}
 use Rattle.cyclic_data.specs.exchange.Process.{taken_tail}
 use Rattle.device_records.specs.ArData.{alarm_bytes, ar_bytes, ar_data, iocr_bytes, iocrs_bytes, last_sent, sent_tail}
 use Rattle.end_laws.specs.log_data.Reading.{number_at}
-use Rattle.fields_law.specs.Relation.{AreRelations, IsArData, IsEmptyArData, IsIocr, IsRequest, IsTail, rt_class}
+use Rattle.fields_law.specs.Relation.{AreNumbers, AreRelations, IsArData, IsEmptyArData, IsIocr, IsRequest, IsTail, rt_class}
 use Rattle.fields_law.proofs.ReadingPlaces.{at_place, joined, joined_long, number_is, octets_are, spread, total}
 
 -- ---- a communication relation
@@ -23,13 +24,13 @@ class_is : (class : RtClass) → (number_of_class class ≡ rt_class class) × (
 class_is Class1 = (refl, omega arith)
 class_is Class2 = (refl, omega arith)
 
-iocr_read : (type_of : ℕ) (iocr : Iocr) (tail : CyclicTail) (rest : List ℕ) → type_of < 65536 → iocr.frame_id < 65536 → IsTail tail
-    → IsIocr (iocr_bytes type_of iocr tail ++ rest) type_of iocr tail
+iocr_read : (type_of : ℕ) (iocr : Iocr) (frame_id : ℕ) (tail : CyclicTail) (rest : List ℕ) → type_of < 65536 → frame_id < 65536 → IsTail tail
+    → IsIocr (iocr_bytes type_of iocr frame_id tail ++ rest) type_of iocr frame_id tail
 unfolding cyclic_tail
-iocr_read type_of iocr tail rest type_fits id_fits fits = record {
+iocr_read type_of iocr frame_id tail rest type_fits id_fits fits = record {
   type_is = big_number-reads_back 2 type_of [] type_fits;
   properties = big_number-reads_back 4 (number_of_class iocr.class) [] (class_is iocr.class).1 ∙ (class_is iocr.class).0;
-  frame_id = big_number-reads_back 2 iocr.frame_id [] id_fits;
+  id_is = big_number-reads_back 2 frame_id [] id_fits;
   cycle_counter = big_number-reads_back 2 tail.counter [] fits.counter;
   data_status = big_number-reads_back 1 tail.data_status.0 [] fits.data_status;
   transfer_status = big_number-reads_back 1 tail.transfer_status [] fits.transfer_status;
@@ -39,27 +40,28 @@ iocr_read type_of iocr tail rest type_fits id_fits fits = record {
 
 -- ---- all of them
 
-module _ (request : Request) (sent taken : CyclicTail) (is : IsRequest request) (sent_fits : IsTail sent) (taken_fits : IsTail taken) where
+module _ (request : Request) (route : Route) (sent taken : CyclicTail) (endpoint : ℕ) (is : IsRequest request) (are : AreNumbers route endpoint)
+    (sent_fits : IsTail sent) (taken_fits : IsTail taken) where
   abbrev input_bytes : List ℕ
-  input_bytes = iocr_bytes 1 request.input sent
+  input_bytes = iocr_bytes 1 request.input route.sent_id sent
 
   abbrev output_bytes : List ℕ
-  output_bytes = iocr_bytes 2 request.output taken
+  output_bytes = iocr_bytes 2 request.output route.taken_id taken
 
   abbrev relations_in : Bool → List ℕ
-  relations_in input_first = big_bytes 2 2 ++ ((if input_first then input_bytes ++ output_bytes else output_bytes ++ input_bytes) ++ alarm_bytes request)
+  relations_in input_first = big_bytes 2 2 ++ ((if input_first then input_bytes ++ output_bytes else output_bytes ++ input_bytes) ++ alarm_bytes request endpoint)
 
-  input_by : (input_first : Bool) → IsIocr (drop (if input_first then 2 else 18) (relations_in input_first)) 1 request.input sent
+  input_by : (input_first : Bool) → IsIocr (drop (if input_first then 2 else 18) (relations_in input_first)) 1 request.input route.sent_id sent
   unfolding cyclic_tail
-  input_by true = iocr_read 1 request.input sent (output_bytes ++ alarm_bytes request) (omega arith) is.input sent_fits
-  input_by false = iocr_read 1 request.input sent (alarm_bytes request) (omega arith) is.input sent_fits
+  input_by true = iocr_read 1 request.input route.sent_id sent (output_bytes ++ alarm_bytes request endpoint) (omega arith) are.sent sent_fits
+  input_by false = iocr_read 1 request.input route.sent_id sent (alarm_bytes request endpoint) (omega arith) are.sent sent_fits
 
-  output_by : (input_first : Bool) → IsIocr (drop (if input_first then 18 else 2) (relations_in input_first)) 2 request.output taken
+  output_by : (input_first : Bool) → IsIocr (drop (if input_first then 18 else 2) (relations_in input_first)) 2 request.output route.taken_id taken
   unfolding cyclic_tail
-  output_by true = iocr_read 2 request.output taken (alarm_bytes request) (omega arith) is.output taken_fits
-  output_by false = iocr_read 2 request.output taken (input_bytes ++ alarm_bytes request) (omega arith) is.output taken_fits
+  output_by true = iocr_read 2 request.output route.taken_id taken (alarm_bytes request endpoint) (omega arith) are.taken taken_fits
+  output_by false = iocr_read 2 request.output route.taken_id taken (input_bytes ++ alarm_bytes request endpoint) (omega arith) are.taken taken_fits
 
-  alarm_by : (input_first : Bool) → drop 34 (relations_in input_first) ≡ alarm_bytes request
+  alarm_by : (input_first : Bool) → drop 34 (relations_in input_first) ≡ alarm_bytes request endpoint
   unfolding cyclic_tail
   alarm_by true = refl
   alarm_by false = refl
@@ -73,16 +75,16 @@ module _ (request : Request) (sent taken : CyclicTail) (is : IsRequest request) 
   relations = relations_in request.input_first
 
   -- a place in the part on alarms
-  later : (more : ℕ) → drop (34 + more) relations ≡ drop more (alarm_bytes request)
+  later : (more : ℕ) → drop (34 + more) relations ≡ drop more (alarm_bytes request endpoint)
   later more = sym (drop-drop more 34 relations) ∙ ap (drop more) (alarm_by request.input_first)
 
-  relations_are : AreRelations relations request sent taken
+  relations_are : AreRelations relations request route sent taken endpoint
   relations_are = record {
     iocrs = refl;
     input = input_by request.input_first;
     output = output_by request.input_first;
     alarm_type = ap (big_number 2) (alarm_by request.input_first);
-    local_reference = ap (big_number 2) (later 2);
+    local_reference = ap (big_number 2) (later 2) ∙ big_number-reads_back 2 endpoint [] are.endpoint_fits;
     remote_reference = ap (big_number 2) (later 4) ∙ big_number-reads_back 2 request.alarm.reference [] is.alarm;
     parameter_server = ap (take 16) (later 6);
     parameter_server_name = ap (big_number 2) (later 22);
@@ -101,7 +103,7 @@ module _ (request : Request) (sent taken : CyclicTail) (is : IsRequest request) 
 
   abbrev whole : List ℕ
   whole = big_bytes 2 0x0018 ++ big_bytes 2 size ++ 1 ∷ 0 ∷ 0 ∷ 1 ∷
-      (ar_bytes request ++ big_bytes 2 2 ++ iocrs_bytes request sent taken ++ alarm_bytes request)
+      (ar_bytes request ++ big_bytes 2 2 ++ iocrs_bytes request route sent taken ++ alarm_bytes request endpoint)
 
   abbrev parts : List (List ℕ)
   parts =
@@ -116,7 +118,7 @@ module _ (request : Request) (sent taken : CyclicTail) (is : IsRequest request) 
 
   made : whole ≡ joined parts relations
   made =
-      ap header (spread (ar_bytes request) (big_bytes 2 2 ∷ iocrs_bytes request sent taken ∷ []) (alarm_bytes request))
+      ap header (spread (ar_bytes request) (big_bytes 2 2 ∷ iocrs_bytes request route sent taken ∷ []) (alarm_bytes request endpoint))
       ∙ ap header (spread request.ar.uuid (big_bytes 2 1 ∷ big_bytes 4 request.ar.properties ∷ request.ar.object ∷ big_bytes 2 (length name) ∷ name ∷
       []) relations)
 
@@ -143,7 +145,7 @@ module _ (request : Request) (sent taken : CyclicTail) (is : IsRequest request) 
   relations_there : drop (48 + length name) whole ≡ relations
   relations_there = at_place whole relations parts (48 + length name) made before_relations
 
-  pub ar_is : IsArData whole request sent taken
+  pub ar_is : IsArData whole request route sent taken endpoint
   ar_is =
       let uuid_long = is.uuid in
       let few = is.name in
@@ -160,7 +162,7 @@ module _ (request : Request) (sent taken : CyclicTail) (is : IsRequest request) 
         object = octets_are _ (first 7) 30 16 request.ar.object made (omega (arith, t)) o;
         name_length = number_is _ (first 8) 46 2 (length name) made (omega (arith, t, o)) (omega (arith, few));
         name = octets_are _ (first 9) 48 (length name) name made before_name refl;
-        relations = subst (λ (xs : List ℕ). AreRelations xs request sent taken) (sym relations_there) relations_are;
+        relations = subst (λ (xs : List ℕ). AreRelations xs request route sent taken endpoint) (sym relations_there) relations_are;
       }
 
 -- ---- the fields of the last frames fit
@@ -176,12 +178,14 @@ last_fits began units interval problem = by_test (nat_lt (units - began) interva
     by_test true = record { counter = omega arith; data_status = omega arith; transfer_status = omega arith }
     by_test false = counter_fits ((units - (units - began) % interval) % 65536) problem (omega arith)
 
-pub relation_is : (units : ℕ) (request : Request) (cyclic : Cyclic) (began : ℕ) (problem : Bool) → IsRequest request → IsTail (taken_tail cyclic)
-    → IsArData (ar_data units (Some (request, cyclic, began, problem))) request
-    (sent_tail (last_sent began units (request.input.send_clock_factor * request.input.reduction_ratio)) problem) (taken_tail cyclic)
+pub relation_is : (units : ℕ) (request : Request) (cyclic : Cyclic) (began : ℕ) (problem : Bool) (endpoint : ℕ) → IsRequest request
+    → AreNumbers cyclic.route endpoint → IsTail (taken_tail cyclic)
+    → IsArData (ar_data units (Some (request, cyclic, began, problem, endpoint))) request cyclic.route
+    (sent_tail (last_sent began units (request.input.send_clock_factor * request.input.reduction_ratio)) problem) (taken_tail cyclic) endpoint
 unfolding ar_data
-relation_is units request cyclic began problem is taken =
-    ar_is request (sent_tail (last_sent began units (request.input.send_clock_factor * request.input.reduction_ratio)) problem) (taken_tail cyclic) is
+relation_is units request cyclic began problem endpoint is are taken =
+    ar_is request cyclic.route (sent_tail (last_sent began units (request.input.send_clock_factor * request.input.reduction_ratio)) problem)
+    (taken_tail cyclic) endpoint is are
     (last_fits began units (request.input.send_clock_factor * request.input.reduction_ratio) problem) taken
 
 pub no_relation_is : (units : ℕ) → IsEmptyArData (ar_data units None)

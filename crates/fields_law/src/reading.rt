@@ -15,7 +15,7 @@ ghost use Rattle.device_records.specs.ArData.{ar_data, last_sent, sent_tail};
 ghost use Rattle.device_records.specs.topology.Port.{interface_bytes, network_bytes, port_bytes};
 ghost use Rattle.fields_law.specs.Diagnosis.{IsDiagnosis, IsDiagnosisData, IsModule, reported_in};
 ghost use Rattle.fields_law.specs.Port.{AreMultiple, IsInterface, IsNeighbour, IsPort, IsSuite, block_of};
-ghost use Rattle.fields_law.specs.Relation.{IsArData, IsEmptyArData, IsRequest, IsTail};
+ghost use Rattle.fields_law.specs.Relation.{AreNumbers, IsArData, IsEmptyArData, IsRequest, IsTail};
 ghost use Rattle.pn_values.specs.declared.identity.Identity.{Identity};
 ghost use Rattle.rpc_core.specs.declared.call_headers.call.Head.{Head};
 ghost use Rattle.rpc_core.specs.declared.call_headers.unserved.Refusal.TheVariants.{NoCall, Reject};
@@ -56,10 +56,13 @@ pub fn records_are_read_back()
     ensures diagnosis { (has : ℕ → ℕ → Bool) (diagnoses : List Diagnosis) (real : List RealModule) → length diagnoses ≤ 32
         → AllByRecursion IsDiagnosis diagnoses → AllByRecursion IsModule real → length (record_bytes has diagnoses real) < 1308
         → IsDiagnosisData (record_bytes has diagnoses real) (reported_in has diagnoses real) }
-    // ARData has the Connect of the relation, and the fields after the data of its last frames.
-    ensures relation { (units : ℕ) (request : Request) (cyclic : Cyclic) (began : ℕ) (problem_sent : Bool) → IsRequest request
-        → IsTail (taken_tail cyclic) → IsArData (ar_data units (Some (request, cyclic, began, problem_sent))) request
-        (sent_tail (last_sent began units (request.input.send_clock_factor * request.input.reduction_ratio)) problem_sent) (taken_tail cyclic) }
+    // ARData has the Connect of the relation, the FrameIDs of its exchange and the fields after the data of its last frames, and the
+    // endpoint of the device.
+    ensures relation { (units : ℕ) (request : Request) (cyclic : Cyclic) (began : ℕ) (problem_sent : Bool) (endpoint : ℕ) → IsRequest request
+        → AreNumbers cyclic.route endpoint → IsTail (taken_tail cyclic)
+        → IsArData (ar_data units (Some (request, cyclic, began, problem_sent, endpoint))) request cyclic.route
+        (sent_tail (last_sent began units (request.input.send_clock_factor * request.input.reduction_ratio)) problem_sent) (taken_tail cyclic)
+        endpoint }
     // It has none without a relation.
     ensures no_relation { (units : ℕ) → IsEmptyArData (ar_data units None) }
     // PDPortDataReal has the neighbour, if one is known.

@@ -34,6 +34,7 @@ record IsOn (link : RelationState) (units : ℕ) (later : RelationState) : Type 
   low_waiting : later.flow.low.alarms.sender.sending.waiting ≡ option_map (λ waited. waited + units) link.flow.low.alarms.sender.sending.waiting
   last : later.flow.alarms.sender.sending.last ≡ link.flow.alarms.sender.sending.last
   seen : later.flow.alarms.seen ≡ link.flow.alarms.seen
+  endpoint : later.flow.endpoint ≡ link.flow.endpoint
 
 record StandsOn (link : RelationState) (units : ℕ) : Type 0 where
   later : RelationState
@@ -122,6 +123,7 @@ on_next link later units below patient same = rw same.begun (record {
   low_waiting = waiting_next link.flow.low.alarms.sender.sending later.flow.low.alarms.sender.sending units patient.1 same.low_patience same.low_waiting;
   last = same.last;
   seen = same.seen;
+  endpoint = same.endpoint;
 })
 
 -- What is due of either priority.
@@ -188,6 +190,7 @@ stands_on link zero at begun below patient = record {
     low_waiting = none_more link.flow.low.alarms.sender.sending.waiting;
     last = refl;
     seen = refl;
+    endpoint = refl;
   };
 }
 stands_on link (suc units) at begun below patient =
@@ -207,7 +210,7 @@ ends_behind link units reason at so over = (
     ap unit_over so.is ∙ updated_off (ending_of so.later) reason so.later over,
     ap (λ (l : Option RelationState). (due_of l).farewell) so.is
         ∙ (due_off (ending_of so.later) reason so.later over
-        ∙ ap (λ (f : Farewell). let o : Option Farewell = Some f in o) (same_farewell reason link so.later so.same.request so.same.last so.same.seen)),
+        ∙ ap (λ (f : Farewell). let o : Option Farewell = Some f in o) (same_farewell reason link so.later so.same.request so.same.last so.same.seen so.same.endpoint)),
   ),
 )
 

@@ -22,6 +22,7 @@ pub record IsLater (link : RelationState) (units : ℕ) (later : RelationState) 
   pub waited : is_awaiting link.phase ≡ true → link.waited ≡ 0 → later.waited ≡ units % 32000
   pub last : later.flow.alarms.sender.sending.last ≡ link.flow.alarms.sender.sending.last
   pub seen : later.flow.alarms.seen ≡ link.flow.alarms.seen
+  pub endpoint : later.flow.endpoint ≡ link.flow.endpoint
 
 pub record Stands (link : RelationState) (units : ℕ) : Type 0 where
   pub later : RelationState
@@ -62,13 +63,14 @@ due_on ending link h = ap (λ (e : Option Abort). (due_by link e).is_ready) h
 pub due_off : (ending : Option Abort) (reason : Abort) (link : RelationState) → ending ≡ Some reason → (due_by link ending).farewell ≡ Some (farewell_of reason link)
 due_off ending reason link h = ap (λ (e : Option Abort). (due_by link e).farewell) h
 
--- The ERR depends on the request, and on the last data that was sent and the last that was accepted.
-abbrev farewell_at : Abort → Request → Option ℕ → Option ℕ → Farewell
-farewell_at reason request last seen = record {
+-- The ERR depends on the request, on the last data that was sent and the last that was accepted, and on the endpoint of the device.
+abbrev farewell_at : Abort → Request → Option ℕ → Option ℕ → ℕ → Farewell
+farewell_at reason request last seen endpoint = record {
   uuid = request.ar.uuid;
   initiator = request.ar.initiator;
   tag = request.alarm.tag_low;
   reference = request.alarm.reference;
+  endpoint = endpoint;
   send_number = send_number last;
   ack_number = ack_number seen;
   reason = reason;
@@ -76,11 +78,12 @@ farewell_at reason request last seen = record {
 
 pub same_farewell : (reason : Abort) (link later : RelationState) → later.request ≡ link.request
     → later.flow.alarms.sender.sending.last ≡ link.flow.alarms.sender.sending.last → later.flow.alarms.seen ≡ link.flow.alarms.seen
-    → farewell_of reason later ≡ farewell_of reason link
-same_farewell reason link later request last seen =
-    ap (λ (r : Request). farewell_at reason r later.flow.alarms.sender.sending.last later.flow.alarms.seen) request
-    ∙ (ap (λ (n : Option ℕ). farewell_at reason link.request n later.flow.alarms.seen) last
-    ∙ ap (λ (n : Option ℕ). farewell_at reason link.request link.flow.alarms.sender.sending.last n) seen)
+    → later.flow.endpoint ≡ link.flow.endpoint → farewell_of reason later ≡ farewell_of reason link
+same_farewell reason link later request last seen endpoint =
+    ap (λ (r : Request). farewell_at reason r later.flow.alarms.sender.sending.last later.flow.alarms.seen later.flow.endpoint) request
+    ∙ (ap (λ (n : Option ℕ). farewell_at reason link.request n later.flow.alarms.seen later.flow.endpoint) last
+    ∙ (ap (λ (n : Option ℕ). farewell_at reason link.request link.flow.alarms.sender.sending.last n later.flow.endpoint) seen
+    ∙ ap (λ (n : ℕ). farewell_at reason link.request link.flow.alarms.sender.sending.last link.flow.alarms.seen n) endpoint))
 
 -- ApplicationReady has waited for this many units.
 wraps : (waited units : ℕ) → waited ≡ units % 32000 → (if (waited + 1 == 32000) then 0 else waited + 1) ≡ (units + 1) % 32000
@@ -108,11 +111,12 @@ later_next link units later timed same = record {
   waited = λ waits fresh. waited_next later units (ap is_awaiting same.phase ∙ waits) (same.waited waits fresh) ∙ ap (λ (n : ℕ). n % 32000) (add-one units);
   last = same.last;
   seen = same.seen;
+  endpoint = same.endpoint;
 }
 
 pub stands : (link : RelationState) (units : ℕ) → is_timed link.phase ≡ true → link.inactive ≡ 0 → units < limit_of link → Stands link units
 stands link zero timed fresh below =
-    record { later = link; is = refl; same = record { phase = refl; request = refl; inactive = fresh; waited = λ _ w. w; last = refl; seen = refl } }
+    record { later = link; is = refl; same = record { phase = refl; request = refl; inactive = fresh; waited = λ _ w. w; last = refl; seen = refl; endpoint = refl } }
 stands link (suc units) timed fresh below =
     let before = stands link units timed fresh (omega arith) in
     let limit = limit_same link before.later before.same.request in
@@ -136,7 +140,7 @@ ends_at link units timed fresh last =
     let over = ends_where so.later (ap is_timed so.same.phase ∙ timed) end in (
       ap unit_over so.is ∙ updated_off (ending_of so.later) Activity so.later over,
       ap (λ (l : Option RelationState). (due_of l).farewell) so.is
-          ∙ (due_off (ending_of so.later) Activity so.later over ∙ ap (λ (f : Farewell). Some f) (same_farewell Activity link so.later so.same.request so.same.last so.same.seen)),
+          ∙ (due_off (ending_of so.later) Activity so.later over ∙ ap (λ (f : Farewell). Some f) (same_farewell Activity link so.later so.same.request so.same.last so.same.seen so.same.endpoint)),
     )
 
 pub is_due_each_second : IsDueEachSecond

@@ -1,5 +1,5 @@
 -- Connect: which relation a device establishes, and what it answers (IEC 61158-6-10, 5.2.4).
-use Rattle.std.specs.Prelude.{◌++◌, ◌&&◌, ℕ, Bool, false, nat_eq, not, List, Option, Some, None, Result, Ok, Err, if◌then◌else◌}
+use Rattle.std.specs.Prelude.{◌++◌, ◌&&◌, ℕ, Bool, false, nat_eq, not, List, [], Option, Some, None, Result, Ok, Err, if◌then◌else◌}
 use Rattle.std.specs.Cmp.Lexicographic.{pointwise}
 use Rattle.pn_values.specs.declared.mac.Mac.{Mac}
 use Rattle.pn_values.specs.declared.identity.Identity.{Identity}
@@ -13,11 +13,13 @@ use Rattle.block_codec.specs.declared.block.Block.TheVariants as is
 use Rattle.block_codec.specs.Block.{block_bytes}
 use Rattle.records.specs.declared.status.call_fault.CallFault.{CallFault}
 use Rattle.records.specs.declared.status.call_fault.CallFault.TheVariants as fault
+use Rattle.connects.specs.answers.AlarmRelation.{alarm_relation}
 use Rattle.connects.specs.declared.requests.parts.Iocr.{Iocr}
 use Rattle.connects.specs.requests.Request.{Request}
 use Rattle.connects.specs.requests.Handled.{asked_initiator, request_of, request_within}
 use Rattle.relations.specs.declared.options.DeviceOptions.{DeviceOptions}
 use Rattle.relations.specs.declared.phase.Partner.{Partner}
+use Rattle.relations.specs.Numbers.{endpoint_of, output_id}
 use Rattle.relations.specs.exchange.Marks.{Starting}
 use Rattle.relations.specs.RelationState.{RelationState, uuid_of}
 use Rattle.relations.specs.Phases.{Handled, Made, Unmoved, differing_octets}
@@ -32,14 +34,20 @@ differing_of request real = differing_octets (rows_of request real)
 -- ---- the answer
 
 -- An IOCRBlockRes: IOCRType 1 for inputs, 2 for outputs, and the FrameID that is assigned.
-abbrev pub iocr_answer : ℕ → Iocr → List ℕ
-iocr_answer type iocr = block_bytes (is.IocrBlockRes (record { iocr_type = type; iocr_reference = iocr.reference; frame_id = iocr.frame_id }))
+abbrev pub iocr_answer : ℕ → Iocr → ℕ → List ℕ
+iocr_answer type iocr frame_id = block_bytes (is.IocrBlockRes (record { iocr_type = type; iocr_reference = iocr.reference; frame_id = frame_id }))
 
--- Both, in the order in which they were asked for.
-abbrev pub iocrs_answer : Request → List ℕ
-iocrs_answer request = if request.input_first
-    then iocr_answer 1 request.input ++ iocr_answer 2 request.output
-    else iocr_answer 2 request.output ++ iocr_answer 1 request.input
+-- Both, in the order in which they were asked for, in a relation of this number.
+abbrev pub input_answer : Request → List ℕ
+input_answer request = iocr_answer 1 request.input request.input.frame_id
+
+abbrev pub output_answer : ℕ → Request → List ℕ
+output_answer number request = iocr_answer 2 request.output (output_id number request.output)
+
+abbrev pub iocrs_answer : ℕ → Request → List ℕ
+iocrs_answer number request = if request.input_first
+    then input_answer request ++ output_answer number request
+    else output_answer number request ++ input_answer request
 
 -- ARBlockRes.
 abbrev pub ar_answer : Identity → Request → List ℕ
@@ -49,11 +57,15 @@ ar_answer identity request = block_bytes (is.ArBlockRes (record {
   cm_responder_mac_add = identity.mac;
 }))
 
--- The blocks of the answer: ARBlockRes, an IOCRBlockRes for each, AlarmCRBlockRes, and the ModuleDiffBlock, if there is
--- one.
-unfoldable pub connect_blocks : Identity → Request → List ℕ → List ℕ
-connect_blocks identity request differing =
-    ar_answer identity request ++ iocrs_answer request ++ block_bytes (is.AlarmCrBlockRes (record {})) ++ differing
+-- AlarmCRBlockRes, with the endpoint of the device, and MaxAlarmDataLength 200.
+abbrev pub alarm_answer : ℕ → List ℕ
+alarm_answer number = alarm_relation.write (record { local_alarm_reference = endpoint_of number; max_alarm_data_length = 200 }) []
+
+-- The blocks of the answer in a relation of this number: ARBlockRes, an IOCRBlockRes for each, AlarmCRBlockRes, and the
+-- ModuleDiffBlock, if there is one.
+unfoldable pub connect_blocks : Identity → ℕ → Request → List ℕ → List ℕ
+connect_blocks identity number request differing =
+    ar_answer identity request ++ iocrs_answer number request ++ alarm_answer number ++ differing
 
 -- ---- the call
 
@@ -77,9 +89,9 @@ abbrev pub connect_within : DeviceOptions → Mac → Option RelationState → L
 connect_within options source link blocks =
     if is_foreign options source link blocks then Err (fault.ArField 7) else request_within options.smallest_interval (uuid_of link) blocks
 
-abbrev pub connect_answer : Identity → Real → DeviceOptions → Mac → Option RelationState → List ℕ → Result (List ℕ) CallFault
-connect_answer identity real options source link blocks =
-    connect_within options source link blocks >>= λ request. Ok (connect_blocks identity request (differing_of request real))
+abbrev pub connect_answer : Identity → Real → DeviceOptions → ℕ → Mac → Option RelationState → List ℕ → Result (List ℕ) CallFault
+connect_answer identity real options number source link blocks =
+    connect_within options source link blocks >>= λ request. Ok (connect_blocks identity number request (differing_of request real))
 
 -- The outcome of the Connect, at a device with these options.
 abbrev pub making : Real → Partner → DeviceOptions → Starting → Result Request CallFault → Handled

@@ -9,14 +9,15 @@ use Rattle.relations.specs.exchange.Notices.{header_of}
 use Rattle.relations.specs.declared.farewell.Farewell.{Farewell}
 use Rattle.relations.specs.RelationState.{RelationState}
 
--- It ends the relation of its request. It goes to CMInitiatorMacAdd, to the LocalAlarmReference there, with the tag of low priority, and with the numbers of
--- the last data that was sent and of the last data that was accepted.
+-- It ends the relation of its request. It goes to CMInitiatorMacAdd, to the LocalAlarmReference there, from the endpoint of the
+-- device, with the tag of low priority, and with the numbers of the last data that was sent and of the last data that was accepted.
 abbrev pub farewell_by : Abort → Request → Header → Farewell
 farewell_by reason request header = record {
   uuid = request.ar.uuid;
   initiator = request.ar.initiator;
   tag = request.alarm.tag_low;
   reference = request.alarm.reference;
+  endpoint = header.source;
   send_number = header.send_number;
   ack_number = header.ack_number;
   reason = reason;
@@ -25,6 +26,6 @@ farewell_by reason request header = record {
 abbrev pub farewell_of : Abort → RelationState → Farewell
 farewell_of reason link = farewell_by reason link.request (header_of link.flow Error)
 
--- Its PDU, from endpoint 1 of the device.
+-- Its PDU.
 abbrev pub said_by : Farewell → Said
-said_by farewell = abort_of farewell.reason farewell.reference 1 farewell.send_number farewell.ack_number
+said_by farewell = abort_of farewell.reason farewell.reference farewell.endpoint farewell.send_number farewell.ack_number

@@ -1,4 +1,5 @@
 pub mod Options
+pub mod Numbers
 pub mod Passed
 pub mod RelationState
 pub mod Farewells

@@ -1,9 +1,9 @@
 -- The options of a device.
-use Rattle.std.specs.Prelude.{false}
+use Rattle.std.specs.Prelude.{false, None}
 use Rattle.relations.specs.declared.options.DeviceOptions.{DeviceOptions}
 
 -- The default: any interval is accepted, inputs begin good, the device is ready as soon as its parameters have ended, any station
--- may hold a relation, and each record is kept.
+-- may hold a relation, each record is kept, and the numbers of a relation are always the first ones.
 abbrev pub default_options : DeviceOptions
 default_options = record {
   smallest_interval = 1;
@@ -11,4 +11,5 @@ default_options = record {
   ready_by_application = false;
   only_own_controller = false;
   records_passed_on = false;
+  numbers_from = None;
 }

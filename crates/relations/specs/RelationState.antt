@@ -42,10 +42,10 @@ phase_of link = option_map (λ l. l.phase) link
 abbrev pub uuid_of : Option RelationState → Option (List ℕ)
 uuid_of link = option_map (λ l. l.request.ar.uuid) link
 
--- The content that is read of it: what its Connect asked for, its end of cyclic data, when it began, and whether its last frame
--- of inputs said that one of its submodules has a diagnosis.
-abbrev pub parts_of : Option RelationState → Option (Request × Cyclic × ℕ × Bool)
-parts_of link = option_map (λ l. (l.request, l.flow.cyclic, l.began, l.flow.problem_sent)) link
+-- The content that is read of it: what its Connect asked for, its end of cyclic data, when it began, whether its last frame
+-- of inputs said that one of its submodules has a diagnosis, and the endpoint of its alarms.
+abbrev pub parts_of : Option RelationState → Option (Request × Cyclic × ℕ × Bool × ℕ)
+parts_of link = option_map (λ l. (l.request, l.flow.cyclic, l.began, l.flow.problem_sent, l.flow.endpoint)) link
 
 -- The records that it accepted and keeps, those that it passed on, and its ModuleDiffBlock.
 abbrev pub taken_of : Option RelationState → List TakenRecord
@@ -141,4 +141,4 @@ passes_on link = passes_on_in link.options link.phase
 abbrev pub is_alarm_of : Mac → ℕ → ℕ → Option RelationState → Bool
 is_alarm_of source destination endpoint None = false
 is_alarm_of source destination endpoint (Some link) =
-    pointwise nat_eq source.octets link.request.ar.initiator.octets && (destination == 1 && endpoint == link.request.alarm.reference)
+    pointwise nat_eq source.octets link.request.ar.initiator.octets && (destination == link.flow.endpoint && endpoint == link.request.alarm.reference)

@@ -1,18 +1,18 @@
 //! Connect (IEC 61158-6-10, 5.2.4.1 to 5.2.4.11).
-ghost use Rattle.std.specs.Prelude.{◌≡◌, ◌+◌, ◌≤◌, ◌++◌, [], length, None, IfErr, IfOk, Err, Ok};
+ghost use Rattle.std.specs.Prelude.{◌≡◌, ◌+◌, ◌<◌, ◌≤◌, ◌++◌, [], length, None, IfErr, IfOk, Err, Ok};
 ghost use Rattle.arrayvec.specs.ArrayVec.{array_vec_len};
 ghost use Rattle.connects.specs.requests.Handled.{asked_initiator};
-ghost use Rattle.relations.specs.Connect.{connect_answer, connect_blocks, connect_within, iocr_answer, iocrs_answer, is_foreign, is_other, making};
+ghost use Rattle.relations.specs.Numbers.{number_of};
+ghost use Rattle.relations.specs.Connect.{alarm_answer, connect_answer, connect_blocks, connect_within, iocr_answer, iocrs_answer, is_foreign, is_other, making};
 ghost use Rattle.relations.specs.Phases.{differing_octets, updated};
 
 use crate::exchange::Starting;
+use crate::numbers::{endpoint_of, number_of, output_id};
 use crate::{Application, DeviceOptions, Partner, Phase, Relation};
 use arrayvec::ArrayVec;
-use block_codec::{AlarmCrBlockRes, ArBlockRes, Block, IocrBlockRes, write_block};
-use connect_blocks::{
-    alarm_cr_block_res_len, ar_block_res_len, iocr_block_res_len, module_diff_len,
-};
-use connects::{ConnectRequest, Iocr, asked_initiator, refuse};
+use block_codec::{ArBlockRes, Block, IocrBlockRes, write_block};
+use connect_blocks::{ar_block_res_len, iocr_block_res_len, module_diff_len};
+use connects::{AlarmRelation, ConnectRequest, Iocr, asked_initiator, put_alarm_relation, refuse};
 use module_diff::{DiffRows, diff};
 use pn_values::{Identity, Mac, Real};
 use records::CallFault;
@@ -58,36 +58,58 @@ fn put_differing(octets: &mut ArrayVec<u8, 1166>, rows: &DiffRows)
     write_block(octets, &Block::ModuleDiffBlock(block));
 }
 
-/// Appends the IOCRBlockRes of a communication relation, 12 octets. There must be room.
+/// Appends the IOCRBlockRes of a communication relation with this FrameID, 12 octets. There must be room.
 #[tactic(auto, unfolding(block_codec::specs::Block::block_size, block_codec::specs::Block::fields_of, wire::specs::blocks::Fields::body, wire::specs::blocks::Fields::version))]
-fn put_iocr<const N: usize>(answer: &mut ArrayVec<u8, N>, iocr_type: u16, iocr: &Iocr)
+fn put_iocr<const N: usize>(
+    answer: &mut ArrayVec<u8, N>,
+    iocr_type: u16,
+    iocr: &Iocr,
+    frame_id: u16,
+)
     requires { array_vec_len answer.old + 12 ≤ N }
-    ensures items { answer.new.items ≡ answer.old.items ++ iocr_answer iocr_type iocr.now }
+    ensures items { answer.new.items ≡ answer.old.items ++ iocr_answer iocr_type iocr.now frame_id }
     ensures len { array_vec_len answer.new ≡ array_vec_len answer.old + 12 }
 {
     let block = IocrBlockRes {
         iocr_type,
         iocr_reference: iocr.reference,
-        frame_id: iocr.frame_id,
+        frame_id,
     };
     let _size = iocr_block_res_len(&block);
     write_block(answer, &Block::IocrBlockRes(block));
 }
 
-/// Appends the IOCRBlockRes of both communication relations, in the order in which they were asked for. There must be
-/// room.
-fn put_iocrs<const N: usize>(answer: &mut ArrayVec<u8, N>, request: &ConnectRequest)
-    requires { array_vec_len answer.old + 24 ≤ N }
-    ensures items { answer.new.items ≡ answer.old.items ++ iocrs_answer request.now }
+/// Appends the IOCRBlockRes of both communication relations, in the order in which they were asked for, in a relation of
+/// this number. There must be room.
+fn put_iocrs<const N: usize>(answer: &mut ArrayVec<u8, N>, number: u16, request: &ConnectRequest)
+    requires room { array_vec_len answer.old + 24 ≤ N }
+    requires numbered { number < 14336 }
+    ensures items { answer.new.items ≡ answer.old.items ++ iocrs_answer number request.now }
     ensures len { array_vec_len answer.new ≡ array_vec_len answer.old + 24 }
 {
+    let (input, output) = (request.input(), request.output());
+    let output_id = output_id(number, output);
     if request.input_first() {
-        put_iocr(answer, INPUT, request.input());
-        put_iocr(answer, OUTPUT, request.output());
+        put_iocr(answer, INPUT, input, input.frame_id);
+        put_iocr(answer, OUTPUT, output, output_id);
     } else {
-        put_iocr(answer, OUTPUT, request.output());
-        put_iocr(answer, INPUT, request.input());
+        put_iocr(answer, OUTPUT, output, output_id);
+        put_iocr(answer, INPUT, input, input.frame_id);
     }
+}
+
+/// Appends the AlarmCRBlockRes, 12 octets. There must be room.
+fn put_alarm<const N: usize>(answer: &mut ArrayVec<u8, N>, number: u16)
+    requires room { array_vec_len answer.old + 12 ≤ N }
+    requires numbered { number < 14336 }
+    ensures items { answer.new.items ≡ answer.old.items ++ alarm_answer number }
+    ensures len { array_vec_len answer.new ≡ array_vec_len answer.old + 12 }
+{
+    let block = AlarmRelation {
+        local_alarm_reference: endpoint_of(number),
+        max_alarm_data_length: 200,
+    };
+    put_alarm_relation(answer, &block);
 }
 
 /// Writes the blocks of the answer to a Connect into an empty list: ARBlockRes, both IOCRBlockRes, AlarmCRBlockRes, and
@@ -96,12 +118,14 @@ fn put_iocrs<const N: usize>(answer: &mut ArrayVec<u8, N>, request: &ConnectRequ
 fn put_answer<const N: usize>(
     answer: &mut ArrayVec<u8, N>,
     identity: &Identity,
+    number: u16,
     request: &ConnectRequest,
     differing: &[u8],
 )
     requires empty { answer.old.items ≡ [] }
     requires room { 70 + length differing.now ≤ N }
-    ensures { answer.new.items ≡ connect_blocks identity.now request.now differing.now }
+    requires numbered { number < 14336 }
+    ensures { answer.new.items ≡ connect_blocks identity.now number request.now differing.now }
 {
     let ar = request.ar();
     let relation = ArBlockRes {
@@ -111,10 +135,8 @@ fn put_answer<const N: usize>(
     };
     let _relation_size = ar_block_res_len(&relation);
     write_block(answer, &Block::ArBlockRes(relation));
-    put_iocrs(answer, request);
-    let alarm = AlarmCrBlockRes {};
-    let _alarm_size = alarm_cr_block_res_len(&alarm);
-    write_block(answer, &Block::AlarmCrBlockRes(alarm));
+    put_iocrs(answer, number, request);
+    put_alarm(answer, number);
     append(answer, differing);
 }
 
@@ -133,13 +155,13 @@ impl Relation {
     ) -> Result<(), CallFault>
         requires empty { answer.old.items ≡ [] }
         requires room { 1236 ≤ N }
-        ensures done { IfOk result (λ _. connect_answer identity.now real.now application.entry.options.now partner.mac self.old blocks.now
+        ensures done { IfOk result (λ _. connect_answer identity.now real.now application.entry.options.now (number_of application.entry.options.now.numbers_from application.entry.made) partner.mac self.old blocks.now
             ≡ Ok answer.new.items) }
         ensures refused { IfErr result (λ fault.
-            (connect_answer identity.now real.now application.entry.options.now partner.mac self.old blocks.now ≡ Err fault)
+            (connect_answer identity.now real.now application.entry.options.now (number_of application.entry.options.now.numbers_from application.entry.made) partner.mac self.old blocks.now ≡ Err fault)
             × (answer.new.items ≡ [])) }
         ensures state { self.new ≡ updated (making real.now partner application.entry.options.now
-            (record { begin_bad = application.entry.options.now.inputs_begin_bad; statuses = application.entry.statuses.now; units = application.entry.units; diagnoses = application.entry.diagnoses.now })
+            (record { begin_bad = application.entry.options.now.inputs_begin_bad; statuses = application.entry.statuses.now; units = application.entry.units; diagnoses = application.entry.diagnoses.now; number = number_of application.entry.options.now.numbers_from application.entry.made })
             (connect_within application.entry.options.now partner.mac self.old blocks.now)) self.old }
     {
         // Only one relation, and the controller that has it keeps it: a second controller must not take a running
@@ -155,11 +177,13 @@ impl Relation {
             .read(application.options.smallest_interval, blocks)?;
         let rows = diff(self.request.expected(), real);
         put_differing(&mut self.differing, &rows);
+        let number = number_of(application.options.numbers_from, application.made);
         let starting = Starting {
             begin_bad: application.options.inputs_begin_bad,
             statuses: application.statuses,
             units: application.units,
             diagnoses: application.diagnoses,
+            number,
         };
         self.exchange.open(&self.request, &rows, starting);
         // Parameters of an earlier relation do not belong to this one.
@@ -171,7 +195,13 @@ impl Relation {
         self.inactive = 0;
         self.waited = 0;
         self.phase = Some(Phase::Started);
-        put_answer(answer, identity, &self.request, self.differing.as_slice());
+        put_answer(
+            answer,
+            identity,
+            number,
+            &self.request,
+            self.differing.as_slice(),
+        );
         Ok(())
     }
 }

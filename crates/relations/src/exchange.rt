@@ -14,7 +14,6 @@ mod marks;
 mod opening;
 mod statuses;
 
-pub use alarms::OWN_REFERENCE;
 pub use cyclic::Repeated;
 pub use data_exchange::DataExchange;
 pub use laws::exchange_is_kept;

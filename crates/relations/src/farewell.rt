@@ -3,7 +3,6 @@ ghost use Rattle.std.specs.Prelude.{◌≡◌, length, true};
 ghost use Rattle.pn_alarms.specs.Format.{is_long, said};
 ghost use Rattle.relations.specs.Farewells.{farewell_by, said_by};
 
-use crate::exchange::OWN_REFERENCE;
 use connects::ConnectRequest;
 use pn_alarms::{Abort, Header, Pdu};
 use pn_values::Mac;
@@ -20,6 +19,8 @@ pub struct Farewell {
     pub tag: u16,
     /// The endpoint of the controller: its LocalAlarmReference.
     pub reference: u16,
+    /// The endpoint of the device: the LocalAlarmReference of its answer.
+    pub endpoint: u16,
     /// SendSeqNum of the last alarm that was sent, 0xFFFF if none was sent.
     pub send_number: u16,
     /// SendSeqNum of the last data that was accepted, 0xFFFE if none was accepted.
@@ -29,7 +30,7 @@ pub struct Farewell {
 }
 
 impl Farewell {
-    /// The ERR of a relation with this request, with the numbers of this header.
+    /// The ERR of a relation with this request, from the endpoint of this header, and with its numbers.
     pub(crate) fn of(request: &ConnectRequest, header: &Header, reason: Abort) -> Farewell
         ensures { result ≡ farewell_by reason request.now header.now }
     {
@@ -39,6 +40,7 @@ impl Farewell {
             initiator: request.ar().initiator,
             tag: alarm.tag_low,
             reference: alarm.reference,
+            endpoint: header.source,
             send_number: header.send_number,
             ack_number: header.ack_number,
             reason,
@@ -54,7 +56,7 @@ impl Farewell {
     {
         self.reason.pdu(
             self.reference,
-            OWN_REFERENCE,
+            self.endpoint,
             self.send_number,
             self.ack_number,
         )

@@ -12,6 +12,7 @@ mod exchanged;
 mod farewell;
 mod hearing;
 mod laws;
+mod numbers;
 mod options;
 mod output;
 mod passed;
@@ -22,12 +23,13 @@ mod time;
 
 pub use cyclic_data::{ProviderStatus, ReceivedValue};
 pub use exchange::{
-    DataExchange, InputStatus, Mark, OWN_REFERENCE, Repeated, Starting, exchange_is_kept, is_bad,
-    is_plugged, put_status,
+    DataExchange, InputStatus, Mark, Repeated, Starting, exchange_is_kept, is_bad, is_plugged,
+    put_status,
 };
 pub use farewell::Farewell;
 pub use hearing::ReadyAnswer;
 pub use laws::{phases_are_kept, time_is_kept};
+pub use numbers::{NUMBERS, made_after, number_of};
 pub use options::{Application, DeviceOptions};
 pub use phase::{Partner, Phase};
 pub use pn_alarms::Abort;

@@ -14,6 +14,8 @@ pub struct Application<'a> {
     pub units: u64,
     /// The diagnoses that exist.
     pub diagnoses: &'a Diagnoses,
+    /// How many relations the device had before, modulo 14,336.
+    pub made: u16,
 }
 
 /// The options of a device. The default is a device that decides everything by itself.
@@ -33,6 +35,10 @@ pub struct DeviceOptions {
     /// Whether parameter records that are written while data is exchanged are passed on and not kept: they take no place among
     /// the 64 records of a relation.
     pub records_passed_on: bool,
+    /// Whether the numbers that a device gives itself in a relation go round, and from which on: the FrameID of outputs, where
+    /// the Connect leaves the choice to the device, and the endpoint of its alarms. Each relation has the next of 14,336, so
+    /// that a late frame of an earlier one is refused. A host that counts its starts begins with another number at each.
+    pub numbers_from: Option<u16>,
 }
 
 impl Default for DeviceOptions {
@@ -42,7 +48,7 @@ impl Default for DeviceOptions {
     ghost is_default = { λ options. options ≡ default_options };
 
     /// Any interval is accepted, inputs begin good, the device is ready as soon as its parameters have ended, any station may
-    /// hold a relation, and each record is kept.
+    /// hold a relation, each record is kept, and the numbers of a relation are always the first ones.
     fn default() -> DeviceOptions {
         DeviceOptions {
             smallest_interval: 1,
@@ -50,6 +56,7 @@ impl Default for DeviceOptions {
             ready_by_application: false,
             only_own_controller: false,
             records_passed_on: false,
+            numbers_from: None,
         }
     }
 }

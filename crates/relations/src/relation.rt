@@ -4,7 +4,7 @@ ghost use Rattle.relations.specs.Phases.{Ended, Named, Unmoved, answered, keepin
 ghost use Rattle.relations.specs.Farewells.{farewell_of};
 ghost use Rattle.relations.specs.RelationState.{IsInStep, differing_in, is_alarm_of, is_alive_by, is_named, is_parameterized, parts_of, passed_of, passes_on_in, phase_of, taken_of, uuid_of};
 
-use crate::exchange::{DataExchange, OWN_REFERENCE};
+use crate::exchange::DataExchange;
 use crate::passed::PassedRecords;
 use crate::{DeviceOptions, Farewell, Partner, Phase};
 use arrayvec::ArrayVec;
@@ -79,6 +79,8 @@ pub struct RelationParts<'a> {
     pub began: u64,
     /// Whether its last frame of inputs said that one of its submodules has a diagnosis.
     pub problem_sent: bool,
+    /// The endpoint of its alarms: the LocalAlarmReference of the device.
+    pub endpoint: u16,
 }
 
 impl Relation {
@@ -125,7 +127,7 @@ impl Relation {
 
     /// The content of the relation, if there is one.
     pub fn parts(&self) -> Option<RelationParts<'_>>
-        ensures { option_map (λ parts. (parts.request.now, parts.cyclic.now, parts.began, parts.problem_sent)) result ≡ parts_of self.now }
+        ensures { option_map (λ parts. (parts.request.now, parts.cyclic.now, parts.began, parts.problem_sent, parts.endpoint)) result ≡ parts_of self.now }
     {
         match self.phase {
             Some(_) => Some(RelationParts {
@@ -133,6 +135,7 @@ impl Relation {
                 cyclic: self.exchange.cyclic(),
                 began: self.began,
                 problem_sent: self.exchange.problem_sent(),
+                endpoint: self.exchange.endpoint(),
             }),
             None => None,
         }
@@ -217,14 +220,14 @@ impl Relation {
     }
 
     /// Whether an alarm frame with this source, between these endpoints, belongs to the relation: it comes from
-    /// CMInitiatorMacAdd, goes to endpoint 1 of the device, and comes from the endpoint that is the LocalAlarmReference
+    /// CMInitiatorMacAdd, goes to the endpoint of the device, and comes from the endpoint that is the LocalAlarmReference
     /// of the controller.
     pub fn is_alarm(&self, source: Mac, destination: u16, endpoint: u16) -> bool
         ensures { result ≡ is_alarm_of source destination endpoint self.now }
     {
         self.phase.is_some()
             && source.is(&self.request.ar().initiator)
-            && destination == OWN_REFERENCE
+            && destination == self.exchange.endpoint()
             && endpoint == self.request.alarm().reference
     }
 

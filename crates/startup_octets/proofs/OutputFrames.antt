@@ -17,16 +17,16 @@ use Rattle.dcp_core.specs.Reading.{request_of}
 use Rattle.cyclic_data.specs.declared.tail.CyclicTail.{CyclicTail}
 use Rattle.cyclic_data.specs.declared.tail.ShortFrame.{ShortFrame}
 use Rattle.cyclic_data.specs.Tail.{cyclic_frame, cyclic_of, cyclic_tail, short}
-use Rattle.cyclic_data.specs.exchange.Received.{is_of_partner}
 use Rattle.pn_alarms.specs.Message.{message_of}
+use Rattle.relations.specs.declared.options.DeviceOptions.{DeviceOptions}
+use Rattle.relations.specs.Numbers.{is_own_id}
 use Rattle.device_frames.specs.declared.event.Event.TheVariants.{Frame}
 use Rattle.device_frames.specs.Heard.{Heard, Cyclic, Elsewhere, Reported, Resolves, broadcast, heard_alarm, heard_content, heard_frame, heard_of, heard_request, is_own, is_taken, said_by}
 use Rattle.controller_messages.specs.declared.setup.Setup.{Setup}
-use Rattle.both_ends.specs.exchange.Shown.{brought_in, octets_in, route_for, zeros_for}
+use Rattle.both_ends.specs.exchange.Shown.{brought_in, is_output, octets_in, zeros_for}
 use Rattle.both_ends.proofs.ExchangeHeardAlarm.{alarm_holds}
 use Rattle.octets_law.specs.Octets.{number, untagged}
 use Rattle.octets_law.proofs.Bare.{bare_of}
-use Rattle.octets_law.proofs.CallReads.{tested}
 use Rattle.octets_law.proofs.FrameSteps.{frame_timely}
 use Rattle.octets_law.proofs.SetHeard.{IsTimely}
 
@@ -65,16 +65,16 @@ front_of n body octets e = by_length n body octets (nat_lt (length body) n) refl
 -- ---- a frame that brings outputs
 
 -- The frame without its tag: its EtherType, its FrameID, and the data of outputs from 16 on.
-pub record IsCarrier (n : ℕ) (frame octets : List ℕ) : Type 0 where
+pub record IsCarrier (options : DeviceOptions) (n : ℕ) (frame octets : List ℕ) : Type 0 where
   pub ether_type : number 12 2 (untagged frame) ≡ 0x8892
-  pub frame_id : number 14 2 (untagged frame) ≡ 0xC000
+  pub frame_id : is_own_id options (number 14 2 (untagged frame)) ≡ true
   pub body : List ℕ
   pub behind : (k : ℕ) → drop (16 + k) (untagged frame) ≡ drop k body
   pub front : IsFront n body octets
 
-module _ (setup : Setup) (identity : Identity) (octets : List ℕ) where
+module _ (options : DeviceOptions) (setup : Setup) (identity : Identity) (octets : List ℕ) where
   abbrev IsBrought : Heard → Type 0
-  IsBrought heard = brought_in setup heard ≡ Some octets
+  IsBrought heard = brought_in options setup heard ≡ Some octets
 
   abbrev n : ℕ
   n = (zeros_for setup).data_length
@@ -102,36 +102,36 @@ module _ (setup : Setup) (identity : Identity) (octets : List ℕ) where
   arp_none true heard e none = none e
   arp_none false heard e none = cc
 
-  cyclic_brings : (source : Mac) (id : ℕ) (body : List ℕ) (b : Bool) → is_of_partner (route_for setup) source id ≡ b
-      → ◌≡◌ {A = Option (List ℕ)} (cond b (octets_in (cyclic_of n body)) None) (Some octets) → (id ≡ 0xC000) × IsFront n body octets
+  cyclic_brings : (source : Mac) (id : ℕ) (body : List ℕ) (b : Bool) → is_output options setup source id ≡ b
+      → ◌≡◌ {A = Option (List ℕ)} (cond b (octets_in (cyclic_of n body)) None) (Some octets) → (is_own_id options id ≡ true) × IsFront n body octets
   cyclic_brings source id body true is e =
-      (tested id 0xC000 (and_parts (pointwise nat_eq source.octets setup.plan.controller.mac.octets) (id == 0xC000) is).1, front_of n body octets e)
+      ((and_parts (pointwise nat_eq source.octets setup.plan.controller.mac.octets) (is_own_id options id) is).1, front_of n body octets e)
   cyclic_brings source id body false is e = absurd cc
 
-  carrier_of : (frame : List ℕ) (id : ℕ) (body : List ℕ) → IsTimely (untagged frame) id body → (id ≡ 0xC000) × IsFront n body octets → IsCarrier n frame octets
+  carrier_of : (frame : List ℕ) (id : ℕ) (body : List ℕ) → IsTimely (untagged frame) id body → (is_own_id options id ≡ true) × IsFront n body octets → IsCarrier options n frame octets
   carrier_of frame id body it is = record {
     ether_type = it.ether_type;
-    frame_id = it.id ∙ is.0;
+    frame_id = ap (λ (n : ℕ). is_own_id options n) it.id ∙ is.0;
     body = body;
     behind = λ k. let place : 16 + k ≡ 6 + (6 + (2 + (2 + k))) = omega arith in ap (λ (m : ℕ). drop m (untagged frame)) place ∙ it.behind k;
     front = is.1;
   }
 
   by_content : (frame : List ℕ) (meaning : Meaning) → frame_of frame ≡ Ok meaning → (content : Content) → meaning.content ≡ content
-      → IsBrought (heard_content identity meaning.destination meaning.source content) → IsCarrier n frame octets
+      → IsBrought (heard_content identity meaning.destination meaning.source content) → IsCarrier options n frame octets
   by_content frame meaning read (RealTime id body) is e =
       carrier_of frame id body (frame_timely frame meaning id body (bare_of frame meaning (frame_takes frame meaning read).spelled) is)
-      (cyclic_brings meaning.source id body (is_of_partner (route_for setup) meaning.source id) refl (real_time_brings meaning.destination meaning.source id body e))
+      (cyclic_brings meaning.source id body (is_output options setup meaning.source id) refl (real_time_brings meaning.destination meaning.source id body e))
   by_content frame meaning read (ArpPacket packet) is e =
       absurd (arp_none (is_own identity meaning.destination || pointwise nat_eq meaning.destination.octets broadcast) (Resolves meaning.source packet) e (λ e. cc))
   by_content frame meaning read (UdpDatagram from to body) is e =
       absurd (arp_none (is_own identity meaning.destination && to.port == call_port) (Reported (record { mac = meaning.source; endpoint = from }) to.address (said_by body)) e (λ e. cc))
 
-  by_frame : (frame : List ℕ) (read : Result Meaning FrameFault) → frame_of frame ≡ read → IsBrought (heard_frame identity read) → IsCarrier n frame octets
+  by_frame : (frame : List ℕ) (read : Result Meaning FrameFault) → frame_of frame ≡ read → IsBrought (heard_frame identity read) → IsCarrier options n frame octets
   by_frame frame (Ok meaning) is e = by_content frame meaning is meaning.content refl e
   by_frame frame (Err fault) is e = absurd cc
 
   -- A frame that brings octets of outputs has these octets.
-  pub carrier : (frame : List ℕ) → IsBrought (heard_of identity (Frame (record { items = frame }))) → IsCarrier n frame octets
+  pub carrier : (frame : List ℕ) → IsBrought (heard_of identity (Frame (record { items = frame }))) → IsCarrier options n frame octets
   unfolding heard_of
   carrier frame e = by_frame frame (frame_of frame) refl e

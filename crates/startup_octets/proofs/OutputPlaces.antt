@@ -16,6 +16,7 @@ use Rattle.plans.specs.Parts.{data_in_slot, data_of, some_octets}
 use Rattle.octets_law.specs.Octets.{part, untagged}
 use Rattle.startup_octets.specs.declared.outputs.Output.{Output}
 use Rattle.startup_octets.specs.Outputs.{carried, outputs_in, part_outputs}
+use Rattle.relations.specs.declared.options.DeviceOptions.{DeviceOptions}
 use Rattle.startup_octets.proofs.OutputFrames.{IsCarrier}
 
 -- ---- lists
@@ -140,9 +141,9 @@ mid_take (suc k) m (suc n) [] short = refl
 mid_take (suc k) m (suc n) (x ∷ l) short = mid_take k m n l (omega (arith, short))
 
 -- A frame carries at a place what the octets of its data have there.
-pub place_read : (n : ℕ) (frame octets : List ℕ) → IsCarrier n frame octets → (place : Place) → IsInside n place → IsSolid place
+pub place_read : (options : DeviceOptions) (n : ℕ) (frame octets : List ℕ) → IsCarrier options n frame octets → (place : Place) → IsInside n place → IsSolid place
     → read_in (untagged frame) place ≡ Some (output_of (cell_of octets place))
-place_read n frame octets it place inside solid =
+place_read options n frame octets it place inside solid =
     let size = place.size - 1 in
     let offset = place.offset in
     let bare = untagged frame in

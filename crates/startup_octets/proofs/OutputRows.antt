@@ -1,5 +1,9 @@
 -- Rows of outputs that were worked out by hand.
-use Rattle.std.proofs.Common.{◌≡◌, ℕ, false, List, [], ◌∷◌, map, Some, refl}
+use Rattle.std.proofs.Common.{◌≡◌, ℕ, true, false, List, [], ◌∷◌, map, Option, Some, None, refl, sym, ap, ◌∙◌}
+use Rattle.std.proofs.lemmas.Bool.{eqb-true}
+use Rattle.relations.specs.declared.options.DeviceOptions.{DeviceOptions}
+use Rattle.relations.specs.Numbers.{is_id_from, is_own_id}
+use Rattle.relations.specs.Options.{default_options}
 use Rattle.network_world.specs.declared.moves.Move.{Move}
 use Rattle.network_world.specs.declared.moves.Move.TheVariants.{Give, OutputStatus}
 use Rattle.octets_law.specs.Octets.{number, untagged}
@@ -16,6 +20,19 @@ frame = 2 ∷ 0 ∷ 0 ∷ 0 ∷ 0 ∷ 1 ∷ 2 ∷ 0 ∷ 0 ∷ 0 ∷ 0 ∷ 2 ∷ 
 
 id_row : number 14 2 (untagged frame) ≡ 0xC000
 id_row = refl
+
+-- a device chooses no other FrameID than 0xC000 unless its numbers go round, and then any of 0xC000 to 0xF7FF
+abbrev ids : List ℕ
+ids = 0x8000 ∷ 0xBFFF ∷ 0xC000 ∷ 0xC001 ∷ 0xF7FF ∷ 0xF800 ∷ []
+
+own_row : map (is_own_id default_options) ids ≡ false ∷ false ∷ true ∷ false ∷ false ∷ false ∷ []
+own_row = refl
+
+round_row : map (is_own_id (record default_options { numbers_from = Some 5 })) ids ≡ false ∷ false ∷ true ∷ true ∷ true ∷ false ∷ []
+round_row = refl
+
+only_own : (options : DeviceOptions) (frame_id : ℕ) → options.numbers_from ≡ None → is_own_id options frame_id ≡ true → frame_id ≡ 0xC000
+only_own options frame_id none own = eqb-true frame_id 0xC000 (ap (λ (from : Option ℕ). is_id_from from frame_id) (sym none) ∙ own)
 
 carried_row : carried 16 two (untagged frame) ≡ Some (5 ∷ 6 ∷ []) ∷ Some (0 ∷ 0 ∷ []) ∷ []
 carried_row = refl

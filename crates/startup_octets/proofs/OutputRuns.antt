@@ -33,6 +33,7 @@ use Rattle.startup_octets.specs.OutputWorlds.{outputs_shown, shown_at}
 use Rattle.startup_octets.specs.Played.{is_device}
 use Rattle.startup_octets.specs.Run.{entries_of, entry_by, opening_entry}
 use Rattle.startup_octets.specs.StartUp.{IsIn}
+use Rattle.relations.specs.declared.options.DeviceOptions.{DeviceOptions}
 use Rattle.startup_octets.proofs.OutputFrames.{IsCarrier, carrier}
 use Rattle.startup_octets.proofs.OutputValues.{carried_if, given_if, taken_of}
 use Rattle.startup_octets.proofs.Points.{dropped}
@@ -202,10 +203,10 @@ module _ {F : Type 0} (setup : Setup) (identity : Identity) (there : ArePlaced s
   sent_is =
       ap (λ (l : List (List ℕ)). drop (length (last_world first it.before).sent) l) it.behind ∙ dropped (last_world first it.before).sent it.frames
 
-  carries : IsCarrier (zeros_for setup).data_length coming.turn.came (octets_of (image_given setup moves))
+  carries : IsCarrier first.device.station.options (zeros_for setup).data_length coming.turn.came (octets_of (image_given setup moves))
   carries =
-      subst (λ (frame : List ℕ). IsCarrier (zeros_for setup).data_length frame (octets_of (image_given setup moves))) (sym came_is)
-      (carrier setup identity (octets_of (image_given setup moves)) it.frame it.brings)
+      subst (λ (frame : List ℕ). IsCarrier first.device.station.options (zeros_for setup).data_length frame (octets_of (image_given setup moves))) (sym came_is)
+      (carrier first.device.station.options setup identity (octets_of (image_given setup moves)) it.frame it.brings)
 
   parts_are : entries_of first run ≡ entries_of first it.before ++ sending ∷ (entries_of it.one.1 it.between ++ coming ∷ entries_of it.next it.others)
   parts_are =
@@ -218,7 +219,7 @@ module _ {F : Type 0} (setup : Setup) (identity : Identity) (there : ArePlaced s
   moves_told = ap moves_in (sym (entries_append first it.before (it.one ∷ []))) ∙ moves_are first (it.before ++ it.one ∷ [])
 
   pub of_one_frame : (device : State F) → device.live.rest.link ≡ Some link
-      → AreOfOneFrame outputs (opening_entry first ∷ entries_of first run) (map (shown_at device) outputs)
+      → AreOfOneFrame first.device.station.options outputs (opening_entry first ∷ entries_of first run) (map (shown_at device) outputs)
   of_one_frame device is =
       let real = device.station.real in
       let found = λ (slot subslot : ℕ). output_in slot subslot device.live.rest.link in
@@ -238,7 +239,7 @@ module _ {F : Type 0} (setup : Setup) (identity : Identity) (there : ArePlaced s
           at_device = refl;
           ether_type = carries.ether_type;
           frame_id = carries.frame_id;
-          carries = carried_if setup there coming.turn.came (octets_of (image_given setup moves)) carries real found (taken_of setup there moves real found taken);
+          carries = carried_if setup there first.device.station.options coming.turn.came (octets_of (image_given setup moves)) carries real found (taken_of setup there moves real found taken);
         };
         given = given_if setup there moves real found given
             ∙ ap (λ (ms : List Move). map (λ output. Some (value_after ms output)) outputs) (sym moves_told);
@@ -257,7 +258,7 @@ module _ {F : Type 0} {S : ℕ} (as_flash : Flash F S) (setup : Setup) (identity
   planned = outputs_in setup.plan.real.modules.items
 
   abbrev IsShown : List Entry → List (Option (List ℕ)) → Type 0
-  IsShown entries shown = AreZeros shown ⊎ AreOfOneFrame planned entries shown
+  IsShown entries shown = AreZeros shown ⊎ AreOfOneFrame first.device.station.options planned entries shown
 
   at_end : (run : List (Move × World F)) → AreMade as_flash first run → IsShown (opening_entry first ∷ entries_of first run) (outputs_shown (last_world first run))
   at_end run made =
@@ -279,7 +280,7 @@ module _ {F : Type 0} {S : ℕ} (as_flash : Flash F S) (setup : Setup) (identity
       by_link None none = inl (all_zeros (shown_at device) planned (λ output. unrelated_zeros device output none))
       by_link (Some link) is = by_accepted link is (has_accepted link) refl
 
-  pub all_shown : (run : List (Move × World F)) → AreMade as_flash first run → AreShown planned (opening_entry first ∷ entries_of first run)
+  pub all_shown : (run : List (Move × World F)) → AreMade as_flash first run → AreShown first.device.station.options planned (opening_entry first ∷ entries_of first run)
   all_shown run made [] entry behind e =
       subst (λ (one : Entry). IsShown (one ∷ []) one.outputs) (same_head (opening_entry first) entry (entries_of first run) behind e) (at_end [] tt)
   all_shown run made (other ∷ front) entry behind e =
@@ -294,6 +295,6 @@ module _ {F : Type 0} {S : ℕ} (as_flash : Flash F S) (setup : Setup) (identity
       ap (λ (w : World F). outputs_shown w) (last_append first cut.some cut.one) ∙ ap (λ (x : Entry). x.outputs) cut.entry_is in
       subst (λ (l : List Entry). IsShown l entry.outputs) entries (subst (λ (v : List (Option (List ℕ))). IsShown (opening_entry first ∷ entries_of first some) v) shown now)
 
-pub none_shown : (outputs : List Output) → AreShown outputs []
-none_shown outputs [] entry behind e = absurd cc
-none_shown outputs (other ∷ front) entry behind e = absurd cc
+pub none_shown : (options : DeviceOptions) (outputs : List Output) → AreShown options outputs []
+none_shown options outputs [] entry behind e = absurd cc
+none_shown options outputs (other ∷ front) entry behind e = absurd cc

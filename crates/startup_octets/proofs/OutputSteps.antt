@@ -29,7 +29,7 @@ use Rattle.both_ends.specs.exchange.Shown.{image_in, outputs_of, shown_of, shown
 use Rattle.both_ends.proofs.ExchangeOutputsMoves.{ArePlaced}
 use Rattle.both_ends.proofs.ExchangeOutputsTurns.{KindsSo}
 use Rattle.both_ends.proofs.ExchangeOutputsValues.{zeros_are_shown}
-use Rattle.both_ends.proofs.ExchangeOutputsWorlds.{TurnsSo, shown_runs}
+use Rattle.both_ends.proofs.ExchangeOutputsWorlds.{NumbersSo, TurnsSo, shown_runs}
 use Rattle.both_ends.proofs.StartupRuns.{delivered}
 use Rattle.startup_octets.specs.declared.outputs.Output.{Output}
 use Rattle.startup_octets.specs.Log.{Entry}
@@ -38,6 +38,7 @@ use Rattle.startup_octets.specs.OutputWorlds.{outputs_shown}
 use Rattle.startup_octets.specs.Played.{turn_by}
 use Rattle.startup_octets.specs.Run.{entries_of, entry_by, opening_entry}
 use Rattle.startup_octets.specs.StartUp.{Turn}
+use Rattle.relations.specs.declared.options.DeviceOptions.{DeviceOptions}
 use Rattle.startup_octets.proofs.OutputFrames.{carrier}
 use Rattle.startup_octets.proofs.OutputPlaces.{all_so}
 use Rattle.startup_octets.proofs.OutputRuns.{all_zeros, plugged_zeros, related_zeros, same_head, same_tail, setup_kept}
@@ -87,7 +88,7 @@ frame_cell octets slot subslot (place ∷ all) = by_test (is_of Data slot subslo
     by_test true rest = refl
     by_test false rest = rest
 
-module _ (setup : Setup) (identity : Identity) (there : ArePlaced setup) where
+module _ (options : DeviceOptions) (setup : Setup) (identity : Identity) (there : ArePlaced setup) where
   abbrev planned : List Output
   planned = outputs_in setup.plan.real.modules.items
 
@@ -124,17 +125,17 @@ module _ (setup : Setup) (identity : Identity) (there : ArePlaced setup) where
   same_if real (Some before) (Some after) is = inl (ap (λ (i : Image). shown_in real (value_in i)) is)
 
   -- the image of a frame
-  brought_if : (real : Real) (link : Option RelationState) (turn : Turn) (octets : List ℕ) → turn.at_device ≡ true → (outputs_of setup identity).brought_by turn.came ≡ Some octets
-      → image_in setup link ≡ with_frame octets (zeros_for setup) → AreZeros (list_for real link) ⊎ Brings planned turn (list_for real link)
+  brought_if : (real : Real) (link : Option RelationState) (turn : Turn) (octets : List ℕ) → turn.at_device ≡ true → (outputs_of options setup identity).brought_by turn.came ≡ Some octets
+      → image_in setup link ≡ with_frame octets (zeros_for setup) → AreZeros (list_for real link) ⊎ Brings options planned turn (list_for real link)
   brought_if real None turn octets at brings is = inl (no_relation real)
   brought_if real (Some link) turn octets at brings is =
-      let carries = carrier setup identity octets turn.came brings in
+      let carries = carrier options setup identity octets turn.came brings in
       let found = λ (slot subslot : ℕ). output_in slot subslot (Some link) in
       inr (record {
         at_device = at;
         ether_type = carries.ether_type;
         frame_id = carries.frame_id;
-        carries = carried_if setup there turn.came octets carries real found
+        carries = carried_if setup there options turn.came octets carries real found
             (all_so (IsThere setup there) (IsTaken setup there octets found)
             (λ place here. ap (λ (i : Image). value_in i place.slot place.subslot) is
             ∙ ap (λ (c : Option Cell). option_map output_of_cell c) (frame_cell octets place.slot place.subslot (places_for setup) ∙ ap (λ (p : Option Place). option_map (cell_of octets) p) here))
@@ -144,7 +145,7 @@ module _ (setup : Setup) (identity : Identity) (there : ArePlaced setup) where
   -- ---- a turn
 
   abbrev pub IsKeptBy : Turn → List (Option (List ℕ)) → List (Option (List ℕ)) → Type 0
-  IsKeptBy turn before after = (after ≡ before) ⊎ (AreZeros after ⊎ Brings planned turn after)
+  IsKeptBy turn before after = (after ≡ before) ⊎ (AreZeros after ⊎ Brings options planned turn after)
 
   kept : (turn : Turn) (before after : List (Option (List ℕ))) → (after ≡ before) ⊎ AreZeros after → IsKeptBy turn before after
   kept turn before after (inl same) = inl same
@@ -154,7 +155,7 @@ module _ (setup : Setup) (identity : Identity) (there : ArePlaced setup) where
   Point = Shown Image Image
 
   abbrev rules : Outputs Image Image
-  rules = outputs_of setup identity
+  rules = outputs_of options setup identity
 
   module _ (real : Real) (old new : Option RelationState) (before after : Point) (was : before.outputs ≡ image_in setup old) (is : after.outputs ≡ image_in setup new) (turn : Turn) where
     abbrev Goal : Type 0
@@ -265,12 +266,14 @@ module _ (setup : Setup) (identity : Identity) (there : ArePlaced setup) where
         chain next step.1 run refl (setup_kept as_flash before step.1 step.0 made.0 ∙ at) made.1 shown.1 front one other behind
         (same_tail entry x (next ∷ entries_of step.1 run) (front ++ one ∷ other ∷ behind) e)
 
-  pub all_kept : (turns : TurnsSo) (kinds : KindsSo) (sound : IsSound ethernet) (whole : IsSoundWhole layers) (apart : pointwise nat_eq identity.mac.octets setup.plan.controller.mac.octets ≡ false)
-      (six : IsMac setup.plan.controller.mac) {F : Type 0} {S : ℕ} (as_flash : Flash F S) (first : World F) → Begins setup identity first → (run : List (Move × World F)) → AreMade as_flash first run
-      → AreMeant first run → AreKept planned (opening_entry first ∷ entries_of first run)
-  all_kept turns kinds sound whole apart six as_flash first begins run made meant =
-      chain as_flash (opening_entry first) first run refl begins.of_setup made (shown_runs turns kinds sound whole setup identity apart six first begins as_flash run made meant)
+pub all_kept : (setup : Setup) (identity : Identity) (there : ArePlaced setup) (turns : TurnsSo) (numbers : NumbersSo) (kinds : KindsSo) (sound : IsSound ethernet) (whole : IsSoundWhole layers)
+    (apart : pointwise nat_eq identity.mac.octets setup.plan.controller.mac.octets ≡ false) (six : IsMac setup.plan.controller.mac) {F : Type 0} {S : ℕ} (as_flash : Flash F S) (first : World F)
+    → Begins setup identity first → (run : List (Move × World F)) → AreMade as_flash first run → AreMeant first run
+    → AreKept first.device.station.options (outputs_in setup.plan.real.modules.items) (opening_entry first ∷ entries_of first run)
+all_kept setup identity there turns numbers kinds sound whole apart six as_flash first begins run made meant =
+    chain first.device.station.options setup identity there as_flash (opening_entry first) first run refl begins.of_setup made
+    (shown_runs turns numbers kinds sound whole setup identity apart six first begins as_flash run made meant)
 
-pub none_kept : (outputs : List Output) → AreKept outputs []
-none_kept outputs [] one other behind e = absurd cc
-none_kept outputs (x ∷ front) one other behind e = absurd cc
+pub none_kept : (options : DeviceOptions) (outputs : List Output) → AreKept options outputs []
+none_kept options outputs [] one other behind e = absurd cc
+none_kept options outputs (x ∷ front) one other behind e = absurd cc

@@ -26,6 +26,7 @@ use Rattle.octets_law.specs.Octets.{untagged}
 use Rattle.startup_octets.specs.declared.outputs.Output.{Output}
 use Rattle.startup_octets.specs.Outputs as own
 use Rattle.startup_octets.specs.Outputs.{carried, is_at, outputs_in, value_after}
+use Rattle.relations.specs.declared.options.DeviceOptions.{DeviceOptions}
 use Rattle.startup_octets.proofs.OutputFrames.{IsCarrier}
 use Rattle.startup_octets.proofs.OutputPlaces.{all_both, all_so, carried_are, each_same, front_all, map_same, mapped, outputs_are, place_read, placed_at, places_from, read_in}
 
@@ -155,7 +156,7 @@ module _ (setup : Setup) (there : ArePlaced setup) where
   abbrev pub IsTaken : List ℕ → (ℕ → ℕ → Option (List ℕ)) → Place → Type 0
   IsTaken octets found place = found place.slot place.subslot ≡ Some (output_of_cell (cell_of octets place))
 
-  module _ (frame octets : List ℕ) (carries : IsCarrier (zeros_for setup).data_length frame octets) (real : Real) (found : ℕ → ℕ → Option (List ℕ)) where
+  module _ (options : DeviceOptions) (frame octets : List ℕ) (carries : IsCarrier options (zeros_for setup).data_length frame octets) (real : Real) (found : ℕ → ℕ → Option (List ℕ)) where
     abbrev shown : Output → Option (List ℕ)
     shown output = output_of real output.slot output.subslot (found output.slot output.subslot)
 
@@ -169,7 +170,7 @@ module _ (setup : Setup) (there : ArePlaced setup) where
     are_read taken =
         all_so (λ (place : Place). IsTaken octets found place × (IsInside (zeros_for setup).data_length place × IsSolid place)) IsRead
         (λ place all. ap (λ (v : Option (List ℕ)). output_of real place.slot place.subslot v) all.0
-        ∙ sym (place_read (zeros_for setup).data_length frame octets carries place all.1.0 all.1.1)) places
+        ∙ sym (place_read options (zeros_for setup).data_length frame octets carries place all.1.0 all.1.1)) places
         (all_both (IsTaken octets found) (λ (place : Place). IsInside (zeros_for setup).data_length place × IsSolid place) places taken
         (all_both (IsInside (zeros_for setup).data_length) IsSolid places
         (front_all (IsInside (zeros_for setup).data_length) places behind there.inside) (front_all IsSolid places behind there.solid)))

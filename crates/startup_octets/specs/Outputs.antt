@@ -3,6 +3,8 @@ use Rattle.std.specs.Prelude.{◌≡◌, ◌⊎◌, ◌+◌, ◌==◌, ◌&&◌,
 use Rattle.std.specs.List.{AllByRecursion, fold}
 use Rattle.pn_values.specs.declared.real.RealModule.{RealModule}
 use Rattle.pn_values.specs.declared.real.RealSubmodule.{RealSubmodule}
+use Rattle.relations.specs.declared.options.DeviceOptions.{DeviceOptions}
+use Rattle.relations.specs.Numbers.{is_own_id}
 use Rattle.network_world.specs.declared.moves.Move.{Move}
 use Rattle.network_world.specs.declared.moves.Move.TheVariants.{Give, OutputStatus}
 use Rattle.octets_law.specs.Octets.{number, part, untagged}
@@ -55,16 +57,17 @@ value_after moves output = if fold (rated_by output) true moves then unwrap_or (
 
 -- ---- the law
 
--- A cyclic frame with the FrameID 0xC000 comes to the device, and carries these outputs.
-pub record Brings (outputs : List Output) (turn : Turn) (shown : List (Option (List ℕ))) : Type 0 where
+-- A cyclic frame comes to a device with these options, with a FrameID that it chooses for outputs: 0xC000, or any of 0xC000 to
+-- 0xF7FF if its numbers go round. The frame carries these outputs.
+pub record Brings (options : DeviceOptions) (outputs : List Output) (turn : Turn) (shown : List (Option (List ℕ))) : Type 0 where
   pub at_device : turn.at_device ≡ true
   pub ether_type : number 12 2 (untagged turn.came) ≡ 0x8892
-  pub frame_id : number 14 2 (untagged turn.came) ≡ 0xC000
+  pub frame_id : is_own_id options (number 14 2 (untagged turn.came)) ≡ true
   pub carries : shown ≡ carried 16 outputs (untagged turn.came)
 
 -- All outputs come from one frame. The controller sent it in one turn, and in a later one it came to the device and brought
 -- them. Each is the value that was given last when the frame was sent.
-pub record AreOfOneFrame (outputs : List Output) (entries : List Entry) (shown : List (Option (List ℕ))) : Type 0 where
+pub record AreOfOneFrame (options : DeviceOptions) (outputs : List Output) (entries : List Entry) (shown : List (Option (List ℕ))) : Type 0 where
   pub before : List Entry
   pub sending : Entry
   pub between : List Entry
@@ -73,7 +76,7 @@ pub record AreOfOneFrame (outputs : List Output) (entries : List Entry) (shown :
   pub parts : entries ≡ before ++ sending ∷ (between ++ coming ∷ behind)
   pub at_controller : sending.turn.at_device ≡ false
   pub sent : IsIn coming.turn.came sending.turn.sent
-  pub brings : Brings outputs coming.turn shown
+  pub brings : Brings options outputs coming.turn shown
   pub given : shown ≡ map (λ output. Some (value_after (moves_in (before ++ sending ∷ [])) output)) outputs
 
 -- Each output that is shown is zeros.
@@ -81,13 +84,13 @@ abbrev pub AreZeros : List (Option (List ℕ)) → Type 0
 AreZeros shown = AllByRecursion (λ one. IfSome one (λ octets. octets ≡ replicate (length octets) 0)) shown
 
 -- After each turn the outputs that the device shows are all zeros, or all come from one frame.
-abbrev pub AreShown : List Output → List Entry → Type 0
-AreShown outputs entries =
+abbrev pub AreShown : DeviceOptions → List Output → List Entry → Type 0
+AreShown options outputs entries =
     (front : List Entry) (entry : Entry) (behind : List Entry) → entries ≡ front ++ entry ∷ behind
-    → AreZeros entry.outputs ⊎ AreOfOneFrame outputs (front ++ entry ∷ []) entry.outputs
+    → AreZeros entry.outputs ⊎ AreOfOneFrame options outputs (front ++ entry ∷ []) entry.outputs
 
 -- In each turn the outputs stay the same, or they become zeros, or all become those of the frame that comes in this turn.
-abbrev pub AreKept : List Output → List Entry → Type 0
-AreKept outputs entries =
+abbrev pub AreKept : DeviceOptions → List Output → List Entry → Type 0
+AreKept options outputs entries =
     (front : List Entry) (one other : Entry) (behind : List Entry) → entries ≡ front ++ one ∷ other ∷ behind
-    → (other.outputs ≡ one.outputs) ⊎ (AreZeros other.outputs ⊎ Brings outputs other.turn other.outputs)
+    → (other.outputs ≡ one.outputs) ⊎ (AreZeros other.outputs ⊎ Brings options outputs other.turn other.outputs)

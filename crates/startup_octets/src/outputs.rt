@@ -98,9 +98,9 @@ pub(crate) fn shown_outputs<F: Flash<S>, const S: usize>(
 /// The outputs that the device of a run shows, read from the octets of its entries.
 pub(crate) fn outputs_are_shown<F: Flash<S>, const S: usize>(setup: &Setup, identity: &Identity)
     ensures shown { CanMeet setup.now identity.now → (first : Worlds F) (run : List (Move × Worlds F)) → Begins setup.now identity.now first
-        → AreMade F.Flash first run → AreShown (outputs_in setup.now.plan.real.modules.items) (opening_entry first ∷ entries_of first run) }
+        → AreMade F.Flash first run → AreShown first.device.station.options (outputs_in setup.now.plan.real.modules.items) (opening_entry first ∷ entries_of first run) }
     ensures kept { CanMeet setup.now identity.now → (first : Worlds F) (run : List (Move × Worlds F)) → Begins setup.now identity.now first
-        → AreMade F.Flash first run → AreKept (outputs_in setup.now.plan.real.modules.items) (opening_entry first ∷ entries_of first run) }
+        → AreMade F.Flash first run → AreKept first.device.station.options (outputs_in setup.now.plan.real.modules.items) (opening_entry first ∷ entries_of first run) }
 {
     packed_places_are_asked();
     stations_are_real(setup, identity);

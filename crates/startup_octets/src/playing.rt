@@ -114,11 +114,11 @@ pub fn play<F: Flash<S>, const S: usize, W: Witness>(
     // the controller had sent, and that came to the device in a later turn. Each is what the frame carries for it: the value that
     // was given last when the frame was sent; zeros if none was given, or if the application had said that it is bad.
     ensures outputs { (entries : List Entry) → W.log witness.new ≡ W.log witness.old ++ entries
-        → AreShown (outputs_in setup.plan.real.modules.items) entries }
+        → AreShown station.options (outputs_in setup.plan.real.modules.items) entries }
     // In each turn the outputs stay the same, or they become zeros, or all become what a cyclic frame of the relation carries that
     // comes to the device in this turn.
     ensures changes { (entries : List Entry) → W.log witness.new ≡ W.log witness.old ++ entries
-        → AreKept (outputs_in setup.plan.real.modules.items) entries }
+        → AreKept station.options (outputs_in setup.plan.real.modules.items) entries }
     // A set-up that can meet the device is not refused, nor is a flash that a device left, unless it cannot be read.
     ensures meets { CanMeet setup station.identity → IfErr result (λ fault. fault ≡ PlayFault.CannotMeet → ⊥) }
     ensures starts { LeftByDevice (F.image flash) → IfErr result (λ fault. (cause : BootFault) → fault ≡ PlayFault.NoStart cause → cause ≡ BootFault.FlashFault) }
@@ -143,6 +143,7 @@ fn begin<F: Flash<S>, const S: usize>(
 ) -> Result<World<F, S>, PlayFault>
     ensures begins { IfOk result (λ world. Begins setup station.identity world) }
     ensures can { IfOk result (λ world. CanMeet setup station.identity) }
+    ensures options { IfOk result (λ world. world.device.station.options ≡ station.options) }
     ensures meets { CanMeet setup station.identity → IfErr result (λ fault. fault ≡ PlayFault.CannotMeet → ⊥) }
     ensures starts { LeftByDevice (F.image flash) → IfErr result (λ fault. (cause : BootFault) → fault ≡ PlayFault.NoStart cause → cause ≡ BootFault.FlashFault) }
 {

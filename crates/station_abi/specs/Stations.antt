@@ -1,5 +1,5 @@
 -- The fixed properties of a device, as a host writes them.
-use Rattle.std.specs.Prelude.{◌&&◌, ◌==◌, ◌%◌, ℕ, Bool, true, nat_le, not, if◌then◌else◌, List, [], ◌∷◌, take, map, slice_index}
+use Rattle.std.specs.Prelude.{◌&&◌, ◌==◌, ◌%◌, ℕ, Bool, true, nat_le, not, if◌then◌else◌, List, [], ◌∷◌, take, map, slice_index, Option, Some, None}
 use Rattle.std.specs.List.{list_all, list_any}
 use Rattle.pn_values.specs.declared.real.Real.{Real}
 use Rattle.pn_values.specs.declared.identity.Identity.{Identity}
@@ -105,6 +105,10 @@ identity_of station = record {
 abbrev pub real_of : Station → Real
 real_of station = record { modules = record { items = map module_of (modules_in station) } }
 
+-- From which number on the numbers of relations go round, if they do.
+abbrev pub numbers_of : Station → Option ℕ
+numbers_of station = if station.numbers_go_round == 0 then None else Some (station.first_number % 65536)
+
 -- What the application decides: a number that is not 0 is yes.
 abbrev pub options_of : Station → DeviceOptions
 options_of station = record {
@@ -113,6 +117,7 @@ options_of station = record {
   ready_by_application = not (station.ready_by_application == 0);
   only_own_controller = not (station.only_own_controller == 0);
   records_passed_on = not (station.records_passed_on == 0);
+  numbers_from = numbers_of station;
 }
 
 -- The identity, the modules that are plugged, and the options.

@@ -4,7 +4,7 @@ ghost use Rattle.std.specs.List.{list_all};
 ghost use Rattle.c_layout.specs.Modules.{is_module};
 ghost use Rattle.station_abi.specs.Made.{IsMade, why_not_made};
 ghost use Rattle.station_abi.specs.Stations.{fault_of, has_interval, has_room as has_all_room, identity_of, is_single as has_own_mac, is_station};
-ghost use Rattle.station_abi.specs.Stations.{modules_in, options_of, real_of};
+ghost use Rattle.station_abi.specs.Stations.{modules_in, numbers_of, options_of, real_of};
 
 use crate::plugged::{are_carried, are_described, are_parted, are_slots};
 use arrayvec::ArrayVec;
@@ -17,7 +17,7 @@ use relations::DeviceOptions;
 use station_port::ServedPort;
 
 /// The version of the header.
-const ABI: u32 = 4;
+const ABI: u32 = 5;
 
 /// The number of octets of the memory for a port.
 const ROOM: usize = 88064;
@@ -51,6 +51,10 @@ pub struct Station {
     pub only_own_controller: u32,
     /// Not 0: records that are written while data is exchanged are passed on and not kept.
     pub records_passed_on: u32,
+    /// Not 0: the numbers that a device gives itself go round from relation to relation.
+    pub numbers_go_round: u32,
+    /// With that the number of the first relation since the start, modulo 65,536.
+    pub first_number: u32,
     /// Not 0: the device has no services beside it.
     pub without_services: u32,
     pub module_count: u32,
@@ -177,7 +181,18 @@ fn options_in(station: &Station) -> DeviceOptions
         ready_by_application: station.ready_by_application != 0,
         only_own_controller: station.only_own_controller != 0,
         records_passed_on: station.records_passed_on != 0,
+        numbers_from: numbers_in(station),
     }
+}
+
+// From which number on the numbers of relations go round, if they do.
+fn numbers_in(station: &Station) -> Option<u16>
+    ensures { result ≡ numbers_of station.now }
+{
+    if station.numbers_go_round == 0 {
+        return None;
+    }
+    Some((station.first_number % 65_536) as u16)
 }
 
 // The modules that are plugged.

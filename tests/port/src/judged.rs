@@ -33,6 +33,8 @@ fn station() -> Station {
         ready_by_application: 0,
         only_own_controller: 0,
         records_passed_on: 0,
+        numbers_go_round: 0,
+        first_number: 0,
         without_services: 0,
         module_count: 3,
         modules: std::array::from_fn(|slot| Module {
@@ -52,12 +54,12 @@ fn station() -> Station {
 fn fault(change: fn(&mut Station)) -> u32 {
     let mut station = station();
     change(&mut station);
-    judge(88064, 4, 1568, &station)
+    judge(88064, 5, 1568, &station)
 }
 
 #[test]
 fn each_fault_has_its_number() {
-    let rows: [(fn(&mut Station), u32); 35] = [
+    let rows: [(fn(&mut Station), u32); 36] = [
         (|_| (), 0),
         (|s| s.station_type_length = 26, 4),
         (|s| s.module_count = 17, 4),
@@ -90,6 +92,7 @@ fn each_fault_has_its_number() {
         (|s| s.smallest_interval = u32::MAX, 23),
         (|s| s.smallest_interval = 65536, 0),
         (|s| (s.inputs_begin_bad, s.ready_by_application) = (65535, 2), 0),
+        (|s| (s.numbers_go_round, s.first_number) = (2, u32::MAX), 0),
         // Of several faults the first in this order is told.
         (|s| (s.smallest_interval, s.modules[1].submodules[0].parameters[1].index) = (65537, 32768), 22),
         (|s| (s.mac[0], s.modules[1].slot) = (1, 16), 18),
@@ -103,7 +106,7 @@ fn each_fault_has_its_number() {
 #[test]
 fn another_header_or_a_small_room() {
     let station = station();
-    for (size, abi, op_size, wanted) in [(88064, 3, 1568, 2), (88064, 5, 1568, 2), (88064, 4, 1564, 2), (88063, 4, 1568, 3)] {
+    for (size, abi, op_size, wanted) in [(88064, 4, 1568, 2), (88064, 6, 1568, 2), (88064, 5, 1564, 2), (88063, 5, 1568, 3)] {
         assert_eq!(judge(size, abi, op_size, &station), wanted);
     }
 }

@@ -1,15 +1,17 @@
 //! A station with options.
 use crate::Tried;
 use crate::connects::{Blocks, THREE, connect};
+use crate::exchange::outputs;
 use crate::records::many;
 use crate::requests::{served, write};
-use device_core::{Device, Note};
+use device_core::{Device, Event, Note};
 use flash_model::MemoryFlash;
 use frame_codec::{Bytes, Outbox};
 use pn_values::{Real, demo_identity};
 use relations::{DeviceOptions, Phase};
 use test_stations::{
-    CONNECT, CONTROL, PRM_END, READ, Station, WRITE, call, mend, plugged, response, set, set_address,
+    CONNECT, CONTROL, END, PRM_END, READ, RELEASE, Station, WRITE, call, mend, octets, plugged,
+    response, set, set_address,
 };
 
 /// A station with an address and these options, in which these modules are plugged.
@@ -275,4 +277,130 @@ fn a_record_that_is_passed_on_is_not_read_back() {
     }
     let read = call(READ, 9, 1, blocks.as_slice());
     assert_eq!(served(&mut device.station, &read).2, [0xDE, 0x80, 0xB6, 0]);
+}
+
+// ---- numbers that go round
+
+/// The frame by which the controller ends a relation: ERR with RTA_ERR_CLS_PROTOCOL and code 5, to endpoint 1 of the device.
+const ENDED: [u8; 36] =
+    *b"\x02\x00\x00\x00\x00\x01\x02\x00\x00\x00\x00\x02\x81\x00\xa0\x00\x88\x92\xfe\x01\
+    \x00\x01\x00\x01\x14\x01\xff\xff\xff\xfe\x00\x04\xcf\x81\xfd\x05";
+
+/// A station whose numbers go round from this one on, or are always the first ones.
+fn numbered(numbers_from: Option<u16>) -> Tried {
+    let options = DeviceOptions { numbers_from, ..DeviceOptions::default() };
+    with_options(options, plugged())
+}
+
+/// The same frame with this number at a place.
+fn with_number(frame: &[u8], place: usize, number: u16) -> Event {
+    let mut bytes = octets(frame);
+    for (place, octet) in (place..).zip(number.to_be_bytes()) {
+        set(&mut bytes, place, octet);
+    }
+    Event::Frame(bytes)
+}
+
+/// A frame of outputs with this FrameID, CycleCounter and output.
+fn brings(frame_id: u16, counter: u16, value: u8) -> Event {
+    let Event::Frame(bytes) = outputs(counter, [value, value]) else {
+        panic!("is a frame");
+    };
+    with_number(bytes.as_slice(), 18, frame_id)
+}
+
+/// The ERR of the controller to this endpoint of the device.
+fn ends(endpoint: u16) -> Event {
+    with_number(&ENDED, 20, endpoint)
+}
+
+impl Tried {
+    /// A Connect makes a relation, and its answer has this FrameID of outputs and this endpoint of the device. Then it exchanges data.
+    fn is_related(&mut self, sequence: u16, blocks: &[u8], (frame_id, endpoint): (u16, u16)) {
+        self.serves(&call(CONNECT, 7, sequence, blocks), (1, 212, [0; 4]));
+        let answer = &self.last.as_slice()[0].as_slice()[142..];
+        assert_eq!(answer[56..58], frame_id.to_be_bytes());
+        assert_eq!(answer[66..68], endpoint.to_be_bytes());
+        let _ = served(&mut self.station, &call(CONTROL, 7, sequence + 1, &PRM_END));
+        let _ = served(&mut self.station, &response());
+        self.is_at(Some(Phase::Exchanging));
+    }
+
+    /// The controller ends the relation by a Release.
+    fn is_released(&mut self, sequence: u16) {
+        let _ = served(&mut self.station, &call(RELEASE, 7, sequence, &END));
+        self.is_at(None);
+    }
+
+    /// This is the output of the module in slot 2.
+    fn has_output(&self, value: u8) {
+        assert_eq!(self.station.output(2, 1), Some([value; 2].as_slice()));
+    }
+}
+
+/// A station in its second relation. In the first it had an output, and the numbers of both are these.
+fn second(numbers_from: Option<u16>, first: (u16, u16), second: (u16, u16)) -> Tried {
+    let mut device = numbered(numbers_from);
+    let blocks = connect(0x11, 600, THREE);
+    device.is_related(0, &blocks, first);
+    device.sends_none(&brings(first.0, 32, 0xAA), Note::Done);
+    device.has_output(0xAA);
+    device.is_released(2);
+    device.is_related(3, &blocks, second);
+    device.has_output(0);
+    device
+}
+
+#[test]
+fn late_frames_of_the_relation_before_are_refused() {
+    let before = (0xC000 + 14_335, 14_336);
+    let mut device = second(Some(14_335), before, (0xC000, 1));
+    device.sends_none(&brings(before.0, 64, 0x55), Note::NoRelation);
+    device.has_output(0);
+    device.sends_none(&ends(before.1), Note::NoRelation);
+    device.is_at(Some(Phase::Exchanging));
+    // Its own are accepted.
+    device.sends_none(&brings(0xC000, 64, 0x77), Note::Done);
+    device.has_output(0x77);
+    device.sends_none(&ends(1), Note::Done);
+    device.is_at(None);
+}
+
+#[test]
+fn without_the_option_they_are_accepted() {
+    let always = (0xC000, 1);
+    let mut device = second(None, always, always);
+    device.sends_none(&brings(0xC000, 64, 0x55), Note::Done);
+    device.has_output(0x55);
+    device.sends_none(&ends(1), Note::Done);
+    device.is_at(None);
+}
+
+#[test]
+fn a_refused_connect_takes_no_number() {
+    let mut device = numbered(Some(7));
+    let mut blocks = connect(0x11, 600, THREE);
+    // ARType 2 is refused.
+    blocks.as_mut_slice()[7] = 2;
+    assert_eq!(served(&mut device.station, &call(CONNECT, 7, 0, &blocks)).2, [0xDB, 0x81, 1, 4]);
+    let blocks = connect(0x11, 600, THREE);
+    device.is_related(1, &blocks, (0xC007, 8));
+    // A second Connect is refused while there is a relation.
+    assert_eq!(served(&mut device.station, &call(CONNECT, 8, 0, &blocks)).2, [0xDB, 0x81, 0x40, 6]);
+    device.is_released(3);
+    device.is_related(4, &blocks, (0xC008, 9));
+}
+
+#[test]
+fn a_frame_id_that_is_asked_for_is_kept() {
+    let mut blocks = connect(0x11, 600, THREE);
+    // FrameID of the outputs.
+    blocks.as_mut_slice()[163..165].copy_from_slice(&[0xC1, 0x23]);
+    for (numbers_from, endpoint) in [(Some(14_335), 14_336), (None, 1)] {
+        let mut device = numbered(numbers_from);
+        device.is_related(0, &blocks, (0xC123, endpoint));
+        device.sends_none(&brings(0xC000 + 14_335, 32, 0x55), Note::NoRelation);
+        device.sends_none(&brings(0xC123, 32, 0x55), Note::Done);
+        device.has_output(0x55);
+    }
 }

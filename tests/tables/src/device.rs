@@ -57,6 +57,7 @@ impl Device {
                     statuses: &[],
                     units: 0,
                     diagnoses: &Diagnoses::new(),
+                    made: 0,
                 };
                 self.relation.connect(
                     &self.identity,

@@ -105,7 +105,7 @@ pub record AreOfOneFrame {F : Type 0} (setup : Setup) (identity : Identity) (fir
   pub others : List (Move × World F)
   pub since : later ≡ between ++ (move.Deliver Device came, next) ∷ others
   pub there : slice_get (last_world one.1 between).sent came ≡ Some frame
-  -- the frame brings these outputs, and they are what is shown
-  pub brings : (outputs_of setup identity).brought_by frame ≡ Some ((outputs_of setup identity).octets_of (image_given setup (moves_of (before ++ one ∷ []))))
+  -- the frame brings these outputs to a device with the options of this one, and they are what is shown
+  pub brings : (outputs_of first.device.station.options setup identity).brought_by frame ≡ Some ((outputs_of first.device.station.options setup identity).octets_of (image_given setup (moves_of (before ++ one ∷ []))))
   pub taken : taken_in link ≡ image_given setup (moves_of (before ++ one ∷ []))
   pub shown : (slot subslot : ℕ) → output_in slot subslot (Some link) ≡ given_for setup (moves_of (before ++ one ∷ [])) slot subslot

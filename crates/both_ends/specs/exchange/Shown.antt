@@ -1,5 +1,7 @@
 -- The outputs of a device, in the worlds of a plan.
-use Rattle.std.specs.Prelude.{ℕ, Bool, false, List, map, Option, Some, None, is_some, Result, Ok, Err, if◌then◌else◌}
+use Rattle.std.specs.Prelude.{◌&&◌, ℕ, Bool, false, nat_eq, List, map, Option, Some, None, is_some, Result, Ok, Err, if◌then◌else◌}
+use Rattle.std.specs.Cmp.Lexicographic.{pointwise}
+use Rattle.pn_values.specs.declared.mac.Mac.{Mac}
 use Rattle.pn_values.specs.declared.identity.Identity.{Identity}
 use Rattle.connect_blocks.specs.declared.iocr.IocrType.TheVariants.{Output}
 use Rattle.cyclic_data.specs.declared.tail.CyclicTail.{CyclicTail}
@@ -8,7 +10,8 @@ use Rattle.cyclic_data.specs.Image.{Shown as Image, octets_of, with_frame}
 use Rattle.cyclic_data.specs.Tail.{cyclic_of}
 use Rattle.cyclic_data.specs.declared.exchange.route.Route.{Route}
 use Rattle.cyclic_data.specs.exchange.Opening.{first_taken}
-use Rattle.cyclic_data.specs.exchange.Received.{is_of_partner}
+use Rattle.relations.specs.declared.options.DeviceOptions.{DeviceOptions}
+use Rattle.relations.specs.Numbers.{is_own_id}
 use Rattle.relations.specs.exchange.Opening.{route_of}
 use Rattle.both_ends.specs.startup.request.Request.{iocr_for, request_for}
 use Rattle.relations.specs.RelationState.{RelationState}
@@ -27,29 +30,33 @@ use Rattle.both_ends.specs.startup.View.{move_of}
 abbrev pub zeros_for : Setup → Image
 zeros_for setup = first_taken (iocr_for setup.plan Output).layout
 
--- the station and the FrameID from which the device of a plan accepts frames
-abbrev pub route_for : Setup → Route
-route_for setup = route_of (request_for setup.plan setup.ar)
+-- the station and the FrameID from which the device of a plan accepts frames in a relation of this number
+abbrev pub route_for : ℕ → Setup → Route
+route_for number setup = route_of number (request_for setup.plan setup.ar)
 
 -- the octets of outputs of a cyclic frame, if it is long enough
 abbrev pub octets_in : Result (List ℕ × CyclicTail) ShortFrame → Option (List ℕ)
 octets_in (Ok x) = Some x.0
 octets_in (Err short) = None
 
--- the octets that are brought by what is heard: a cyclic frame of the relation brings some
-abbrev pub brought_in : Setup → Heard → Option (List ℕ)
-brought_in setup (Cyclic source frame_id body) =
-    if is_of_partner (route_for setup) source frame_id then octets_in (cyclic_of (zeros_for setup).data_length body) else None
-brought_in setup heard = None
+-- whether a cyclic frame comes from the controller, with a FrameID that a device with these options chooses
+abbrev pub is_output : DeviceOptions → Setup → Mac → ℕ → Bool
+is_output options setup source frame_id = pointwise nat_eq source.octets setup.plan.controller.mac.octets && is_own_id options frame_id
+
+-- the octets that are brought by what is heard: such a cyclic frame brings some
+abbrev pub brought_in : DeviceOptions → Setup → Heard → Option (List ℕ)
+brought_in options setup (Cyclic source frame_id body) =
+    if is_output options setup source frame_id then octets_in (cyclic_of (zeros_for setup).data_length body) else None
+brought_in options setup heard = None
 
 -- the functions for outputs: zeros, what is shown for octets, which octets the controller sends for an image, and which
--- octets a frame brings
-abbrev pub outputs_of : Setup → Identity → Outputs Image Image
-outputs_of setup identity = record {
+-- octets a frame brings to a device of this identity with these options
+abbrev pub outputs_of : DeviceOptions → Setup → Identity → Outputs Image Image
+outputs_of options setup identity = record {
   zeros = zeros_for setup;
   shown_by = λ octets. with_frame octets (zeros_for setup);
   octets_of = octets_of;
-  brought_by = λ octets. brought_in setup (heard_of identity (Frame (record { items = octets })));
+  brought_by = λ octets. brought_in options setup (heard_of identity (Frame (record { items = octets })));
 }
 
 -- ---- what is shown in a world

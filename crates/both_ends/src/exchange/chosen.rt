@@ -1,4 +1,5 @@
 //! The FrameID that a device chooses for outputs, and its alarm endpoint.
+ghost use Rattle.std.specs.Prelude.{◌<◌, ℕ};
 ghost use Rattle.pn_values.specs.declared.identity.Identity.{Identity};
 ghost use Rattle.pn_values.specs.declared.real.Real.{Real};
 ghost use Rattle.controller_messages.specs.declared.setup.Setup.{Setup};
@@ -13,9 +14,9 @@ use connects::blocks_are_found;
 /// The blocks of a device's response to the Connect of a plan meet the premise of the law of alarms. This is a law of
 /// the definitions.
 pub fn answers_choose_well()
-    // This holds whatever is plugged in the device, also if a module differs.
-    ensures { (setup : Setup) (identity : Identity) (real : Real) → IsSetup setup → IsDevice identity
-        → IsChosenWell (connect_blocks identity (request_for setup.plan setup.ar) (differing_of (request_for setup.plan setup.ar) real)) }
+    // This holds whatever is plugged in the device, also if a module differs, and for each number that a relation may have.
+    ensures { (setup : Setup) (identity : Identity) (real : Real) (number : ℕ) → IsSetup setup → IsDevice identity → number < 14336
+        → IsChosenWell (connect_blocks identity number (request_for setup.plan setup.ar) (differing_of (request_for setup.plan setup.ar) real)) }
 {
     blocks_are_read();
     blocks_are_found();

@@ -1,5 +1,5 @@
 -- What a Connect asks for (IEC 61158-6-10, 5.2.4.1 to 5.2.4.7).
-use Rattle.std.specs.Prelude.{◌≡◌, ◌==◌, ◌≤◌, ℕ, Bool, true, if◌then◌else◌}
+use Rattle.std.specs.Prelude.{◌≡◌, ◌==◌, ◌≤◌, ℕ, Bool, true, false, if◌then◌else◌}
 use Rattle.connect_blocks.specs.declared.ar_block.ArBlockReq.{ArBlockReq}
 use Rattle.connect_blocks.specs.declared.alarm_cr.AlarmCrBlockReq.{AlarmCrBlockReq}
 use Rattle.connect_blocks.specs.declared.iocr.IocrType.{IocrType}
@@ -56,11 +56,17 @@ abbrev pub given_id : IocrType → RtClass → ℕ → ℕ
 given_id Input class id = id
 given_id Output class id = if id == 0xFFFF then chosen_id class else id
 
+-- Whether it leaves the choice.
+abbrev pub leaves_choice : IocrType → ℕ → Bool
+leaves_choice Input id = false
+leaves_choice Output id = id == 0xFFFF
+
 abbrev pub iocr_of : IocrBlockReq → Table → Iocr
 iocr_of block layout = record {
   reference = block.iocr_reference;
   class = block.iocr_properties;
   frame_id = given_id block.iocr_type block.iocr_properties block.frame_id;
+  device_chooses = leaves_choice block.iocr_type block.frame_id;
   send_clock_factor = block.send_clock_factor;
   reduction_ratio = block.reduction_ratio;
   data_hold_factor = block.data_hold_factor;

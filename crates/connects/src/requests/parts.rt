@@ -1,6 +1,6 @@
 //! The fields of each block that are used.
 ghost use Rattle.std.specs.Prelude.{◌≡◌, ◌≤◌, ◌*◌};
-ghost use Rattle.connects.specs.requests.Request.{alarm_of, ar_of, given_id, iocr_of, IsAlarmCr, IsAr, IsIocr};
+ghost use Rattle.connects.specs.requests.Request.{alarm_of, ar_of, given_id, iocr_of, leaves_choice, IsAlarmCr, IsAr, IsIocr};
 
 use arrayvec::ArrayVec;
 use block_codec::{AlarmCrBlockReq, ArBlockReq, IocrBlockReq, IocrType, RtClass};
@@ -37,6 +37,8 @@ pub struct Iocr {
     /// The FrameID that is assigned, one of cyclic frames. If an output leaves the choice to the device, it is one of
     /// its class.
     pub frame_id: u16,
+    /// Whether the Connect leaves the choice of the FrameID to the device: of outputs, by 0xFFFF.
+    pub device_chooses: bool,
     /// SendClockFactor, 1 to 128, in units of 31.25 microseconds.
     pub send_clock_factor: u16,
     /// ReductionRatio, 1 to 512.
@@ -136,6 +138,16 @@ fn given_id(iocr_type: IocrType, class: RtClass, id: u16) -> u16
     }
 }
 
+/// Whether an IOCRBlockReq of this type that asks for `id` leaves the choice of the FrameID to the device.
+fn leaves_choice(iocr_type: IocrType, id: u16) -> bool
+    ensures { result ≡ leaves_choice iocr_type id }
+{
+    match iocr_type {
+        IocrType::Input => false,
+        IocrType::Output => id == 0xFFFF,
+    }
+}
+
 impl Iocr {
     /// An empty value, to be overwritten.
     pub(crate) fn blank() -> Iocr
@@ -145,6 +157,7 @@ impl Iocr {
             reference: 0,
             class: RtClass::Class1,
             frame_id: 0x8000,
+            device_chooses: false,
             send_clock_factor: 1,
             reduction_ratio: 1,
             data_hold_factor: 1,
@@ -160,6 +173,7 @@ impl Iocr {
         self.reference = block.iocr_reference;
         self.class = block.iocr_properties;
         self.frame_id = given_id(block.iocr_type, block.iocr_properties, block.frame_id);
+        self.device_chooses = leaves_choice(block.iocr_type, block.frame_id);
         self.send_clock_factor = block.send_clock_factor;
         self.reduction_ratio = block.reduction_ratio;
         self.data_hold_factor = block.data_hold_factor;

@@ -28,6 +28,7 @@ use Rattle.relations.specs.Connect.{connect_blocks, connect_of, differing_of, ro
 use Rattle.relations.specs.Phases.{Named, Records, exchanging_from, keeping, made_of, parameterized_from, restarted, updated, with_records}
 use Rattle.relations.specs.RelationState.{RelationState, uuid_of}
 use Rattle.relations.specs.exchange.Marks.{Starting}
+use Rattle.relations.specs.Numbers.{IsNumber}
 use Rattle.device_frames.specs.Heard.{Heard, Calls, Reported}
 use Rattle.device_frames.specs.Sent.{Sent, CallAnswer, Again, Exchanges, ReadyCall}
 use Rattle.pn_values.specs.declared.set_item.BlockError.{BlockError}
@@ -103,14 +104,15 @@ pub record Repeats (live : Live) (heard : Heard) (after : Rest) (sent : List Sen
   pub same : after ≡ live.rest
   pub sends : sent ≡ Again kept.frame ∷ []
 
--- a Connect is accepted, and its response says what differs
+-- a Connect is accepted, for a relation of a number that the device may give, and its response says what differs
 pub record Connected (station : Station) (caller : Caller) (blocks octets : List ℕ) (before after : Option RelationState) : Type 0 where
   pub request : Request
   pub options : DeviceOptions
   pub starting : Starting
   pub read : connect_of before blocks ≡ Ok request
   pub made : after ≡ Some (made_of request (partner_of caller) (rows_of request station.real) options starting)
-  pub answer : octets ≡ connect_blocks station.identity request (differing_of request station.real)
+  pub numbered : IsNumber station.options starting.number
+  pub answer : octets ≡ connect_blocks station.identity starting.number request (differing_of request station.real)
 
 -- a call that names the relation is accepted, of its own controller or of another station, and changes nothing else
 abbrev pub IsRestarted : Option RelationState → Option RelationState → Type 0

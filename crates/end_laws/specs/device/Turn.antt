@@ -1,6 +1,6 @@
 -- One turn of a device: what it does, and what becomes of its relation, of the responses that it stores, and what it
 -- sends, as far as outputs and alarms are concerned.
-use Rattle.std.specs.Prelude.{◌≡◌, ◌⊎◌, ◌&&◌, ◌++◌, ℕ, Bool, false, List, [], ◌∷◌, Option, Some, None, option_map, Ok}
+use Rattle.std.specs.Prelude.{◌≡◌, ◌<◌, ◌⊎◌, ◌&&◌, ◌++◌, ℕ, Bool, false, List, [], ◌∷◌, Option, Some, None, option_map, Ok}
 use Rattle.std.specs.List.{AllByRecursion}
 use Rattle.pn_values.specs.declared.identity.Identity.{Identity}
 use Rattle.pn_values.specs.declared.mac.Mac.{Mac}
@@ -36,6 +36,8 @@ use Rattle.relations.specs.exchange.Marks.{Starting}
 use Rattle.relations.specs.exchange.Notices.{behind_message, raised_at}
 use Rattle.relations.specs.exchange.Received.{behind_frame, received_as}
 use Rattle.relations.specs.exchange.Units.{flow_later, repeated_of, tick_of}
+use Rattle.relations.specs.exchange.Opening.{route_of}
+use Rattle.relations.specs.Numbers.{IsNumber, endpoint_of}
 use Rattle.relations.specs.declared.options.DeviceOptions.{DeviceOptions}
 use Rattle.relations.specs.declared.phase.Partner.{Partner}
 use Rattle.relations.specs.declared.phase.Phase.TheVariants.{Awaiting}
@@ -57,8 +59,8 @@ use Rattle.end_laws.specs.device.Does.{Does}
 -- ---- what stays the same of a relation
 
 -- The request of the Connect, the device's end of alarms, of either priority, whether data is exchanged, by the exchange and by
--- the phase, the stations between which frames go, the counter of the last cyclic frame accepted, if there is one, and the image
--- of the outputs.
+-- the phase, the stations between which frames go, the endpoint of its alarms, the counter of the last cyclic frame accepted, if
+-- there is one, and the image of the outputs.
 pub record Standing : Type 0 where
   pub request : Request
   pub alarms : DeviceEnd
@@ -66,6 +68,7 @@ pub record Standing : Type 0 where
   pub begun : Bool
   pub exchanges : Bool
   pub route : Route
+  pub endpoint : ℕ
   pub last : Option ℕ
   pub outputs : Image
 
@@ -78,6 +81,7 @@ standing_of link = record {
   begun = link.flow.cyclic.begun;
   exchanges = is_exchanging link.phase;
   route = link.flow.cyclic.route;
+  endpoint = link.flow.endpoint;
   last = link.flow.cyclic.hearing.last;
   outputs = link.flow.cyclic.taken;
 }
@@ -130,6 +134,7 @@ pub record Makes (calls : List Kept) (before : Option RelationState) (heard : He
   pub rows : Listed DiffModule DiffSubmodule
   pub options : DeviceOptions
   pub starting : Starting
+  pub few : starting.number < 14336
   pub read : connect_of before blocks ≡ Ok request
   pub made : after ≡ Some (made_of request partner rows options starting)
   pub calm : AreCalm before sent
@@ -286,3 +291,17 @@ pub record Turn (station : Station) (live : Live) (heard : Heard) (after : Rest)
       ⊎ Diagnoses station.real.modules.items live.rest.diagnoses after.diagnoses live.rest.link heard after.link sent
   pub answers : (after.calls ≡ live.rest.calls) ⊎ Answers station.identity live.rest.calls after.calls sent
   pub owed : AllByRecursion (IsOwed heard live) sent
+
+-- ---- the number of a relation
+
+-- the relation has a number that a device with these options may give: it chooses the FrameID of outputs and the endpoint of the
+-- device
+pub record IsNumbered (options : DeviceOptions) (link : RelationState) : Type 0 where
+  pub number : ℕ
+  pub is : IsNumber options number
+  pub endpoint : link.flow.endpoint ≡ endpoint_of number
+  pub route : link.flow.cyclic.route ≡ route_of number link.request
+
+-- a relation that begins has such a number
+abbrev pub BeginsNumbered : DeviceOptions → Option RelationState → Option RelationState → Type 0
+BeginsNumbered options before after = (link : RelationState) → before ≡ None → after ≡ Some link → IsNumbered options link

@@ -4,11 +4,13 @@ ghost use Rattle.settings_journal.specs.settings_store.Machine.{Outcome};
 ghost use Rattle.connects.specs.requests.Request.{Request};
 ghost use Rattle.records.specs.declared.writes.taken.TakenRecord.{TakenRecord};
 ghost use Rattle.device_frames.specs.Heard.{Heard, Raised};
+ghost use Rattle.relations.specs.Numbers.{IsNumber};
 ghost use Rattle.device_core.specs.State.{Station, Live};
+ghost use Rattle.device_core.specs.Handled.{number_now};
 ghost use Rattle.device_core.specs.Machine.{heard_step};
 ghost use Rattle.end_laws.specs.both.Small.{Rules};
 ghost use Rattle.end_laws.specs.device.Small.{IsPlanned};
-ghost use Rattle.end_laws.specs.device.Turn.{IsRaise, Turn};
+ghost use Rattle.end_laws.specs.device.Turn.{BeginsNumbered, IsRaise, Turn};
 
 /// Each turn of a device: the operation and the outcome of each response, what is sent, and the relation afterwards. This
 /// is a law of the machine by which each step of a device is specified. The laws of start-up, of outputs and of alarms use
@@ -22,6 +24,13 @@ pub fn device_turns()
     ensures turn { (rules : Rules TakenRecord Request) (activity : List ℕ) (outcomes : List Outcome) (station : Station) (live : Live)
         (heard : Heard) → IsPlanned rules activity station.real heard
         → Turn station live heard (heard_step outcomes station live heard).live.rest (heard_step outcomes station live heard).sent }
+    // The number of the next relation is one that the device may give by its options.
+    ensures numbered { (station : Station) (live : Live) → IsNumber station.options (number_now station live) }
+    // A relation that begins has a number that the device may give by its options: its FrameID of outputs, where the Connect leaves
+    // the choice, and its endpoint of alarms are those of this number.
+    ensures numbers { (rules : Rules TakenRecord Request) (activity : List ℕ) (outcomes : List Outcome) (station : Station) (live : Live)
+        (heard : Heard) → IsPlanned rules activity station.real heard
+        → BeginsNumbered station.options live.rest.link (heard_step outcomes station live heard).live.rest.link }
     // An alarm is raised and sent, or it is refused and nothing changes.
     ensures raises { (outcomes : List Outcome) (station : Station) (live : Live) (slot subslot : ℕ) (octets : List ℕ)
         → IsRaise station.real.modules.items live.rest.link slot subslot octets

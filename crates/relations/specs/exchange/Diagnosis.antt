@@ -42,4 +42,4 @@ behind_low flow message = with_low flow (behind message flow.low)
 
 -- The header of a PDU of low priority that is sent now.
 abbrev pub low_header_of : Flow → PduType → Header
-low_header_of flow kind = header_now flow.low.alarms kind flow.cyclic.route.reference 1
+low_header_of flow kind = header_now flow.low.alarms kind flow.cyclic.route.reference flow.endpoint

@@ -15,12 +15,13 @@ use Rattle.relations.specs.exchange.Statuses.{is_bad}
 
 -- What a relation begins with. What the application says of its inputs: whether the IOPS of a submodule with inputs is bad
 -- until the first input is given, and the statuses that it gave. The units since the start of the device. And the diagnoses
--- that exist.
+-- that exist. And the number of the relation.
 pub record Starting : Type 0 where
   pub begin_bad : Bool
   pub statuses : List InputStatus
   pub units : ℕ
   pub diagnoses : List Diagnosis
+  pub number : ℕ
 
 -- The mark of a place as a relation begins. A place without data has one octet, its status.
 abbrev pub first_mark : Starting → Listed DiffModule DiffSubmodule → Place → Mark

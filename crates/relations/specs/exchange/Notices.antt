@@ -30,6 +30,6 @@ raised_at flow real slot subslot octets = raised_by flow slot subslot octets (mo
 abbrev pub behind_message : Flow → ToDevice → Flow
 behind_message flow message = record flow { alarms = end_behind flow.alarms message }
 
--- The header of a PDU that is sent now, from endpoint 1 of the device to the endpoint of the partner.
+-- The header of a PDU that is sent now, from the endpoint of the device to that of the partner.
 abbrev pub header_of : Flow → PduType → Header
-header_of flow kind = header_now flow.alarms kind flow.cyclic.route.reference 1
+header_of flow kind = header_now flow.alarms kind flow.cyclic.route.reference flow.endpoint

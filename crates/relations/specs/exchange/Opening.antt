@@ -18,14 +18,15 @@ use Rattle.cyclic_data.specs.exchange.Opening.{begun_of as cyclic_begun, first_c
 use Rattle.relations.specs.declared.exchange.marks.Mark.{Mark}
 use Rattle.relations.specs.exchange.Marks.{Starting, first_mark, iops_of, mark_at}
 use Rattle.relations.specs.exchange.Flow.{Flow}
+use Rattle.relations.specs.Numbers.{endpoint_of, output_id}
 
--- Cyclic frames and alarms go to CMInitiatorMacAdd and come from there.
-abbrev pub route_of : Request → Route
-route_of request = record {
+-- Cyclic frames and alarms go to CMInitiatorMacAdd and come from there, in a relation of this number.
+abbrev pub route_of : ℕ → Request → Route
+route_of number request = record {
   partner = request.ar.initiator;
   sent_id = request.input.frame_id;
   sent_tag = request.input.tag;
-  taken_id = request.output.frame_id;
+  taken_id = output_id number request.output;
   alarm_tag = request.alarm.tag_high;
   reference = request.alarm.reference;
 }
@@ -58,13 +59,14 @@ first_marks request rows starting = map (first_mark starting rows) request.input
 
 abbrev pub opened : Request → Listed DiffModule DiffSubmodule → Starting → Flow
 opened request rows starting = record {
-  cyclic = cyclic_opened (route_of request) (record { interval = interval_of request.input; elapsed = 0 })
+  cyclic = cyclic_opened (route_of starting.number request) (record { interval = interval_of request.input; elapsed = 0 })
       (record { last = None; held = 0; limit = request.output.data_hold_factor * interval_of request.output })
       (statuses_of rows (first_marks request rows starting)) request.input.layout request.output.layout;
   alarms = idle request.alarm.timeout_factor request.alarm.retries;
   low = low_opened (terms_of request) request.expected rows starting.diagnoses;
   marks = first_marks request rows starting;
   problem_sent = false;
+  endpoint = endpoint_of starting.number;
 }
 
 -- ApplicationReady was answered: data is exchanged, and the data hold time runs from now on.

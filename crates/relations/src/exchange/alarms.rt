@@ -9,9 +9,6 @@ use module_diff::{module_in, part_ident};
 use pn_alarms::{Alarm, Header, Message, Pdu, PduFate, PduType, Taken, alarm_front, pdu_front};
 use pn_values::Real;
 
-/// The endpoint of the device: the LocalAlarmReference that it returns in AlarmCRBlockRes.
-pub const OWN_REFERENCE: u16 = 1;
-
 impl DataExchange {
     /// Raises a process alarm of a submodule, which the caller then sends. Returns whether it was raised. It is raised
     /// only while data is exchanged, with at most 32 octets, if this submodule is plugged and no alarm is active;
@@ -56,7 +53,7 @@ impl DataExchange {
         ensures { result ≡ header_of self.now kind }
     {
         self.alarms
-            .header(kind, self.cyclic.route().reference, OWN_REFERENCE)
+            .header(kind, self.cyclic.route().reference, self.endpoint)
     }
 
     /// The octets that follow the FrameID of the active alarm, if there is one: 40 octets, and after them its data, at

@@ -1,10 +1,11 @@
 //! The data exchange of a relation.
-ghost use Rattle.std.specs.Prelude.{◌≡◌, ◌≤◌, IfSome, None, [], false, is_some, length, option_map, unwrap_or};
+ghost use Rattle.std.specs.Prelude.{◌≡◌, ◌<◌, ◌≤◌, IfSome, None, [], false, is_some, length, option_map, unwrap_or};
 ghost use Rattle.relations.specs.exchange.Opening.{begun_of, opened};
 ghost use Rattle.relations.specs.exchange.Process.{given_at, output_at, rated_at, remarked};
 
 use crate::exchange::marks::{Mark, Starting, awaits, begin, change, iops_in};
 use crate::exchange::opening::{Differing, route_of};
+use crate::numbers::endpoint_of;
 use arrayvec::ArrayVec;
 use connects::ConnectRequest;
 use cyclic_data::{Consumer, CyclicExchange, Provider, Route};
@@ -24,6 +25,8 @@ pub struct DataExchange {
     pub(crate) marks: ArrayVec<Mark, 128>,
     /// Whether the last frame of inputs said that a submodule of the relation has a diagnosis.
     pub(crate) problem_sent: bool,
+    /// The endpoint of the alarms of the device: the LocalAlarmReference that it returns in AlarmCRBlockRes.
+    pub(crate) endpoint: u16,
 }
 
 // Its model: one value for each place, and the states of the sender and of the receiver.
@@ -32,7 +35,7 @@ impl Model for DataExchange {
 
     ghost Value = { Flow };
 
-    ghost view = { λ exchange. record { cyclic = exchange.cyclic; alarms = exchange.alarms; low = exchange.low; marks = exchange.marks.items; problem_sent = exchange.problem_sent } };
+    ghost view = { λ exchange. record { cyclic = exchange.cyclic; alarms = exchange.alarms; low = exchange.low; marks = exchange.marks.items; problem_sent = exchange.problem_sent; endpoint = exchange.endpoint } };
 }
 
 impl DataExchange {
@@ -50,6 +53,7 @@ impl DataExchange {
             low: DiagnosisAlarms::new(),
             marks: ArrayVec::new(),
             problem_sent: false,
+            endpoint: 1,
         }
     }
 
@@ -57,13 +61,14 @@ impl DataExchange {
     /// given and none accepted, and the interval of the inputs is counted from now. Nothing of an earlier relation
     /// remains.
     pub fn open(&mut self, request: &ConnectRequest, rows: &DiffRows, starting: Starting<'_>)
+        requires { starting.number < 14336 }
         ensures { self.new ≡ opened request.now rows.now
-            (record { begin_bad = starting.entry.begin_bad; statuses = starting.entry.statuses.now; units = starting.entry.units; diagnoses = starting.entry.diagnoses.now }) }
+            (record { begin_bad = starting.entry.begin_bad; statuses = starting.entry.statuses.now; units = starting.entry.units; diagnoses = starting.entry.diagnoses.now; number = starting.entry.number }) }
     {
         let (input, output, alarm) = (request.input(), request.output(), request.alarm());
         begin(&mut self.marks, input.layout.places(), rows, starting);
         self.cyclic.open(
-            route_of(request),
+            route_of(starting.number, request),
             Provider::start(input.send_clock_factor, input.reduction_ratio),
             Consumer::new(output.data_hold_factor, output.interval()),
             &input.layout,
@@ -82,6 +87,7 @@ impl DataExchange {
         self.low
             .open(terms, request.expected(), rows, starting.diagnoses);
         self.problem_sent = false;
+        self.endpoint = endpoint_of(starting.number);
     }
 
     /// Begins the exchange when ApplicationReady is answered: data is exchanged, and the data hold time runs from now
@@ -105,6 +111,13 @@ impl DataExchange {
         ensures { result.now ≡ self.now.cyclic }
     {
         &self.cyclic
+    }
+
+    /// The endpoint of the alarms of the device.
+    pub fn endpoint(&self) -> u16
+        ensures { result ≡ self.now.endpoint }
+    {
+        self.endpoint
     }
 
     /// Sets the input of a submodule, which frames carry from now on. Returns whether the submodule has an input of

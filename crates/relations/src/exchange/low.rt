@@ -6,7 +6,6 @@ ghost use Rattle.relations.specs.exchange.Frames.{body_in, body_of, low_alarm_fr
 ghost use Rattle.diagnosis.specs.alarms.Alarms.{is_next};
 ghost use Rattle.diagnosis.specs.alarms.Own.{is_own};
 
-use crate::exchange::alarms::OWN_REFERENCE;
 use crate::exchange::data_exchange::DataExchange;
 use diagnosis::{Change, Diagnoses};
 use pn_alarms::{Header, Message, Pdu, PduFate, PduType, Taken, pdu_front};
@@ -86,7 +85,7 @@ impl DataExchange {
         ensures { result ≡ low_header_of self.now kind }
     {
         let reference = self.cyclic.route().reference;
-        self.low.header(kind, reference, OWN_REFERENCE)
+        self.low.header(kind, reference, self.endpoint)
     }
 
     /// The octets that follow the FrameID of the active alarm of low priority, if there is one: 40 octets, and after them its

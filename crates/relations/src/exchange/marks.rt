@@ -23,7 +23,7 @@ pub struct Mark {
     pub is_bad: bool,
 }
 
-/// What a relation begins with: what the application says of its inputs, and the time.
+/// What a relation begins with: what the application says of its inputs, the time, and the number of the relation.
 #[derive(Clone, Copy)]
 pub struct Starting<'a> {
     /// Whether the IOPS of a submodule with inputs is bad until the first input is given.
@@ -34,12 +34,14 @@ pub struct Starting<'a> {
     pub units: u64,
     /// The diagnoses that exist.
     pub diagnoses: &'a Diagnoses,
+    /// The number of the relation.
+    pub number: u16,
 }
 
 impl Mark {
     /// The first mark of a place.
     fn first(place: &Place, rows: &DiffRows, starting: Starting<'_>) -> Mark
-        ensures { result ≡ first_mark (record { begin_bad = starting.entry.begin_bad; statuses = starting.entry.statuses.now; units = starting.entry.units; diagnoses = starting.entry.diagnoses.now }) rows.now place.now }
+        ensures { result ≡ first_mark (record { begin_bad = starting.entry.begin_bad; statuses = starting.entry.statuses.now; units = starting.entry.units; diagnoses = starting.entry.diagnoses.now; number = starting.entry.number }) rows.now place.now }
     {
         Mark {
             place: *place,
@@ -96,7 +98,7 @@ pub(crate) fn begin(
 )
     requires { length places.now ≤ 128 }
     ensures { marks.new.items
-        ≡ map (first_mark (record { begin_bad = starting.entry.begin_bad; statuses = starting.entry.statuses.now; units = starting.entry.units; diagnoses = starting.entry.diagnoses.now }) rows.now) places.now }
+        ≡ map (first_mark (record { begin_bad = starting.entry.begin_bad; statuses = starting.entry.statuses.now; units = starting.entry.units; diagnoses = starting.entry.diagnoses.now; number = starting.entry.number }) rows.now) places.now }
 {
     marks.clear();
     for place in places {

@@ -1,8 +1,9 @@
 //! Opening an exchange.
-ghost use Rattle.std.specs.Prelude.{◌≡◌};
+ghost use Rattle.std.specs.Prelude.{◌≡◌, ◌<◌};
 ghost use Rattle.relations.specs.exchange.Opening.{route_of, status_of};
 
 use crate::exchange::marks::{Mark, iops_in};
+use crate::numbers::output_id;
 use connects::ConnectRequest;
 use cyclic_data::{GOOD, PlaceKind, Route, Statuses};
 use module_diff::DiffRows;
@@ -40,16 +41,17 @@ impl Statuses for Differing<'_> {
     }
 }
 
-/// The route that a Connect asks for.
-pub(crate) fn route_of(request: &ConnectRequest) -> Route
-    ensures { result ≡ route_of request.now }
+/// The route that a Connect asks for, in a relation of this number.
+pub(crate) fn route_of(number: u16, request: &ConnectRequest) -> Route
+    requires { number < 14336 }
+    ensures { result ≡ route_of number request.now }
 {
     let alarm = request.alarm();
     Route {
         partner: request.ar().initiator,
         sent_id: request.input().frame_id,
         sent_tag: request.input().tag,
-        taken_id: request.output().frame_id,
+        taken_id: output_id(number, request.output()),
         alarm_tag: alarm.tag_high,
         reference: alarm.reference,
     }

@@ -1,5 +1,5 @@
 -- What the Connect of a plan asks for, from the parts of the plan.
-use Rattle.std.specs.Prelude.{ℕ, true, List, [], ◌∷◌, ◌++◌, map}
+use Rattle.std.specs.Prelude.{ℕ, Bool, true, false, List, [], ◌∷◌, ◌++◌, map}
 use Rattle.pn_values.specs.declared.real.RealModule.{RealModule}
 use Rattle.connect_blocks.specs.declared.iocr.IocrType.{IocrType}
 use Rattle.connect_blocks.specs.declared.iocr.IocrType.TheVariants.{Input, Output}
@@ -40,10 +40,15 @@ ar_for parts ar = record {
   name = record { items = parts.controller.name };
 }
 
--- The FrameIDs: the controller chooses that of inputs, and the device that of outputs.
+-- The FrameIDs: the controller chooses that of inputs, and the device that of outputs; this is the first one that it may choose.
 abbrev pub frame_id_of : IocrType → ℕ
 frame_id_of Input = asked_id Input
 frame_id_of Output = 0xC000
+
+-- Whether the controller leaves the choice of the FrameID to the device.
+abbrev pub device_chooses_of : IocrType → Bool
+device_chooses_of Input = false
+device_chooses_of Output = true
 
 -- The communication relation of a direction, with the plan's times and its layout.
 abbrev pub iocr_for : Parts → IocrType → Iocr
@@ -51,6 +56,7 @@ iocr_for parts direction = record {
   reference = reference_of direction;
   class = Class1;
   frame_id = frame_id_of direction;
+  device_chooses = device_chooses_of direction;
   send_clock_factor = parts.times.send_clock_factor;
   reduction_ratio = parts.times.reduction_ratio;
   data_hold_factor = parts.times.data_hold_factor;

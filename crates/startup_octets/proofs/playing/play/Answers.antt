@@ -3,6 +3,7 @@ use Rattle.std.proofs.Common.{◌∷◌, [], drop, refl, sym, ap, subst, ◌∙�
 use Rattle.std.proofs.lemmas.List.{append-nil}
 use Rattle.std.proofs.lemmas.Result.{err_from_is_err_and}
 use Rattle.pn_values.specs.declared.real.Real.{Real}
+use Rattle.relations.specs.declared.options.DeviceOptions.{DeviceOptions}
 use Rattle.both_ends.specs.exchange.Sized.{AreSizedModules}
 use Rattle.startup_octets.specs.Alarms.{AreAlarmsTaken}
 use Rattle.startup_octets.specs.StartUp.{AreDelivered, AreStartUps}
@@ -44,10 +45,10 @@ pub returns-in_err-world-clause-alarms : goal.returns-in_err-world-clause-alarms
 returns-in_err-world-clause-alarms g c = λ entries is. subst AreAlarmsTaken (none_added _ _ entries refl is) none_taken
 
 pub returns-in_err-world-clause-outputs : goal.returns-in_err-world-clause-outputs
-returns-in_err-world-clause-outputs g c = λ entries is. subst (AreShown (outputs_in c.args.setup.plan.real.modules.items)) (none_added _ _ entries refl is) (none_shown _)
+returns-in_err-world-clause-outputs g c = λ entries is. subst (AreShown c.args.station.options (outputs_in c.args.setup.plan.real.modules.items)) (none_added _ _ entries refl is) (none_shown _ _)
 
 pub returns-in_err-world-clause-changes : goal.returns-in_err-world-clause-changes
-returns-in_err-world-clause-changes g c = λ entries is. subst (AreKept (outputs_in c.args.setup.plan.real.modules.items)) (none_added _ _ entries refl is) (none_kept _)
+returns-in_err-world-clause-changes g c = λ entries is. subst (AreKept c.args.station.options (outputs_in c.args.setup.plan.real.modules.items)) (none_added _ _ entries refl is) (none_kept _ _)
 
 -- ---- all moves
 
@@ -89,15 +90,17 @@ returns-in-Ok-clause-alarms g c =
 pub returns-in-Ok-clause-outputs : goal.returns-in-Ok-clause-outputs
 returns-in-Ok-clause-outputs g c =
     let first = c.in_ok-world.world in
-    run_so g.F.Flash first (AreShown (outputs_in c.args.setup.plan.real.modules.items))
-    (λ run made. c.outputs_are_shown.ensures.shown c.in_ok-world.ensures.can first run c.in_ok-world.ensures.begins made)
+    run_so g.F.Flash first (AreShown c.args.station.options (outputs_in c.args.setup.plan.real.modules.items))
+    (λ run made. subst (λ (o : DeviceOptions). AreShown o (outputs_in c.args.setup.plan.real.modules.items) (opening_entry first ∷ entries_of first run)) c.in_ok-world.ensures.options
+    (c.outputs_are_shown.ensures.shown c.in_ok-world.ensures.can first run c.in_ok-world.ensures.begins made))
     c.args.moves.now _ _ c.in-Ok.last c.in-Ok.ensures.played
 
 pub returns-in-Ok-clause-changes : goal.returns-in-Ok-clause-changes
 returns-in-Ok-clause-changes g c =
     let first = c.in_ok-world.world in
-    run_so g.F.Flash first (AreKept (outputs_in c.args.setup.plan.real.modules.items))
-    (λ run made. c.outputs_are_shown.ensures.kept c.in_ok-world.ensures.can first run c.in_ok-world.ensures.begins made)
+    run_so g.F.Flash first (AreKept c.args.station.options (outputs_in c.args.setup.plan.real.modules.items))
+    (λ run made. subst (λ (o : DeviceOptions). AreKept o (outputs_in c.args.setup.plan.real.modules.items) (opening_entry first ∷ entries_of first run)) c.in_ok-world.ensures.options
+    (c.outputs_are_shown.ensures.kept c.in_ok-world.ensures.can first run c.in_ok-world.ensures.begins made))
     c.args.moves.now _ _ c.in-Ok.last c.in-Ok.ensures.played
 
 -- ---- no memory for all moves
@@ -132,13 +135,15 @@ returns-in-Err-clause-alarms g c =
 pub returns-in-Err-clause-outputs : goal.returns-in-Err-clause-outputs
 returns-in-Err-clause-outputs g c =
     let first = c.in_ok-world.world in
-    cut_so g.F.Flash first (AreShown (outputs_in c.args.setup.plan.real.modules.items))
-    (λ run made. c.outputs_are_shown.ensures.shown c.in_ok-world.ensures.can first run c.in_ok-world.ensures.begins made)
-    (none_shown _) c.args.moves.now _ _ c.in-Err.ensures.cut
+    cut_so g.F.Flash first (AreShown c.args.station.options (outputs_in c.args.setup.plan.real.modules.items))
+    (λ run made. subst (λ (o : DeviceOptions). AreShown o (outputs_in c.args.setup.plan.real.modules.items) (opening_entry first ∷ entries_of first run)) c.in_ok-world.ensures.options
+    (c.outputs_are_shown.ensures.shown c.in_ok-world.ensures.can first run c.in_ok-world.ensures.begins made))
+    (none_shown _ _) c.args.moves.now _ _ c.in-Err.ensures.cut
 
 pub returns-in-Err-clause-changes : goal.returns-in-Err-clause-changes
 returns-in-Err-clause-changes g c =
     let first = c.in_ok-world.world in
-    cut_so g.F.Flash first (AreKept (outputs_in c.args.setup.plan.real.modules.items))
-    (λ run made. c.outputs_are_shown.ensures.kept c.in_ok-world.ensures.can first run c.in_ok-world.ensures.begins made)
-    (none_kept _) c.args.moves.now _ _ c.in-Err.ensures.cut
+    cut_so g.F.Flash first (AreKept c.args.station.options (outputs_in c.args.setup.plan.real.modules.items))
+    (λ run made. subst (λ (o : DeviceOptions). AreKept o (outputs_in c.args.setup.plan.real.modules.items) (opening_entry first ∷ entries_of first run)) c.in_ok-world.ensures.options
+    (c.outputs_are_shown.ensures.kept c.in_ok-world.ensures.can first run c.in_ok-world.ensures.begins made))
+    (none_kept _ _) c.args.moves.now _ _ c.in-Err.ensures.cut

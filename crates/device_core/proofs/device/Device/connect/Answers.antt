@@ -1,7 +1,8 @@
--- A Connect is answered, and logged if it was refused.
+-- A Connect is answered, counted if it was accepted, and logged if it was refused.
 use Rattle.std.proofs.Common.{◌≡◌, refl, sym, ap, ◌∙◌}
 use Rattle.device_core.specs.Log.{connect_log}
-use Rattle.device_core.proofs.Logged.{connected_log}
+use Rattle.device_core.specs.Handled.{count_after}
+use Rattle.device_core.proofs.Logged.{connected_count, connected_log}
 use Rattle.device_core.proofs.Served.{came_as}
 use Rattle.device_core.proofs.device.Device.connect.Goals as goal
 
@@ -14,7 +15,8 @@ returns-clause-state g c =
     let calls = rw (c.address-address.ensures.value, c.running.ensures, c.requires.operation, out) at c.give.ensures.kept in
     let link = rw (c.source_of-partner.ensures, c.as_slice.ensures.value) at c.connect-came.ensures.state in
     let log = c.log_connect.ensures ∙ (sym (connected_log asked came blocks c.self.inside.units c.self.inside.log) ∙ ap (λ answer. connect_log asked answer c.self.inside.units c.self.inside.log) out) in
-    rw (← c.self.view_is) (rw (calls, link, log) refl)
+    let made = c.count_after-self-inside.ensures ∙ (sym (connected_count came blocks c.self.inside.made) ∙ ap (λ answer. count_after answer c.self.inside.made) out) in
+    rw (← c.self.view_is) (rw (calls, link, log, made) refl)
 
 pub returns-clause-frames : goal.returns-clause-frames
 returns-clause-frames g c =

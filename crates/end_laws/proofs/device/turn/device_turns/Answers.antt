@@ -1,4 +1,5 @@
-use Rattle.end_laws.proofs.DeviceWalk.{step_raises, step_turns}
+use Rattle.end_laws.proofs.DeviceNumbers.{number_now_is}
+use Rattle.end_laws.proofs.DeviceWalk.{step_numbers, step_raises, step_turns}
 use Rattle.end_laws.proofs.device.turn.device_turns.Goals as goal
 
 pub returns-clause-turn : goal.returns-clause-turn
@@ -6,3 +7,9 @@ returns-clause-turn c = λ rules activity outcomes station live heard plan. step
 
 pub returns-clause-raises : goal.returns-clause-raises
 returns-clause-raises c = λ outcomes station live slot subslot octets. step_raises outcomes station live slot subslot octets
+
+pub returns-clause-numbers : goal.returns-clause-numbers
+returns-clause-numbers c = λ rules activity outcomes station live heard plan. step_numbers rules activity outcomes station live heard plan
+
+pub returns-clause-numbered : goal.returns-clause-numbered
+returns-clause-numbered c = λ station live. number_now_is station live

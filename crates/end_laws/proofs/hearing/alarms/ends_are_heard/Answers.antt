@@ -23,4 +23,4 @@ returns-clause-controller c =
     λ mine identity farewell is mac tagged good.
     pdu_at_controller c.frames_are_read.ensures.real_time c.pdus_are_read.ensures.long mine farewell.initiator identity.mac farewell.tag High pdu.Error (said_by farewell) (said_by farewell).header (notice.Abort (status_of farewell.reason))
     mac is tagged (omega arith)
-    (λ more. c.ends_are_read.ensures.controller farewell.reason farewell.reference 1 farewell.send_number farewell.ack_number more good)
+    (λ more. c.ends_are_read.ensures.controller farewell.reason farewell.reference farewell.endpoint farewell.send_number farewell.ack_number more good)
