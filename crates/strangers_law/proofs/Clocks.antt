@@ -93,14 +93,15 @@ remains_most link = by_timed (is_timed link.phase)
 
 -- ---- clocks
 
--- What the cyclic data of a relation says of its clocks, and of the frames by which it is known.
+-- What the exchange of a relation says of its clocks, and of the frames by which it is known.
 pub record Times : Type 0 where
   pub route : Route
   pub begun : Bool
   pub hearing : Hearing
+  pub endpoint : ℕ
 
-abbrev pub times_of : Cyclic → Times
-times_of cyclic = record { route = cyclic.route; begun = cyclic.begun; hearing = cyclic.hearing }
+abbrev pub times_of : Flow → Times
+times_of flow = record { route = flow.cyclic.route; begun = flow.cyclic.begun; hearing = flow.cyclic.hearing; endpoint = flow.endpoint }
 
 -- And what a relation says of them.
 pub record Clock : Type 0 where
@@ -110,7 +111,7 @@ pub record Clock : Type 0 where
   pub times : Times
 
 abbrev pub clock_of : RelationState → Clock
-clock_of link = record { request = link.request; timed = is_timed link.phase; inactive = link.inactive; times = times_of link.flow.cyclic }
+clock_of link = record { request = link.request; timed = is_timed link.phase; inactive = link.inactive; times = times_of link.flow }
 
 abbrev pub remaining_by : Clock → ℕ
 remaining_by clock = if clock.timed then left_of (clock.request.ar.timeout_factor * 3200) clock.inactive else left_of
@@ -164,7 +165,7 @@ pub record Goes (link : RelationState) (after : Option RelationState) (sent : Li
   pub lasts : Lasts link after
   pub says : after ≡ None → IsSaid link sent
 
-flow_lasts : (link : RelationState) (flow : Flow) → times_of flow.cyclic ≡ times_of link.flow.cyclic → clock_of (with_flow flow link) ≡ clock_of link
+flow_lasts : (link : RelationState) (flow : Flow) → times_of flow ≡ times_of link.flow → clock_of (with_flow flow link) ≡ clock_of link
 flow_lasts link flow same = ap (λ t. record (clock_of link) { times = t }) same
 
 no_none : {A : Type 0} {P : Type 0} (x : A) → Some x ≡ None → P
@@ -210,9 +211,9 @@ module _ (station : Station) (before : Live) (link : RelationState) where
 
   abbrev Kept : Option Flow → Type 0
   Kept None = Unit {0}
-  Kept (Some flow) = times_of flow.cyclic ≡ times_of link.flow.cyclic
+  Kept (Some flow) = times_of flow ≡ times_of link.flow
 
-  with_input_kept : (slot subslot : ℕ) (cyclic : Cyclic) (awaited : Bool) → times_of cyclic ≡ times_of link.flow.cyclic
+  with_input_kept : (slot subslot : ℕ) (cyclic : Cyclic) (awaited : Bool) → times_of (with_cyclic link.flow cyclic) ≡ times_of link.flow
       → Kept (Some (if awaited then remarked (with_cyclic link.flow cyclic) slot subslot None else with_cyclic link.flow cyclic))
   with_input_kept slot subslot cyclic true same = same
   with_input_kept slot subslot cyclic false same = same
@@ -322,6 +323,7 @@ beside_goes outcomes station live link heard is beside =
 pub record IsPassed (link next : RelationState) : Type 0 where
   pub request : next.request ≡ link.request
   pub route : next.flow.cyclic.route ≡ link.flow.cyclic.route
+  pub endpoint : next.flow.endpoint ≡ link.flow.endpoint
   pub timed : IsTimed next
   pub left : remaining next + 1 ≡ remaining link
 
@@ -443,7 +445,7 @@ module _ (link : RelationState) (timed : IsTimed link) (none : ending_of link �
       (subst (λ n. left_of (hold_of link.request) n + 1 ≡ left_of (hold_of link.request) link.flow.cyclic.hearing.held) (sym later) count)
 
   passes : IsPassed link (unit_later link)
-  passes = record { request = refl; route = refl; timed = later_timed; left = left_timed (is_timed link.phase) refl }
+  passes = record { request = refl; route = refl; endpoint = refl; timed = later_timed; left = left_timed (is_timed link.phase) refl }
 
 tick_of_link : (outcomes : List Outcome) (station : Station) (live : Live) (link : RelationState) → IsTimed link
     → let step = heard_step outcomes station (record live { rest = record live.rest { link = Some link } }) Ticks in

@@ -35,24 +35,27 @@ record IsKept (link : RelationState) (units : ℕ) (now : Option RelationState) 
   is : now ≡ Some next
   request : next.request ≡ link.request
   route : next.flow.cyclic.route ≡ link.flow.cyclic.route
+  endpoint : next.flow.endpoint ≡ link.flow.endpoint
   timed : IsTimed next
   left : remaining next + units ≡ remaining link
 
 abbrev Moves : Station → RelationState → Event → Stepped → Type 0
 Moves station link event step = EndsWith station link event step ⊎ IsKept link (units_in (event ∷ [])) step.live.rest.link
 
-abbrev marks_by : Request → Route → Marks
-marks_by request route = record {
+abbrev marks_by : Request → Route → ℕ → Marks
+marks_by request route endpoint = record {
   uuid = request.ar.uuid;
   provider = route.partner.octets;
   frame_id = route.taken_id;
   notifier = request.ar.initiator.octets;
   their_endpoint = request.alarm.reference;
-  own_endpoint = 1;
+  own_endpoint = endpoint;
 }
 
-kept_marks : (link next : RelationState) → next.request ≡ link.request → next.flow.cyclic.route ≡ link.flow.cyclic.route → marks_of next ≡ marks_of link
-kept_marks link next request route = ap (λ r. marks_by r next.flow.cyclic.route) request ∙ ap (marks_by link.request) route
+kept_marks : (link next : RelationState) → next.request ≡ link.request → next.flow.cyclic.route ≡ link.flow.cyclic.route → next.flow.endpoint ≡ link.flow.endpoint
+    → marks_of next ≡ marks_of link
+kept_marks link next request route endpoint = ap (λ r. marks_by r next.flow.cyclic.route next.flow.endpoint) request
+    ∙ ap (λ r. marks_by link.request r next.flow.endpoint) route ∙ ap (marks_by link.request link.flow.cyclic.route) endpoint
 
 units_none : (event : Event) → is_unit event ≡ false → units_in (event ∷ []) ≡ 0
 units_none event none = ap (λ (b : Bool). let n : ℕ = if b then suc (units_in []) else units_in [] in n) none
@@ -77,6 +80,7 @@ module _ (outcomes : List Outcome) (station : Station) (live : Live) (link : Rel
     is = is;
     request = refl;
     route = refl;
+    endpoint = refl;
     timed = timed;
     left = ap (λ n. remaining link + n) (units_none event none) ∙ none_more (remaining link);
   })
@@ -108,6 +112,7 @@ module _ (outcomes : List Outcome) (station : Station) (live : Live) (link : Rel
             is = is;
             request = ap (λ c. c.request) same;
             route = ap (λ c. c.times.route) same;
+            endpoint = ap (λ c. c.times.endpoint) same;
             timed = clock_timed link next same timed;
             left = ap (λ n. remaining next + n) (units_none event none) ∙ none_more (remaining next) ∙ clock_remaining link next same;
           })
@@ -131,6 +136,7 @@ module _ (outcomes : List Outcome) (station : Station) (live : Live) (link : Rel
         is = on.is;
         request = on.passed.request;
         route = on.passed.route;
+        endpoint = on.passed.endpoint;
         timed = on.passed.timed;
         left = on.passed.left;
       })
@@ -186,7 +192,7 @@ module _ (station : Station) where
   then_counted outcomes event events live link silent (inl ends) others = inl (inl ends)
   then_counted outcomes event events live link silent (inr kept) others =
       by_rest (others kept.next kept.is kept.timed
-      (subst (λ m. AreSilentBy m events) (sym (kept_marks link kept.next kept.request kept.route)) silent))
+      (subst (λ m. AreSilentBy m events) (sym (kept_marks link kept.next kept.request kept.route kept.endpoint)) silent))
     where
       by_rest : Counted (later_steps outcomes) (step_of (first_step outcomes) station live event).live kept.next events
           → Counted outcomes live link (event ∷ events)

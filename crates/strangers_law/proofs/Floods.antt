@@ -41,6 +41,7 @@ left_both a b c one two = record {
   statuses = two.statuses ∙ one.statuses;
   peer = two.peer ∙ one.peer;
   diagnoses = two.diagnoses ∙ one.diagnoses;
+  made = two.made ∙ one.made;
 }
 
 -- ---- a unit of time
@@ -55,6 +56,7 @@ tick_left outcomes station one other left = record {
   statuses = left.statuses;
   peer = left.peer;
   diagnoses = left.diagnoses;
+  made = left.made;
 }
 
 tick_frames : (outcomes : List Outcome) (station : Station) (one other : Live) → IsLeft one other
@@ -158,7 +160,7 @@ module _ (station : Station) where
 
 pub runs_as_alone : RunsAsAlone
 runs_as_alone station live link outcomes events exists are some =
-    runs station outcomes events live live link exists (record { values = refl; link = refl; units = refl; statuses = refl; peer = refl; diagnoses = refl }) are some
+    runs station outcomes events live live link exists (record { values = refl; link = refl; units = refl; statuses = refl; peer = refl; diagnoses = refl; made = refl }) are some
 
 -- ---- a step of a device
 

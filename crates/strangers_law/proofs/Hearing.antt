@@ -231,20 +231,20 @@ module _ (identity : Identity) (link : RelationState) where
             quiet_items request.blocks (dcp_blocks (untagged bytes)) kind.1.blocks (second (is_dcp 0xFEFD 4 0 (untagged bytes)) _ (others own).reset kind.1.kind)
 
     not_alarm : (id : ℕ) (body : List ℕ) (said : Header) → IsTimely (untagged bytes) id body → is_own identity meaning.destination ≡ true → is_alarm id ≡ true → AreEndpoints body said
-        → (pointwise nat_eq meaning.source.octets link.request.ar.initiator.octets && (said.destination == 1 && said.source == link.request.alarm.reference)) ≡ false
+        → (pointwise nat_eq meaning.source.octets link.request.ar.initiator.octets && (said.destination == link.flow.endpoint && said.source == link.request.alarm.reference)) ≡ false
     not_alarm id body said it own alarm ends =
         let to : number 16 2 (untagged bytes) ≡ said.destination = ap (big_number 2) (it.behind 0) ∙ ends.destination in
         let from : number 18 2 (untagged bytes) ≡ said.source = ap (big_number 2) (it.behind 2) ∙ ends.source in
         let other : ((number 12 2 (untagged bytes) == 0x8892) && is_alarm (number 14 2 (untagged bytes)) && pointwise nat_eq meaning.source.octets link.request.ar.initiator.octets
-        && (said.destination == 1) && (said.source == link.request.alarm.reference)) ≡ false =
+        && (said.destination == link.flow.endpoint) && (said.source == link.request.alarm.reference)) ≡ false =
         subst (λ l. ((number 12 2 (untagged bytes) == 0x8892) && is_alarm (number 14 2 (untagged bytes)) && pointwise nat_eq l link.request.ar.initiator.octets
-        && (said.destination == 1) && (said.source == link.request.alarm.reference)) ≡ false) sender
+        && (said.destination == link.flow.endpoint) && (said.source == link.request.alarm.reference)) ≡ false) sender
         (subst (λ n. ((number 12 2 (untagged bytes) == 0x8892) && is_alarm (number 14 2 (untagged bytes)) && pointwise nat_eq (part 6 6 (untagged bytes)) link.request.ar.initiator.octets
-        && (n == 1) && (said.source == link.request.alarm.reference)) ≡ false) to
+        && (n == link.flow.endpoint) && (said.source == link.request.alarm.reference)) ≡ false) to
         (subst (λ n. ((number 12 2 (untagged bytes) == 0x8892) && is_alarm (number 14 2 (untagged bytes)) && pointwise nat_eq (part 6 6 (untagged bytes)) link.request.ar.initiator.octets
-        && (number 16 2 (untagged bytes) == 1) && (n == link.request.alarm.reference)) ≡ false) from (others own).alarm)) in
+        && (number 16 2 (untagged bytes) == link.flow.endpoint) && (n == link.request.alarm.reference)) ≡ false) from (others own).alarm)) in
         behind (number 12 2 (untagged bytes) == 0x8892) (is_alarm (number 14 2 (untagged bytes))) (pointwise nat_eq meaning.source.octets link.request.ar.initiator.octets)
-        (said.destination == 1) (said.source == link.request.alarm.reference) (holds _ 0x8892 it.ether_type) (ap is_alarm it.id ∙ alarm) other
+        (said.destination == link.flow.endpoint) (said.source == link.request.alarm.reference) (holds _ 0x8892 it.ether_type) (ap is_alarm it.id ∙ alarm) other
       where
         behind : (a b c d e : Bool) → a ≡ true → b ≡ true → a && b && c && d && e ≡ false → c && (d && e) ≡ false
         behind true true true true true p q r = r
@@ -259,7 +259,7 @@ module _ (identity : Identity) (link : RelationState) where
     alarm_harmless id body it taken (Ok x) is = by_reply (priority_of id) x.0 x.1 (not_alarm id body x.0 it (and_parts _ _ taken).0 (and_parts _ _ taken).1 (endpoints_of ack_of body x is))
       where
         by_reply : (priority : Priority) (said : Header) (told : ToDevice) →
-            (pointwise nat_eq meaning.source.octets link.request.ar.initiator.octets && (said.destination == 1 && said.source == link.request.alarm.reference)) ≡ false
+            (pointwise nat_eq meaning.source.octets link.request.ar.initiator.octets && (said.destination == link.flow.endpoint && said.source == link.request.alarm.reference)) ≡ false
             → Harmless (heard_reply meaning.source priority said told)
         by_reply Low said (message.Ack number) other = other
         by_reply Low said (message.Data number ack) other = other

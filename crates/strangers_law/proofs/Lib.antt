@@ -13,3 +13,16 @@ pub mod Clocks
 pub mod Resets
 pub mod Endings
 pub mod Timed
+pub mod FrameIds
+pub mod Numbered
+pub mod Late
+pub mod Ports
+pub mod Quiet
+pub mod Runs
+pub mod Layers
+pub mod Echoes
+pub mod Replying
+pub mod Answering
+pub mod Unasked
+pub mod WholeCalls
+pub mod Sizes

@@ -31,7 +31,7 @@ use Rattle.pn_alarms.specs.declared.pdu.Header.{Header}
 use Rattle.pn_alarms.specs.Message.{ToDevice}
 use Rattle.relations.specs.exchange.Received.{received_as}
 use Rattle.relations.specs.Calls.{prm_end_of, release_of, prm_end_answer}
-use Rattle.relations.specs.Connect.{connect_within, making}
+use Rattle.relations.specs.Connect.{connect_answer, connect_within, making}
 use Rattle.relations.specs.Diagnosed.{has_sent_low}
 use Rattle.relations.specs.Exchanged.{received_by, receiving}
 use Rattle.relations.specs.Phases.{Handled as Moving, Ended, Named, Parameterized, Unmoved, answered, updated}
@@ -44,11 +44,12 @@ use Rattle.device_frames.specs.Sent.{Sent, IdentifyAnswer, GetAnswer, SetAnswer,
 use Rattle.settings_journal.specs.settings_store.State.{Values}
 use Rattle.settings_journal.specs.settings_store.Machine.{Outcome, carried, rest_of}
 use Rattle.device_core.specs.State.{Live, Rest, Station, alias_in}
-use Rattle.device_core.specs.Handled.{Handled, Refuses, Sets, Writes, WritesEach, Moves, handled, handled_alarm, handled_answer, handled_blocks, handled_call, handled_cyclic, handled_looked, handled_low, handled_new, handled_received, handled_request, handled_said, handled_write, answer_from, kept_behind, implicitly, is_running, is_request, known_of, partner_of, ready_behind, starting_of}
+use Rattle.device_core.specs.Handled.{Handled, Refuses, Sets, Writes, WritesEach, Moves, handled, handled_alarm, handled_answer, handled_blocks, handled_call, handled_cyclic, handled_looked, handled_low, handled_new, handled_received, handled_request, handled_said, handled_write, answer_from, counted_by, kept_behind, implicitly, is_running, is_request, known_of, number_now, partner_of, ready_behind, starting_of}
+use Rattle.device_core.specs.Log.{connect_log, with_log}
 use Rattle.device_core.specs.Machine.{farewells_at, handled_step, link_after, resets}
 use Rattle.strangers_law.specs.Device.{IsIn, IsLeft, frames_stored}
 use Rattle.strangers_law.proofs.Harmless.{IsHarmless, IsQuiet, IsUnnamed, Names}
-use Rattle.strangers_law.proofs.Unnamed.{IsNoEnd, connect_still, no_prm_end, no_read, no_write, release_still, unnamed_read}
+use Rattle.strangers_law.proofs.Unnamed.{IsNoEnd, connect_still, connect_uncounted, no_prm_end, no_read, no_write, release_still, unnamed_read}
 
 -- ---- what remains
 
@@ -59,6 +60,7 @@ pub record RestStays (old new : Rest) : Type 0 where
   pub statuses : new.statuses ≡ old.statuses
   pub peer : new.peer ≡ old.peer
   pub diagnoses : new.diagnoses ≡ old.diagnoses
+  pub made : new.made ≡ old.made
 
 -- A message that answers, or one of these frames again.
 abbrev pub IsAnswer : List (List ℕ) → Sent → Type 0
@@ -83,8 +85,19 @@ Remains live (Writes caller address call header value) = ⊥
 Remains live (WritesEach caller address call header judged) = ⊥
 Remains live (Moves rest sent) = RestStays live.rest rest × AllByRecursion (IsAnswer (stored_in live)) sent
 
+-- Whether a relation is counted or not, nothing else changes.
+record IsCount (old new : Rest) : Type 0 where
+  units : new.units ≡ old.units
+  statuses : new.statuses ≡ old.statuses
+  peer : new.peer ≡ old.peer
+  diagnoses : new.diagnoses ≡ old.diagnoses
+
+count_alone : {A : Type 0} (answer : Result A CallFault) (rest : Rest) → IsCount rest (counted_by answer rest)
+count_alone (Ok answer) rest = record { units = refl; statuses = refl; peer = refl; diagnoses = refl }
+count_alone (Err why) rest = record { units = refl; statuses = refl; peer = refl; diagnoses = refl }
+
 stays_as_is : (rest : Rest) → RestStays rest rest
-stays_as_is rest = record { link = refl; units = refl; statuses = refl; peer = refl; diagnoses = refl }
+stays_as_is rest = record { link = refl; units = refl; statuses = refl; peer = refl; diagnoses = refl; made = refl }
 
 looked_stored : (activity : List ℕ) (sequence : ℕ) (calls : List Kept) (frame : List ℕ) → looked activity sequence calls ≡ again frame → IsIn frame (frames_stored calls)
 looked_stored activity sequence [] frame e = absurd cc
@@ -96,13 +109,13 @@ looked_stored activity sequence (one ∷ others) frame e =
 
 -- ---- a Set without a reset
 
-quiet_carried : (outcomes : List Outcome) (values : Values) (items : List SetItem) → AllByRecursion IsQuiet items → (carried outcomes values items).values ≡ values
+pub quiet_carried : (outcomes : List Outcome) (values : Values) (items : List SetItem) → AllByRecursion IsQuiet items → (carried outcomes values items).values ≡ values
 quiet_carried outcomes values [] quiet = refl
 quiet_carried outcomes values (Ask command ∷ items) quiet = absurd quiet.0
 quiet_carried outcomes values (Signal ∷ items) quiet = quiet_carried (rest_of outcomes) values items quiet.1
 quiet_carried outcomes values (Answer answer ∷ items) quiet = quiet_carried (rest_of outcomes) values items quiet.1
 
-quiet_resets : (items : List SetItem) (answers : List BlockError) → AllByRecursion IsQuiet items → resets items answers ≡ false
+pub quiet_resets : (items : List SetItem) (answers : List BlockError) → AllByRecursion IsQuiet items → resets items answers ≡ false
 quiet_resets [] answers quiet = refl
 quiet_resets (item ∷ items) [] quiet = refl
 quiet_resets (Ask command ∷ items) (answer ∷ answers) quiet = absurd quiet.0
@@ -113,7 +126,7 @@ quiet_resets (Answer error ∷ items) (answer ∷ answers) quiet = quiet_resets 
 
 pub remains_left : (outcomes : List Outcome) (station : Station) (live : Live) (what : Handled) → Remains live what → IsLeft live (handled_step outcomes station live what).live
 unfolding handled_step
-remains_left outcomes station live (Refuses note) remains = record { values = refl; link = refl; units = refl; statuses = refl; peer = refl; diagnoses = refl }
+remains_left outcomes station live (Refuses note) remains = record { values = refl; link = refl; units = refl; statuses = refl; peer = refl; diagnoses = refl; made = refl }
 remains_left outcomes station live (Sets asker request in_operation) remains = record {
   values = quiet_carried outcomes live.values (plan_of in_operation request) remains;
   link = ap (λ ends. link_after ends live.rest.link)
@@ -122,11 +135,12 @@ remains_left outcomes station live (Sets asker request in_operation) remains = r
   statuses = refl;
   peer = refl;
   diagnoses = refl;
+  made = refl;
 }
 remains_left outcomes station live (Writes caller address call header value) remains = absurd remains
 remains_left outcomes station live (WritesEach caller address call header judged) remains = absurd remains
 remains_left outcomes station live (Moves rest sent) remains =
-    record { values = refl; link = remains.0.link; units = remains.0.units; statuses = remains.0.statuses; peer = remains.0.peer; diagnoses = remains.0.diagnoses }
+    record { values = refl; link = remains.0.link; units = remains.0.units; statuses = remains.0.statuses; peer = remains.0.peer; diagnoses = remains.0.diagnoses; made = remains.0.made }
 
 pub remains_sent : (outcomes : List Outcome) (station : Station) (live : Live) (what : Handled) → Remains live what → AllByRecursion (IsAnswer (stored_in live)) (handled_step outcomes station live what).sent
 unfolding handled_step
@@ -147,13 +161,21 @@ module _ (station : Station) (live : Live) (link : RelationState) (exists : live
     record {
       link = subst (λ (l : Option RelationState). updated (making station.real (partner_of caller) station.options (starting_of station live) (connect_within station.options caller.mac l blocks)) l ≡ l)
           (sym exists) (connect_still station.real (partner_of caller) station.options (starting_of station live) caller.mac link blocks);
-      units = refl;
-      statuses = refl;
-      peer = refl;
-      diagnoses = refl;
+      units = (count_alone answer logged).units;
+      statuses = (count_alone answer logged).statuses;
+      peer = (count_alone answer logged).peer;
+      diagnoses = (count_alone answer logged).diagnoses;
+      made = subst (λ (l : Option RelationState). (counted_by (connect_answer station.identity station.real station.options (number_now station live) caller.mac l blocks) logged).made ≡ live.rest.made)
+          (sym exists) (connect_uncounted station.identity station.real station.options (number_now station live) caller.mac link blocks logged);
     },
     (tt, tt),
   )
+    where
+      answer : Result (List ℕ) CallFault
+      answer = connect_answer station.identity station.real station.options (number_now station live) caller.mac live.rest.link blocks
+
+      logged : Rest
+      logged = with_log (connect_log blocks answer) live.rest
   new_remains caller call blocks Release other = (
     record {
       link = subst (λ (l : Option RelationState). updated (answered Ended (release_of l blocks)) l ≡ l) (sym exists) (release_still link blocks other);
@@ -161,6 +183,7 @@ module _ (station : Station) (live : Live) (link : RelationState) (exists : live
       statuses = refl;
       peer = refl;
       diagnoses = refl;
+      made = refl;
     },
     (tt, tt),
   )
@@ -171,6 +194,7 @@ module _ (station : Station) (live : Live) (link : RelationState) (exists : live
       statuses = refl;
       peer = refl;
       diagnoses = refl;
+      made = refl;
     },
     (tt, tt),
   )
@@ -185,7 +209,7 @@ module _ (station : Station) (live : Live) (link : RelationState) (exists : live
       by_result : (r : Result Writing CallFault) → writing_of (uuid_of live.rest.link) station.real blocks ≡ r → Remains live (handled_write station live caller call r)
       by_result (Ok writing) is =
           absurd (no_write link station.real blocks writing other (subst (λ (l : Option RelationState). writing_of (uuid_of l) station.real blocks ≡ Ok writing) exists is))
-      by_result (Err why) is = (record { link = refl; units = refl; statuses = refl; peer = refl; diagnoses = refl }, (tt, tt))
+      by_result (Err why) is = (record { link = refl; units = refl; statuses = refl; peer = refl; diagnoses = refl; made = refl }, (tt, tt))
   new_remains caller call blocks Control other = by_result (prm_end_of live.rest.link blocks) refl
     where
       none : IsNoEnd link blocks
@@ -200,7 +224,7 @@ module _ (station : Station) (live : Live) (link : RelationState) (exists : live
           ∷ ready_behind station.options.ready_by_application live.values.running.suite.address
           (updated (answered (Named (partner_of caller)) r) (updated (answered (Parameterized station.options.ready_by_application) r) live.rest.link)) r)
       by_result (Ok block) is = absurd (let e : prm_end_of (Some link) blocks ≡ Ok block = subst (λ (l : Option RelationState). prm_end_of l blocks ≡ Ok block) exists is in let n = none.is in cc)
-      by_result (Err why) is = (record { link = refl; units = refl; statuses = refl; peer = refl; diagnoses = refl }, (tt, tt))
+      by_result (Err why) is = (record { link = refl; units = refl; statuses = refl; peer = refl; diagnoses = refl; made = refl }, (tt, tt))
   new_remains caller call blocks ReadImplicit other = (
     record {
       link = by_result (implicit_read (known_of station live) station.identity station.real live.values.running blocks);
@@ -208,6 +232,7 @@ module _ (station : Station) (live : Live) (link : RelationState) (exists : live
       statuses = refl;
       peer = refl;
       diagnoses = refl;
+      made = refl;
     },
     (tt, tt),
   )
@@ -230,7 +255,7 @@ module _ (station : Station) (live : Live) (link : RelationState) (exists : live
 
   blocks_remain : (caller : Caller) (call : Call) (operation : Operation) (blocks : Option (List ℕ)) → call.blocks ≡ blocks → IsUnnamed link call
       → Remains live (handled_blocks station live caller call operation blocks)
-  blocks_remain caller call operation None is other = (record { link = refl; units = refl; statuses = refl; peer = refl; diagnoses = refl }, (tt, tt))
+  blocks_remain caller call operation None is other = (record { link = refl; units = refl; statuses = refl; peer = refl; diagnoses = refl; made = refl }, (tt, tt))
   blocks_remain caller call operation (Some blocks) is other =
       looked_remains caller call blocks operation (looked call.header.activity call.header.sequence live.rest.calls) refl (other blocks is)
 

@@ -31,9 +31,11 @@ use Rattle.relations.specs.declared.options.DeviceOptions.{DeviceOptions}
 use Rattle.relations.specs.declared.phase.Partner.{Partner}
 use Rattle.relations.specs.exchange.Marks.{Starting}
 use Rattle.relations.specs.Calls.{control_block, in_started, named_of, prm_end_of, release_of}
-use Rattle.relations.specs.Connect.{connect_within, making}
+use Rattle.relations.specs.Connect.{connect_answer, connect_blocks, connect_within, differing_of, making}
 use Rattle.relations.specs.Phases.{Ended, answered, updated}
 use Rattle.relations.specs.RelationState.{RelationState, uuid_of}
+use Rattle.device_core.specs.State.{Rest}
+use Rattle.device_core.specs.Handled.{counted_by}
 use Rattle.device_records.specs.Reading.{relation_read}
 use Rattle.device_records.specs.Sources.{Known}
 use Rattle.strangers_law.proofs.Harmless.{Names}
@@ -64,7 +66,7 @@ no_connect uuid (piece ∷ pieces) request e = by_ar (ar_in piece) e
     by_ar (Ok ar) e = absurd cc
     by_ar (Err why) e = absurd cc
 
-no_request : (smallest : ℕ) (uuid blocks : List ℕ) (request : Request) → request_within smallest (Some uuid) blocks ≡ Ok request → ⊥
+pub no_request : (smallest : ℕ) (uuid blocks : List ℕ) (request : Request) → request_within smallest (Some uuid) blocks ≡ Ok request → ⊥
 unfolding request_within any_short connect_request
 no_request smallest uuid blocks request e = no_connect uuid (pieces_of blocks) request e
 
@@ -74,6 +76,16 @@ pub connect_still : (real : Real) (partner : Partner) (options : DeviceOptions) 
 connect_still real partner options starting mac link blocks = by_result (connect_within options mac (Some link) blocks) refl
   where
     by_result : (r : Result Request CallFault) → connect_within options mac (Some link) blocks ≡ r → updated (making real partner options starting r) (Some link) ≡ Some link
+    by_result (Ok request) is = absurd (no_request options.smallest_interval link.request.ar.uuid blocks request is)
+    by_result (Err why) is = refl
+
+-- And it is not counted.
+pub connect_uncounted : (identity : Identity) (real : Real) (options : DeviceOptions) (number : ℕ) (mac : Mac) (link : RelationState) (blocks : List ℕ) (rest : Rest)
+    → (counted_by (connect_answer identity real options number mac (Some link) blocks) rest).made ≡ rest.made
+connect_uncounted identity real options number mac link blocks rest = by_result (connect_within options mac (Some link) blocks) refl
+  where
+    by_result : (r : Result Request CallFault) → connect_within options mac (Some link) blocks ≡ r
+        → (counted_by (r >>= λ request. Ok (connect_blocks identity number request (differing_of request real))) rest).made ≡ rest.made
     by_result (Ok request) is = absurd (no_request options.smallest_interval link.request.ar.uuid blocks request is)
     by_result (Err why) is = refl
 

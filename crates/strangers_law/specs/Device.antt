@@ -19,7 +19,7 @@ marks_of link = record {
   frame_id = link.flow.cyclic.route.taken_id;
   notifier = link.request.ar.initiator.octets;
   their_endpoint = link.request.alarm.reference;
-  own_endpoint = 1;
+  own_endpoint = link.flow.endpoint;
 }
 
 -- An event of a stranger: a frame, or a call that was joined, that does not belong to this relation by its octets alone.
@@ -27,7 +27,8 @@ abbrev pub IsStrange : Station → RelationState → Event → Type 0
 IsStrange station link event = is_own station.identity.mac.octets (marks_of link) event ≡ false
 
 -- The settings are as they were, and the relation with its phase, outputs, records, alarms, numbers and times; so are the units, the
--- statuses, the neighbour and the diagnoses. The lamp, the stored answers to calls and the log may have changed.
+-- statuses, the neighbour, the diagnoses and the number of relations since the start. The lamp, the stored answers to calls and the log may
+-- have changed.
 pub record IsLeft (old new : Live) : Type 0 where
   pub values : new.values ≡ old.values
   pub link : new.rest.link ≡ old.rest.link
@@ -35,6 +36,7 @@ pub record IsLeft (old new : Live) : Type 0 where
   pub statuses : new.rest.statuses ≡ old.rest.statuses
   pub peer : new.rest.peer ≡ old.rest.peer
   pub diagnoses : new.rest.diagnoses ≡ old.rest.diagnoses
+  pub made : new.rest.made ≡ old.rest.made
 
 -- A frame that is no cyclic frame, no alarm frame and no call.
 abbrev pub IsNoExchange : List ℕ → Type 0

@@ -3,3 +3,7 @@ pub mod Device
 pub mod Controller
 pub mod Station
 pub mod Silence
+pub mod Earlier
+pub mod Quiet
+pub mod Runs
+pub mod Beside

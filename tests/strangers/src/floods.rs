@@ -10,10 +10,10 @@ use test_stations::mend;
 const FRAMES: usize = 30_000;
 
 /// Numbers that look random (splitmix64).
-struct Random(u64);
+pub(crate) struct Random(pub(crate) u64);
 
 impl Random {
-    fn below(&mut self, bound: usize) -> usize {
+    pub(crate) fn below(&mut self, bound: usize) -> usize {
         self.0 = self.0.wrapping_add(0x9E37_79B9_7F4A_7C15);
         let mut mixed = self.0;
         mixed = (mixed ^ (mixed >> 30)).wrapping_mul(0xBF58_476D_1CE4_E5B9);
@@ -23,7 +23,7 @@ impl Random {
 }
 
 /// A frame with up to three other octets, most of them where the definitions look.
-fn other(frame: &[u8], random: &mut Random) -> Vec<u8> {
+pub(crate) fn other(frame: &[u8], random: &mut Random) -> Vec<u8> {
     const PLACES: [usize; 14] = [0, 6, 12, 14, 16, 18, 20, 22, 43, 46, 82, 111, 143, 150];
     let mut octets = bytes(frame);
     for _ in 0..random.below(4) {

@@ -49,24 +49,6 @@ fn is_alarm_of(marks: &Marks, frame: &[u8]) -> bool {
         && number(18, 2, frame) == marks.their_endpoint
 }
 
-/// A Set with a block FactoryReset or ResetToFactory among its first 16.
-fn is_reset(frame: &[u8]) -> bool {
-    if number(12, 2, frame) != 0x8892 || number(14, 2, frame) != 0xFEFD || number(16, 2, frame) != 0x0400 {
-        return false;
-    }
-    let mut rest = part(26, number(24, 2, frame) as usize, frame);
-    for _ in 0..16 {
-        if rest.is_empty() {
-            return false;
-        }
-        if [0x0505, 0x0506].contains(&number(0, 2, rest)) {
-            return true;
-        }
-        rest = from(4 + number(2, 2, rest).div_ceil(2) as usize * 2, rest);
-    }
-    false
-}
-
 fn is_little(call: &[u8]) -> bool {
     number(4, 1, call) / 16 == 1
 }
@@ -129,4 +111,48 @@ pub(crate) fn belongs_to(marks: &Marks, state: State, activity: &[u8], frame: &[
             || is_cyclic_of(marks, &frame)
             || is_alarm_of(marks, &frame)
             || (number(12, 2, &frame) == 0x0800 && (is_call_of(marks, call) || activity_of(call) == activity)))
+}
+
+/// Whether a frame is a DCP Set with one of these options and suboptions among its first 16 blocks; any Set if there are none of them.
+fn is_set_of(kinds: &[u64], frame: &[u8]) -> bool {
+    if number(12, 2, frame) != 0x8892 || number(14, 2, frame) != 0xFEFD || number(16, 2, frame) != 0x0400 {
+        return false;
+    }
+    let mut rest = part(26, number(24, 2, frame) as usize, frame);
+    for _ in 0..16 {
+        if rest.is_empty() {
+            break;
+        }
+        if kinds.contains(&number(0, 2, rest)) {
+            return true;
+        }
+        rest = from(4 + number(2, 2, rest).div_ceil(2) as usize * 2, rest);
+    }
+    kinds.is_empty()
+}
+
+fn is_reset(frame: &[u8]) -> bool {
+    is_set_of(&[0x0505, 0x0506], frame)
+}
+
+/// Whether the frame of anybody leaves a device exactly as it is: it is no call and no Set to the device, or while the device has a relation a Set
+/// without a Signal, and belongs to no relation of it.
+pub(crate) fn is_quiet(marks: &Marks, related: bool, frame: &[u8]) -> bool {
+    let bare = untagged(frame);
+    let is_setting = is_set_of(if related { &[0x0503] } else { &[] }, &bare);
+    let is_call = number(12, 2, &bare) == 0x0800
+        && number(23, 1, &bare) == 17
+        && number(36, 2, &bare) == 34964
+        && number(0, 2, from(42, &bare)) == 0x0400;
+    !(part(0, 6, &bare) == marks.station && (is_setting || is_call)) && !(related && belongs(marks, frame))
+}
+
+/// The stations that a frame goes to and comes from.
+pub(crate) fn ends(frame: &[u8]) -> (&[u8], &[u8]) {
+    (part(0, 6, frame), part(6, 6, frame))
+}
+
+/// The station that a frame comes from.
+pub(crate) fn sender(frame: &[u8]) -> Vec<u8> {
+    part(6, 6, &untagged(frame)).to_vec()
 }

@@ -8,7 +8,7 @@ use relations::Phase;
 use test_stations::mend;
 
 /// A start-up, then an exchange with an alarm, and all frames that came.
-fn exchange(plant: &mut Plant) -> Vec<Came> {
+pub(crate) fn exchange(plant: &mut Plant) -> Vec<Came> {
     let mut came = plant.start();
     for unit in 0..200 {
         came.extend(plant.tick());
@@ -85,7 +85,7 @@ fn is_call(operation: u8) -> impl Fn(&[u8]) -> bool {
 }
 
 /// Frames of other stations, made of `came`: each with its name.
-fn strange(came: &[Came]) -> Vec<(&'static str, Vec<u8>)> {
+pub(crate) fn strange(came: &[Came]) -> Vec<(&'static str, Vec<u8>)> {
     let other: &[u8] = &[2, 0, 0, 0, 0, 9];
     let connect = found(came, true, is_call(0));
     let control = found(came, true, is_call(4));

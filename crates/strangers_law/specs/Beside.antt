@@ -1,0 +1,125 @@
+-- What the services beside one end send, and the relation at the other end.
+use Rattle.std.specs.Prelude.{◌≡◌, ◌≤◌, ◌-◌, ℕ, true, false, List, [], ◌++◌, length, take, drop, replicate, Ok}
+use Rattle.std.specs.List.{AllByRecursion}
+use Rattle.flash_model.specs.declared.flash.Flash.{Ghosts as Flash}
+use Rattle.relations.specs.RelationState.{RelationState}
+use Rattle.device_frames.specs.declared.event.Event.{Event}
+use Rattle.device_frames.specs.declared.event.Event.TheVariants.{Frame}
+use Rattle.device_frames.specs.declared.note.Note.{Note}
+use Rattle.pn_values.specs.declared.identity.Identity.{Identity}
+use Rattle.pn_values.specs.declared.settings.Settings.{Settings}
+use Rattle.frame_codec.specs.declared.udp.Endpoint.{Endpoint}
+use Rattle.frame_codec.specs.Frame.{frame_of}
+use Rattle.frame_codec.specs.Meaning.{Meaning, UdpDatagram}
+use Rattle.rpc_core.specs.declared.interface.Interface.TheVariants.{Device}
+use Rattle.rpc_core.specs.declared.call_headers.call.Head.{Head}
+use Rattle.rpc_core.specs.Interface.{interface_uuid}
+use Rattle.rpc_core.specs.call_headers.Call.{head}
+use Rattle.rpc_core.specs.call_headers.Unserved.{names_interface}
+use Rattle.rpc_services.specs.pieces.Piece.{is_fragment}
+use Rattle.rpc_services.specs.pieces.State.{Unfinished}
+use Rattle.station.specs.Serving.{Serving, serving_at}
+use Rattle.station.specs.State.{Frames, State}
+use Rattle.station.specs.Steps.{StationTakes}
+use Rattle.controller_core.specs.declared.stored.event.Event.{Event as ControllerEvent}
+use Rattle.controller_core.specs.declared.stored.event.Event.TheVariants.{Frame as Heard}
+use Rattle.controller_core.specs.stored.State.{Controlling}
+use Rattle.controller_station.specs.Beside.{Beside}
+use Rattle.controller_station.specs.Runs.{sent_at}
+use Rattle.controller_station.specs.Served.{Served}
+use Rattle.octets_law.specs.Octets.{untagged}
+use Rattle.strangers_law.specs.Controller.{belongs_to, is_said_to}
+use Rattle.strangers_law.specs.Device.{marks_of}
+use Rattle.strangers_law.specs.Strange.{belongs, is_said_of}
+
+-- What a frame has at the place of the body of a datagram, 42: also the data of an echo message (RFC 792).
+abbrev pub carried_by : List ℕ → List ℕ
+carried_by frame = drop 42 (untagged frame)
+
+-- The first octets of these, with zeros up to 18: the padding of a frame of 60 octets.
+abbrev pub padded : ℕ → List ℕ → List ℕ
+padded size octets = take size octets ++ replicate (18 - size) 0
+
+-- ---- the services beside a device, and a controller
+
+-- A header of a call of which fragments are missing: its identifiers have 16 octets.
+pub record IsHeaded (call : Unfinished) : Type 0 where
+  pub object : length call.head.names.object ≡ 16
+  pub interface : length call.head.names.interface ≡ 16
+
+-- The MAC addresses of the services have six octets, and the calls of which fragments are missing have such headers.
+pub record HaveSizes (services : Serving) : Type 0 where
+  pub ip : length services.ip.mac.octets ≡ 6
+  pub near : length services.near.mac.octets ≡ 6
+  pub calls : AllByRecursion IsHeaded services.pieces.calls
+
+-- An event that says nothing to this controller: if it is a frame, it carries no call with the ARUUID, and no packet with the activity of
+-- the controller's calls, also not by its first octets alone. To whom it goes does not count.
+abbrev pub IsUnsaidTo : Controlling → Event → Type 0
+IsUnsaidTo controlling (Frame frame) = (size : ℕ) → is_said_to controlling (padded size (carried_by frame.items)) ≡ false
+IsUnsaidTo controlling event = Unit {0}
+
+-- Each of these frames is a stranger's to this controller.
+abbrev pub AreStrangeTo : Controlling → List (List ℕ) → Type 0
+AreStrangeTo controlling frames = AllByRecursion (λ frame. belongs_to controlling (untagged frame) ≡ false) frames
+
+-- What the services beside a device send at such an event is strange to the controller: ARP, replies to an echo request, LLDP,
+-- acknowledgements of fragments, refusals of calls and answers of the endpoint mapper.
+abbrev pub ServicesLeaveControllers : {F : Type 0} {S : ℕ} → Flash F S → Type 0
+ServicesLeaveControllers {F} as_flash = (old new : State F) (event : Event) (frames : Frames) (said : Note) (controlling : Controlling)
+    → StationTakes as_flash old event frames said new → HaveSizes old.services → IsUnsaidTo controlling event
+    → AreStrangeTo controlling frames.services
+
+-- A frame that carries a whole call, no fragment, to the interface of the device, with an operation that the interface has (0 to 5).
+pub record IsWholeCall (frame : List ℕ) : Type 0 where
+  pub meaning : Meaning
+  pub from : Endpoint
+  pub to : Endpoint
+  pub body : List ℕ
+  pub header : Head
+  pub rest : List ℕ
+  pub read : frame_of frame ≡ Ok meaning
+  pub datagram : meaning.content ≡ UdpDatagram from to body
+  pub headed : head.read body ≡ Ok (header, rest)
+  pub request : header.opening.packet_type ≡ 0
+  pub whole : is_fragment header.opening.flags ≡ false
+  pub interface : names_interface header (interface_uuid Device) ≡ true
+  pub operation : header.turn.operation ≤ 5
+
+abbrev pub CallsWhole : Event → Type 0
+CallsWhole (Frame frame) = IsWholeCall frame.items
+CallsWhole event = ⊥
+
+-- The services beside a device send nothing at such a frame, whether the device accepts the call or not.
+abbrev pub ServicesLeaveCalls : {F : Type 0} {S : ℕ} → Flash F S → Type 0
+ServicesLeaveCalls {F} as_flash = (old new : State F) (event : Event) (frames : Frames) (said : Note)
+    → StationTakes as_flash old event frames said new → CallsWhole event → frames.services ≡ []
+
+-- The sizes are so at the start of a station, and after each event.
+pub record SizesAreKept {F : Type 0} {S : ℕ} (as_flash : Flash F S) : Type 0 where
+  pub first : (identity : Identity) (running : Settings) → length identity.mac.octets ≡ 6 → HaveSizes (serving_at identity running)
+  pub kept : (old new : State F) (event : Event) (frames : Frames) (said : Note) → StationTakes as_flash old event frames said new
+      → HaveSizes old.services → HaveSizes new.services
+
+-- ---- the services beside a controller, and a device
+
+-- The MAC addresses of the services have six octets.
+pub record HaveAddresses (services : Beside) : Type 0 where
+  pub ip : length services.ip.mac.octets ≡ 6
+  pub near : length services.near.mac.octets ≡ 6
+
+-- An event that says nothing to this relation of a device: if it is a frame, it carries no call and no response of the relation, also not by its
+-- first octets alone. To whom it goes does not count.
+abbrev pub IsUnsaidAt : RelationState → ControllerEvent → Type 0
+IsUnsaidAt link (Heard frame) = (size : ℕ) → is_said_of (marks_of link) (padded size (carried_by frame.items)) ≡ false
+IsUnsaidAt link event = Unit {0}
+
+-- Each of these frames is a stranger's to this relation of the device with this MAC address.
+abbrev pub AreStrangeAt : List ℕ → RelationState → List (List ℕ) → Type 0
+AreStrangeAt station link frames = AllByRecursion (λ frame. belongs station (marks_of link) (untagged frame) ≡ false) frames
+
+-- What the services beside a controller send at such an event is strange to the device: ARP, replies to an echo request and LLDP.
+abbrev pub ServicesLeaveDevices : Type 0
+ServicesLeaveDevices = (served : Served) (event : ControllerEvent) (station : List ℕ) (link : RelationState)
+    → HaveAddresses served.services → IsUnsaidAt link event
+    → AreStrangeAt station link (sent_at served event).services
