@@ -66,28 +66,29 @@ silent_turn setup live more stands silent =
     = ap (λ (b : Bool). tick_by live.cyclic (either_due high low) (if b then Some reason.DataHold else ending_by (either_due high low))) silent in
     goes_on setup live more ∙ (moved ∙ ap (λ (b : Brought). flowed (flow_later live) high low (is_again live) b b.ending) brings)
 
-module _ (setup : Setup) (device : Mac) (left : ℕ) (controller : Controlling) (is : IsAlone setup device left controller) where
+module _ (setup : Setup) (serial : ℕ) (device : Mac) (left : ℕ) (controller : Controlling) (is : IsAlone setup serial device left controller) where
   unlimited : is_spent controller.live ≡ false
   unlimited = ap (λ (p : Phases). is_limited p && controller.live.left == 1) is.in_phase
 
-  ends : is_silent controller.live.cyclic ≡ true → HasLeft setup device (step_of controller Tick)
+  ends : is_silent controller.live.cyclic ≡ true → HasLeft setup serial device (step_of controller Tick)
   ends silent =
       let live = controller.live in
       let header = header_of (flow_later live).alarms live.cyclic.route pdu.Error in
       let whole = by_turn controller (ended_by (flow_later live) reason.DataHold) (silent_turn controller.setup live unlimited is.established silent) in
-      subst (HasLeft setup device) (sym whole) (record {
+      subst (HasLeft setup serial device) (sym whole) (record {
         octets = bytes_of controller.setup (Ends live.cyclic.route header reason.DataHold);
         frames = refl;
         end = record {
           header = header;
           reason = reason.DataHold;
+          few = is.few;
           frame = ap (λ (s : Setup). bytes_of s (Ends live.cyclic.route header reason.DataHold)) is.of_setup
               ∙ ap (λ (r : Route). bytes_of setup (Ends r header reason.DataHold)) is.route;
         };
         ended = record { of_setup = is.of_setup; in_phase = refl; unasked = refl; unestablished = refl; alone = refl };
       })
 
-  waits : is_silent controller.live.cyclic ≡ false → HasWaited setup device left (step_of controller Tick)
+  waits : is_silent controller.live.cyclic ≡ false → HasWaited setup serial device left (step_of controller Tick)
   waits heard =
       let live = controller.live in
       let none_high : due live.alarms.sending ≡ Nothing = ap (due_behind live.alarms.sending) is.high in
@@ -98,14 +99,15 @@ module _ (setup : Setup) (device : Mac) (left : ℕ) (controller : Controlling) 
       let turn = turn_with (flow_later live) (sent_at live (due live.alarms.sending) (due live.low_alarms.sending)) in
       let whole = by_turn controller turn
       (turn_there controller.setup live unlimited is.established heard (ap ending_by none_high) (ap ending_by none_low)) in
-      subst (HasWaited setup device left) (sym whole) (record {
+      subst (HasWaited setup serial device left) (sym whole) (record {
         fewer = left - 1;
         less = omega (arith, few, is.time);
-        outputs = quiet setup device controller is.of_setup is.route none_high none_low is.unasked is.alone;
+        outputs = quiet serial setup device controller is.of_setup is.few is.route none_high none_low is.unasked is.alone;
         alone = record {
           of_setup = is.of_setup;
           in_phase = is.in_phase;
           established = is.established;
+          few = is.few;
           route = is.route;
           high = ap (waiting_behind live.alarms.sending) is.high;
           low = ap (waiting_behind live.low_alarms.sending) is.low;
@@ -117,9 +119,9 @@ module _ (setup : Setup) (device : Mac) (left : ℕ) (controller : Controlling) 
       })
 
   by_silence : (silent : Bool) → is_silent controller.live.cyclic ≡ silent
-      → HasLeft setup device (step_of controller Tick) ⊎ HasWaited setup device left (step_of controller Tick)
+      → HasLeft setup serial device (step_of controller Tick) ⊎ HasWaited setup serial device left (step_of controller Tick)
   by_silence true e = inl (ends e)
   by_silence false e = inr (waits e)
 
-  pub alone_unit : HasLeft setup device (step_of controller Tick) ⊎ HasWaited setup device left (step_of controller Tick)
+  pub alone_unit : HasLeft setup serial device (step_of controller Tick) ⊎ HasWaited setup serial device left (step_of controller Tick)
   alone_unit = by_silence (is_silent controller.live.cyclic) refl

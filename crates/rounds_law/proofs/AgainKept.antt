@@ -26,7 +26,7 @@ use Rattle.device_frames.specs.Sendable.{AreSendable}
 use Rattle.device_frames.specs.Sent.{Sent, bytes_of}
 use Rattle.device_core.specs.State.{Live, Rest, Station}
 use Rattle.device_core.specs.Log.{connect_log, with_log}
-use Rattle.device_core.specs.Handled.{Moves, answer_from, handled_call, handled_looked, handled_said}
+use Rattle.device_core.specs.Handled.{counted_by, number_now, Moves, answer_from, handled_call, handled_looked, handled_said}
 use Rattle.device_core.specs.Handled.{is_running, kept_behind, kept_for, partner_of, starting_of}
 use Rattle.device_core.specs.Machine.{Stepped}
 use Rattle.controller_messages.specs.declared.setup.Setup.{Setup}
@@ -94,7 +94,7 @@ none_without activity other (kept ∷ calls) none =
     either true both later = both.1
     either false both later = ap (λ (b : Bool). if b then Some kept else kept_of activity (without other calls)) both.0 ∙ later
 
-none_more : (activity : List ℕ) (kept : Kept) (calls : List Kept) → (activity ≡ kept.activity → ⊥)
+pub none_more : (activity : List ℕ) (kept : Kept) (calls : List Kept) → (activity ≡ kept.activity → ⊥)
     → kept_of activity calls ≡ None → kept_of activity (kept_more 4 kept calls) ≡ None
 none_more activity kept calls other none =
     other_kept activity kept (take 3 (without kept.activity calls)) other
@@ -111,7 +111,7 @@ module _ (setup : Setup) (identity : Identity) (station : Station) (live : Live)
   blocks = blocks_of setup asks.Connect
 
   abbrev outcome : Option RelationState → Result (List ℕ) CallFault
-  outcome link = connect_answer station.identity station.real station.options caller.mac link blocks
+  outcome link = connect_answer station.identity station.real station.options (number_now station live) caller.mac link blocks
 
   abbrev sent : Sent
   sent = answer_from live.values.running.suite.address caller call Connect (outcome live.rest.link)
@@ -120,7 +120,7 @@ module _ (setup : Setup) (identity : Identity) (station : Station) (live : Live)
   link_by asked = updated (making station.real (partner_of caller) station.options (starting_of station live) asked) live.rest.link
 
   abbrev rest : Rest
-  rest = kept_behind station.identity (with_log (connect_log blocks (outcome live.rest.link)) live.rest) call sent
+  rest = kept_behind station.identity (counted_by (outcome live.rest.link) (with_log (connect_log blocks (outcome live.rest.link)) live.rest)) call sent
       (link_by (connect_within station.options caller.mac live.rest.link blocks))
 
   is_handled : kept_of setup.activity live.rest.calls ≡ None → handled_said station live caller (Calls call) ≡ Moves rest (sent ∷ [])
@@ -147,7 +147,7 @@ module _ (setup : Setup) (identity : Identity) (station : Station) (live : Live)
       (is_handled uncalled) in
       let because = refused_by earlier.link earlier.has in
       let message = ap (λ (asked : Result Request CallFault). answer_from live.values.running.suite.address caller call Connect
-      (asked >>= λ request. Ok (connect_blocks station.identity request (differing_of request station.real)))) because.1
+      (asked >>= λ request. Ok (connect_blocks station.identity (number_now station live) request (differing_of request station.real)))) because.1
       ∙ ap (λ suite. answer_from suite.address caller call Connect (Err because.0)) addressed.suite in
       subst (λ (step : Stepped). IsRefused setup identity live step) (sym stepped) (
         bytes_of station.identity sent,

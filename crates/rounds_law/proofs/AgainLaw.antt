@@ -1,5 +1,5 @@
 -- A controller that starts while its device still has an earlier relation, and is started again.
-use Rattle.std.proofs.Common.{◌≡◌, ◌⊎◌, inl, inr, ◌≤◌, ◌+◌, ◌-◌, ℕ, zero, suc, Bool, true, false, List, [], ◌∷◌, ◌++◌, None, refl, sym, ap, subst, ◌∙◌, arith}
+use Rattle.std.proofs.Common.{◌≡◌, ◌⊎◌, inl, inr, ◌≤◌, ◌+◌, ◌-◌, ℕ, zero, suc, Bool, true, false, List, [], ◌∷◌, ◌++◌, None, refl, sym, ap, subst, ◌∙◌, arith, Some}
 use Rattle.std.specs.Prelude.{nat_le, if◌then◌else◌}
 use Rattle.std.specs.List.{AllByRecursion}
 use Rattle.std.proofs.lemmas.Bool.Decides.{nat_tests}
@@ -21,7 +21,7 @@ use Rattle.controller_core.specs.declared.stored.event.Event.TheVariants.{Tick}
 use Rattle.controller_core.specs.declared.stored.state.Cause.{Cause}
 use Rattle.controller_core.specs.declared.stored.state.Cause.TheVariants.{DataHold, Refused}
 use Rattle.controller_core.specs.declared.stored.state.State.{State as Phases}
-use Rattle.controller_core.specs.declared.stored.state.State.TheVariants.{Addressing, Connecting}
+use Rattle.controller_core.specs.declared.stored.state.State.TheVariants.{Addressing, Connecting, Ended}
 use Rattle.controller_core.specs.stored.State.{Controlling}
 use Rattle.controller_core.specs.Machine.{Stepped, first as first_live, opening_of, step_of}
 use Rattle.network_world.specs.World.{is_ended}
@@ -34,14 +34,14 @@ use Rattle.rounds_law.specs.Stages.{IsAddressing, IsConnecting, IsLooking, Leads
 use Rattle.rounds_law.specs.Start.{CanBeAddressed, CanStart, IsOfPlan, start_up_limit}
 use Rattle.rounds_law.specs.Again.{AreStarts, HasEarlier, HasEnded, HasLeft, HasWaited, IsAlone, IsDeserted, IsEnd, IsRefusal, IsRestart, LeadsBack, Plant}
 use Rattle.rounds_law.specs.Again.{PlantRound, after_round, begun_with, made, started, unset_frame}
-use Rattle.rounds_law.proofs.CompositionEnds.{Passed, addressed_by, asked_after, can_by, ignore, named_by, passed}
+use Rattle.rounds_law.proofs.CompositionEnds.{Passed, addressed_by, asked_after, can_by, ignore, named_by, passed, searching_first}
 use Rattle.rounds_law.proofs.CompositionLaws.{Laws}
 use Rattle.rounds_law.proofs.CompositionLists.{arrive, arrive_first, arrives_as, hears_one, never, went_at}
 use Rattle.rounds_law.proofs.CompositionRounds.{opening_is, two_more}
 
 -- ---- more rounds
 
-leads_more : {F : Type 0} {S : ℕ} (as_flash : Flash F S) (pause n m : ℕ) (plant : Plant F) → n ≤ m
+pub leads_more : {F : Type 0} {S : ℕ} (as_flash : Flash F S) (pause n m : ℕ) (plant : Plant F) → n ≤ m
     → LeadsBack as_flash pause n plant → LeadsBack as_flash pause m plant
 leads_more as_flash pause zero zero plant few both = both
 leads_more as_flash pause zero (suc m) plant few both = inl both
@@ -59,14 +59,14 @@ leads_on as_flash zero net both = exchanging_on net both
 leads_on as_flash (suc n) net (inl both) = exchanging_on net both
 leads_on as_flash (suc n) net (inr leads) = leads.0
 
-goes_on_with : {F : Type 0} (pause : ℕ) (before : Plant F) (net : Net F) → is_ended net.controller.live.phase ≡ false
+pub goes_on_with : {F : Type 0} (pause : ℕ) (before : Plant F) (net : Net F) → is_ended net.controller.live.phase ≡ false
     → after_round pause before net ≡ record { net = net; later = before.later; idle = 0 }
 goes_on_with pause before net on =
     ap (λ (b : Bool). if b then (if nat_le pause (before.idle + 1) then started before.later net (before.idle + 1)
     else record { net = net; later = before.later; idle = before.idle + 1 })
     else record { net = net; later = before.later; idle = 0 }) on
 
-plant_leads : {F : Type 0} {S : ℕ} (as_flash : Flash F S) (pause n : ℕ) (plant : Plant F) → Leads as_flash n plant.net → LeadsBack as_flash pause n plant
+pub plant_leads : {F : Type 0} {S : ℕ} (as_flash : Flash F S) (pause n : ℕ) (plant : Plant F) → Leads as_flash n plant.net → LeadsBack as_flash pause n plant
 plant_leads as_flash pause zero plant both = both
 plant_leads as_flash pause (suc n) plant (inl both) = inl both
 plant_leads as_flash pause (suc n) plant (inr leads) = inr (λ next round.
@@ -103,70 +103,70 @@ pub record AgainLaws (setup : Setup) (identity : Identity) : Type 0 where
   pub unrelated : (outcomes : List Outcome) (station : Station) (live : Live) → live.rest.link ≡ None
       → ((heard_step outcomes station live Ticks).frames ≡ []) × ((heard_step outcomes station live Ticks).live.values ≡ live.values)
       × ((heard_step outcomes station live Ticks).live.rest.calls ≡ live.rest.calls) × ((heard_step outcomes station live Ticks).live.rest.link ≡ None)
-  pub vain : (outcomes : List Outcome) (station : Station) (live : Live) (octets : List ℕ) → station.identity ≡ identity
-      → live.rest.link ≡ None → IsOutputs setup identity.mac octets ⊎ IsEnd setup identity.mac octets
+  pub vain : (serial : ℕ) (outcomes : List Outcome) (station : Station) (live : Live) (octets : List ℕ) → station.identity ≡ identity
+      → live.rest.link ≡ None → IsOutputs setup (Some serial) identity.mac octets ⊎ IsEnd setup serial identity.mac octets
       → ((device_step outcomes station live octets).frames ≡ []) × ((device_step outcomes station live octets).live ≡ live)
 
 pub record EndedLaws (setup : Setup) (identity : Identity) : Type 0 where
-  pub refused : (controller : Controlling) (spare : ℕ) (octets : List ℕ) → Asks setup identity.mac Connecting wants.Connect false spare controller
+  pub refused : (controller : Controlling) (spare : ℕ) (octets : List ℕ) → Asks setup identity.mac Connecting wants.Connect None spare controller
       → IsRefusal setup identity octets
       → ((controller_step controller octets).frames ≡ []) × HasEnded setup Refused (controller_step controller octets).controller
-  pub unset : (controller : Controlling) (spare : ℕ) → Asks setup identity.mac Addressing wants.Address false spare controller
+  pub unset : (controller : Controlling) (spare : ℕ) → Asks setup identity.mac Addressing wants.Address None spare controller
       → ((controller_step controller (unset_frame setup identity)).frames ≡ [])
       × HasEnded setup Refused (controller_step controller (unset_frame setup identity)).controller
   pub unit : (cause : Cause) (controller : Controlling) → HasEnded setup cause controller
       → ((step_of controller Tick).frames ≡ []) × HasEnded setup cause (step_of controller Tick).controller
-  pub alone : (controller : Controlling) (left : ℕ) → IsAlone setup identity.mac left controller
-      → HasLeft setup identity.mac (step_of controller Tick) ⊎ HasWaited setup identity.mac left (step_of controller Tick)
+  pub alone : (serial : ℕ) (controller : Controlling) (left : ℕ) → IsAlone setup serial identity.mac left controller
+      → HasLeft setup serial identity.mac (step_of controller Tick) ⊎ HasWaited setup serial identity.mac left (step_of controller Tick)
 
 -- ---- a net whose device still has the earlier relation
 
 -- It has the earlier relation, seen from either start.
-record Has (setup next : Setup) (left : ℕ) (live : Live) : Type 0 where
-  here : HasEarlier setup left live
-  there : HasEarlier next left live
+pub record Has (setup next : Setup) (left : ℕ) (live : Live) : Type 0 where
+  pub here : HasEarlier setup left live
+  pub there : HasEarlier next left live
 
 -- It has no relation, or has the earlier one for this many units at most.
-abbrev Lasts : (setup next : Setup) → ℕ → Live → Type 0
+abbrev pub Lasts : (setup next : Setup) → ℕ → Live → Type 0
 Lasts setup next zero live = live.rest.link ≡ None
 Lasts setup next (suc left) live = (live.rest.link ≡ None) ⊎ Has setup next (suc left) live
 
 -- After a unit. What is stored of calls with this activity is as before.
-record Aged {F : Type 0} (setup next : Setup) (station : Station) (before : Live) (left : ℕ) (frames : List (List ℕ)) (after : State F) : Type 0 where
-  ignored : AllByRecursion (IsIgnored setup) frames
-  ignored_next : AllByRecursion (IsIgnored next) frames
-  of_station : after.station ≡ station
-  values : after.live.values ≡ before.values
-  calls : after.live.rest.calls ≡ before.rest.calls
-  lasts : Lasts setup next left after.live
+pub record Aged {F : Type 0} (setup next : Setup) (station : Station) (before : Live) (left : ℕ) (frames : List (List ℕ)) (after : State F) : Type 0 where
+  pub ignored : AllByRecursion (IsIgnored setup) frames
+  pub ignored_next : AllByRecursion (IsIgnored next) frames
+  pub of_station : after.station ≡ station
+  pub values : after.live.values ≡ before.values
+  pub calls : after.live.rest.calls ≡ before.rest.calls
+  pub lasts : Lasts setup next left after.live
 
 -- What all these nets have. The device has stored no answer of the next start.
-record Stands {F : Type 0} (setup next : Setup) (identity : Identity) (net : Net F) : Type 0 where
-  ignored : AllByRecursion (IsIgnored setup) net.to_controller
-  ignored_next : AllByRecursion (IsIgnored next) net.to_controller
-  of_device : net.device.station.identity ≡ identity
-  of_plan : IsOfPlan setup net.device.station
-  named : IsNamed setup net.device.live
-  sized : IsSized net.device.live.values.running.suite
-  addressed : IsAddressed setup net.device.live ⊎ CanBeAddressed net.device.live
-  uncalled_next : kept_of next.activity net.device.live.rest.calls ≡ None
+pub record Stands {F : Type 0} (setup next : Setup) (identity : Identity) (net : Net F) : Type 0 where
+  pub ignored : AllByRecursion (IsIgnored setup) net.to_controller
+  pub ignored_next : AllByRecursion (IsIgnored next) net.to_controller
+  pub of_device : net.device.station.identity ≡ identity
+  pub of_plan : IsOfPlan setup net.device.station
+  pub named : IsNamed setup net.device.live
+  pub sized : IsSized net.device.live.values.running.suite
+  pub addressed : IsAddressed setup net.device.live ⊎ CanBeAddressed net.device.live
+  pub uncalled_next : kept_of next.activity net.device.live.rest.calls ≡ None
 
 -- A request is under way that the device will refuse.
-record IsAsking {F : Type 0} (setup next : Setup) (identity : Identity) (left : ℕ) (phase : Phases) (request : Request) (net : Net F) : Type 0 where
-  stands : Stands setup next identity net
-  spare : ℕ
-  asks : Asks setup identity.mac phase request false spare net.controller
-  under_way : net.to_device ≡ request_to setup identity request ∷ []
-  has : Has setup next left net.device.live
-  uncalled : kept_of setup.activity net.device.live.rest.calls ≡ None
+pub record IsAsking {F : Type 0} (setup next : Setup) (identity : Identity) (left : ℕ) (phase : Phases) (request : Request) (net : Net F) : Type 0 where
+  pub stands : Stands setup next identity net
+  pub spare : ℕ
+  pub asks : Asks setup identity.mac phase request None spare net.controller
+  pub under_way : net.to_device ≡ request_to setup identity request ∷ []
+  pub has : Has setup next left net.device.live
+  pub uncalled : kept_of setup.activity net.device.live.rest.calls ≡ None
 
 -- The controller has ended.
-record IsOver {F : Type 0} (setup next : Setup) (identity : Identity) (left : ℕ) (net : Net F) : Type 0 where
-  stands : Stands setup next identity net
-  cause : Cause
-  ended : HasEnded setup cause net.controller
-  nothing : net.to_device ≡ []
-  lasts : Lasts setup next left net.device.live
+pub record IsOver {F : Type 0} (setup next : Setup) (identity : Identity) (left : ℕ) (net : Net F) : Type 0 where
+  pub stands : Stands setup next identity net
+  pub cause : Cause
+  pub ended : HasEnded setup cause net.controller
+  pub nothing : net.to_device ≡ []
+  pub lasts : Lasts setup next left net.device.live
 
 two_of : (setup next : Setup) (left : ℕ) (live : Live) → (live.rest.link ≡ None) ⊎ HasEarlier setup left live
     → (live.rest.link ≡ None) ⊎ HasEarlier next left live
@@ -185,6 +185,8 @@ moved_to setup left before after same earlier = record {
   other = earlier.other;
   request = earlier.request;
   partner = earlier.partner;
+  serial = earlier.serial;
+  few = earlier.few;
   route = earlier.route;
   begun = earlier.begun;
   time = earlier.time;
@@ -195,7 +197,7 @@ both_moved setup next left before after same has =
     record { here = moved_to setup left before after same has.here; there = moved_to next left before after same has.there }
 
 -- It lasts longer at most.
-longer : (setup : Setup) (left : ℕ) (live : Live) → HasEarlier setup left live → HasEarlier setup (suc left) live
+pub longer : (setup : Setup) (left : ℕ) (live : Live) → HasEarlier setup left live → HasEarlier setup (suc left) live
 longer setup left live earlier = record {
   link = earlier.link;
   has = earlier.has;
@@ -204,21 +206,23 @@ longer setup left live earlier = record {
   other = earlier.other;
   request = earlier.request;
   partner = earlier.partner;
+  serial = earlier.serial;
+  few = earlier.few;
   route = earlier.route;
   begun = earlier.begun;
   time = omega (arith, earlier.time);
 }
 
 -- One less, and one sum that computes by its first number.
-abbrev less : ℕ → ℕ
+abbrev pub less : ℕ → ℕ
 less zero = zero
 less (suc n) = n
 
-abbrev sum : ℕ → ℕ → ℕ
+abbrev pub sum : ℕ → ℕ → ℕ
 sum zero n = n
 sum (suc r) n = suc (sum r n)
 
-sum_is : (r n : ℕ) → sum r n ≡ r + n
+pub sum_is : (r n : ℕ) → sum r n ≡ r + n
 sum_is zero n = omega arith
 sum_is (suc r) n = let later : sum r n ≡ r + n = sum_is r n in omega (arith, later)
 
@@ -238,7 +242,7 @@ module _ {F : Type 0} {S : ℕ} (as_flash : Flash F S) (setup next : Setup) (ide
   -- ---- a unit at the device
 
   -- The unit of a device without a relation changes nothing that counts.
-  free_aged : (before : State F) (station : Station) (left : ℕ) (frames : List (List ℕ)) (after : State F) → before.station ≡ station
+  pub free_aged : (before : State F) (station : Station) (left : ℕ) (frames : List (List ℕ)) (after : State F) → before.station ≡ station
       → Goes as_flash before Ticks frames after → before.live.rest.link ≡ None → Aged setup next station before.live left frames after
   free_aged before station left frames after same goes none =
       let w = went_at as_flash before station Ticks frames after same goes in
@@ -295,7 +299,7 @@ module _ {F : Type 0} {S : ℕ} (as_flash : Flash F S) (setup next : Setup) (ide
   stays_addressed net after values (inl has) = inl (addressed_by setup net.device.live after.device.live values has)
   stays_addressed net after values (inr can) = inr (can_by net.device.live after.device.live values can)
 
-  stays_on : (net after : Net F) (left : ℕ) (between : State F) → between.live.values ≡ net.device.live.values
+  pub stays_on : (net after : Net F) (left : ℕ) (between : State F) → between.live.values ≡ net.device.live.values
       → kept_of next.activity between.live.rest.calls ≡ None → Stands setup next identity net
       → Aged setup next net.device.station between.live left after.to_controller after.device → Stands setup next identity after
   stays_on net after left between kept uncalled stands unit =
@@ -314,17 +318,17 @@ module _ {F : Type 0} {S : ℕ} (as_flash : Flash F S) (setup next : Setup) (ide
   -- ---- the search
 
   -- A request that the device will refuse, as long as the earlier relation lasts.
-  abbrev MayAsk : ℕ → Phases → Request → Net F → Type 0
+  abbrev pub MayAsk : ℕ → Phases → Request → Net F → Type 0
   MayAsk zero phase request net = ⊥
   MayAsk (suc left) phase request net = IsAsking setup next identity (suc left) phase request net
 
   -- The next request is under way.
-  abbrev Next : ℕ → Net F → Type 0
+  abbrev pub Next : ℕ → Net F → Type 0
   Next left net = (IsAddressing setup identity net ⊎ MayAsk left Addressing wants.Address net)
       ⊎ (IsConnecting setup identity net ⊎ (IsAddressed setup net.device.live × MayAsk left Connecting wants.Connect net))
 
   asking_by : (left : ℕ) (net : Net F) (request : Request) (phase : Phases) (spare : ℕ) → Stands setup next identity net
-      → Asks setup identity.mac phase request false spare net.controller → net.to_device ≡ request_to setup identity request ∷ []
+      → Asks setup identity.mac phase request None spare net.controller → net.to_device ≡ request_to setup identity request ∷ []
       → kept_of setup.activity net.device.live.rest.calls ≡ None
       → Lasts setup next left net.device.live → IsFree setup net.device.live ⊎ MayAsk left phase request net
   asking_by zero net request phase spare stood asks under_way uncalled none = inl (record { unrelated = none; uncalled = uncalled })
@@ -333,7 +337,7 @@ module _ {F : Type 0} {S : ℕ} (as_flash : Flash F S) (setup next : Setup) (ide
       inr (record { stands = stood; spare = spare; asks = asks; under_way = under_way; has = has; uncalled = uncalled })
 
   connecting_by : (left : ℕ) (net : Net F) (spare : ℕ) → Stands setup next identity net
-      → Asks setup identity.mac Connecting wants.Connect false spare net.controller
+      → Asks setup identity.mac Connecting wants.Connect None spare net.controller
       → net.to_device ≡ request_to setup identity wants.Connect ∷ [] → IsAddressed setup net.device.live
       → IsFree setup net.device.live ⊎ MayAsk left Connecting wants.Connect net → Next left net
   connecting_by left net spare stood asks under_way addressed (inl free) = inr (inl (record {
@@ -349,7 +353,7 @@ module _ {F : Type 0} {S : ℕ} (as_flash : Flash F S) (setup next : Setup) (ide
   connecting_by left net spare stood asks under_way addressed (inr asking) = inr (inr (addressed, asking))
 
   addressing_by : (left : ℕ) (net : Net F) (spare : ℕ) → Stands setup next identity net
-      → Asks setup identity.mac Addressing wants.Address false spare net.controller
+      → Asks setup identity.mac Addressing wants.Address None spare net.controller
       → net.to_device ≡ request_to setup identity wants.Address ∷ [] → CanBeAddressed net.device.live
       → IsFree setup net.device.live ⊎ MayAsk left Addressing wants.Address net → Next left net
   addressing_by left net spare stood asks under_way room (inl free) = inl (inl (record {
@@ -377,15 +381,15 @@ module _ {F : Type 0} {S : ℕ} (as_flash : Flash F S) (setup next : Setup) (ide
       → IsAddressed setup net.device.live ⊎ CanBeAddressed net.device.live → Next left after
   by_found left net after stood values uncalled lasts step u (inl found) addressed =
       let spare = write_count setup.plan + 1 in
-      let asked = asked_after setup identity laws step after Connecting wants.Connect false spare refl u
-      (subst (λ (n : ℕ). AsksNext setup identity Connecting wants.Connect false n step) (two_more (write_count setup.plan)) found.1) in
+      let asked = asked_after setup identity laws step after Connecting wants.Connect None spare refl u
+      (subst (λ (n : ℕ). AsksNext setup identity Connecting wants.Connect None n step) (two_more (write_count setup.plan)) found.1) in
       let under_way = asked.under_way ∙ ap (λ (fs : List (List ℕ)). request_to setup identity wants.Connect ∷ fs) (asked.unsent refl) in
       connecting_by left after spare stood asked.asks under_way (record { suite = ap (λ (v : Values). v.running.suite) values ∙ found.0 })
       (asking_by left after wants.Connect Connecting spare stood asked.asks under_way uncalled lasts)
   by_found left net after stood values uncalled lasts step u (inr found) addressed =
       let spare = write_count setup.plan + 1 in
-      let asked = asked_after setup identity laws step after Addressing wants.Address false spare refl u
-      (subst (λ (n : ℕ). AsksNext setup identity Addressing wants.Address false n step) (two_more (write_count setup.plan)) found.1) in
+      let asked = asked_after setup identity laws step after Addressing wants.Address None spare refl u
+      (subst (λ (n : ℕ). AsksNext setup identity Addressing wants.Address None n step) (two_more (write_count setup.plan)) found.1) in
       let under_way = asked.under_way ∙ ap (λ (fs : List (List ℕ)). request_to setup identity wants.Address ∷ fs) (asked.unsent refl) in
       addressing_by left after spare stood asked.asks under_way (room_of net after values found.0 addressed)
       (asking_by left after wants.Address Addressing spare stood asked.asks under_way uncalled lasts)
@@ -415,12 +419,13 @@ module _ {F : Type 0} {S : ℕ} (as_flash : Flash F S) (setup next : Setup) (ide
       let values : after.device.live.values ≡ net.device.live.values = unit.values ∙ ap (λ (live : Live). live.values) all.0.is in
       let calls : after.device.live.rest.calls ≡ net.device.live.rest.calls = unit.calls ∙ ap (λ (live : Live). live.rest.calls) all.0.is in
       by_found left net after stood values (ap (kept_of setup.activity) calls ∙ uncalled) unit.lasts step u
-      (laws.controller_found can.patient vendor device settings kept.between stands.named.name stands.sized kept.is.0 kept.is.1) stands.addressed
+      (laws.controller_found can.patient vendor device settings kept.between stands.named.name stands.sized
+      (searching_first setup kept.between kept.is.0 kept.is.1)) stands.addressed
 
   -- ---- the device refuses
 
   -- The controller after the unit in which it ended.
-  over_after : (why : Cause) (heard : Stepped) (after : Net F) → heard.frames ≡ [] → HasEnded setup why heard.controller → Passed heard after
+  pub over_after : (why : Cause) (heard : Stepped) (after : Net F) → heard.frames ≡ [] → HasEnded setup why heard.controller → Passed heard after
       → HasEnded setup why after.controller × (after.to_device ≡ [])
   over_after why heard after none ended u =
       let law = ends.unit why heard.controller ended in (
@@ -453,7 +458,7 @@ module _ {F : Type 0} {S : ℕ} (as_flash : Flash F S) (setup next : Setup) (ide
       (arrives_as as_flash net after round (connect ∷ []) asking.under_way) in
       let its = law all.1 in
       let unit = has_aged round.device station left after.to_controller after.device all.0.of_station stands.of_device round.unit all.0.is.has in
-      let kept = ignore setup (λ (c : Controlling). Asks setup identity.mac Connecting wants.Connect false asking.spare c)
+      let kept = ignore setup (λ (c : Controlling). Asks setup identity.mac Connecting wants.Connect None asking.spare c)
       (λ c is. (is.of_setup, is.established))
       net.controller net.to_controller (its.0 ∷ []) stands.ignored asking.asks in
       let step = controller_step kept.between its.0 in
@@ -481,7 +486,7 @@ module _ {F : Type 0} {S : ℕ} (as_flash : Flash F S) (setup next : Setup) (ide
       (arrives_as as_flash net after round (address ∷ []) asking.under_way) in
       let unit = has_aged round.device station left after.to_controller after.device all.0.of_station stands.of_device round.unit
       (subst (λ (live : Live). Has setup next (suc left) live) (sym all.0.is) asking.has) in
-      let kept = ignore setup (λ (c : Controlling). Asks setup identity.mac Addressing wants.Address false asking.spare c)
+      let kept = ignore setup (λ (c : Controlling). Asks setup identity.mac Addressing wants.Address None asking.spare c)
       (λ c is. (is.of_setup, is.established))
       net.controller net.to_controller (unset_frame setup identity ∷ []) stands.ignored asking.asks in
       let step = controller_step kept.between (unset_frame setup identity) in
@@ -517,7 +522,7 @@ module _ {F : Type 0} {S : ℕ} (as_flash : Flash F S) (setup next : Setup) (ide
         lasts = unit.lasts;
       }
 
-  waits : (left : ℕ) (net after : Net F) → IsOver setup next identity left net → Round as_flash net after → IsOver setup next identity (less left) after
+  pub waits : (left : ℕ) (net after : Net F) → IsOver setup next identity left net → Round as_flash net after → IsOver setup next identity (less left) after
   waits left net after over round =
       let hears = arrives_as as_flash net after round [] over.nothing in
       let station_is : round.device.station ≡ net.device.station = ap (λ (d : State F). d.station) hears.0 in
@@ -533,38 +538,44 @@ module _ {F : Type 0} {S : ℕ} (as_flash : Flash F S) (setup next : Setup) (ide
 
   -- It has no relation, its controller still exchanges data, and only outputs are under way.
   record IsLeft (left : ℕ) (net : Net F) : Type 0 where
+    serial : ℕ
     stands : Stands setup next identity net
-    alone : IsAlone setup identity.mac left net.controller
-    outputs : AllByRecursion (IsOutputs setup identity.mac) net.to_device
+    alone : IsAlone setup serial identity.mac left net.controller
+    outputs : AllByRecursion (IsOutputs setup (Some serial) identity.mac) net.to_device
     silent : net.to_controller ≡ []
     unrelated : net.device.live.rest.link ≡ None
 
   -- Its controller has ended, and the ERR is under way.
   record IsEnding (net : Net F) : Type 0 where
+    serial : ℕ
     stands : Stands setup next identity net
     ended : HasEnded setup DataHold net.controller
     octets : List ℕ
-    end : IsEnd setup identity.mac octets
+    end : IsEnd setup serial identity.mac octets
     under_way : net.to_device ≡ octets ∷ []
     silent : net.to_controller ≡ []
     unrelated : net.device.live.rest.link ≡ None
 
   -- What a round does if nothing is under way to the controller, and what is under way to the device changes nothing there.
-  record Vain (net after : Net F) : Type 0 where
-    stands : Stands setup next identity after
-    silent : after.to_controller ≡ []
-    unrelated : after.device.live.rest.link ≡ None
-    passed : Passed (record { controller = net.controller; frames = [] }) after
+  pub record Vain (net after : Net F) : Type 0 where
+    pub stands : Stands setup next identity after
+    pub silent : after.to_controller ≡ []
+    pub unrelated : after.device.live.rest.link ≡ None
+    pub values : after.device.live.values ≡ net.device.live.values
+    pub calls : after.device.live.rest.calls ≡ net.device.live.rest.calls
+    pub passed : Passed (record { controller = net.controller; frames = [] }) after
 
-  in_vain : (net after : Net F) → Stands setup next identity net → net.to_controller ≡ [] → net.device.live.rest.link ≡ None
-      → AllByRecursion (λ (octets : List ℕ). IsOutputs setup identity.mac octets ⊎ IsEnd setup identity.mac octets) net.to_device
-      → Round as_flash net after → Vain net after
-  in_vain net after stands silent none said round =
+  pub in_vain : (net after : Net F) (Of : List ℕ → Type 0)
+      → ((octets : List ℕ) → Of octets → ((device_step [] net.device.station net.device.live octets).frames ≡ [])
+      × ((device_step [] net.device.station net.device.live octets).live ≡ net.device.live))
+      → Stands setup next identity net → net.to_controller ≡ [] → net.device.live.rest.link ≡ None
+      → AllByRecursion Of net.to_device → Round as_flash net after → Vain net after
+  in_vain net after Of keeps stands silent none said round =
       let station = net.device.station in
-      let all = arrive as_flash station (λ (live : Live). live ≡ net.device.live)
-      (λ (octets : List ℕ). IsOutputs setup identity.mac octets ⊎ IsEnd setup identity.mac octets)
+      let all = arrive as_flash station (λ (live : Live). live ≡ net.device.live) Of
       (λ live octets is same.
-      let law = again.vain [] station live octets stands.of_device (ap (λ (l : Live). l.rest.link) same ∙ none) is in (law.0, law.1 ∙ same))
+      subst (λ (l : Live). ((device_step [] station l octets).frames ≡ []) × ((device_step [] station l octets).live ≡ net.device.live)) (sym same)
+      (keeps octets is))
       net.device net.to_device round.answers round.device refl said refl round.arrives in
       let still : round.device.live.rest.link ≡ None = ap (λ (live : Live). live.rest.link) all.is ∙ none in
       let unit = free_aged round.device station 0 after.to_controller after.device all.of_station round.unit still in
@@ -575,26 +586,39 @@ module _ {F : Type 0} {S : ℕ} (as_flash : Flash F S) (setup next : Setup) (ide
         silent = (went_at as_flash round.device station Ticks after.to_controller after.device all.of_station round.unit).sent
             ∙ (again.unrelated [] station round.device.live still).0;
         unrelated = unit.lasts;
+        values = unit.values ∙ ap (λ (live : Live). live.values) all.is;
+        calls = unit.calls ∙ ap (λ (live : Live). live.rest.calls) all.is;
         passed = passed as_flash net after round [] step all.sent (ap (λ (fs : List (List ℕ)). hears_all net.controller (fs ++ [])) silent);
       }
 
-  outputs_said : (frames : List (List ℕ)) → AllByRecursion (IsOutputs setup identity.mac) frames
-      → AllByRecursion (λ (octets : List ℕ). IsOutputs setup identity.mac octets ⊎ IsEnd setup identity.mac octets) frames
-  outputs_said [] all = tt
-  outputs_said (octets ∷ frames) all = (inl all.0, outputs_said frames all.1)
+  -- Outputs and an ERR, in a relation of this number, change nothing.
+  abbrev pub IsSaid : ℕ → List ℕ → Type 0
+  IsSaid serial octets = IsOutputs setup (Some serial) identity.mac octets ⊎ IsEnd setup serial identity.mac octets
+
+  said_vain : (serial : ℕ) (net after : Net F) → Stands setup next identity net → net.to_controller ≡ [] → net.device.live.rest.link ≡ None
+      → AllByRecursion (IsSaid serial) net.to_device → Round as_flash net after → Vain net after
+  said_vain serial net after stands silent none said round =
+      in_vain net after (IsSaid serial) (λ octets is. again.vain serial [] net.device.station net.device.live octets stands.of_device none is) stands silent none
+      said round
+
+  outputs_said : (serial : ℕ) (frames : List (List ℕ)) → AllByRecursion (IsOutputs setup (Some serial) identity.mac) frames
+      → AllByRecursion (IsSaid serial) frames
+  outputs_said serial [] all = tt
+  outputs_said serial (octets ∷ frames) all = (inl all.0, outputs_said serial frames all.1)
 
   -- After a round with such a device: the controller has ended, or its data hold time has a unit less.
   abbrev LeftAfter : ℕ → Net F → Type 0
   LeftAfter left after = IsEnding after ⊎ ((fewer : ℕ) × (left ≡ suc fewer) × IsLeft fewer after)
 
   left_after : (left : ℕ) (net after : Net F) → IsLeft left net → Round as_flash net after → LeftAfter left after
-  left_after left net after at round = by_law (ends.alone net.controller left at.alone)
+  left_after left net after at round = by_law (ends.alone at.serial net.controller left at.alone)
     where
       vain : Vain net after
-      vain = in_vain net after at.stands at.silent at.unrelated (outputs_said net.to_device at.outputs) round
+      vain = said_vain at.serial net after at.stands at.silent at.unrelated (outputs_said at.serial net.to_device at.outputs) round
 
-      by_law : HasLeft setup identity.mac (step_of net.controller Tick) ⊎ HasWaited setup identity.mac left (step_of net.controller Tick) → LeftAfter left after
+      by_law : HasLeft setup at.serial identity.mac (step_of net.controller Tick) ⊎ HasWaited setup at.serial identity.mac left (step_of net.controller Tick) → LeftAfter left after
       by_law (inl over) = inl (record {
+        serial = at.serial;
         stands = vain.stands;
         ended = subst (λ (c : Controlling). HasEnded setup DataHold c) (sym vain.passed.controller) over.ended;
         octets = over.octets;
@@ -607,9 +631,10 @@ module _ {F : Type 0} {S : ℕ} (as_flash : Flash F S) (setup next : Setup) (ide
         waited.fewer,
         waited.less,
         record {
+          serial = at.serial;
           stands = vain.stands;
-          alone = subst (λ (c : Controlling). IsAlone setup identity.mac waited.fewer c) (sym vain.passed.controller) waited.alone;
-          outputs = subst (λ (fs : List (List ℕ)). AllByRecursion (IsOutputs setup identity.mac) fs) (sym vain.passed.to_device) waited.outputs;
+          alone = subst (λ (c : Controlling). IsAlone setup at.serial identity.mac waited.fewer c) (sym vain.passed.controller) waited.alone;
+          outputs = subst (λ (fs : List (List ℕ)). AllByRecursion (IsOutputs setup (Some at.serial) identity.mac) fs) (sym vain.passed.to_device) waited.outputs;
           silent = vain.silent;
           unrelated = vain.unrelated;
         },
@@ -618,8 +643,8 @@ module _ {F : Type 0} {S : ℕ} (as_flash : Flash F S) (setup next : Setup) (ide
   -- After the round in which the ERR arrives.
   over_then : (net after : Net F) → IsEnding net → Round as_flash net after → IsOver setup next identity 0 after
   over_then net after at round =
-      let vain = in_vain net after at.stands at.silent at.unrelated
-      (subst (λ (fs : List (List ℕ)). AllByRecursion (λ (octets : List ℕ). IsOutputs setup identity.mac octets ⊎ IsEnd setup identity.mac octets) fs)
+      let vain = said_vain at.serial net after at.stands at.silent at.unrelated
+      (subst (λ (fs : List (List ℕ)). AllByRecursion (IsSaid at.serial) fs)
       (sym at.under_way) (inr at.end, tt)) round in
       let over = over_after DataHold (record { controller = net.controller; frames = [] }) after refl at.ended vain.passed in
       record { stands = vain.stands; cause = DataHold; ended = over.0; nothing = over.1; lasts = vain.unrelated }
@@ -639,18 +664,19 @@ module _ {F : Type 0} {S : ℕ} (as_flash : Flash F S) (setup next : Setup) (ide
   addressed_next live (inl has) = inl (record { suite = has.suite ∙ ap (λ p. p.station.suite) (sym starts.plan) })
   addressed_next live (inr can) = inr can
 
-  begins : (net : Net F) → IsOver setup next identity 0 net → IsLooking next identity (begun_with next net)
-  begins net over = record {
-    of_setup = refl;
-    made = refl;
-    opened = ap (λ (fs : List (List ℕ)). fs ++ opening_of (made next) ∷ []) over.nothing;
-    ignored = over.stands.ignored_next;
-    of_device = over.stands.of_device;
-    of_plan = of_plan_next net.device.station over.stands.of_plan;
-    named = record { name = over.stands.named.name ∙ ap (λ p. p.station.name) (sym starts.plan) };
-    free = record { unrelated = over.lasts; uncalled = over.stands.uncalled_next };
-    sized = over.stands.sized;
-    addressed = addressed_next net.device.live over.stands.addressed;
+  -- With nothing under way to a device without a relation, the next start is one from the beginning.
+  pub begins : (net : Net F) → Stands setup next identity net → net.to_device ≡ [] → net.device.live.rest.link ≡ None
+      → IsLooking next identity (begun_with next net)
+  begins net stands nothing none = record {
+    searches = searching_first next (made next) refl refl;
+    opened = ap (λ (fs : List (List ℕ)). fs ++ opening_of (made next) ∷ []) nothing;
+    ignored = stands.ignored_next;
+    of_device = stands.of_device;
+    of_plan = of_plan_next net.device.station stands.of_plan;
+    named = record { name = stands.named.name ∙ ap (λ p. p.station.name) (sym starts.plan) };
+    free = record { unrelated = none; uncalled = stands.uncalled_next };
+    sized = stands.sized;
+    addressed = addressed_next net.device.live stands.addressed;
   }
 
   module _ (pause : ℕ) (more : List Setup) (next_starts : (net : Net F) → IsLooking next identity net → Leads as_flash (start_up_limit setup.plan) net) where
@@ -658,13 +684,13 @@ module _ {F : Type 0} {S : ℕ} (as_flash : Flash F S) (setup next : Setup) (ide
     limit = start_up_limit setup.plan
 
     -- after a round a controller that has ended is started again, or not yet
-    ended_round : (plant : Plant F) (net : Net F) → plant.later ≡ next ∷ more → (why : Cause) → HasEnded setup why net.controller
+    pub ended_round : (plant : Plant F) (net : Net F) → plant.later ≡ next ∷ more → (why : Cause) → net.controller.live.phase ≡ Ended why
         → (now : Bool) → nat_le pause (plant.idle + 1) ≡ now
         → after_round pause plant net
         ≡ (if now then record { net = begun_with next net; later = more; idle = 0 } else record { net = net; later = next ∷ more; idle = plant.idle + 1 })
     ended_round plant net later why ended now is =
         ap (λ (p : Phases). if is_ended p then (if nat_le pause (plant.idle + 1) then started plant.later net (plant.idle + 1)
-        else record { net = net; later = plant.later; idle = plant.idle + 1 }) else record { net = net; later = plant.later; idle = 0 }) ended.in_phase
+        else record { net = net; later = plant.later; idle = plant.idle + 1 }) else record { net = net; later = plant.later; idle = 0 }) ended
         ∙ (ap (λ (l : List Setup). if nat_le pause (plant.idle + 1) then started l net (plant.idle + 1)
         else record { net = net; later = l; idle = plant.idle + 1 }) later
         ∙ ap (λ (b : Bool). if b then record { net = begun_with next net; later = more; idle = 0 }
@@ -673,17 +699,17 @@ module _ {F : Type 0} {S : ℕ} (as_flash : Flash F S) (setup next : Setup) (ide
     starts_now : (plant after : Plant F) (round : PlantRound as_flash pause plant after) → plant.later ≡ next ∷ more → nat_le pause (plant.idle + 1) ≡ true
         → IsOver setup next identity 0 round.net → LeadsBack as_flash pause limit after
     starts_now plant after round later now over =
-        subst (LeadsBack as_flash pause limit) (sym (round.goes_on ∙ ended_round plant round.net later over.cause over.ended true now))
+        subst (LeadsBack as_flash pause limit) (sym (round.goes_on ∙ ended_round plant round.net later over.cause over.ended.in_phase true now))
         (plant_leads as_flash pause limit (record { net = begun_with next round.net; later = more; idle = 0 })
-        (next_starts (begun_with next round.net) (begins round.net over)))
+        (next_starts (begun_with next round.net) (begins round.net over.stands over.nothing over.lasts)))
 
-    at_most : (n m : ℕ) → n ≤ m → nat_le n m ≡ true
+    pub at_most : (n m : ℕ) → n ≤ m → nat_le n m ≡ true
     at_most n m few = grind (arith, nat_tests)
 
-    more_than : (n m : ℕ) → m + 1 ≤ n → nat_le n m ≡ false
+    pub more_than : (n m : ℕ) → m + 1 ≤ n → nat_le n m ≡ false
     more_than n m many = grind (arith, nat_tests)
 
-    over_leads : (r : ℕ) (plant : Plant F) (left : ℕ) → plant.later ≡ next ∷ more → pause ≡ plant.idle + suc r
+    pub over_leads : (r : ℕ) (plant : Plant F) (left : ℕ) → plant.later ≡ next ∷ more → pause ≡ plant.idle + suc r
         → left ≤ suc r → IsOver setup next identity left plant.net
         → LeadsBack as_flash pause (suc (sum r limit)) plant
     over_leads zero plant left later is few over = inr (λ after round.
@@ -695,7 +721,7 @@ module _ {F : Type 0} {S : ℕ} (as_flash : Flash F S) (setup next : Setup) (ide
         none_left n few = omega (arith, few)
     over_leads (suc r) plant left later is few over = inr (λ after round.
         let on = waits left plant.net round.net over round.round in
-        let goes = round.goes_on ∙ ended_round plant round.net later on.cause on.ended false (more_than pause (plant.idle + 1) (omega (arith, is))) in
+        let goes = round.goes_on ∙ ended_round plant round.net later on.cause on.ended.in_phase false (more_than pause (plant.idle + 1) (omega (arith, is))) in
         subst (LeadsBack as_flash pause (suc (sum r limit))) (sym goes)
         (over_leads r (record { net = round.net; later = next ∷ more; idle = plant.idle + 1 })
         (less left) refl (omega (arith, is)) (less_few left (suc r) few) on))
@@ -718,7 +744,7 @@ module _ {F : Type 0} {S : ℕ} (as_flash : Flash F S) (setup next : Setup) (ide
         by_pause (suc (suc r)) e =
             leads_more as_flash pause (suc (sum r limit)) (pause + limit - 1) after (sum_few r e)
             (subst (LeadsBack as_flash pause (suc (sum r limit)))
-            (sym (round.goes_on ∙ ended_round plant round.net later over.cause over.ended false (more_than pause (plant.idle + 1) (omega (arith, e, idle)))))
+            (sym (round.goes_on ∙ ended_round plant round.net later over.cause over.ended.in_phase false (more_than pause (plant.idle + 1) (omega (arith, e, idle)))))
             (over_leads r (record { net = round.net; later = next ∷ more; idle = plant.idle + 1 }) left refl
             (omega (arith, e, idle)) (omega (arith, few, e)) over))
 
@@ -740,7 +766,7 @@ module _ {F : Type 0} {S : ℕ} (as_flash : Flash F S) (setup next : Setup) (ide
         by_pause after round over (suc (suc (suc r))) e =
             leads_more as_flash pause (suc (sum r limit)) (pause + limit - 2) after (sum_few r e)
             (subst (LeadsBack as_flash pause (suc (sum r limit)))
-            (sym (round.goes_on ∙ ended_round plant round.net later over.cause over.ended false (more_than pause (plant.idle + 1) (omega (arith, e, idle)))))
+            (sym (round.goes_on ∙ ended_round plant round.net later over.cause over.ended.in_phase false (more_than pause (plant.idle + 1) (omega (arith, e, idle)))))
             (over_leads r (record { net = round.net; later = next ∷ more; idle = plant.idle + 1 }) 0 refl
             (omega (arith, e, idle)) (omega arith) over))
 
@@ -757,7 +783,7 @@ module _ {F : Type 0} {S : ℕ} (as_flash : Flash F S) (setup next : Setup) (ide
     left_round n left plant after round later idle long enough on (inl ending) =
         leads_more as_flash pause end_limit n after enough
         (subst (LeadsBack as_flash pause end_limit)
-        (sym (round.goes_on ∙ ended_round plant round.net later DataHold ending.ended false (more_than pause (plant.idle + 1) (omega (arith, long, idle)))))
+        (sym (round.goes_on ∙ ended_round plant round.net later DataHold ending.ended.in_phase false (more_than pause (plant.idle + 1) (omega (arith, long, idle)))))
         (ending_leads (record { net = round.net; later = next ∷ more; idle = plant.idle + 1 }) refl (omega (arith, idle)) long ending))
     left_round n left plant after round later idle long enough on (inr still) = on still.0 still.1 still.2
 
@@ -780,6 +806,7 @@ module _ {F : Type 0} {S : ℕ} (as_flash : Flash F S) (setup next : Setup) (ide
     comes_back_alone left long plant at same =
         leads_more as_flash pause (suc (sum left end_limit)) (left + pause + limit) plant enough
         (left_leads left plant (at.later ∙ ap (λ (l : List Setup). next ∷ l) same) at.idle long (record {
+          serial = at.serial;
           stands = record {
             ignored = subst (λ (fs : List (List ℕ)). AllByRecursion (IsIgnored setup) fs) (sym at.silent) tt;
             ignored_next = subst (λ (fs : List (List ℕ)). AllByRecursion (IsIgnored next) fs) (sym at.silent) tt;
@@ -805,7 +832,7 @@ module _ {F : Type 0} {S : ℕ} (as_flash : Flash F S) (setup next : Setup) (ide
         (addressing : (net : Net F) → IsAddressing setup identity net → Leads as_flash (write_count setup.plan + 4) net)
         (connecting : (net : Net F) → IsConnecting setup identity net → Leads as_flash (write_count setup.plan + 3) net) where
       -- the next request is under way
-      next_leads : (left : ℕ) (plant : Plant F) → plant.later ≡ next ∷ more → plant.idle ≡ 0 → left ≤ pause → Next left plant.net
+      pub next_leads : (left : ℕ) (plant : Plant F) → plant.later ≡ next ∷ more → plant.idle ≡ 0 → left ≤ pause → Next left plant.net
           → LeadsBack as_flash pause (pause + limit) plant
       next_leads left plant later idle few (inl (inl at)) =
           leads_more as_flash pause (write_count setup.plan + 4) (pause + limit) plant (omega arith)

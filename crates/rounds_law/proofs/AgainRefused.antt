@@ -85,7 +85,7 @@ module _ (setup : Setup) (identity : Identity) (good : IsSetup setup) (device : 
       ∙ (where_so (is_answer setup asks.Connect response.header) (decided setup live response asks.Connect) (stays live) (is_its_answer setup 0)
       ∙ where_not (is_done refusal.status) _ (undone setup live refusal.status asks.Connect) refusal.negative))
 
-  pub refused : (controller : Controlling) (spare : ℕ) (octets : List ℕ) → Asks setup identity.mac Connecting asks.Connect false spare controller
+  pub refused : (controller : Controlling) (spare : ℕ) (octets : List ℕ) → Asks setup identity.mac Connecting asks.Connect None spare controller
       → IsRefusal setup identity octets
       → ((controller_step controller octets).frames ≡ []) × HasEnded setup cause.Refused (controller_step controller octets).controller
   unfolding step_of
@@ -111,7 +111,7 @@ module _ (setup : Setup) (identity : Identity) (good : IsSetup setup) (device : 
       ap (λ (h : Heard). turned setup live h) unset_heard
       ∙ ap (λ (p : State). answered setup live identity.mac (set_said (address_asked setup.plan) (InOperation ∷ [])) p) addressing
 
-  pub unset : (controller : Controlling) (spare : ℕ) → Asks setup identity.mac Addressing asks.Address false spare controller
+  pub unset : (controller : Controlling) (spare : ℕ) → Asks setup identity.mac Addressing asks.Address None spare controller
       → ((controller_step controller (unset_frame setup identity)).frames ≡ [])
       × HasEnded setup cause.Refused (controller_step controller (unset_frame setup identity)).controller
   unfolding step_of

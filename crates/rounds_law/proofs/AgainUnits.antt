@@ -95,11 +95,11 @@ ready_other setup ar good sized other = record {
 }
 
 module _ (setup : Setup) (good : IsSetup setup) where
-  sent_all : (address : List ℕ) (counter : ℕ) (due : Due) (link : RelationState) (ar : List ℕ) → IsUuid ar → (ar ≡ setup.ar → ⊥)
+  sent_all : (serial : ℕ) (address : List ℕ) (counter : ℕ) (due : Due) (link : RelationState) (ar : List ℕ) → IsUuid ar → (ar ≡ setup.ar → ⊥)
       → link.request ≡ request_for setup.plan ar → link.partner ≡ partner_of (caller_of setup.plan.controller)
-      → link.flow.cyclic.route ≡ inputs_route (request_for setup.plan ar)
+      → link.flow.cyclic.route ≡ inputs_route serial (request_for setup.plan ar)
       → AllByRecursion (IsOfUnit setup) (due_frames address counter due (Some link))
-  sent_all address counter due link ar sized other request partner route =
+  sent_all serial address counter due link ar sized other request partner route =
       let P = IsOfUnit setup in
       let calls = subst (IsReadyOfOther setup)
       (sym (ap (λ (p : Partner). ready_made p link.request) partner
@@ -205,7 +205,7 @@ module _ (setup : Setup) (good : IsSetup setup) (outcomes : List Outcome) (stati
   goes_by left earlier None =
       let link = earlier.link in
       let later = unit_later link in (
-        sent_all setup good live.values.running.suite.address (counter_of (units_after 1 live.rest.units))
+        sent_all setup good earlier.serial live.values.running.suite.address (counter_of (units_after 1 live.rest.units))
             (due_by link None) later earlier.ar earlier.ar_sized earlier.other
             earlier.request earlier.partner earlier.route,
         refl,
@@ -218,6 +218,8 @@ module _ (setup : Setup) (good : IsSetup setup) (outcomes : List Outcome) (stati
           other = earlier.other;
           request = earlier.request;
           partner = earlier.partner;
+          serial = earlier.serial;
+          few = earlier.few;
           route = earlier.route;
           begun = earlier.begun;
           time = left_later link left earlier.begun earlier.time;

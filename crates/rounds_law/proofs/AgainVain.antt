@@ -117,10 +117,10 @@ frame_vain identity source tag body read (inl e) =
     subst (λ (r : Result Meaning FrameFault). IsVain (heard_frame identity r)) (sym e) (content_vain identity source body)
 frame_vain identity source tag body read (inr e) = subst (λ (r : Result Meaning FrameFault). IsVain (heard_frame identity r)) (sym e.1) tt
 
-end_vain : IsSound ethernet → IsSoundWhole layers → (setup : Setup) (identity : Identity) (octets : List ℕ) → IsSetup setup → IsDevice identity
-    → IsEnd setup identity.mac octets → IsVain (heard_of identity (comes octets))
+end_vain : (serial : ℕ) → IsSound ethernet → IsSoundWhole layers → (setup : Setup) (identity : Identity) (octets : List ℕ) → IsSetup setup → IsDevice identity
+    → IsEnd setup serial identity.mac octets → IsVain (heard_of identity (comes octets))
 unfolding heard_of
-end_vain sound whole setup identity octets good real is =
+end_vain serial sound whole setup identity octets good real is =
     let body = pdu_bytes (end_pdu is.header is.reason) in
     let source = setup.plan.controller.mac in
     let meaning = carrying identity.mac source (Some alarm_block.tag_header_low) (RealTime 0xFE01 body) in
@@ -129,18 +129,18 @@ end_vain sound whole setup identity octets good real is =
     (data_is_read sound whole identity.mac source alarm_block.tag_header_low 0xFE01 body real good.mac (omega arith) (omega arith)))
 
 outputs_vain : (setup : Setup) (heard : Heard) → AreOutputs setup heard → IsVain heard
-outputs_vain setup heard (inl is) = subst IsVain (sym is.1) tt
+outputs_vain setup heard (inl is) = subst IsVain (sym is.2) tt
 outputs_vain setup heard (inr is) = subst IsVain (sym is) tt
 
 -- ---- both
 
-pub said_in_vain : IsSound ethernet → IsSoundWhole layers → (setup : Setup) (identity : Identity) → IsSetup setup → IsDevice identity
+pub said_in_vain : (serial : ℕ) → IsSound ethernet → IsSoundWhole layers → (setup : Setup) (identity : Identity) → IsSetup setup → IsDevice identity
     → (outcomes : List Outcome) (station : Station) (live : Live) (octets : List ℕ) → station.identity ≡ identity → live.rest.link ≡ None
-    → IsOutputs setup identity.mac octets ⊎ IsEnd setup identity.mac octets → Keeps live (device_step outcomes station live octets)
-said_in_vain sound whole setup identity good real outcomes station live octets same none said =
+    → IsOutputs setup (Some serial) identity.mac octets ⊎ IsEnd setup serial identity.mac octets → Keeps live (device_step outcomes station live octets)
+said_in_vain serial sound whole setup identity good real outcomes station live octets same none said =
     in_vain outcomes station live (heard_of station.identity (comes octets)) none
     (subst (λ (i : Identity). IsVain (heard_of i (comes octets))) (sym same) (by_said said))
   where
-    by_said : IsOutputs setup identity.mac octets ⊎ IsEnd setup identity.mac octets → IsVain (heard_of identity (comes octets))
-    by_said (inl outputs) = outputs_vain setup (heard_of identity (comes octets)) (outputs_heard sound whole setup identity octets good real outputs)
-    by_said (inr end) = end_vain sound whole setup identity octets good real end
+    by_said : IsOutputs setup (Some serial) identity.mac octets ⊎ IsEnd setup serial identity.mac octets → IsVain (heard_of identity (comes octets))
+    by_said (inl outputs) = outputs_vain setup (heard_of identity (comes octets)) (outputs_heard (Some serial) sound whole setup identity octets good real outputs)
+    by_said (inr end) = end_vain serial sound whole setup identity octets good real end

@@ -1,5 +1,5 @@
 -- A controller that ends.
-use Rattle.std.proofs.Common.{◌≡◌, inl, inr, ◌<◌, ◌≤◌, ◌==◌, ◌&&◌, ◌++◌, ℕ, Bool, true, false, List, [], ◌∷◌, length, refl, sym, ap, subst, ◌∙◌}
+use Rattle.std.proofs.Common.{◌≡◌, inl, inr, ◌<◌, ◌≤◌, ◌==◌, ◌&&◌, ◌++◌, ℕ, Bool, true, false, List, [], ◌∷◌, length, refl, sym, ap, subst, ◌∙◌, None}
 use Rattle.std.proofs.Common.{arith, nat_eq}
 use Rattle.std.specs.Prelude.{if◌then◌else◌}
 use Rattle.std.specs.Cmp.Lexicographic.{pointwise, same_text}
@@ -149,7 +149,7 @@ unset_short setup error unstored = omega arith
 pub unstored_so : (setup : Setup) (identity : Identity) (controller : Controlling) (octets : List ℕ) (spare : ℕ) (error : BlockError)
     → heard_of setup.plan.controller octets
     ≡ mine_hears setup.plan.controller setup.plan.controller.mac (Answers identity.mac (set_said (address_asked setup.plan) (error ∷ [])))
-    → IsUnstored error → Asks setup identity.mac Addressing asks.Address false spare controller
+    → IsUnstored error → Asks setup identity.mac Addressing asks.Address None spare controller
     → EndedWith cause.Refused (controller_step controller octets).controller
 unstored_so setup identity controller octets spare error is unstored waits =
     let said = set_said (address_asked setup.plan) (error ∷ []) in

@@ -1,5 +1,5 @@
 -- A device whose modules are not the plan's, and its controller.
-use Rattle.std.proofs.Common.{◌≡◌, ℕ, Bool, true, false, List, [], ◌∷◌, Option, Some, None, Result, Ok, refl, ap, subst, ◌∙◌, arith}
+use Rattle.std.proofs.Common.{◌≡◌, ℕ, Bool, true, List, [], ◌∷◌, Option, Some, None, Result, Ok, refl, ap, subst, ◌∙◌, arith}
 use Rattle.std.specs.Prelude.{if◌then◌else◌}
 use Rattle.wire.specs.Codec.{◌>>=◌}
 use Rattle.pn_values.specs.declared.identity.Identity.{Identity}
@@ -26,7 +26,7 @@ use Rattle.device_frames.specs.Sendable.{AreSendable}
 use Rattle.device_frames.specs.Sent.{Sent, bytes_of, response_frame}
 use Rattle.device_core.specs.State.{Live, Rest, Station}
 use Rattle.device_core.specs.Log.{connect_log, with_log}
-use Rattle.device_core.specs.Handled.{Moves, answer_from, handled_call, handled_looked, handled_said, is_running, kept_behind, partner_of, starting_of}
+use Rattle.device_core.specs.Handled.{counted_by, number_now, Moves, answer_from, handled_call, handled_looked, handled_said, is_running, kept_behind, partner_of, starting_of}
 use Rattle.device_core.specs.Machine.{Stepped}
 use Rattle.controller_messages.specs.declared.request.Request.{Request as Requested}
 use Rattle.controller_messages.specs.declared.request.Request.TheVariants as asks
@@ -52,13 +52,13 @@ use Rattle.rounds_law.proofs.SearchingController.{step_is as hears_so}
 -- ---- the device
 
 -- the response to the plan's Connect
-abbrev pub answer_with : Setup → Identity → Real → Answered
-answer_with setup identity real = answer_to (call_for setup asks.Connect) done (blocks_with setup identity real)
+abbrev pub answer_with : Setup → Identity → ℕ → Real → Answered
+answer_with setup identity serial real = answer_to (call_for setup asks.Connect) done (blocks_with setup identity serial real)
 
 -- What the device does then: it sends this response, which fits.
-abbrev pub Reports : Setup → Identity → Real → Stepped → Type 0
-Reports setup identity real step =
-    (step.frames ≡ differing_frame setup identity real ∷ []) × (AreSendable identity step.sent → CanBeAnswered (answer_with setup identity real))
+abbrev pub Reports : Setup → Identity → ℕ → Real → Stepped → Type 0
+Reports setup identity serial real step =
+    (step.frames ≡ differing_frame setup identity serial real ∷ []) × (AreSendable identity step.sent → CanBeAnswered (answer_with setup identity serial real))
 
 module _ (setup : Setup) (station : Station) (live : Live) where
   abbrev caller : Caller
@@ -71,13 +71,13 @@ module _ (setup : Setup) (station : Station) (live : Live) where
   blocks = blocks_of setup asks.Connect
 
   abbrev outcome : Option RelationState → Result (List ℕ) CallFault
-  outcome link = connect_answer station.identity station.real station.options caller.mac link blocks
+  outcome link = connect_answer station.identity station.real station.options (number_now station live) caller.mac link blocks
 
   abbrev sent : Sent
   sent = answer_from live.values.running.suite.address caller call Connect (outcome live.rest.link)
 
   abbrev rest : Rest
-  rest = kept_behind station.identity (with_log (connect_log blocks (outcome live.rest.link)) live.rest) call sent
+  rest = kept_behind station.identity (counted_by (outcome live.rest.link) (with_log (connect_log blocks (outcome live.rest.link)) live.rest)) call sent
       (updated (making station.real (partner_of caller) station.options (starting_of station live)
       (connect_within station.options caller.mac live.rest.link blocks)) live.rest.link)
 
@@ -88,18 +88,18 @@ module _ (setup : Setup) (station : Station) (live : Live) where
 
   is_sent : IsAddressed setup live → IsFree setup live
       → connect_within station.options setup.plan.controller.mac None blocks ≡ Ok (request_for setup.plan setup.ar)
-      → sent ≡ answer_from setup.plan.station.suite.address caller call Connect (Ok (blocks_with setup station.identity station.real))
+      → sent ≡ answer_from setup.plan.station.suite.address caller call Connect (Ok (blocks_with setup station.identity (number_now station live) station.real))
   is_sent addressed free accepted =
       ap (λ (link : Option RelationState). answer_from live.values.running.suite.address caller call Connect (outcome link)) free.unrelated
       ∙ (ap (λ (asked : Result Request CallFault). answer_from live.values.running.suite.address caller call Connect
-      (asked >>= λ request. Ok (connect_blocks station.identity request (differing_of request station.real)))) accepted
-      ∙ ap (λ suite. answer_from suite.address caller call Connect (Ok (blocks_with setup station.identity station.real))) addressed.suite)
+      (asked >>= λ request. Ok (connect_blocks station.identity (number_now station live) request (differing_of request station.real)))) accepted
+      ∙ ap (λ suite. answer_from suite.address caller call Connect (Ok (blocks_with setup station.identity (number_now station live) station.real))) addressed.suite)
 
   reports_own : (outcomes : List Outcome) → IsAddressed setup live → IsFree setup live → (octets : List ℕ)
       → connect_within station.options setup.plan.controller.mac None blocks ≡ Ok (request_for setup.plan setup.ar)
       → heard_of station.identity (comes octets) ≡ Reported caller setup.plan.station.suite.address (Calls call)
       → is_running live.values.running setup.plan.station.suite.address ≡ true
-      → Reports setup station.identity station.real (device_step outcomes station live octets)
+      → Reports setup station.identity (number_now station live) station.real (device_step outcomes station live octets)
   reports_own outcomes addressed free octets accepted hears running =
       let steps = step_is outcomes station live octets caller setup.plan.station.suite.address (Calls call) rest (sent ∷ []) hears running (is_handled free) in
       let message = is_sent addressed free accepted in (
@@ -114,9 +114,9 @@ pub reports : (setup : Setup) (identity : Identity) (station : Station) (live : 
     → heard_of station.identity (comes (request_to setup identity asks.Connect))
     ≡ Reported (caller_of setup.plan.controller) setup.plan.station.suite.address (Calls (call_for setup asks.Connect))
     → is_running live.values.running setup.plan.station.suite.address ≡ true
-    → Reports setup identity station.real (device_step outcomes station live (request_to setup identity asks.Connect))
+    → Reports setup identity (number_now station live) station.real (device_step outcomes station live (request_to setup identity asks.Connect))
 reports setup identity station live outcomes same addressed free accepted hears running =
-    subst (λ (i : Identity). Reports setup i station.real (device_step outcomes station live (request_to setup identity asks.Connect))) same
+    subst (λ (i : Identity). Reports setup i (number_now station live) station.real (device_step outcomes station live (request_to setup identity asks.Connect))) same
     (reports_own setup station live outcomes addressed free (request_to setup identity asks.Connect) accepted hears running)
 
 -- ---- the controller
@@ -125,10 +125,10 @@ where_so : {A : Type 0} (is : Bool) (x y : A) → is ≡ true → (if is then x 
 where_so is x y e = ap (λ (b : Bool). if b then x else y) e
 
 -- a response with such blocks
-differing_turn : (setup : Setup) (identity : Identity) (real : Real) (live : ControllerLive) → Differs setup identity real → live.asked ≡ Some asks.Connect
-    → responded setup live (answer_with setup identity real) live.asked ≡ released setup cause.ModuleDiff live
-differing_turn setup identity real live differs asked =
-    let answer = answer_with setup identity real in
+differing_turn : (setup : Setup) (identity : Identity) (serial : ℕ) (real : Real) (live : ControllerLive) → Differs setup identity serial real → live.asked ≡ Some asks.Connect
+    → responded setup live (answer_with setup identity serial real) live.asked ≡ released setup cause.ModuleDiff live
+differing_turn setup identity serial real live differs asked =
+    let answer = answer_with setup identity serial real in
     ap (λ (a : Option Requested). responded setup live answer a) asked
     ∙ (where_so (is_answer setup asks.Connect answer.header) (decided setup live answer asks.Connect) (stays live) (is_its_answer setup 0)
     ∙ (ap (λ (o : Option Found). connected setup live o) differs.read
@@ -137,19 +137,19 @@ differing_turn setup identity real live differs asked =
     else related_by setup live (chosen_of differs.found)) (stays live) differs.whole
     ∙ where_so differs.found.differs (released setup cause.ModuleDiff live) (related_by setup live (chosen_of differs.found)) differs.differs)))
 
-pub differing_so : (setup : Setup) (identity : Identity) (real : Real) (controller : Controlling) (spare : ℕ) → IsSetup setup → IsDevice identity
+pub differing_so : (setup : Setup) (identity : Identity) (serial : ℕ) (real : Real) (controller : Controlling) (spare : ℕ) → IsSetup setup → IsDevice identity
     → ((mine : Controller) (identity : Identity) (caller : Caller) (address : List ℕ) (answer : Answered)
     → IsDevice identity → IsCaller caller → IsAddress address → CanBeAnswered answer
     → controller_hears mine (response_frame identity caller address answer) ≡ mine_reported mine caller.mac caller.endpoint (Responds answer))
-    → Asks setup identity.mac Connecting asks.Connect false spare controller → Differs setup identity real → CanBeAnswered (answer_with setup identity real)
-    → EndedWith cause.ModuleDiff (controller_step controller (differing_frame setup identity real)).controller
-differing_so setup identity real controller spare good device responses waits differs can =
-    let answer = answer_with setup identity real in
+    → Asks setup identity.mac Connecting asks.Connect None spare controller → Differs setup identity serial real → CanBeAnswered (answer_with setup identity serial real)
+    → EndedWith cause.ModuleDiff (controller_step controller (differing_frame setup identity serial real)).controller
+differing_so setup identity serial real controller spare good device responses waits differs can =
+    let answer = answer_with setup identity serial real in
     let mine = setup.plan.controller in
     let hears = responses mine identity (caller_of mine) setup.plan.station.suite.address answer device
     (record { mac = good.mac; endpoint = (good.address, omega arith) }) good.station can ∙ is_reported mine (Responds answer) in
-    let steps = hears_so setup controller controller.live (Responds answer) (differing_frame setup identity real) waits.of_setup refl hears
-    ∙ ap (λ (turn : Turn). stepped controller turn) (differing_turn setup identity real controller.live differs waits.asked) in
+    let steps = hears_so setup controller controller.live (Responds answer) (differing_frame setup identity serial real) waits.of_setup refl hears
+    ∙ ap (λ (turn : Turn). stepped controller turn) (differing_turn setup identity serial real controller.live differs waits.asked) in
     record {
       in_phase = ap (λ (s : ControllerStepped). s.controller.live.phase) steps;
       unestablished = ap (λ (s : ControllerStepped). s.controller.live.stands) steps;

@@ -1,5 +1,5 @@
 -- The rounds of a start-up that cannot succeed.
-use Rattle.std.proofs.Common.{◌≡◌, ◌⊎◌, inl, inr, ◌+◌, ℕ, suc, Bool, true, false, List, [], ◌∷◌, ◌++◌, refl, sym, ap, subst, ◌∙◌, arith}
+use Rattle.std.proofs.Common.{◌≡◌, ◌⊎◌, inl, inr, ◌+◌, ℕ, suc, true, false, List, [], ◌∷◌, ◌++◌, refl, sym, ap, subst, ◌∙◌, arith, Option, None}
 use Rattle.std.specs.List.{AllByRecursion}
 use Rattle.flash_model.specs.declared.flash.Flash.{Ghosts as Flash}
 use Rattle.pn_values.specs.declared.identity.Identity.{Identity}
@@ -14,6 +14,7 @@ use Rattle.settings_journal.specs.settings_store.Machine.{Outcome}
 use Rattle.settings_journal.specs.settings_store.State.{Values}
 use Rattle.device_frames.specs.Heard.{Ticks}
 use Rattle.device_frames.specs.Sendable.{AreSendable}
+use Rattle.device_core.specs.Handled.{number_now}
 use Rattle.device_core.specs.State.{Live, State, Station}
 use Rattle.device_core.specs.Machine.{heard_step}
 use Rattle.controller_messages.specs.declared.setup.Setup.{Setup}
@@ -29,13 +30,13 @@ use Rattle.controller_core.specs.stored.State.{Controlling, is_limited}
 use Rattle.controller_core.specs.Machine.{Stepped, first as first_live, opening_of, step_of}
 use Rattle.both_ends.specs.startup.Played.{CanMeet}
 use Rattle.both_ends.specs.startup.answer.Answer.{AcceptsInterval}
-use Rattle.rounds_law.specs.Path.{Asks, AsksNext, FindsIt, IsAddressed, IsFree, IsNamed, IsOutputs, IsSized}
+use Rattle.rounds_law.specs.Path.{Asks, AsksNext, FindsIt, IsAddressed, IsFree, IsNamed, IsOutputs, IsSearching, IsSized}
 use Rattle.rounds_law.specs.Path.{controller_step, device_step, found_frame, request_to}
 use Rattle.rounds_law.specs.Rounds.{HearsAll, Net, Round, hears_all}
 use Rattle.rounds_law.specs.Start.{IsPatient}
 use Rattle.rounds_law.specs.Causes.{CannotStore, ConnectsToOther, Differs, EndedWith, EndsWithin, FailingRound, IsOther, IsUnstored}
 use Rattle.rounds_law.specs.Causes.{Seeks, SeeksUnaddressed, blocks_with, differing_frame, unstored_frame}
-use Rattle.rounds_law.proofs.CompositionEnds.{Passed, ignore, passed}
+use Rattle.rounds_law.proofs.CompositionEnds.{Passed, ignore, passed, searching_first}
 use Rattle.rounds_law.proofs.CompositionLists.{arrive_first, hears_one, went_at}
 
 -- ---- what the laws of both ends say of a set-up and a device
@@ -57,26 +58,26 @@ pub record EndLaws (setup : Setup) (identity : Identity) : Type 0 where
   pub controller_found : IsPatient setup.plan setup.options → identity.vendor_id ≡ setup.plan.station.vendor_id
       → identity.device_id ≡ setup.plan.station.device_id
       → (settings : Settings) (controller : Controlling) → settings.name ≡ setup.plan.station.name
-      → IsSized settings.suite → controller.setup ≡ setup → controller.live ≡ first_live setup.plan
+      → IsSized settings.suite → IsSearching setup controller
       → FindsIt setup identity settings (write_count setup.plan + 2) (controller_step controller (found_frame setup identity settings))
-  pub controller_unit : (controller : Controlling) (phase : Phases) (request : Request) (stands : Bool) (spare : ℕ) → is_limited phase ≡ true
+  pub controller_unit : (controller : Controlling) (phase : Phases) (request : Request) (stands : Option ℕ) (spare : ℕ) → is_limited phase ≡ true
       → Asks setup identity.mac phase request stands (suc spare) controller
-      → AllByRecursion (IsOutputs setup identity.mac) (step_of controller Tick).frames
+      → AllByRecursion (IsOutputs setup stands identity.mac) (step_of controller Tick).frames
       × Asks setup identity.mac phase request stands spare (step_of controller Tick).controller
   pub controller_unsent : (controller : Controlling) (phase : Phases) (request : Request) (spare : ℕ) → is_limited phase ≡ true
-      → Asks setup identity.mac phase request false (suc spare) controller → (step_of controller Tick).frames ≡ []
+      → Asks setup identity.mac phase request None (suc spare) controller → (step_of controller Tick).frames ≡ []
   pub unstored : (controller : Controlling) (spare : ℕ) (error : BlockError) → IsUnstored error
-      → Asks setup identity.mac Addressing wants.Address false spare controller
+      → Asks setup identity.mac Addressing wants.Address None spare controller
       → EndedWith cause.Refused (controller_step controller (unstored_frame setup identity error)).controller
   pub device_differing : CanMeet setup identity → is_zero setup.plan.station.suite.address ≡ false
       → (outcomes : List Outcome) (station : Station) (live : Live) → station.identity ≡ identity
       → AcceptsInterval station.options setup.plan → IsAddressed setup live → IsFree setup live
-      → ((device_step outcomes station live (request_to setup identity wants.Connect)).frames ≡ differing_frame setup identity station.real ∷ [])
+      → ((device_step outcomes station live (request_to setup identity wants.Connect)).frames ≡ differing_frame setup identity (number_now station live) station.real ∷ [])
       × (AreSendable identity (device_step outcomes station live (request_to setup identity wants.Connect)).sent
-      → CanBeAnswered (answer_to (call_for setup wants.Connect) done (blocks_with setup identity station.real)))
-  pub differing : (real : Real) (controller : Controlling) (spare : ℕ) → Asks setup identity.mac Connecting wants.Connect false spare controller
-      → Differs setup identity real → CanBeAnswered (answer_to (call_for setup wants.Connect) done (blocks_with setup identity real))
-      → EndedWith cause.ModuleDiff (controller_step controller (differing_frame setup identity real)).controller
+      → CanBeAnswered (answer_to (call_for setup wants.Connect) done (blocks_with setup identity (number_now station live) station.real)))
+  pub differing : (serial : ℕ) (real : Real) (controller : Controlling) (spare : ℕ) → Asks setup identity.mac Connecting wants.Connect None spare controller
+      → Differs setup identity serial real → CanBeAnswered (answer_to (call_for setup wants.Connect) done (blocks_with setup identity serial real))
+      → EndedWith cause.ModuleDiff (controller_step controller (differing_frame setup identity serial real)).controller
   pub unit : (why : Cause) (controller : Controlling) → EndedWith why controller → EndedWith why (step_of controller Tick).controller
 
 -- the opening frame is the Identify
@@ -88,7 +89,7 @@ opening_is setup identity controller of_setup = ap (λ (s : Setup). request_to s
 -- The Set of the IP suite is under way to a device without a relation.
 record Sets {F : Type 0} (setup : Setup) (identity : Identity) (net : Net F) : Type 0 where
   spare : ℕ
-  asks : Asks setup identity.mac Addressing wants.Address false spare net.controller
+  asks : Asks setup identity.mac Addressing wants.Address None spare net.controller
   under_way : net.to_device ≡ request_to setup identity wants.Address ∷ []
   none : net.to_controller ≡ []
   of_device : net.device.station.identity ≡ identity
@@ -160,12 +161,12 @@ module _ {F : Type 0} {S : ℕ} (as_flash : Flash F S) (setup : Setup) (identity
 
   -- ---- an IP suite that is not stored
 
-  sets_after : (step : Stepped) (next : Net F) (spare : ℕ) → Passed step next → AsksNext setup identity Addressing wants.Address false (suc spare) step
+  sets_after : (step : Stepped) (next : Net F) (spare : ℕ) → Passed step next → AsksNext setup identity Addressing wants.Address None (suc spare) step
       → next.to_controller ≡ [] → next.device.station.identity ≡ identity → IsFree setup next.device.live → Sets setup identity next
   sets_after step next spare u asked none own free = record {
     spare = spare;
-    asks = subst (λ (c : Controlling). Asks setup identity.mac Addressing wants.Address false spare c) (sym u.controller)
-        (laws.controller_unit step.controller Addressing wants.Address false spare refl asked.asks).1;
+    asks = subst (λ (c : Controlling). Asks setup identity.mac Addressing wants.Address None spare c) (sym u.controller)
+        (laws.controller_unit step.controller Addressing wants.Address None spare refl asked.asks).1;
     under_way = u.to_device
         ∙ (ap (λ (fs : List (List ℕ)). fs ++ (step_of step.controller Tick).frames) asked.frames
         ∙ ap (λ (fs : List (List ℕ)). request_to setup identity wants.Address ∷ fs)
@@ -180,10 +181,10 @@ module _ {F : Type 0} {S : ℕ} (as_flash : Flash F S) (setup : Setup) (identity
 
   by_found : (settings : Settings) (step : Stepped) → (settings.suite ≡ setup.plan.station.suite → ⊥)
       → FindsIt setup identity settings (write_count setup.plan + 2) step
-      → AsksNext setup identity Addressing wants.Address false (suc (write_count setup.plan + 1)) step
+      → AsksNext setup identity Addressing wants.Address None (suc (write_count setup.plan + 1)) step
   by_found settings step other (inl found) = absurd (other found.0)
   by_found settings step other (inr found) =
-      subst (λ (n : ℕ). AsksNext setup identity Addressing wants.Address false n step) (two_more (write_count setup.plan)) found.1
+      subst (λ (n : ℕ). AsksNext setup identity Addressing wants.Address None n step) (two_more (write_count setup.plan)) found.1
 
   -- After the search the Set is under way, and the settings of the device are what they were.
   unaddressed_round : IsPatient setup.plan setup.options → (net next : Net F) → SeeksUnaddressed setup identity net → Round as_flash net next
@@ -195,7 +196,8 @@ module _ {F : Type 0} {S : ℕ} (as_flash : Flash F S) (setup : Setup) (identity
       let step = controller_step is.before (found_frame setup identity settings) in
       let w = went_at as_flash round.device station Ticks next.to_controller next.device is.of_station round.unit in
       let law = laws.device_free [] station round.device.live (subst (λ (live : Live). IsFree setup live) (sym is.same) at.free) in
-      let found = laws.controller_found patient at.right.vendor at.right.device settings is.before at.seeks.named.name at.seeks.sized is.of_setup is.made in (
+      let found = laws.controller_found patient at.right.vendor at.right.device settings is.before at.seeks.named.name at.seeks.sized
+      (searching_first setup is.before is.of_setup is.made) in (
         sets_after step next (write_count setup.plan + 1) is.passes (by_found settings step at.other found) (w.sent ∙ law.0)
             (ap (λ (s : Station). s.identity) w.of_station ∙ at.seeks.of_device) (subst (λ (live : Live). IsFree setup live) (sym w.state) law.2),
         ap (λ (live : Live). live.values) w.state ∙ (law.1 ∙ ap (λ (live : Live). live.values) is.same),
@@ -260,17 +262,18 @@ module _ {F : Type 0} {S : ℕ} (as_flash : Flash F S) (setup : Setup) (identity
   modules_round meets some net next at round =
       let station = net.device.station in
       let request = request_to setup identity wants.Connect in
-      let answer = differing_frame setup identity station.real in
+      let serial : ℕ = number_now station net.device.live in
+      let answer = differing_frame setup identity serial station.real in
       let law = laws.device_differing meets some [] station net.device.live at.of_device at.interval at.addressed at.free in
       let all = arrive_first as_flash station (λ (live : Live). Unit {0}) (λ (octets : List ℕ). ⊥) (never (λ (live : Live). Unit {0}) station)
       net.device request [] round.answers round.device refl (λ sendable. tt) tt
       (arrives_as net next round (request ∷ []) at.under_way) in
       let can = law.1 (subst (λ (i : Identity). AreSendable i (device_step [] station net.device.live request).sent) at.of_device all.1) in
-      let kept = ignore setup (λ (c : Controlling). Asks setup identity.mac Connecting wants.Connect false at.spare c) (λ c is. (is.of_setup, is.established))
+      let kept = ignore setup (λ (c : Controlling). Asks setup identity.mac Connecting wants.Connect None at.spare c) (λ c is. (is.of_setup, is.established))
       net.controller net.to_controller (answer ∷ []) at.ignored at.asks in
       let step = controller_step kept.between answer in
       let u = passed as_flash net next round (answer ∷ []) step (all.0.sent ∙ law.0) (kept.goes_on ∙ hears_one kept.between answer) in
-      ended_after cause.ModuleDiff step next (laws.differing station.real kept.between at.spare kept.is at.differs can) u.controller
+      ended_after cause.ModuleDiff step next (laws.differing serial station.real kept.between at.spare kept.is at.differs can) u.controller
 
   pub modules_law : CanMeet setup identity → is_zero setup.plan.station.suite.address ≡ false → (net : Net F) → ConnectsToOther setup identity net
       → EndsWithin as_flash 1 cause.ModuleDiff net

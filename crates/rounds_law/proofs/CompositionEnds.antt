@@ -1,5 +1,5 @@
 -- What a round does at each end, one end at a time.
-use Rattle.std.proofs.Common.{◌≡◌, ◌≤◌, ◌<◌, ℕ, suc, Bool, true, false, List, [], ◌∷◌, ◌++◌, sym, ap, subst, ◌∙◌}
+use Rattle.std.proofs.Common.{◌≡◌, ◌≤◌, ◌<◌, ℕ, suc, true, false, Option, Some, None, List, [], ◌∷◌, ◌++◌, refl, sym, ap, subst, ◌∙◌, arith}
 use Rattle.std.specs.List.{AllByRecursion}
 use Rattle.flash_model.specs.declared.flash.Flash.{Ghosts as Flash}
 use Rattle.pn_values.specs.declared.identity.Identity.{Identity}
@@ -14,8 +14,8 @@ use Rattle.controller_messages.specs.declared.request.Request.{Request}
 use Rattle.controller_core.specs.declared.stored.event.Event.TheVariants.{Tick}
 use Rattle.controller_core.specs.declared.stored.state.State.{State as Phases}
 use Rattle.controller_core.specs.stored.State.{Controlling, is_limited}
-use Rattle.controller_core.specs.Machine.{Stepped, step_of}
-use Rattle.rounds_law.specs.Path.{Asks, AsksNext, HasRelation, IsAddressed, IsFree, IsIgnored, IsInputs, IsNamed, IsOutputs, device_step, request_to}
+use Rattle.controller_core.specs.Machine.{Stepped, first as first_live, step_of}
+use Rattle.rounds_law.specs.Path.{Asks, AsksNext, HasRelation, IsAddressed, IsFree, IsIgnored, IsInputs, IsNamed, IsOutputs, IsSearching, device_step, request_to}
 use Rattle.rounds_law.specs.Rounds.{Goes, Net, Round, hears_all}
 use Rattle.rounds_law.specs.Start.{CanBeAddressed}
 use Rattle.rounds_law.proofs.CompositionLaws.{Laws}
@@ -37,8 +37,8 @@ can_by before after same can = record {
 }
 
 -- It has a relation and the plan's IP suite.
-pub record IsRelated (setup : Setup) (phase : Phase) (taken : List TakenRecord) (last : ℕ) (age : ℕ) (live : Live) : Type 0 where
-  pub related : HasRelation setup phase taken last age live
+pub record IsRelated (setup : Setup) (serial : ℕ) (phase : Phase) (taken : List TakenRecord) (last : ℕ) (age : ℕ) (live : Live) : Type 0 where
+  pub related : HasRelation setup serial phase taken last age live
   pub addressed : IsAddressed setup live
 
 -- After a unit without a relation.
@@ -49,11 +49,11 @@ pub record FreePassed {F : Type 0} (setup : Setup) (station : Station) (before :
   pub free : IsFree setup after.live
 
 -- After a unit with a relation.
-pub record RelatedPassed {F : Type 0} (setup : Setup) (identity : Identity) (station : Station) (phase : Phase) (taken : List TakenRecord)
+pub record RelatedPassed {F : Type 0} (setup : Setup) (serial : ℕ) (identity : Identity) (station : Station) (phase : Phase) (taken : List TakenRecord)
     (last age : ℕ) (frames : List (List ℕ)) (after : State F) : Type 0 where
   pub inputs : AllByRecursion (IsInputs setup identity) frames
   pub of_station : after.station ≡ station
-  pub is : IsRelated setup phase taken last age after.live
+  pub is : IsRelated setup serial phase taken last age after.live
 
 module _ {F : Type 0} {S : ℕ} (as_flash : Flash F S) (setup : Setup) (identity : Identity) (laws : Laws setup identity) where
   pub free_unit : (before : State F) (station : Station) (frames : List (List ℕ)) (after : State F)
@@ -69,28 +69,28 @@ module _ {F : Type 0} {S : ℕ} (as_flash : Flash F S) (setup : Setup) (identity
         free = subst (λ (live : Live). IsFree setup live) (sym w.state) law.2;
       }
 
-  pub related_unit : (before : State F) (station : Station) (frames : List (List ℕ)) (after : State F) → before.station ≡ station → station.identity ≡ identity
+  pub related_unit : (serial : ℕ) (before : State F) (station : Station) (frames : List (List ℕ)) (after : State F) → before.station ≡ station → station.identity ≡ identity
       → Goes as_flash before Ticks frames after → (phase : Phase) (taken : List TakenRecord) (last age : ℕ) → is_timed phase ≡ true → age < 31000
-      → IsRelated setup phase taken last age before.live → RelatedPassed setup identity station phase taken last (suc age) frames after
-  related_unit before station frames after same own goes phase taken last age timed young is =
+      → IsRelated setup serial phase taken last age before.live → RelatedPassed setup serial identity station phase taken last (suc age) frames after
+  related_unit serial before station frames after same own goes phase taken last age timed young is =
       let w = went_at as_flash before station Ticks frames after same goes in
-      let law = laws.device_unit [] station before.live phase taken last age own timed young is.related in
+      let law = laws.device_unit serial [] station before.live phase taken last age own timed young is.related in
       record {
         inputs = subst (λ (fs : List (List ℕ)). AllByRecursion (IsInputs setup identity) fs) (sym w.sent) law.0;
         of_station = w.of_station;
         is = record {
-          related = subst (λ (live : Live). HasRelation setup phase taken last (suc age) live) (sym w.state) law.2;
+          related = subst (λ (live : Live). HasRelation setup serial phase taken last (suc age) live) (sym w.state) law.2;
           addressed = addressed_by setup before.live after.live (ap (λ (live : Live). live.values) w.state ∙ law.1) is.addressed;
         };
       }
 
   -- frames of outputs leave a relation
-  pub related_outputs : (station : Station) → station.identity ≡ identity
+  pub related_outputs : (serial : ℕ) (station : Station) → station.identity ≡ identity
       → (phase : Phase) (taken : List TakenRecord) (last age : ℕ) (live : Live) (octets : List ℕ)
-      → IsOutputs setup identity.mac octets → IsRelated setup phase taken last age live
-      → ((device_step [] station live octets).frames ≡ []) × IsRelated setup phase taken last age (device_step [] station live octets).live
-  related_outputs station own phase taken last age live octets outputs is =
-      let law = laws.device_outputs [] station live phase taken last age octets own outputs is.related in
+      → IsOutputs setup (Some serial) identity.mac octets → IsRelated setup serial phase taken last age live
+      → ((device_step [] station live octets).frames ≡ []) × IsRelated setup serial phase taken last age (device_step [] station live octets).live
+  related_outputs serial station own phase taken last age live octets outputs is =
+      let law = laws.device_outputs serial [] station live phase taken last age octets own outputs is.related in
       (law.0, record { related = law.2; addressed = addressed_by setup live (device_step [] station live octets).live law.1 is.addressed })
 
 -- ---- the controller
@@ -109,16 +109,16 @@ module _ {F : Type 0} {S : ℕ} (as_flash : Flash F S) where
       subst (λ (h : Stepped). Passed h after) so (record { controller = round.controller; to_device = round.to_device })
 
 -- It waits for the answer to a request that is under way, with outputs after it.
-pub record Asked (setup : Setup) (identity : Identity) (phase : Phases) (request : Request) (stands : Bool) (spare : ℕ)
+pub record Asked (setup : Setup) (identity : Identity) (phase : Phases) (request : Request) (stands : Option ℕ) (spare : ℕ)
     (controller : Controlling) (to_device : List (List ℕ)) : Type 0 where
   pub asks : Asks setup identity.mac phase request stands spare controller
   pub outputs : List (List ℕ)
   pub under_way : to_device ≡ request_to setup identity request ∷ outputs
-  pub are : AllByRecursion (IsOutputs setup identity.mac) outputs
-  pub unsent : stands ≡ false → outputs ≡ []
+  pub are : AllByRecursion (IsOutputs setup stands identity.mac) outputs
+  pub unsent : stands ≡ None → outputs ≡ []
 
 module _ {F : Type 0} (setup : Setup) (identity : Identity) (laws : Laws setup identity) where
-  pub asked_after : (heard : Stepped) (after : Net F) (phase : Phases) (request : Request) (stands : Bool) (spare : ℕ) → is_limited phase ≡ true
+  pub asked_after : (heard : Stepped) (after : Net F) (phase : Phases) (request : Request) (stands : Option ℕ) (spare : ℕ) → is_limited phase ≡ true
       → Passed heard after → AsksNext setup identity phase request stands (suc spare) heard
       → Asked setup identity phase request stands spare after.controller after.to_device
   asked_after heard after phase request stands spare limited u next =
@@ -129,8 +129,25 @@ module _ {F : Type 0} (setup : Setup) (identity : Identity) (laws : Laws setup i
         under_way = u.to_device ∙ ap (λ (fs : List (List ℕ)). fs ++ (step_of heard.controller Tick).frames) next.frames;
         are = law.0;
         unsent = λ early. laws.controller_unsent heard.controller phase request spare limited
-            (subst (λ (b : Bool). Asks setup identity.mac phase request b (suc spare) heard.controller) early next.asks);
+            (subst (λ (b : Option ℕ). Asks setup identity.mac phase request b (suc spare) heard.controller) early next.asks);
       }
+
+-- a controller that was just made looks for its station
+pub searching_first : (setup : Setup) (controller : Controlling) → controller.setup ≡ setup → controller.live ≡ first_live setup.plan
+    → IsSearching setup controller
+searching_first setup controller of_setup made = record {
+  of_setup = of_setup;
+  in_phase = ap (λ l. l.phase) made;
+  asked = ap (λ l. l.asked) made;
+  of_device = refl;
+  unestablished = ap (λ l. l.stands) made;
+  high = ap (λ l. l.alarms.sending.waiting) made;
+  low = ap (λ l. l.low_alarms.sending.waiting) made;
+  low_limit = subst (λ l. 3200 ≤ l.low_alarms.sending.limit) (sym made) (omega arith);
+  alone = ap (λ l. l.access.waiting) made;
+  unbegun = ap (λ l. l.cyclic.begun) made;
+  limit = ap (λ l. l.cyclic.hearing.limit) made;
+}
 
 -- frames that a controller without a relation ignores
 pub ignore : (setup : Setup) (Is : Controlling → Type 0)

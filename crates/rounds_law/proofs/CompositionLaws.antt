@@ -1,10 +1,10 @@
 -- What the laws of both ends say of a set-up and a device, together.
-use Rattle.std.specs.Prelude.{[], ◌+◌, ◌<◌, ◌∷◌, ◌≡◌, ◌≤◌, Bool, List, None, false, map, suc, take, true, ℕ}
+use Rattle.std.specs.Prelude.{[], ◌+◌, ◌<◌, ◌∷◌, ◌≡◌, ◌≤◌, List, None, Some, false, map, suc, take, true, ℕ, Option}
 use Rattle.settings_journal.specs.settings_store.Machine.{Outcome}
 use Rattle.controller_messages.specs.declared.request.Request.TheVariants.{Address, Connect, Identify, PrmEnd, Write}
 use Rattle.device_core.specs.State.{Live, Station}
 use Rattle.rounds_law.specs.Path.{Asks, AsksNext, Controls, Exchanges, FindsIt, HasRelation, IsAddressed, IsFree, IsInputs}
-use Rattle.rounds_law.specs.Path.{IsNamed, IsOutputs, IsReport, IsSized, IsWritten, confirmed_frame, controller_step}
+use Rattle.rounds_law.specs.Path.{IsNamed, IsOutputs, IsReport, IsSearching, IsSized, IsWritten, confirmed_frame, controller_step}
 use Rattle.rounds_law.specs.Path.{device_step, ended_frame, found_frame, hold_of, readied_frame, request_to, set_frame}
 use Rattle.rounds_law.specs.Start.{AreWritable, CanBeAddressed, IsOfPlan, IsPatient}
 use Rattle.std.specs.List.{AllByRecursion}
@@ -19,11 +19,12 @@ use Rattle.both_ends.specs.startup.View.{taken_for}
 use Rattle.relations.specs.declared.phase.Phase.{Phase}
 use Rattle.relations.specs.Timers.{is_timed}
 use Rattle.device_frames.specs.Heard.{Ticks}
+use Rattle.device_core.specs.Handled.{number_now}
 use Rattle.device_core.specs.Machine.{heard_step}
 use Rattle.pn_values.specs.declared.settings.Settings.{Settings}
 use Rattle.controller_core.specs.declared.stored.state.State.TheVariants.{Addressing, Connecting, Ending, Writing}
 use Rattle.controller_core.specs.stored.State.{Controlling, is_limited, phase_for}
-use Rattle.controller_core.specs.Machine.{first as first_live, step_of}
+use Rattle.controller_core.specs.Machine.{step_of}
 use Rattle.relations.specs.declared.options.DeviceOptions.{DeviceOptions}
 use Rattle.rounds_law.specs.Rounds.{hears_all}
 use Rattle.controller_core.specs.declared.stored.state.State.{State as Phases}
@@ -47,93 +48,93 @@ pub record Laws (setup : Setup) (identity : Identity) : Type 0 where
       → (outcomes : List Outcome) (station : Station) (live : Live) → station.identity ≡ identity → IsOfPlan setup station
       → IsAddressed setup live → IsFree setup live
       → ((device_step outcomes station live (request_to setup identity Connect)).frames
-      ≡ answer_frame setup identity station.options setup.plan.station.suite.address ∷ [])
+      ≡ answer_frame setup identity station.options (number_now station live) setup.plan.station.suite.address ∷ [])
       × ((device_step outcomes station live (request_to setup identity Connect)).live.values ≡ live.values)
-      × HasRelation setup Started [] 0 0 (device_step outcomes station live (request_to setup identity Connect)).live
+      × HasRelation setup (number_now station live) Started [] 0 0 (device_step outcomes station live (request_to setup identity Connect)).live
   pub device_ended : CanMeet setup identity → is_zero setup.plan.station.suite.address ≡ false
-      → (outcomes : List Outcome) (station : Station) (live : Live) (taken : List TakenRecord) (last age : ℕ) → station.identity ≡ identity
-      → IsOfPlan setup station → IsAddressed setup live → last ≤ write_count setup.plan → HasRelation setup Started taken last age live
+      → (serial : ℕ) (outcomes : List Outcome) (station : Station) (live : Live) (taken : List TakenRecord) (last age : ℕ) → station.identity ≡ identity
+      → IsOfPlan setup station → IsAddressed setup live → last ≤ write_count setup.plan → HasRelation setup serial Started taken last age live
       → ((device_step outcomes station live (request_to setup identity PrmEnd)).frames
       ≡ ended_frame setup identity ∷ readied_frame setup identity ∷ [])
       × ((device_step outcomes station live (request_to setup identity PrmEnd)).live.values ≡ live.values)
-      × HasRelation setup Awaiting taken (write_count setup.plan + 1) 0
+      × HasRelation setup serial Awaiting taken (write_count setup.plan + 1) 0
       (device_step outcomes station live (request_to setup identity PrmEnd)).live
   pub device_confirmed : CanMeet setup identity → is_zero setup.plan.station.suite.address ≡ false
-      → (outcomes : List Outcome) (station : Station) (live : Live) (taken : List TakenRecord) (last age : ℕ) → station.identity ≡ identity
-      → IsOfPlan setup station → IsAddressed setup live → HasRelation setup Awaiting taken last age live
+      → (serial : ℕ) (outcomes : List Outcome) (station : Station) (live : Live) (taken : List TakenRecord) (last age : ℕ) → station.identity ≡ identity
+      → IsOfPlan setup station → IsAddressed setup live → HasRelation setup serial Awaiting taken last age live
       → AreSendable identity (device_step outcomes station live (confirmed_frame setup identity)).sent
       → AllByRecursion (IsReport setup identity) (device_step outcomes station live (confirmed_frame setup identity)).frames
       × ((device_step outcomes station live (confirmed_frame setup identity)).live.values ≡ live.values)
-      × Exchanges setup 0 (device_step outcomes station live (confirmed_frame setup identity)).live
+      × Exchanges setup serial 0 (device_step outcomes station live (confirmed_frame setup identity)).live
   pub device_written : CanMeet setup identity → is_zero setup.plan.station.suite.address ≡ false → AreWritable setup
-      → (outcomes : List Outcome) (station : Station) (live : Live) (number age : ℕ) → station.identity ≡ identity
+      → (serial : ℕ) (outcomes : List Outcome) (station : Station) (live : Live) (number age : ℕ) → station.identity ≡ identity
       → IsOfPlan setup station → IsAddressed setup live → number < write_count setup.plan
-      → HasRelation setup Started (map taken_for (take (first_of setup.plan number) setup.plan.records.items)) number age live
+      → HasRelation setup serial Started (map taken_for (take (first_of setup.plan number) setup.plan.records.items)) number age live
       → (octets : List ℕ)
       × ((device_step outcomes station live (request_to setup identity (Write number))).frames ≡ octets ∷ [])
       × IsWritten setup identity number octets
       × ((device_step outcomes station live (request_to setup identity (Write number))).live.values ≡ live.values)
-      × HasRelation setup Started (map taken_for (take (first_of setup.plan (number + 1)) setup.plan.records.items)) (number + 1) 0
+      × HasRelation setup serial Started (map taken_for (take (first_of setup.plan (number + 1)) setup.plan.records.items)) (number + 1) 0
       (device_step outcomes station live (request_to setup identity (Write number))).live
   pub device_free : (outcomes : List Outcome) (station : Station) (live : Live) → IsFree setup live
       → ((heard_step outcomes station live Ticks).frames ≡ []) × ((heard_step outcomes station live Ticks).live.values ≡ live.values)
       × IsFree setup (heard_step outcomes station live Ticks).live
-  pub device_unit : (outcomes : List Outcome) (station : Station) (live : Live) (phase : Phase) (taken : List TakenRecord) (last age : ℕ)
-      → station.identity ≡ identity → is_timed phase ≡ true → age < 31000 → HasRelation setup phase taken last age live
+  pub device_unit : (serial : ℕ) (outcomes : List Outcome) (station : Station) (live : Live) (phase : Phase) (taken : List TakenRecord) (last age : ℕ)
+      → station.identity ≡ identity → is_timed phase ≡ true → age < 31000 → HasRelation setup serial phase taken last age live
       → AllByRecursion (IsInputs setup identity) (heard_step outcomes station live Ticks).frames
       × ((heard_step outcomes station live Ticks).live.values ≡ live.values)
-      × HasRelation setup phase taken last (suc age) (heard_step outcomes station live Ticks).live
-  pub device_outputs : (outcomes : List Outcome) (station : Station) (live : Live) (phase : Phase) (taken : List TakenRecord) (last age : ℕ)
-      (octets : List ℕ) → station.identity ≡ identity → IsOutputs setup identity.mac octets
-      → HasRelation setup phase taken last age live
+      × HasRelation setup serial phase taken last (suc age) (heard_step outcomes station live Ticks).live
+  pub device_outputs : (serial : ℕ) (outcomes : List Outcome) (station : Station) (live : Live) (phase : Phase) (taken : List TakenRecord) (last age : ℕ)
+      (octets : List ℕ) → station.identity ≡ identity → IsOutputs setup (Some serial) identity.mac octets
+      → HasRelation setup serial phase taken last age live
       → ((device_step outcomes station live octets).frames ≡ []) × ((device_step outcomes station live octets).live.values ≡ live.values)
-      × HasRelation setup phase taken last age (device_step outcomes station live octets).live
-  pub device_later_unit : (outcomes : List Outcome) (station : Station) (live : Live) (age : ℕ) → station.identity ≡ identity
-      → age + 2 ≤ hold_of setup.plan → age < 3000 → Exchanges setup age live
-      → ((heard_step outcomes station live Ticks).live.values ≡ live.values) × Exchanges setup (suc age) (heard_step outcomes station live Ticks).live
-  pub device_later_outputs : (outcomes : List Outcome) (station : Station) (live : Live) (age : ℕ) (octets : List ℕ) → station.identity ≡ identity
-      → IsOutputs setup identity.mac octets → Exchanges setup age live
+      × HasRelation setup serial phase taken last age (device_step outcomes station live octets).live
+  pub device_later_unit : (serial : ℕ) (outcomes : List Outcome) (station : Station) (live : Live) (age : ℕ) → station.identity ≡ identity
+      → age + 2 ≤ hold_of setup.plan → age < 3000 → Exchanges setup serial age live
+      → ((heard_step outcomes station live Ticks).live.values ≡ live.values) × Exchanges setup serial (suc age) (heard_step outcomes station live Ticks).live
+  pub device_later_outputs : (serial : ℕ) (outcomes : List Outcome) (station : Station) (live : Live) (age : ℕ) (octets : List ℕ) → station.identity ≡ identity
+      → IsOutputs setup (Some serial) identity.mac octets → Exchanges setup serial age live
       → ((device_step outcomes station live octets).frames ≡ []) × ((device_step outcomes station live octets).live.values ≡ live.values)
-      × Exchanges setup age (device_step outcomes station live octets).live
+      × Exchanges setup serial age (device_step outcomes station live octets).live
   pub controller_found : IsPatient setup.plan setup.options → identity.vendor_id ≡ setup.plan.station.vendor_id
       → identity.device_id ≡ setup.plan.station.device_id
       → (settings : Settings) (controller : Controlling) → settings.name ≡ setup.plan.station.name
-      → IsSized settings.suite → controller.setup ≡ setup → controller.live ≡ first_live setup.plan
+      → IsSized settings.suite → IsSearching setup controller
       → FindsIt setup identity settings (write_count setup.plan + 2) (controller_step controller (found_frame setup identity settings))
   pub controller_set : IsPatient setup.plan setup.options → (controller : Controlling) (spare : ℕ)
-      → Asks setup identity.mac Addressing Address false spare controller
-      → AsksNext setup identity Connecting Connect false (write_count setup.plan + 2) (controller_step controller (set_frame setup identity))
+      → Asks setup identity.mac Addressing Address None spare controller
+      → AsksNext setup identity Connecting Connect None (write_count setup.plan + 2) (controller_step controller (set_frame setup identity))
   pub controller_connected : CanMeet setup identity → IsPatient setup.plan setup.options
-      → (options : DeviceOptions) → AcceptsInterval options setup.plan → (controller : Controlling) (spare : ℕ)
-      → Asks setup identity.mac Connecting Connect false spare controller
-      → AsksNext setup identity (phase_for (writing_from setup.plan 0)) (writing_from setup.plan 0) true (write_count setup.plan + 2)
-      (controller_step controller (answer_frame setup identity options setup.plan.station.suite.address))
+      → (options : DeviceOptions) → AcceptsInterval options setup.plan → (serial : ℕ) → serial < 14336 → (controller : Controlling) (spare : ℕ)
+      → Asks setup identity.mac Connecting Connect None spare controller
+      → AsksNext setup identity (phase_for (writing_from setup.plan 0)) (writing_from setup.plan 0) (Some serial) (write_count setup.plan + 2)
+      (controller_step controller (answer_frame setup identity options serial setup.plan.station.suite.address))
   pub controller_written : CanMeet setup identity → IsPatient setup.plan setup.options
-      → (controller : Controlling) (number spare : ℕ) (octets : List ℕ) → number < write_count setup.plan → spare ≤ write_count setup.plan + 2
-      → Asks setup identity.mac Writing (Write number) true spare controller → IsWritten setup identity number octets
-      → AsksNext setup identity (phase_for (writing_from setup.plan (number + 1))) (writing_from setup.plan (number + 1)) true spare
+      → (serial : ℕ) (controller : Controlling) (number spare : ℕ) (octets : List ℕ) → number < write_count setup.plan → spare ≤ write_count setup.plan + 2
+      → Asks setup identity.mac Writing (Write number) (Some serial) spare controller → IsWritten setup identity number octets
+      → AsksNext setup identity (phase_for (writing_from setup.plan (number + 1))) (writing_from setup.plan (number + 1)) (Some serial) spare
       (controller_step controller octets)
-  pub controller_readied : CanMeet setup identity → (controller : Controlling) (spare : ℕ)
-      → Asks setup identity.mac Ending PrmEnd true spare controller
+  pub controller_readied : CanMeet setup identity → (serial : ℕ) (controller : Controlling) (spare : ℕ)
+      → Asks setup identity.mac Ending PrmEnd (Some serial) spare controller
       → ((hears_all controller (ended_frame setup identity ∷ readied_frame setup identity ∷ [])).frames
       ≡ confirmed_frame setup identity ∷ [])
-      × Controls setup identity.mac 0 (hears_all controller (ended_frame setup identity ∷ readied_frame setup identity ∷ [])).controller
+      × Controls setup serial identity.mac 0 (hears_all controller (ended_frame setup identity ∷ readied_frame setup identity ∷ [])).controller
       × ((hears_all controller (ended_frame setup identity ∷ readied_frame setup identity ∷ [])).controller.live.low_alarms.sending.waiting ≡ None)
-  pub controller_unit : (controller : Controlling) (phase : Phases) (request : Request) (stands : Bool) (spare : ℕ) → is_limited phase ≡ true
+  pub controller_unit : (controller : Controlling) (phase : Phases) (request : Request) (stands : Option ℕ) (spare : ℕ) → is_limited phase ≡ true
       → Asks setup identity.mac phase request stands (suc spare) controller
-      → AllByRecursion (IsOutputs setup identity.mac) (step_of controller Tick).frames
+      → AllByRecursion (IsOutputs setup stands identity.mac) (step_of controller Tick).frames
       × Asks setup identity.mac phase request stands spare (step_of controller Tick).controller
   pub controller_unsent : (controller : Controlling) (phase : Phases) (request : Request) (spare : ℕ) → is_limited phase ≡ true
-      → Asks setup identity.mac phase request false (suc spare) controller → (step_of controller Tick).frames ≡ []
-  pub controller_inputs : (controller : Controlling) (phase : Phases) (request : Request) (stands : Bool) (spare : ℕ) (octets : List ℕ)
+      → Asks setup identity.mac phase request None (suc spare) controller → (step_of controller Tick).frames ≡ []
+  pub controller_inputs : (controller : Controlling) (phase : Phases) (request : Request) (stands : Option ℕ) (spare : ℕ) (octets : List ℕ)
       → IsInputs setup identity octets → Asks setup identity.mac phase request stands spare controller
       → ((controller_step controller octets).frames ≡ []) × Asks setup identity.mac phase request stands spare (controller_step controller octets).controller
-  pub controller_later_unit : (controller : Controlling) (age : ℕ) → age + 2 ≤ hold_of setup.plan → age < 3000 → Controls setup identity.mac age controller
-      → Controls setup identity.mac (suc age) (step_of controller Tick).controller
-      × (controller.live.low_alarms.sending.waiting ≡ None → AllByRecursion (IsOutputs setup identity.mac) (step_of controller Tick).frames
+  pub controller_later_unit : (serial : ℕ) (controller : Controlling) (age : ℕ) → age + 2 ≤ hold_of setup.plan → age < 3000 → Controls setup serial identity.mac age controller
+      → Controls setup serial identity.mac (suc age) (step_of controller Tick).controller
+      × (controller.live.low_alarms.sending.waiting ≡ None → AllByRecursion (IsOutputs setup (Some serial) identity.mac) (step_of controller Tick).frames
       × ((step_of controller Tick).controller.live.low_alarms.sending.waiting ≡ None))
-  pub controller_later_inputs : (controller : Controlling) (age : ℕ) (octets : List ℕ)
-      → IsInputs setup identity octets → Controls setup identity.mac age controller
-      → ((controller_step controller octets).frames ≡ []) × Controls setup identity.mac age (controller_step controller octets).controller
-  pub controller_reported : (controller : Controlling) (age : ℕ) (octets : List ℕ) → IsReport setup identity octets → Controls setup identity.mac age controller
-      → Controls setup identity.mac age (controller_step controller octets).controller
+  pub controller_later_inputs : (serial : ℕ) (controller : Controlling) (age : ℕ) (octets : List ℕ)
+      → IsInputs setup identity octets → Controls setup serial identity.mac age controller
+      → ((controller_step controller octets).frames ≡ []) × Controls setup serial identity.mac age (controller_step controller octets).controller
+  pub controller_reported : (serial : ℕ) (controller : Controlling) (age : ℕ) (octets : List ℕ) → IsReport setup identity octets → Controls setup serial identity.mac age controller
+      → Controls setup serial identity.mac age (controller_step controller octets).controller

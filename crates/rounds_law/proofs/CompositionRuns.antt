@@ -7,6 +7,7 @@ use Rattle.controller_messages.specs.declared.setup.Setup.{Setup}
 use Rattle.rounds_law.specs.Path.{IsIgnored}
 use Rattle.rounds_law.specs.Rounds.{ExchangeWithin, Net, Rounds}
 use Rattle.rounds_law.specs.Stages.{IsLooking, Leads}
+use Rattle.rounds_law.proofs.CompositionEnds.{searching_first}
 use Rattle.rounds_law.specs.Start.{IsStart}
 
 module _ {F : Type 0} {S : ℕ} (as_flash : Flash F S) where
@@ -29,8 +30,7 @@ module _ {F : Type 0} {S : ℕ} (as_flash : Flash F S) where
 -- a start is the first stage
 pub start_looks : {F : Type 0} (setup : Setup) (identity : Identity) (net : Net F) → IsStart setup identity net → IsLooking setup identity net
 start_looks setup identity net start = record {
-  of_setup = start.of_setup;
-  made = start.made;
+  searches = searching_first setup net.controller start.of_setup start.made;
   opened = start.opened;
   ignored = subst (λ fs. AllByRecursion (IsIgnored setup) fs) (sym start.silent) tt;
   of_device = start.of_device;

@@ -1,5 +1,5 @@
 -- A controller that writes the next record, or ends the parameters.
-use Rattle.std.proofs.Common.{◌≡◌, ◌≤◌, ◌<◌, ◌+◌, ◌/◌, ◌⊎◌, inl, inr, ℕ, Bool, true, false, cond, nat_lt, List, [], ◌∷◌, length, map, None, refl, sym, ap}
+use Rattle.std.proofs.Common.{◌≡◌, ◌≤◌, ◌<◌, ◌+◌, ◌/◌, ◌⊎◌, inl, inr, ℕ, Bool, true, false, cond, nat_lt, List, [], ◌∷◌, length, map, None, refl, sym, ap, Some}
 use Rattle.std.proofs.Common.{subst, ◌∙◌, arith}
 use Rattle.pn_values.specs.declared.identity.Identity.{Identity}
 use Rattle.pn_values.specs.declared.mac.Mac.{Mac}
@@ -15,10 +15,9 @@ use Rattle.controller_core.specs.declared.stored.event.Event.TheVariants.{Frame}
 use Rattle.controller_core.specs.declared.stored.state.State.{State}
 use Rattle.controller_core.specs.declared.stored.state.State.TheVariants.{Connecting, Writing}
 use Rattle.controller_core.specs.Machine.{Stepped, Turn, standing, stepped, step_of, turn_of, writing}
-use Rattle.controller_core.specs.stored.Opening.{route_of as outputs_route}
 use Rattle.controller_core.specs.stored.State.{Controlling, Live, left_in, patience_in, phase_for}
 use Rattle.both_ends.specs.startup.answer.Answer.{chosen_with}
-use Rattle.rounds_law.specs.Path.{Asks, AsksNext, controller_step, hold_of}
+use Rattle.rounds_law.specs.Path.{Asks, AsksNext, controller_step, hold_of, route_to}
 use Rattle.rounds_law.specs.Start.{IsPatient}
 
 -- ---- a step
@@ -85,10 +84,11 @@ within_next plan options left spare number before is few patient within =
 -- ---- the next request
 
 -- the relation is established with this device, and nothing else waits
-pub record IsRelated (setup : Setup) (device : Mac) (live : Live) : Type 0 where
+pub record IsRelated (setup : Setup) (serial : ℕ) (device : Mac) (live : Live) : Type 0 where
   pub of_device : live.device ≡ device
   pub established : live.stands ≡ true
-  pub route : live.cyclic.route ≡ outputs_route device 0xC000 1
+  pub few : serial < 14336
+  pub route : live.cyclic.route ≡ route_to device serial
   pub high : live.alarms.sending.waiting ≡ None
   pub low : live.low_alarms.sending.waiting ≡ None
   pub low_limit : 3200 ≤ live.low_alarms.sending.limit
@@ -96,12 +96,13 @@ pub record IsRelated (setup : Setup) (device : Mac) (live : Live) : Type 0 where
   pub unbegun : live.cyclic.begun ≡ false
   pub limit : live.cyclic.hearing.limit ≡ hold_of setup.plan
 
-pub related_asks : (setup : Setup) (device : Mac) (phase : State) (request : Request) (spare : ℕ) (controller : Controlling)
-    → Asks setup device phase request true spare controller → IsRelated setup device controller.live
-related_asks setup device phase request spare controller it = record {
+pub related_asks : (serial : ℕ) (setup : Setup) (device : Mac) (phase : State) (request : Request) (spare : ℕ) (controller : Controlling)
+    → Asks setup device phase request (Some serial) spare controller → IsRelated setup serial device controller.live
+related_asks serial setup device phase request spare controller it = record {
   of_device = it.of_device;
   established = it.established;
-  route = it.route;
+  few = it.route.0;
+  route = it.route.1;
   high = it.high;
   low = it.low;
   low_limit = it.low_limit;
@@ -110,12 +111,13 @@ related_asks setup device phase request spare controller it = record {
   limit = it.limit;
 }
 
-pub related_first : (setup : Setup) (device : Mac) (phase : State) (request : Request) (spare : ℕ) (controller : Controlling)
-    → Asks setup device phase request false spare controller → IsRelated setup device (standing setup controller.live (chosen_with 0xC000))
-related_first setup device phase request spare controller it = record {
+pub related_first : (serial : ℕ) → serial < 14336 → (setup : Setup) (device : Mac) (phase : State) (request : Request) (spare : ℕ) (controller : Controlling)
+    → Asks setup device phase request None spare controller → IsRelated setup serial device (standing setup controller.live (chosen_with serial))
+related_first serial small setup device phase request spare controller it = record {
   of_device = it.of_device;
   established = refl;
-  route = ap (λ (d : Mac). outputs_route d 0xC000 1) it.of_device;
+  few = small;
+  route = ap (λ (d : Mac). route_to d serial) it.of_device;
   high = it.high;
   low = it.low;
   low_limit = it.low_limit;
@@ -124,10 +126,10 @@ related_first setup device phase request spare controller it = record {
   limit = it.limit;
 }
 
-pub asks_next : (setup : Setup) (identity : Identity) (request : Request) (spare : ℕ) (live : Live) → IsRelated setup identity.mac live → spare < 31999
+pub asks_next : (serial : ℕ) (setup : Setup) (identity : Identity) (request : Request) (spare : ℕ) (live : Live) → IsRelated setup serial identity.mac live → spare < 31999
     → IsWithin spare (left_in setup.options live.left live.phase (phase_for request))
-    → AsksNext setup identity (phase_for request) request true spare (step_by setup (writing setup request live))
-asks_next setup identity request spare live related few within = record {
+    → AsksNext setup identity (phase_for request) request (Some serial) spare (step_by setup (writing setup request live))
+asks_next serial setup identity request spare live related few within = record {
   asks = record {
     of_setup = refl;
     in_phase = refl;
@@ -136,7 +138,7 @@ asks_next setup identity request spare live related few within = record {
     unrepeated = omega (arith, few);
     patient = within;
     established = related.established;
-    route = related.route;
+    route = (related.few, related.route);
     high = related.high;
     low = related.low;
     low_limit = related.low_limit;
@@ -148,12 +150,12 @@ asks_next setup identity request spare live related few within = record {
 }
 
 -- the controller after a frame by which it goes on
-pub asks_after : (setup : Setup) (identity : Identity) (request : Request) (spare : ℕ) (controller : Controlling) (octets : List ℕ) (live : Live)
+pub asks_after : (serial : ℕ) (setup : Setup) (identity : Identity) (request : Request) (spare : ℕ) (controller : Controlling) (octets : List ℕ) (live : Live)
     → controller.setup ≡ setup
-    → turn_of setup controller.live (Frame (record { items = octets })) ≡ writing setup request live → IsRelated setup identity.mac live → spare < 31999
+    → turn_of setup controller.live (Frame (record { items = octets })) ≡ writing setup request live → IsRelated setup serial identity.mac live → spare < 31999
     → IsWithin spare (left_in setup.options live.left live.phase (phase_for request))
-    → AsksNext setup identity (phase_for request) request true spare (controller_step controller octets)
-asks_after setup identity request spare controller octets live of_setup is related few within =
-    subst (λ (step : Stepped). AsksNext setup identity (phase_for request) request true spare step)
+    → AsksNext setup identity (phase_for request) request (Some serial) spare (controller_step controller octets)
+asks_after serial setup identity request spare controller octets live of_setup is related few within =
+    subst (λ (step : Stepped). AsksNext setup identity (phase_for request) request (Some serial) spare step)
     (sym (step_is setup controller octets (writing setup request live) of_setup is))
-    (asks_next setup identity request spare live related few within)
+    (asks_next serial setup identity request spare live related few within)

@@ -1,5 +1,5 @@
 -- What a controller does with the responses of its device, and with ApplicationReady.
-use Rattle.std.proofs.Common.{◌≡◌, ◌≤◌, ◌+◌, ◌==◌, ◌&&◌, ◌++◌, ℕ, nat_eq, true, false, List, [], ◌∷◌, length, Option, Some, None, Result, refl, sym, ap}
+use Rattle.std.proofs.Common.{◌<◌, ◌≡◌, ◌≤◌, ◌+◌, ◌==◌, ◌&&◌, ◌++◌, ℕ, nat_eq, true, List, [], ◌∷◌, length, Option, Some, None, Result, refl, sym, ap}
 use Rattle.std.proofs.Common.{subst, ◌∙◌, arith, eq-eqb}
 use Rattle.std.specs.Prelude.{if◌then◌else◌}
 use Rattle.std.specs.Cmp.Lexicographic.{pointwise}
@@ -80,7 +80,7 @@ is_its_answer setup sequence =
     both_true (pointwise nat_eq setup.activity setup.activity) (sequence == sequence) (nat_list_eq_equiv.refl setup.activity) (same_number sequence)
 
 module _ (so : HeardSo) (setup : Setup) (identity : Identity) (good : IsSetup setup) (real : IsDevice identity) where
-  abbrev mine : Controller
+  abbrev pub mine : Controller
   mine = setup.plan.controller
 
   its_caller : IsCaller (caller_of mine)
@@ -150,19 +150,19 @@ module _ (so : HeardSo) (setup : Setup) (identity : Identity) (good : IsSetup se
   block_fits : CanBeWritten (is.ApplicationReady (ready_for setup).block)
   block_fits = (record { ar_uuid = good.ar; session_key = omega arith; control_command = omega arith; control_block_properties = omega arith }, refl)
 
-  ready_is : ready_in (ready_call (ready_for setup)) ≡ Some (ready_for setup).block
+  pub ready_is : ready_in (ready_call (ready_for setup)) ≡ Some (ready_for setup).block
   ready_is = ap (λ (r : Result (Block × List ℕ) BlockFault). ready_block r) (so.block_read (is.ApplicationReady (ready_for setup).block) block_fits)
 
-  ready_heard : heard_of mine (readied_frame setup identity) ≡ Calls (device_as_caller setup identity) (ready_call (ready_for setup))
+  pub ready_heard : heard_of mine (readied_frame setup identity) ≡ Calls (device_as_caller setup identity) (ready_call (ready_for setup))
   ready_heard =
       so.ready mine identity setup.plan.station.suite.address (ready_for setup) real good.mac good.address good.station ready_fits
       ∙ is_reported mine (Calls (device_as_caller setup identity) (ready_call (ready_for setup)))
 
-  is_its_relation : is_ready setup (ready_for setup).block ≡ true
+  pub is_its_relation : is_ready setup (ready_for setup).block ≡ true
   is_its_relation = both_true (pointwise nat_eq setup.ar setup.ar) (1 == 1) (nat_list_eq_equiv.refl setup.ar) refl
 
   -- the exchange begins, and ApplicationReady is answered
-  abbrev begun : Live → Turn
+  abbrev pub begun : Live → Turn
   begun live = record {
     live = record live { phase = Exchanging; asked = None; left = 0; cyclic = begun_of live.cyclic };
     sent = Agrees (device_as_caller setup identity) (ready_answer (ready_call (ready_for setup)) (ready_for setup).block) ∷ [];
@@ -193,25 +193,26 @@ module _ (so : HeardSo) (setup : Setup) (identity : Identity) (good : IsSetup se
       ∙ ap (λ (s : Stepped). then_ends first.frames s) f
 
   -- it exchanges data, and sent the answer to ApplicationReady alone
-  abbrev pub IsReadied : Stepped → Type 0
-  IsReadied step =
+  abbrev pub IsReadied : ℕ → Stepped → Type 0
+  IsReadied serial step =
       (step.frames ≡ confirmed_frame setup identity ∷ [])
-      × Controls setup identity.mac 0 step.controller
+      × Controls setup serial identity.mac 0 step.controller
       × (step.controller.live.low_alarms.sending.waiting ≡ None)
 
-  pub readied_next : (controller : Controlling) (spare : ℕ) → Asks setup identity.mac Ending asks.PrmEnd true spare controller
-      → IsReadied (hears_all controller (ended_frame setup identity ∷ readied_frame setup identity ∷ []))
-  readied_next controller spare it =
+  pub readied_next : (serial : ℕ) (controller : Controlling) (spare : ℕ) → Asks setup identity.mac Ending asks.PrmEnd (Some serial) spare controller
+      → IsReadied serial (hears_all controller (ended_frame setup identity ∷ readied_frame setup identity ∷ []))
+  readied_next serial controller spare it =
       let live = controller.live in
       let first = step_by setup (stays (awaiting live)) in
       let second = step_by setup (begun (awaiting live)) in
       let one = step_is setup controller (ended_frame setup identity) (stays (awaiting live)) it.of_setup (ended_turns live it.asked) in
       let other = step_is setup first.controller (readied_frame setup identity) (begun (awaiting live)) refl (ready_turns live) in
-      let controls : Controls setup identity.mac 0 second.controller = record {
+      let controls : Controls setup serial identity.mac 0 second.controller = record {
         of_setup = refl;
         in_phase = refl;
         established = it.established;
-        route = it.route;
+        few = it.route.0;
+        route = it.route.1;
         high = it.high;
         low = subst (λ (w : Option ℕ). WaitsFew 0 w) (sym it.low) tt;
         low_limit = it.low_limit;
@@ -220,30 +221,30 @@ module _ (so : HeardSo) (setup : Setup) (identity : Identity) (good : IsSetup se
         alone = it.alone;
         held_few = omega arith;
       } in
-      subst (λ (s : Stepped). IsReadied s) (sym (both_heard controller (ended_frame setup identity) (readied_frame setup identity) first second one other))
+      subst (λ (s : Stepped). IsReadied serial s) (sym (both_heard controller (ended_frame setup identity) (readied_frame setup identity) first second one other))
       (refl, controls, it.low)
 
   -- ---- what is asked next
 
-  pub connected_next : (controller : Controlling) (spare : ℕ) (octets : List ℕ) → IsPatient setup.plan setup.options
-      → Asks setup identity.mac Connecting asks.Connect false spare controller
+  pub connected_next : (serial : ℕ) → serial < 14336 → (controller : Controlling) (spare : ℕ) (octets : List ℕ) → IsPatient setup.plan setup.options
+      → Asks setup identity.mac Connecting asks.Connect None spare controller
       → turn_of setup controller.live (Frame (record { items = octets }))
-      ≡ writing setup (writing_from setup.plan 0) (standing setup controller.live (chosen_with 0xC000))
-      → AsksNext setup identity (phase_for (writing_from setup.plan 0)) (writing_from setup.plan 0) true (write_count setup.plan + 2)
+      ≡ writing setup (writing_from setup.plan 0) (standing setup controller.live (chosen_with serial))
+      → AsksNext setup identity (phase_for (writing_from setup.plan 0)) (writing_from setup.plan 0) (Some serial) (write_count setup.plan + 2)
       (controller_step controller octets)
-  connected_next controller spare octets patient it turns =
+  connected_next serial small controller spare octets patient it turns =
       let count = write_count setup.plan in
-      asks_after setup identity (writing_from setup.plan 0) (count + 2) controller octets
-      (standing setup controller.live (chosen_with 0xC000)) it.of_setup turns
-      (related_first setup identity.mac Connecting asks.Connect spare controller it) (omega (arith, count_few setup.plan good.plan))
+      asks_after serial setup identity (writing_from setup.plan 0) (count + 2) controller octets
+      (standing setup controller.live (chosen_with serial)) it.of_setup turns
+      (related_first serial small setup identity.mac Connecting asks.Connect spare controller it) (omega (arith, count_few setup.plan good.plan))
       (within_first setup.plan setup.options controller.live.left (count + 2) 0 controller.live.phase it.in_phase (omega arith) patient)
 
-  pub written_next : (controller : Controlling) (number spare : ℕ) (octets : List ℕ) → IsPatient setup.plan setup.options → spare ≤ write_count setup.plan + 2
-      → Asks setup identity.mac Writing (asks.Write number) true spare controller → IsWritten setup identity number octets
-      → AsksNext setup identity (phase_for (writing_from setup.plan (number + 1))) (writing_from setup.plan (number + 1)) true spare
+  pub written_next : (serial : ℕ) (controller : Controlling) (number spare : ℕ) (octets : List ℕ) → IsPatient setup.plan setup.options → spare ≤ write_count setup.plan + 2
+      → Asks setup identity.mac Writing (asks.Write number) (Some serial) spare controller → IsWritten setup identity number octets
+      → AsksNext setup identity (phase_for (writing_from setup.plan (number + 1))) (writing_from setup.plan (number + 1)) (Some serial) spare
       (controller_step controller octets)
-  written_next controller number spare octets patient few it written =
-      asks_after setup identity (writing_from setup.plan (number + 1)) spare controller octets controller.live it.of_setup
-      (written_turns number octets controller.live it.asked written) (related_asks setup identity.mac Writing (asks.Write number) spare controller it)
+  written_next serial controller number spare octets patient few it written =
+      asks_after serial setup identity (writing_from setup.plan (number + 1)) spare controller octets controller.live it.of_setup
+      (written_turns number octets controller.live it.asked written) (related_asks serial setup identity.mac Writing (asks.Write number) spare controller it)
       (omega (arith, few, count_few setup.plan good.plan))
       (within_next setup.plan setup.options controller.live.left spare (number + 1) controller.live.phase it.in_phase few patient it.patient)

@@ -1,5 +1,5 @@
 -- A frame of inputs, or an alarm of low priority, at a controller.
-use Rattle.std.proofs.Common.{◌≡◌, ◌<◌, ◌≤◌, ◌&&◌, ℕ, Bool, true, false, nat_eq, List, [], length, Some}
+use Rattle.std.proofs.Common.{◌≡◌, ◌<◌, ◌≤◌, ◌&&◌, ℕ, Bool, true, false, nat_eq, List, [], length, Some, None, Option}
 use Rattle.std.proofs.Common.{Result, Err, if◌then◌else◌, refl, sym, ap, subst, ◌∙◌, arith, inl, inr}
 use Rattle.std.proofs.lemmas.Bool.{cases_lt}
 use Rattle.std.specs.Cmp.Lexicographic.{pointwise}
@@ -56,7 +56,7 @@ by_heard setup controller octets heard of is =
 
 -- ---- cyclic frames
 
-abbrev with_cyclic : Live → Cyclic → Live
+abbrev pub with_cyclic : Live → Cyclic → Live
 with_cyclic live cyclic = record live { cyclic = cyclic }
 
 -- Nothing is sent, and only the cyclic data may change.
@@ -94,10 +94,10 @@ turned_on setup live (Comes source frame_id body) is = comes_by live live.stands
 turned_on setup live (Alarms source under header notice) is = absurd is
 
 -- The step with such a frame.
-record IsSteppedOn (controller : Controlling) (step : Stepped) : Type 0 where
-  cyclic : Cyclic
-  is : step ≡ stepped controller (stays (with_cyclic controller.live cyclic))
-  on : IsHeardOn controller.live.cyclic cyclic
+pub record IsSteppedOn (controller : Controlling) (step : Stepped) : Type 0 where
+  pub cyclic : Cyclic
+  pub is : step ≡ stepped controller (stays (with_cyclic controller.live cyclic))
+  pub on : IsHeardOn controller.live.cyclic cyclic
 
 stepped_on : (setup : Setup) (controller : Controlling) (octets : List ℕ) → controller.setup ≡ setup → IsCyclicOrNone (heard_of setup.plan.controller octets)
     → IsSteppedOn controller (controller_step controller octets)
@@ -109,8 +109,8 @@ stepped_on setup controller octets of cyclic =
 -- ---- a frame of inputs
 
 -- The route of a plan's inputs.
-pub routed : (setup : Setup) → IsSetup setup → IsRouted (inputs_route (request_for setup.plan setup.ar))
-routed setup is = record { partner = is.mac; cyclic = refl; tag = omega arith; alarm_tag = omega arith }
+pub routed : (serial : ℕ) (setup : Setup) → IsSetup setup → IsRouted (inputs_route serial (request_for setup.plan setup.ar))
+routed serial setup is = record { partner = is.mac; cyclic = refl; tag = omega arith; alarm_tag = omega arith }
 
 cyclic_or_none : (mine : Controller) (destination source : Mac) (frame_id : ℕ) (body : List ℕ)
     → IsCyclicOrNone (mine_hears mine destination (Comes source frame_id body))
@@ -150,20 +150,20 @@ module _ (hears : InputsAreHeard) (sound : IsSound ethernet) (whole : IsSoundWho
 
   module _ (setup : Setup) (identity : Identity) (of_setup : IsSetup setup) (of_device : IsDevice identity) (controller : Controlling) (octets : List ℕ)
       (inputs : IsInputs setup identity octets) where
-    inputs_on : controller.setup ≡ setup → IsSteppedOn controller (controller_step controller octets)
+    pub inputs_on : controller.setup ≡ setup → IsSteppedOn controller (controller_step controller octets)
     inputs_on of =
         stepped_on setup controller octets of
         (subst (λ (bytes : List ℕ). IsCyclicOrNone (heard_of setup.plan.controller bytes)) (sym inputs.frame)
         (inputs_heard setup.plan.controller identity
-        (inputs_route (request_for setup.plan setup.ar)) inputs.has_problem inputs.inputs inputs.counter of_device (routed setup of_setup)))
+        (inputs_route inputs.serial (request_for setup.plan setup.ar)) inputs.has_problem inputs.inputs inputs.counter of_device (routed inputs.serial setup of_setup)))
 
-    route_on : (stands : Bool) (cyclic : Cyclic) → IsHeardOn controller.live.cyclic cyclic → IsRoute stands identity.mac controller.live.cyclic
+    route_on : (stands : Option ℕ) (cyclic : Cyclic) → IsHeardOn controller.live.cyclic cyclic → IsRoute stands identity.mac controller.live.cyclic
         → IsRoute stands identity.mac cyclic
-    route_on true cyclic on to = on.route ∙ to
-    route_on false cyclic on to = tt
+    route_on (Some serial) cyclic on to = (to.0, on.route ∙ to.1)
+    route_on None cyclic on to = tt
 
     -- While the controller waits for an answer.
-    pub inputs_before : (phase : Phases) (request : Request) (stands : Bool) (spare : ℕ) → Asks setup identity.mac phase request stands spare controller
+    pub inputs_before : (phase : Phases) (request : Request) (stands : Option ℕ) (spare : ℕ) → Asks setup identity.mac phase request stands spare controller
         → ((controller_step controller octets).frames ≡ []) × Asks setup identity.mac phase request stands spare (controller_step controller octets).controller
     inputs_before phase request stands spare is =
         let step = inputs_on is.of_setup in
@@ -188,16 +188,17 @@ module _ (hears : InputsAreHeard) (sound : IsSound ethernet) (whole : IsSoundWho
         )
 
     -- While it exchanges data.
-    pub inputs_later : (age : ℕ) → Controls setup identity.mac age controller
-        → ((controller_step controller octets).frames ≡ []) × Controls setup identity.mac age (controller_step controller octets).controller
-    inputs_later age is =
+    pub inputs_later : (serial : ℕ) (age : ℕ) → Controls setup serial identity.mac age controller
+        → ((controller_step controller octets).frames ≡ []) × Controls setup serial identity.mac age (controller_step controller octets).controller
+    inputs_later serial age is =
         let step = inputs_on is.of_setup in
-        subst (λ (s : Stepped). (s.frames ≡ []) × Controls setup identity.mac age s.controller) (sym step.is) (
+        subst (λ (s : Stepped). (s.frames ≡ []) × Controls setup serial identity.mac age s.controller) (sym step.is) (
           refl,
           record {
             of_setup = is.of_setup;
             in_phase = is.in_phase;
             established = is.established;
+            few = is.few;
             route = step.on.route ∙ is.route;
             high = is.high;
             low = is.low;
@@ -211,15 +212,16 @@ module _ (hears : InputsAreHeard) (sound : IsSound ethernet) (whole : IsSoundWho
 
 -- ---- an alarm of low priority
 
-module _ (setup : Setup) (device : Mac) (age : ℕ) (controller : Controlling) (is : Controls setup device age controller) where
+module _ (setup : Setup) (serial : ℕ) (device : Mac) (age : ℕ) (controller : Controlling) (is : Controls setup serial device age controller) where
   abbrev StaysIn : Turn → Type 0
-  StaysIn turn = Controls setup device age (stepped controller turn).controller
+  StaysIn turn = Controls setup serial device age (stepped controller turn).controller
 
-  seen_in : (number : ℕ) → Controls setup device age (with_live controller (behind_data controller.live Low number))
+  seen_in : (number : ℕ) → Controls setup serial device age (with_live controller (behind_data controller.live Low number))
   seen_in number = record {
     of_setup = is.of_setup;
     in_phase = is.in_phase;
     established = is.established;
+    few = is.few;
     route = is.route;
     high = is.high;
     low = is.low;
@@ -236,6 +238,7 @@ module _ (setup : Setup) (device : Mac) (age : ℕ) (controller : Controlling) (
     of_setup = is.of_setup;
     in_phase = is.in_phase;
     established = is.established;
+    few = is.few;
     route = is.route;
     high = is.high;
     low = omega arith;
@@ -269,18 +272,18 @@ ReportsAreHeard = (mine : Controller) (identity : Identity) (route : Route) (tag
     → heard_of mine (device_bytes identity (Exchanges route (Reports tag header alarm)))
     ≡ mine_hears mine route.partner (Alarms identity.mac Low header (notice.Data header.send_number (diagnosed alarm)))
 
-pub reported : ReportsAreHeard → (setup : Setup) (identity : Identity) → IsSetup setup → IsDevice identity
+pub reported : (serial : ℕ) → ReportsAreHeard → (setup : Setup) (identity : Identity) → IsSetup setup → IsDevice identity
     → (controller : Controlling) (age : ℕ) (octets : List ℕ)
-    → IsReport setup identity octets → Controls setup identity.mac age controller
-    → Controls setup identity.mac age (controller_step controller octets).controller
-reported hears setup identity of_setup of_device controller age octets report is =
-    let route = inputs_route (request_for setup.plan setup.ar) in
+    → IsReport setup identity octets → Controls setup serial identity.mac age controller
+    → Controls setup serial identity.mac age (controller_step controller octets).controller
+reported serial hears setup identity of_setup of_device controller age octets report is =
+    let route = inputs_route report.serial (request_for setup.plan setup.ar) in
     let said = Alarms identity.mac Low report.header (notice.Data report.header.send_number (diagnosed report.alarm)) in
     let heard : heard_of setup.plan.controller octets ≡ mine_hears setup.plan.controller route.partner said =
     ap (λ (bytes : List ℕ). heard_of setup.plan.controller bytes) report.frame
     ∙ hears setup.plan.controller identity route report.tag report.header report.alarm of_device
-    (routed setup of_setup) report.tag_short report.is_data report.header_good report.alarm_good in
-    subst (λ (step : Stepped). Controls setup identity.mac age step.controller)
+    (routed report.serial setup of_setup) report.tag_short report.is_data report.header_good report.alarm_good in
+    subst (λ (step : Stepped). Controls setup serial identity.mac age step.controller)
     (sym (by_heard setup controller octets (mine_hears setup.plan.controller route.partner said) is.of_setup heard))
-    (heard_in setup identity.mac age controller is identity.mac report.header report.header.send_number report.alarm
+    (heard_in setup serial identity.mac age controller is identity.mac report.header report.header.send_number report.alarm
     (pointwise nat_eq route.partner.octets setup.plan.controller.mac.octets))

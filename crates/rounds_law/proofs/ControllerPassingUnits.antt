@@ -1,5 +1,5 @@
 -- A unit of time at a controller.
-use Rattle.std.proofs.Common.{◌≡◌, ◌⊎◌, inl, inr, ◌+◌, ◌-◌, ◌==◌, ◌&&◌, ◌++◌, ◌≤◌, ◌<◌, ℕ, suc, Bool, true, false}
+use Rattle.std.proofs.Common.{◌≡◌, ◌⊎◌, inl, inr, ◌+◌, ◌-◌, ◌==◌, ◌&&◌, ◌++◌, ◌≤◌, ◌<◌, ℕ, suc, Bool, true, false, Some}
 use Rattle.std.proofs.Common.{List, [], ◌∷◌, map, Option, None, if◌then◌else◌, refl, sym, ap, subst, ◌∙◌, arith}
 use Rattle.std.specs.List.{AllByRecursion}
 use Rattle.std.proofs.lemmas.Bool.{ne_eqb}
@@ -24,9 +24,8 @@ use Rattle.controller_core.specs.declared.stored.state.Cause.TheVariants.{NoProg
 use Rattle.controller_core.specs.declared.stored.state.State.{State as Phases}
 use Rattle.controller_core.specs.Machine.{Stepped, Turn, accesses_by, brought, due_frames, exchange_later, flow_later, flowed, gone_on, is_again}
 use Rattle.controller_core.specs.Machine.{is_spent, later, outputs_of, pending_by, pending_of, quit, step_of, stepped, ticked, where_due}
-use Rattle.controller_core.specs.stored.Opening.{route_of as outputs_route}
 use Rattle.controller_core.specs.stored.State.{Controlling, Live, is_limited, with_live}
-use Rattle.rounds_law.specs.Path.{Asks, Controls, IsOutputs, IsRoute, hold_of}
+use Rattle.rounds_law.specs.Path.{Asks, Controls, IsOutputs, IsRoute, hold_of, route_to}
 use Rattle.rounds_law.proofs.ControllerPassingParts.{brings, either_kept, held_later, kept_by, limit_later, unbegun_heard, unheld, waits_on}
 use Rattle.rounds_law.proofs.Choices.{and_false}
 
@@ -40,7 +39,7 @@ unfolding step_of
 by_turn controller turn is = ap (stepped controller) is
 
 -- The patience of the phase does not end with this unit.
-unspent : (live : Live) → (live.left == 1) ≡ false → is_spent live ≡ false
+pub unspent : (live : Live) → (live.left == 1) ≡ false → is_spent live ≡ false
 unspent live more = ap (λ (b : Bool). is_limited live.phase && b) more ∙ and_false (is_limited live.phase)
 
 pub goes_on : (setup : Setup) (live : Live) → is_spent live ≡ false → ticked setup live ≡ gone_on (later live) (is_again live)
@@ -76,27 +75,30 @@ turn_there setup live more stands heard one other =
 
 -- ---- frames
 
-outputs_are : (setup own : Setup) (device : Mac) (route : Route) (shown : Shown) (counter : ℕ) → own ≡ setup → route ≡ outputs_route device 0xC000 1
-    → IsOutputs setup device (bytes_of own (Cycles route shown counter))
-outputs_are setup own device route shown counter of to = record {
+outputs_are : (serial : ℕ) (setup own : Setup) (device : Mac) (route : Route) (shown : Shown) (counter : ℕ) → own ≡ setup → serial < 14336 → route ≡ route_to device serial
+    → IsOutputs setup (Some serial) device (bytes_of own (Cycles route shown counter))
+outputs_are serial setup own device route shown counter of few to = record {
+  serial = serial;
+  of_relation = refl;
+  few = few;
   shown = shown;
   counter = counter;
   frame = ap (λ (s : Setup). bytes_of s (Cycles route shown counter)) of ∙ ap (λ (r : Route). bytes_of setup (Cycles r shown counter)) to;
 }
 
-pub only_outputs : (setup own : Setup) (device : Mac) (route : Route) (shown : Shown) (counter : ℕ) (is_due : Bool) → own ≡ setup
-    → route ≡ outputs_route device 0xC000 1
-    → AllByRecursion (IsOutputs setup device) (map (bytes_of own) (where_due is_due (Cycles route shown counter ∷ [])))
-only_outputs setup own device route shown counter true of to = (outputs_are setup own device route shown counter of to, tt)
-only_outputs setup own device route shown counter false of to = tt
+pub only_outputs : (serial : ℕ) (setup own : Setup) (device : Mac) (route : Route) (shown : Shown) (counter : ℕ) (is_due : Bool) → own ≡ setup
+    → serial < 14336 → route ≡ route_to device serial
+    → AllByRecursion (IsOutputs setup (Some serial) device) (map (bytes_of own) (where_due is_due (Cycles route shown counter ∷ [])))
+only_outputs serial setup own device route shown counter true of few to = (outputs_are serial setup own device route shown counter of few to, tt)
+only_outputs serial setup own device route shown counter false of few to = tt
 
 -- ---- while it waits for an answer
 
-lasts : (left spare : ℕ) → (left ≡ 0) ⊎ (suc spare < left) → (left == 1) ≡ false
+pub lasts : (left spare : ℕ) → (left ≡ 0) ⊎ (suc spare < left) → (left == 1) ≡ false
 lasts left spare (inl none) = ne_eqb left 1 (λ one. omega (arith, none, one))
 lasts left spare (inr more) = ne_eqb left 1 (λ one. omega (arith, more, one))
 
-lasts_on : (left spare : ℕ) → (left ≡ 0) ⊎ (suc spare < left) → (left - 1 ≡ 0) ⊎ (spare < left - 1)
+pub lasts_on : (left spare : ℕ) → (left ≡ 0) ⊎ (suc spare < left) → (left - 1 ≡ 0) ⊎ (spare < left - 1)
 lasts_on left spare (inl none) = inl (omega (arith, none))
 lasts_on left spare (inr more) = inr (omega (arith, more))
 
@@ -112,7 +114,7 @@ abbrev later_with : Live → Cyclic → ControllerEnd → ControllerEnd → Live
 later_with live cyclic high low = record (later live) { cyclic = cyclic; alarms = high; low_alarms = low }
 
 module _ (setup : Setup) (device : Mac) (phase : Phases) (request : Request) (spare : ℕ) (controller : Controlling) where
-  asks_on : (stands : Bool) → Asks setup device phase request stands (suc spare) controller → (cyclic : Cyclic) (high low : ControllerEnd)
+  asks_on : (stands : Option ℕ) → Asks setup device phase request stands (suc spare) controller → (cyclic : Cyclic) (high low : ControllerEnd)
       → IsRoute stands device cyclic
       → high.sending.waiting ≡ None → low.sending.waiting ≡ None → 3200 ≤ low.sending.limit → cyclic.begun ≡ false → cyclic.hearing.limit ≡ hold_of setup.plan
       → Asks setup device phase request stands spare (with_live controller (later_with controller.live cyclic high low))
@@ -133,11 +135,11 @@ module _ (setup : Setup) (device : Mac) (phase : Phases) (request : Request) (sp
     limit = limit;
   }
 
-  abbrev GoesOn : Bool → Stepped → Type 0
-  GoesOn stands step = AllByRecursion (IsOutputs setup device) step.frames × Asks setup device phase request stands spare step.controller
+  abbrev GoesOn : Option ℕ → Stepped → Type 0
+  GoesOn stands step = AllByRecursion (IsOutputs setup stands device) step.frames × Asks setup device phase request stands spare step.controller
 
   -- Before its relation is established nothing is sent.
-  turn_before : Asks setup device phase request false (suc spare) controller
+  turn_before : Asks setup device phase request None (suc spare) controller
       → step_of controller Tick ≡ stepped controller (turn_with (later controller.live) [])
   turn_before is =
       let live = controller.live in
@@ -145,18 +147,18 @@ module _ (setup : Setup) (device : Mac) (phase : Phases) (request : Request) (sp
       (goes_on controller.setup live (unspent live (lasts live.left spare is.patient))
       ∙ gone_off (later live) (is_again live) is.established (unrepeated live.waited spare is.unrepeated))
 
-  pub unsent : Asks setup device phase request false (suc spare) controller → (step_of controller Tick).frames ≡ []
+  pub unsent : Asks setup device phase request None (suc spare) controller → (step_of controller Tick).frames ≡ []
   unsent is = ap (λ (step : Stepped). step.frames) (turn_before is)
 
-  unit_before : Asks setup device phase request false (suc spare) controller → GoesOn false (step_of controller Tick)
+  unit_before : Asks setup device phase request None (suc spare) controller → GoesOn None (step_of controller Tick)
   unit_before is =
       let live = controller.live in
-      subst (λ (step : Stepped). GoesOn false step) (sym (turn_before is))
-      (tt, asks_on false is live.cyclic live.alarms live.low_alarms tt is.high is.low is.low_limit is.unbegun is.limit)
+      subst (λ (step : Stepped). GoesOn None step) (sym (turn_before is))
+      (tt, asks_on None is live.cyclic live.alarms live.low_alarms tt is.high is.low is.low_limit is.unbegun is.limit)
 
   -- After that, outputs at most.
-  unit_after : Asks setup device phase request true (suc spare) controller → GoesOn true (step_of controller Tick)
-  unit_after is =
+  unit_after : (serial : ℕ) → Asks setup device phase request (Some serial) (suc spare) controller → GoesOn (Some serial) (step_of controller Tick)
+  unit_after serial is =
       let live = controller.live in
       let none : due live.alarms.sending ≡ Nothing = ap (due_behind live.alarms.sending) is.high in
       let none_low : due live.low_alarms.sending ≡ Nothing = ap (due_behind live.low_alarms.sending) is.low in
@@ -167,17 +169,17 @@ module _ (setup : Setup) (device : Mac) (phase : Phases) (request : Request) (sp
       ∙ ap (λ (b : Bool). where_due b (pending_of (flow_later live)) ++ where_due (is_due live.cyclic.sending) (outputs_of (flow_later live)))
       (unrepeated live.waited spare is.unrepeated) in
       let whole = turn ∙ ap (turn_with (flow_later live)) sent in
-      subst (λ (step : Stepped). GoesOn true step)
+      subst (λ (step : Stepped). GoesOn (Some serial) step)
       (sym (by_turn controller (turn_with (flow_later live) (where_due (is_due live.cyclic.sending) (outputs_of (flow_later live)))) whole)) (
-        only_outputs setup controller.setup device live.cyclic.route live.cyclic.shown (later live).units (is_due live.cyclic.sending) is.of_setup is.route,
-        asks_on true is (cyclic_later live.cyclic) (controller_later live.alarms) (controller_later live.low_alarms) is.route
+        only_outputs serial setup controller.setup device live.cyclic.route live.cyclic.shown (later live).units (is_due live.cyclic.sending) is.of_setup is.route.0 is.route.1,
+        asks_on (Some serial) is (cyclic_later live.cyclic) (controller_later live.alarms) (controller_later live.low_alarms) is.route
             (ap (waiting_behind live.alarms.sending) is.high) (ap (waiting_behind live.low_alarms.sending) is.low) is.low_limit is.unbegun
             (limit_later live.cyclic.begun live.cyclic.hearing ∙ is.limit),
       )
 
-  pub unit : (stands : Bool) → Asks setup device phase request stands (suc spare) controller → GoesOn stands (step_of controller Tick)
-  unit false is = unit_before is
-  unit true is = unit_after is
+  pub unit : (stands : Option ℕ) → Asks setup device phase request stands (suc spare) controller → GoesOn stands (step_of controller Tick)
+  unit None is = unit_before is
+  unit (Some serial) is = unit_after serial is
 
 -- ---- while it exchanges data
 
@@ -190,33 +192,34 @@ none_pending live asked none alone = ap (pending_by live) none
     ∙ ap (λ (waiting : Option RecordRequest). accesses_by live.device live.access.octets waiting) alone
 
 -- Without an alarm that waits and without a request, outputs at most.
-pub quiet : (setup : Setup) (device : Mac) (controller : Controlling) → controller.setup ≡ setup → controller.live.cyclic.route ≡ outputs_route device 0xC000 1
+pub quiet : (serial : ℕ) (setup : Setup) (device : Mac) (controller : Controlling) → controller.setup ≡ setup → serial < 14336 → controller.live.cyclic.route ≡ route_to device serial
     → due controller.live.alarms.sending ≡ Nothing → due controller.live.low_alarms.sending ≡ Nothing
     → controller.live.asked ≡ None → controller.live.access.waiting ≡ None
-    → AllByRecursion (IsOutputs setup device) (map (bytes_of controller.setup)
+    → AllByRecursion (IsOutputs setup (Some serial) device) (map (bytes_of controller.setup)
     (sent_at controller.live (due controller.live.alarms.sending) (due controller.live.low_alarms.sending)))
-quiet setup device controller of_setup to none_high none_low unasked alone =
+quiet serial setup device controller of_setup few to none_high none_low unasked alone =
     let live = controller.live in
     let sent : sent_at live (due live.alarms.sending) (due live.low_alarms.sending) ≡ where_due (is_due live.cyclic.sending) (outputs_of (flow_later live)) =
     ap (λ (d : Due). sent_at live d (due live.low_alarms.sending)) none_high ∙ ap (λ (d : Due). sent_at live Nothing d) none_low
     ∙ ap (λ (sent : List Sent). where_due (is_again live) sent ++ where_due (is_due live.cyclic.sending) (outputs_of (flow_later live)))
     (none_pending (flow_later live) live.asked unasked alone)
     ∙ ap (λ (sent : List Sent). sent ++ where_due (is_due live.cyclic.sending) (outputs_of (flow_later live))) (idle (is_again live)) in
-    subst (λ (messages : List Sent). AllByRecursion (IsOutputs setup device) (map (bytes_of controller.setup) messages)) (sym sent)
-    (only_outputs setup controller.setup device live.cyclic.route live.cyclic.shown (later live).units (is_due live.cyclic.sending) of_setup to)
+    subst (λ (messages : List Sent). AllByRecursion (IsOutputs setup (Some serial) device) (map (bytes_of controller.setup) messages)) (sym sent)
+    (only_outputs serial setup controller.setup device live.cyclic.route live.cyclic.shown (later live).units (is_due live.cyclic.sending) of_setup few to)
 
-module _ (setup : Setup) (device : Mac) (age : ℕ) (controller : Controlling) (holds : age + 2 ≤ hold_of setup.plan) (young : age < 3000)
-    (is : Controls setup device age controller) where
+module _ (setup : Setup) (serial : ℕ) (device : Mac) (age : ℕ) (controller : Controlling) (holds : age + 2 ≤ hold_of setup.plan) (young : age < 3000)
+    (is : Controls setup serial device age controller) where
   none_high : due controller.live.alarms.sending ≡ Nothing
   none_high = ap (due_behind controller.live.alarms.sending) is.high
 
-  controls_on : (sent : List Sent) → Controls setup device (suc age) (stepped controller (turn_with (flow_later controller.live) sent)).controller
+  controls_on : (sent : List Sent) → Controls setup serial device (suc age) (stepped controller (turn_with (flow_later controller.live) sent)).controller
   controls_on sent =
       let live = controller.live in
       record {
         of_setup = is.of_setup;
         in_phase = is.in_phase;
         established = is.established;
+        few = is.few;
         route = is.route;
         high = ap (waiting_behind live.alarms.sending) is.high;
         low = waits_on live.low_alarms.sending live.low_alarms.sending.waiting age is.low young is.low_limit;
@@ -242,22 +245,22 @@ module _ (setup : Setup) (device : Mac) (age : ℕ) (controller : Controlling) (
 
   -- Without an AlarmAck that waits for its ACK, outputs at most.
   abbrev IsQuiet : Stepped → Type 0
-  IsQuiet step = AllByRecursion (IsOutputs setup device) step.frames × (step.controller.live.low_alarms.sending.waiting ≡ None)
+  IsQuiet step = AllByRecursion (IsOutputs setup (Some serial) device) step.frames × (step.controller.live.low_alarms.sending.waiting ≡ None)
 
   quiet_on : controller.live.low_alarms.sending.waiting ≡ None
       → IsQuiet (stepped controller (turn_with (flow_later controller.live)
       (sent_at controller.live (due controller.live.alarms.sending) (due controller.live.low_alarms.sending))))
   quiet_on rests =
       let live = controller.live in (
-        quiet setup device controller is.of_setup is.route none_high (ap (due_behind live.low_alarms.sending) rests) is.unasked is.alone,
+        quiet serial setup device controller is.of_setup is.few is.route none_high (ap (due_behind live.low_alarms.sending) rests) is.unasked is.alone,
         ap (waiting_behind live.low_alarms.sending) rests,
       )
 
-  pub later_unit : Controls setup device (suc age) (step_of controller Tick).controller
-      × (controller.live.low_alarms.sending.waiting ≡ None → AllByRecursion (IsOutputs setup device) (step_of controller Tick).frames
+  pub later_unit : Controls setup serial device (suc age) (step_of controller Tick).controller
+      × (controller.live.low_alarms.sending.waiting ≡ None → AllByRecursion (IsOutputs setup (Some serial) device) (step_of controller Tick).frames
       × ((step_of controller Tick).controller.live.low_alarms.sending.waiting ≡ None))
   later_unit = (
-    subst (λ (step : Stepped). Controls setup device (suc age) step.controller) (sym whole_step)
+    subst (λ (step : Stepped). Controls setup serial device (suc age) step.controller) (sym whole_step)
         (controls_on (sent_at controller.live (due controller.live.alarms.sending) (due controller.live.low_alarms.sending))),
     λ rests. subst (λ (step : Stepped). IsQuiet step) (sym whole_step) (quiet_on rests),
   )

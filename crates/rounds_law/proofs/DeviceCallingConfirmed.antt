@@ -28,25 +28,25 @@ use Rattle.end_laws.specs.hearing.Hearing.{comes}
 use Rattle.end_laws.specs.hearing.Stations.{ready_call}
 use Rattle.both_ends.specs.startup.answer.Answer.{caller_of}
 use Rattle.both_ends.specs.exchange.Sized.{AreSizedModules}
-use Rattle.rounds_law.specs.Path.{Exchanges, HasRelation, IsReport, confirmed_frame, device_step, ready_for}
+use Rattle.rounds_law.specs.Path.{Exchanges, HasNumber, HasRelation, IsReport, confirmed_frame, device_step, ready_for}
 use Rattle.rounds_law.proofs.DeviceCallingBlocks.{IsReadAlone, ready_confirmed}
 use Rattle.rounds_law.proofs.DeviceCallingEnded.{is_stated, stated}
 use Rattle.rounds_law.proofs.DeviceCallingReport.{IsReported, is_reported, next_is, told, told_flow}
 use Rattle.rounds_law.proofs.DeviceCallingSteps.{step_is}
 
 -- what the device does then
-abbrev pub IsConfirmed : Setup → Identity → Live → Stepped → Type 0
-IsConfirmed setup identity live step =
+abbrev pub IsConfirmed : ℕ → Setup → Identity → Live → Stepped → Type 0
+IsConfirmed serial setup identity live step =
     AllByRecursion (IsReport setup identity) step.frames
     × (step.live.values ≡ live.values)
-    × Exchanges setup 0 step.live
+    × Exchanges setup serial 0 step.live
 
 -- the answer to ApplicationReady
 abbrev pub response_of : Setup → Answered
 response_of setup = ready_answer (ready_call (ready_for setup)) (ready_for setup).block
 
 module _ (setup : Setup) (identity : Identity) (station : Station) (live : Live) (taken : List TakenRecord) (last age : ℕ)
-    (relation : HasRelation setup Awaiting taken last age live) where
+    (serial : ℕ) (relation : HasRelation setup serial Awaiting taken last age live) where
   abbrev caller : Caller
   caller = caller_of setup.plan.controller
 
@@ -78,7 +78,7 @@ module _ (setup : Setup) (identity : Identity) (station : Station) (live : Live)
   is_confirmed : IsReadAlone (is.ApplicationReadyRes (ready_done (ready_for setup).block))
       → answer_of (response_of setup) live.rest.link ≡ to_confirm
   is_confirmed read =
-      ap (λ (link : Option RelationState). answer_of (response_of setup) link) (is_stated setup Awaiting taken last age live relation)
+      ap (λ (link : Option RelationState). answer_of (response_of setup) link) (is_stated serial setup Awaiting taken last age live relation)
       ∙ ready_confirmed base (ready_for setup).header (ready_for setup).block read refl (nat_list_eq_equiv.refl setup.ar) refl refl
       (nat_list_eq_equiv.refl setup.ar)
 
@@ -86,16 +86,19 @@ module _ (setup : Setup) (identity : Identity) (station : Station) (live : Live)
       → handled_said station live caller (Responds (response_of setup)) ≡ Moves rest sent
   is_handled read =
       ap (λ (answer : ReadyAnswer). handled_answer station live answer) (is_confirmed read)
-      ∙ ap (λ (link : Option RelationState). handled_beginning station live (updated Confirmed link)) (is_stated setup Awaiting taken last age live relation)
+      ∙ ap (λ (link : Option RelationState). handled_beginning station live (updated Confirmed link)) (is_stated serial setup Awaiting taken last age live relation)
 
-  exchanges : IsReported setup identity now.flow low next → Exchanges setup 0 (record { values = live.values; rest = rest })
+  same_number : HasNumber setup serial now.flow
+  same_number = record { few = relation.numbered.few; route = relation.numbered.route; endpoint = relation.numbered.endpoint }
+
+  exchanges : IsReported setup identity now.flow low next → Exchanges setup serial 0 (record { values = live.values; rest = rest })
   exchanges reported = record {
     link = made;
     has = refl;
     in_phase = refl;
     request = refl;
     limit = relation.limit;
-    route = relation.route;
+    numbered = record { few = same_number.few; route = same_number.route; endpoint = same_number.endpoint };
     held_few = omega arith;
     high = relation.calm.high;
     low = reported.waits;
@@ -107,11 +110,11 @@ module _ (setup : Setup) (identity : Identity) (station : Station) (live : Live)
       → heard_of station.identity (comes (confirmed_frame setup identity)) ≡ Reported caller setup.plan.station.suite.address (Responds (response_of setup))
       → is_running live.values.running setup.plan.station.suite.address ≡ true
       → AreSendable identity (device_step outcomes station live (confirmed_frame setup identity)).sent
-      → IsConfirmed setup identity live (device_step outcomes station live (confirmed_frame setup identity))
+      → IsConfirmed serial setup identity live (device_step outcomes station live (confirmed_frame setup identity))
   confirms outcomes same sized read hears running sendable =
       let stepped = step_is outcomes station live (confirmed_frame setup identity) caller setup.plan.station.suite.address (Responds (response_of setup))
       rest sent hears running (is_handled read) in
       let can = subst (λ (step : Stepped). AreSendable identity step.sent) stepped sendable in
-      let reported = is_reported setup identity now.flow relation.route real low next sized relation.low_new (next_is real low) can in
-      subst (λ (step : Stepped). IsConfirmed setup identity live step) (sym stepped)
+      let reported = is_reported setup identity now.flow serial same_number real low next sized relation.low_new (next_is real low) can in
+      subst (λ (step : Stepped). IsConfirmed serial setup identity live step) (sym stepped)
       (subst (λ (i : Identity). AllByRecursion (IsReport setup identity) (map (bytes_of i) sent)) (sym same) reported.frames, refl, exchanges reported)

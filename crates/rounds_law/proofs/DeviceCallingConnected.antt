@@ -19,7 +19,7 @@ use Rattle.device_frames.specs.Heard.{Calls, Reported, heard_of}
 use Rattle.device_frames.specs.Sent.{Sent, bytes_of}
 use Rattle.device_core.specs.State.{Live, Rest, Station}
 use Rattle.device_core.specs.Log.{connect_log, with_log}
-use Rattle.device_core.specs.Handled.{Moves, answer_from, handled_call, handled_looked, handled_said, is_running, kept_behind, kept_for}
+use Rattle.device_core.specs.Handled.{counted_by, number_now, Moves, answer_from, handled_call, handled_looked, handled_said, is_running, kept_behind, kept_for}
 use Rattle.device_core.specs.Handled.{partner_of, starting_of}
 use Rattle.device_core.specs.Machine.{Stepped}
 use Rattle.controller_messages.specs.declared.setup.Setup.{Setup}
@@ -28,6 +28,7 @@ use Rattle.controller_messages.specs.Requests.{blocks_of, call_for}
 use Rattle.end_laws.specs.hearing.Hearing.{comes}
 use Rattle.both_ends.specs.startup.request.Request.{request_for}
 use Rattle.both_ends.specs.startup.answer.Answer.{answer_frame, caller_of}
+use Rattle.rounds_law.proofs.Numbers.{number_few}
 use Rattle.rounds_law.specs.Path.{HasRelation, IsAddressed, IsFree, device_step, request_to}
 use Rattle.rounds_law.specs.Start.{IsOfPlan}
 use Rattle.rounds_law.proofs.DeviceCallingSteps.{first_new, kept_first, step_is}
@@ -39,9 +40,9 @@ is_connect = refl
 -- what the device does then
 abbrev pub IsConnected : Setup → Identity → Station → Live → Stepped → Type 0
 IsConnected setup identity station live step =
-    (step.frames ≡ answer_frame setup identity station.options setup.plan.station.suite.address ∷ [])
+    (step.frames ≡ answer_frame setup identity station.options (number_now station live) setup.plan.station.suite.address ∷ [])
     × (step.live.values ≡ live.values)
-    × HasRelation setup Started [] 0 0 step.live
+    × HasRelation setup (number_now station live) Started [] 0 0 step.live
 
 module _ (setup : Setup) (identity : Identity) (station : Station) (live : Live) where
   abbrev caller : Caller
@@ -55,7 +56,7 @@ module _ (setup : Setup) (identity : Identity) (station : Station) (live : Live)
 
   -- the answer, its octets, the relation, and the state after it
   abbrev outcome : Identity → Real → Option RelationState → Result (List ℕ) CallFault
-  outcome i real link = connect_answer i real station.options caller.mac link blocks
+  outcome i real link = connect_answer i real station.options (number_now station live) caller.mac link blocks
 
   abbrev message : Identity → Real → List ℕ → Option RelationState → Sent
   message i real address link = answer_from address caller call Connect (outcome i real link)
@@ -71,7 +72,8 @@ module _ (setup : Setup) (identity : Identity) (station : Station) (live : Live)
 
   abbrev rest : Rest
   rest =
-      let logged = with_log (connect_log blocks (outcome station.identity station.real live.rest.link)) live.rest in
+      let answer = outcome station.identity station.real live.rest.link in
+      let logged = counted_by answer (with_log (connect_log blocks answer) live.rest) in
       kept_behind station.identity logged call sent (link_after live.rest.link)
 
   abbrev made : RelationState
@@ -89,14 +91,14 @@ module _ (setup : Setup) (identity : Identity) (station : Station) (live : Live)
       ∙ ap (λ (l : Looked). handled_looked station live caller call blocks Connect l) (first_new setup.activity 0 live.rest.calls free.uncalled)
 
   frames_are : station.identity ≡ identity → station.real ≡ setup.plan.real → IsAddressed setup live → live.rest.link ≡ None
-      → map (bytes_of station.identity) (sent ∷ []) ≡ answer_frame setup identity station.options setup.plan.station.suite.address ∷ []
+      → map (bytes_of station.identity) (sent ∷ []) ≡ answer_frame setup identity station.options (number_now station live) setup.plan.station.suite.address ∷ []
   frames_are same plugged addressed unrelated =
       ap (λ (i : Identity). bytes_of i (message i station.real live.values.running.suite.address live.rest.link) ∷ []) same
       ∙ (ap (λ (real : Real). bytes_of identity (message identity real live.values.running.suite.address live.rest.link) ∷ []) plugged
       ∙ (ap (λ suite. bytes_of identity (message identity setup.plan.real suite.address live.rest.link) ∷ []) addressed.suite
       ∙ ap (λ (link : Option RelationState). bytes_of identity (message identity setup.plan.real setup.plan.station.suite.address link) ∷ []) unrelated))
 
-  relation : rest.link ≡ Some made → HasRelation setup Started [] 0 0 (record { values = live.values; rest = rest })
+  relation : rest.link ≡ Some made → HasRelation setup (number_now station live) Started [] 0 0 (record { values = live.values; rest = rest })
   relation has = record {
     link = made;
     has = has;
@@ -107,7 +109,7 @@ module _ (setup : Setup) (identity : Identity) (station : Station) (live : Live)
     active = omega arith;
     waited = tt;
     calm = record { high = refl; low = refl };
-    route = refl;
+    numbered = record { few = number_few station.options.numbers_from live.rest.made; route = refl; endpoint = refl };
     unbegun = refl;
     limit = refl;
     low_limit = omega arith;

@@ -48,9 +48,9 @@ is_control = refl
 abbrev pub stated : Setup → Phase → RelationState → RelationState
 stated setup phase link = record link { phase = phase; request = request_for setup.plan setup.ar; partner = partner_of (caller_of setup.plan.controller) }
 
-pub is_stated : (setup : Setup) (phase : Phase) (taken : List TakenRecord) (last age : ℕ) (live : Live) (relation : HasRelation setup phase taken last age live)
+pub is_stated : (serial : ℕ) (setup : Setup) (phase : Phase) (taken : List TakenRecord) (last age : ℕ) (live : Live) (relation : HasRelation setup serial phase taken last age live)
     → live.rest.link ≡ Some (stated setup phase relation.link)
-is_stated setup phase taken last age live relation =
+is_stated serial setup phase taken last age live relation =
     let link = relation.link in
     let request = request_for setup.plan setup.ar in
     relation.has
@@ -59,14 +59,14 @@ is_stated setup phase taken last age live relation =
     ∙ ap (λ (p : Partner). Some (record link { phase = phase; request = request; partner = p })) relation.partner))
 
 -- what the device does then
-abbrev pub IsEnded : Setup → Identity → Live → List TakenRecord → Stepped → Type 0
-IsEnded setup identity live taken step =
+abbrev pub IsEnded : ℕ → Setup → Identity → Live → List TakenRecord → Stepped → Type 0
+IsEnded serial setup identity live taken step =
     (step.frames ≡ ended_frame setup identity ∷ readied_frame setup identity ∷ [])
     × (step.live.values ≡ live.values)
-    × HasRelation setup Awaiting taken (write_count setup.plan + 1) 0 step.live
+    × HasRelation setup serial Awaiting taken (write_count setup.plan + 1) 0 step.live
 
 module _ (setup : Setup) (identity : Identity) (station : Station) (live : Live) (taken : List TakenRecord) (last age : ℕ)
-    (relation : HasRelation setup Started taken last age live) where
+    (serial : ℕ) (relation : HasRelation setup serial Started taken last age live) where
   abbrev caller : Caller
   caller = caller_of setup.plan.controller
 
@@ -112,14 +112,14 @@ module _ (setup : Setup) (identity : Identity) (station : Station) (live : Live)
 
   is_ended : HasSize → IsReadAlone (is.PrmEnd control) → ended_now ≡ Ok control
   is_ended long read =
-      ap (λ (link : Option RelationState). prm_end_of link blocks) (is_stated setup Started taken last age live relation)
+      ap (λ (link : Option RelationState). prm_end_of link blocks) (is_stated serial setup Started taken last age live relation)
       ∙ prm_ended long base control read (nat_list_eq_equiv.refl setup.ar) refl refl refl
 
   is_made : ended_now ≡ Ok control → station.options.ready_by_application ≡ false → link_now ≡ Some made
   is_made ended ready =
       ap (λ (e : Result ControlBlock CallFault). link_by station.options.ready_by_application e live.rest.link) ended
       ∙ (ap (λ (b : Bool). link_by b (Ok control) live.rest.link) ready
-      ∙ ap (λ (link : Option RelationState). link_by false (Ok control) link) (is_stated setup Started taken last age live relation))
+      ∙ ap (λ (link : Option RelationState). link_by false (Ok control) link) (is_stated serial setup Started taken last age live relation))
 
   is_handled : last ≤ write_count setup.plan → handled_said station live caller (Calls call) ≡ Moves rest sent
   is_handled few =
@@ -144,7 +144,7 @@ module _ (setup : Setup) (identity : Identity) (station : Station) (live : Live)
       let link = parameterized_from false base in
       where_so (is_alive (partner_of caller) link) 0 link.inactive (partner_alive link)
 
-  after_it : link_now ≡ Some made → HasRelation setup Awaiting taken (write_count setup.plan + 1) 0 (record { values = live.values; rest = rest })
+  after_it : link_now ≡ Some made → HasRelation setup serial Awaiting taken (write_count setup.plan + 1) 0 (record { values = live.values; rest = rest })
   after_it made_so = record {
     link = made;
     has = made_so;
@@ -155,7 +155,7 @@ module _ (setup : Setup) (identity : Identity) (station : Station) (live : Live)
     active = subst (λ (n : ℕ). n ≤ 0) (sym inactive_none) (omega arith);
     waited = omega arith;
     calm = relation.calm;
-    route = relation.route;
+    numbered = relation.numbered;
     unbegun = relation.unbegun;
     limit = relation.limit;
     low_limit = relation.low_limit;
@@ -169,11 +169,11 @@ module _ (setup : Setup) (identity : Identity) (station : Station) (live : Live)
       → HasSize → IsReadAlone (is.PrmEnd control)
       → heard_of station.identity (comes (request_to setup identity asks.PrmEnd)) ≡ Reported caller setup.plan.station.suite.address (Calls call)
       → is_running live.values.running setup.plan.station.suite.address ≡ true
-      → IsEnded setup identity live taken (device_step outcomes station live (request_to setup identity asks.PrmEnd))
+      → IsEnded serial setup identity live taken (device_step outcomes station live (request_to setup identity asks.PrmEnd))
   ends outcomes same of_plan addressed few long read hears running =
       let ended = is_ended long read in
       let made_so = is_made ended of_plan.ready in
       let stepped = step_is outcomes station live (request_to setup identity asks.PrmEnd) caller setup.plan.station.suite.address (Calls call)
       rest sent hears running (is_handled few) in
-      subst (λ (step : Stepped). IsEnded setup identity live taken step) (sym stepped)
+      subst (λ (step : Stepped). IsEnded serial setup identity live taken step) (sym stepped)
       (frames_are same addressed of_plan.ready ended made_so, refl, after_it made_so)

@@ -21,14 +21,12 @@ use Rattle.cyclic_data.specs.declared.exchange.route.Route.{Route}
 use Rattle.relations.specs.exchange.Diagnosis.{with_low}
 use Rattle.relations.specs.exchange.Flow.{Flow}
 use Rattle.relations.specs.exchange.Frames.{Reports}
-use Rattle.relations.specs.exchange.Opening.{route_of}
 use Rattle.device_frames.specs.Relation.{low_alarms_of, where_due}
 use Rattle.device_frames.specs.Sendable.{AreSendable}
 use Rattle.device_frames.specs.Sent.{Sent, Exchanges, bytes_of}
 use Rattle.controller_messages.specs.declared.setup.Setup.{Setup}
-use Rattle.both_ends.specs.startup.request.Request.{request_for}
 use Rattle.both_ends.specs.exchange.Sized.{AreSizedModules, IsSizedModule, IsSizedPart}
-use Rattle.rounds_law.specs.Path.{IsReport, WaitsFew}
+use Rattle.rounds_law.specs.Path.{HasNumber, IsReport, WaitsFew}
 
 -- ---- the modules that are plugged have their sizes
 
@@ -159,29 +157,30 @@ pub record IsReported (setup : Setup) (identity : Identity) (flow : Flow) (low :
   pub waits : WaitsFew 0 (told_flow flow low next).low.alarms.sender.sending.waiting
   pub limit : 3200 ≤ (told_flow flow low next).low.alarms.sender.sending.limit
 
-module _ (setup : Setup) (identity : Identity) (flow : Flow) (routed : flow.cyclic.route ≡ route_of (request_for setup.plan setup.ar)) where
+module _ (setup : Setup) (identity : Identity) (flow : Flow) (serial : ℕ) (numbered : HasNumber setup serial flow) where
   -- the alarm is active, of these changes that wait, and of these places
   one_reported : (low : Low) (alarm : AlarmNotification) (waiting : List Notice) → IsAlarm alarm
       → AreSendable identity (told flow low (Some (record low { alarms = end_with (idle 1 3) alarm; waiting = waiting })))
       → IsReported setup identity flow low (Some (record low { alarms = end_with (idle 1 3) alarm; waiting = waiting }))
   one_reported low alarm waiting sized sendable =
-      let header : Header = header_now (end_with (idle 1 3) alarm) pdu.Data flow.cyclic.route.reference 1 in
+      let header : Header = header_now (end_with (idle 1 3) alarm) pdu.Data flow.cyclic.route.reference flow.endpoint in
       record {
         frames = (
           record {
+            serial = serial;
             tag = low.tag;
             header = header;
             alarm = alarm;
             tag_short = sendable.0.tag;
             is_data = refl;
             header_good = record {
-              destination = subst (λ (route : Route). route.reference < 65536) (sym routed) (omega arith);
-              source = omega arith;
+              destination = subst (λ (route : Route). route.reference < 65536) (sym numbered.route) (omega arith);
+              source = omega (arith, numbered.few, numbered.endpoint);
               send_number = omega arith;
               ack_number = omega arith;
             };
             alarm_good = sized;
-            frame = ap (λ (route : Route). bytes_of identity (Exchanges route (Reports low.tag header alarm))) routed;
+            frame = ap (λ (route : Route). bytes_of identity (Exchanges route (Reports low.tag header alarm))) numbered.route;
           },
           tt,
         );

@@ -32,11 +32,11 @@ abbrev pub Stays : (Live → Type 0) → Live → Stepped → Type 0
 Stays Holds live step = (step.frames ≡ []) × (step.live.values ≡ live.values) × Holds step.live
 
 -- The device with this relation.
-abbrev with_link : Live → RelationState → Live
+abbrev pub with_link : Live → RelationState → Live
 with_link live link = record live { rest = record live.rest { link = Some link } }
 
 -- The relation with this end of cyclic data.
-abbrev with_data : RelationState → Data → RelationState
+abbrev pub with_data : RelationState → Data → RelationState
 with_data link cyclic = with_flow (record link.flow { cyclic = cyclic }) link
 
 -- ---- a frame, by what happens to it
@@ -71,28 +71,28 @@ heard_stays : (Holds : Live → Type 0) (setup : Setup) (outcomes : List Outcome
     → live.rest.link ≡ Some link → Holds live → ((cyclic : Data) → IsLeft link.flow.cyclic cyclic → Holds (with_link live (with_data link cyclic)))
     → Stays Holds live (heard_step outcomes station live heard)
 heard_stays Holds setup outcomes station live link heard (inl is) has before after =
-    subst (λ (h : Heard). Stays Holds live (heard_step outcomes station live h)) (sym is.1)
-    (cyclic_stays Holds outcomes station live link setup.plan.controller.mac 0xC000 is.0 has before after)
+    subst (λ (h : Heard). Stays Holds live (heard_step outcomes station live h)) (sym is.2)
+    (cyclic_stays Holds outcomes station live link setup.plan.controller.mac is.0 is.1 has before after)
 heard_stays Holds setup outcomes station live link heard (inr is) has before after =
     subst (λ (h : Heard). Stays Holds live (heard_step outcomes station live h)) (sym is) (unread_stays Holds outcomes station live before)
 
 -- ---- frames of outputs
 
 module _ (sound : IsSound ethernet) (whole : IsSoundWhole layers) (setup : Setup) (identity : Identity) (good : IsSetup setup) (real : IsDevice identity) where
-  outputs_stay : (Holds : Live → Type 0) (outcomes : List Outcome) (station : Station) (live : Live) (link : RelationState) (octets : List ℕ)
-      → station.identity ≡ identity → IsOutputs setup identity.mac octets → live.rest.link ≡ Some link → Holds live
+  pub outputs_stay : (serial : ℕ) (Holds : Live → Type 0) (outcomes : List Outcome) (station : Station) (live : Live) (link : RelationState) (octets : List ℕ)
+      → station.identity ≡ identity → IsOutputs setup (Some serial) identity.mac octets → live.rest.link ≡ Some link → Holds live
       → ((cyclic : Data) → IsLeft link.flow.cyclic cyclic → Holds (with_link live (with_data link cyclic)))
       → Stays Holds live (device_step outcomes station live octets)
-  outputs_stay Holds outcomes station live link octets same is has before after =
+  outputs_stay serial Holds outcomes station live link octets same is has before after =
       subst (λ (i : Identity). Stays Holds live (heard_step outcomes station live (heard_of i (comes octets)))) (sym same)
-      (heard_stays Holds setup outcomes station live link (heard_of identity (comes octets)) (outputs_heard sound whole setup identity octets good real is)
+      (heard_stays Holds setup outcomes station live link (heard_of identity (comes octets)) (outputs_heard (Some serial) sound whole setup identity octets good real is)
       has before after)
 
-  pub relation_stays : (outcomes : List Outcome) (station : Station) (live : Live) (phase : Phase) (taken : List TakenRecord) (last age : ℕ) (octets : List ℕ)
-      → station.identity ≡ identity → IsOutputs setup identity.mac octets → HasRelation setup phase taken last age live
-      → Stays (HasRelation setup phase taken last age) live (device_step outcomes station live octets)
-  relation_stays outcomes station live phase taken last age octets same is before =
-      outputs_stay (HasRelation setup phase taken last age) outcomes station live before.link octets same is before.has before (λ cyclic left. record {
+  pub relation_stays : (serial : ℕ) (outcomes : List Outcome) (station : Station) (live : Live) (phase : Phase) (taken : List TakenRecord) (last age : ℕ) (octets : List ℕ)
+      → station.identity ≡ identity → IsOutputs setup (Some serial) identity.mac octets → HasRelation setup serial phase taken last age live
+      → Stays (HasRelation setup serial phase taken last age) live (device_step outcomes station live octets)
+  relation_stays serial outcomes station live phase taken last age octets same is before =
+      outputs_stay serial (HasRelation setup serial phase taken last age) outcomes station live before.link octets same is before.has before (λ cyclic left. record {
         link = with_data before.link cyclic;
         has = refl;
         in_phase = before.in_phase;
@@ -102,7 +102,7 @@ module _ (sound : IsSound ethernet) (whole : IsSoundWhole layers) (setup : Setup
         active = before.active;
         waited = before.waited;
         calm = record { high = before.calm.high; low = before.calm.low };
-        route = left.route ∙ before.route;
+        numbered = record { few = before.numbered.few; route = left.route ∙ before.numbered.route; endpoint = before.numbered.endpoint };
         unbegun = left.begun ∙ before.unbegun;
         limit = left.limit ∙ before.limit;
         low_limit = before.low_limit;
@@ -112,17 +112,17 @@ module _ (sound : IsSound ethernet) (whole : IsSoundWhole layers) (setup : Setup
         number = before.number;
       })
 
-  pub exchange_stays : (outcomes : List Outcome) (station : Station) (live : Live) (age : ℕ) (octets : List ℕ)
-      → station.identity ≡ identity → IsOutputs setup identity.mac octets → Exchanges setup age live
-      → Stays (Exchanges setup age) live (device_step outcomes station live octets)
-  exchange_stays outcomes station live age octets same is before =
-      outputs_stay (Exchanges setup age) outcomes station live before.link octets same is before.has before (λ cyclic left. record {
+  pub exchange_stays : (serial : ℕ) (outcomes : List Outcome) (station : Station) (live : Live) (age : ℕ) (octets : List ℕ)
+      → station.identity ≡ identity → IsOutputs setup (Some serial) identity.mac octets → Exchanges setup serial age live
+      → Stays (Exchanges setup serial age) live (device_step outcomes station live octets)
+  exchange_stays serial outcomes station live age octets same is before =
+      outputs_stay serial (Exchanges setup serial age) outcomes station live before.link octets same is before.has before (λ cyclic left. record {
         link = with_data before.link cyclic;
         has = refl;
         in_phase = before.in_phase;
         request = before.request;
         limit = left.limit ∙ before.limit;
-        route = left.route ∙ before.route;
+        numbered = record { few = before.numbered.few; route = left.route ∙ before.numbered.route; endpoint = before.numbered.endpoint };
         held_few = omega (arith, left.held, before.held_few);
         high = before.high;
         low = before.low;

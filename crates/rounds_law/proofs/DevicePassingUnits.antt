@@ -76,11 +76,12 @@ only_cyclic false high low false cyclic highs lows readies inputs none unready =
 only_cyclic true high low ready cyclic highs lows readies inputs none unready = absurd cc
 only_cyclic false high low true cyclic highs lows readies inputs none unready = absurd cc
 
-pub all_inputs : (setup : Setup) (identity : Identity) (route : Route) (has_problem : Bool) (inputs : Shown) (counter : ℕ) (due : Bool)
-    → route ≡ inputs_route (request_for setup.plan setup.ar)
+pub all_inputs : (serial : ℕ) (setup : Setup) (identity : Identity) (route : Route) (has_problem : Bool) (inputs : Shown) (counter : ℕ) (due : Bool)
+    → route ≡ inputs_route serial (request_for setup.plan setup.ar)
     → AllByRecursion (IsInputs setup identity) (map (bytes_of identity) (where_due due (device_exchanges route (Inputs has_problem inputs counter) ∷ [])))
-all_inputs setup identity route has_problem inputs counter true same = (
+all_inputs serial setup identity route has_problem inputs counter true same = (
   record {
+    serial = serial;
     has_problem = has_problem;
     inputs = inputs;
     counter = counter;
@@ -88,16 +89,16 @@ all_inputs setup identity route has_problem inputs counter true same = (
   },
   tt,
 )
-all_inputs setup identity route has_problem inputs counter false same = tt
+all_inputs serial setup identity route has_problem inputs counter false same = tt
 
-pub relation_unit : (setup : Setup) (identity : Identity) (outcomes : List Outcome) (station : Station) (live : Live)
+pub relation_unit : (serial : ℕ) (setup : Setup) (identity : Identity) (outcomes : List Outcome) (station : Station) (live : Live)
     (phase : Phase) (taken : List TakenRecord) (last age : ℕ)
-    → station.identity ≡ identity → is_timed phase ≡ true → age < 31000 → HasRelation setup phase taken last age live
+    → station.identity ≡ identity → is_timed phase ≡ true → age < 31000 → HasRelation setup serial phase taken last age live
     → AllByRecursion (IsInputs setup identity) (heard_step outcomes station live Ticks).frames
     × ((heard_step outcomes station live Ticks).live.values ≡ live.values)
-    × HasRelation setup phase taken last (suc age) (heard_step outcomes station live Ticks).live
+    × HasRelation setup serial phase taken last (suc age) (heard_step outcomes station live Ticks).live
 unfolding handled_step
-relation_unit setup identity outcomes station live phase taken last age same timed few before =
+relation_unit serial setup identity outcomes station live phase taken last age same timed few before =
     let link = before.link in
     let later = unit_later link in
     let counter = counter_of (units_after 1 live.rest.units) in
@@ -107,13 +108,13 @@ relation_unit setup identity outcomes station live phase taken last age same tim
     (alarms_of (Some later.flow)) (low_alarms_of (Some later.flow)) (ready_calls address (Some later)) inputs
     (no_alarm link.flow before.calm) (not_again link phase age before.in_phase before.waited few) in
     unit_goes (λ (step : Stepped). AllByRecursion (IsInputs setup identity) step.frames × (step.live.values ≡ live.values)
-    × HasRelation setup phase taken last (suc age) step.live) outcomes station live link None before.has
+    × HasRelation setup serial phase taken last (suc age) step.live) outcomes station live link None before.has
     (stays_before setup link phase age before.request before.in_phase timed before.active few) (
       subst (λ (i : Identity). AllByRecursion (IsInputs setup identity) (map (bytes_of i) (due_frames address counter (due_by link None) (Some later))))
           (sym same)
           (subst (λ (sent : List Sent). AllByRecursion (IsInputs setup identity) (map (bytes_of identity) sent)) (sym only)
-          (all_inputs setup identity later.flow.cyclic.route later.flow.low.has_problem later.flow.cyclic.shown counter (tick_of link.flow).is_cyclic
-          before.route)),
+          (all_inputs serial setup identity later.flow.cyclic.route later.flow.low.has_problem later.flow.cyclic.shown counter (tick_of link.flow).is_cyclic
+          before.numbered.route)),
       refl,
       record {
         link = later;
@@ -128,7 +129,7 @@ relation_unit setup identity outcomes station live phase taken last age same tim
           high = calm_later link.flow.alarms.sender.sending before.calm.high;
           low = calm_later link.flow.low.alarms.sender.sending before.calm.low;
         };
-        route = before.route;
+        numbered = record { few = before.numbered.few; route = before.numbered.route; endpoint = before.numbered.endpoint };
         unbegun = before.unbegun;
         limit = limit_later link.flow.cyclic.begun link.flow.cyclic.hearing ∙ before.limit;
         low_limit = before.low_limit;
@@ -141,13 +142,13 @@ relation_unit setup identity outcomes station live phase taken last age same tim
 
 -- ---- while data is exchanged
 
-pub exchange_unit : (setup : Setup) (outcomes : List Outcome) (station : Station) (live : Live) (age : ℕ) → age + 2 ≤ hold_of setup.plan → age < 3000
-    → Exchanges setup age live
-    → ((heard_step outcomes station live Ticks).live.values ≡ live.values) × Exchanges setup (suc age) (heard_step outcomes station live Ticks).live
+pub exchange_unit : (serial : ℕ) (setup : Setup) (outcomes : List Outcome) (station : Station) (live : Live) (age : ℕ) → age + 2 ≤ hold_of setup.plan → age < 3000
+    → Exchanges setup serial age live
+    → ((heard_step outcomes station live Ticks).live.values ≡ live.values) × Exchanges setup serial (suc age) (heard_step outcomes station live Ticks).live
 unfolding handled_step
-exchange_unit setup outcomes station live age holds few before =
+exchange_unit serial setup outcomes station live age holds few before =
     let link = before.link in
-    unit_goes (λ (step : Stepped). (step.live.values ≡ live.values) × Exchanges setup (suc age) step.live) outcomes station live link None before.has
+    unit_goes (λ (step : Stepped). (step.live.values ≡ live.values) × Exchanges setup serial (suc age) step.live) outcomes station live link None before.has
     (stays_later link age (hold_of setup.plan) before.in_phase before.limit before.held_few before.high before.low before.low_limit holds few) (
       refl,
       record {
@@ -156,7 +157,7 @@ exchange_unit setup outcomes station live age holds few before =
         in_phase = before.in_phase;
         request = before.request;
         limit = limit_later link.flow.cyclic.begun link.flow.cyclic.hearing ∙ before.limit;
-        route = before.route;
+        numbered = record { few = before.numbered.few; route = before.numbered.route; endpoint = before.numbered.endpoint };
         held_few = held_more link.flow.cyclic.begun link.flow.cyclic.hearing age before.held_few;
         high = calm_later link.flow.alarms.sender.sending before.high;
         low = waits_more link.flow.low.alarms.sender.sending link.flow.low.alarms.sender.sending.waiting age before.low;

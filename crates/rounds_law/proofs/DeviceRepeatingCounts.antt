@@ -33,8 +33,8 @@ pub inputs_differ : InputsAreHeard → IsSound ethernet → IsSoundWhole layers 
 inputs_differ hears sound whole setup identity good real ready octets is same =
     subst IsCyclicOrNone ready
     (subst (λ (bytes : List ℕ). IsCyclicOrNone (controller.heard_of setup.plan.controller bytes)) (sym is.frame ∙ same)
-    (inputs_heard hears sound whole setup.plan.controller identity (inputs_route (request_for setup.plan setup.ar)) is.has_problem is.inputs is.counter real
-    (routed setup good)))
+    (inputs_heard hears sound whole setup.plan.controller identity (inputs_route is.serial (request_for setup.plan setup.ar)) is.has_problem is.inputs is.counter real
+    (routed is.serial setup good)))
 
 -- ---- counts
 
@@ -102,9 +102,9 @@ module _ (setup : Setup) (identity : Identity) (station : Station) (same : stati
   ready = readied_frame setup identity
 
   -- a unit, and what is sent after it
-  unit_count : (waited inactive : ℕ) (live : Live) (step : Stepped) → live.values.is_lost ≡ false → AsksInTime setup identity waited inactive live step
+  unit_count : (serial : ℕ) (waited inactive : ℕ) (live : Live) (step : Stepped) → live.values.is_lost ≡ false → AsksInTime setup serial identity waited inactive live step
       → count_of ready (handed step) ≡ (if completes waited then 1 else 0)
-  unit_count waited inactive live step lost asks =
+  unit_count serial waited inactive live step lost asks =
       ap (λ (b : Bool). count_of ready (if b then [] else step.frames)) (ap (λ values. values.is_lost) asks.values ∙ lost)
       ∙ (ap (λ (frames : List (List ℕ)). count_of ready frames) asks.frames
       ∙ count_ready ready (completes waited) asks.inputs (count_none (IsInputs setup identity) ready differ asks.inputs asks.are_inputs))
@@ -115,17 +115,17 @@ module _ (setup : Setup) (identity : Identity) (station : Station) (same : stati
   then_count waited units first others one more =
       count_joined ready first others ∙ (ap₂ (λ (a b : ℕ). a + b) one more ∙ summed waited units)
 
-  pub counts : (units : ℕ) (outcomes : List (List Outcome)) (live : Live) (waited inactive : ℕ) → IsAddressed setup live → live.values.is_lost ≡ false
-      → Awaits setup waited inactive live → waited < 32000 → inactive + units < 1920000
+  pub counts : (serial : ℕ) (units : ℕ) (outcomes : List (List Outcome)) (live : Live) (waited inactive : ℕ) → IsAddressed setup live → live.values.is_lost ≡ false
+      → Awaits setup serial waited inactive live → waited < 32000 → inactive + units < 1920000
       → count_of ready (run_of outcomes station live (replicate units Tick)).frames ≡ (waited + units) / 32000
   unfolding heard_of
-  counts zero outcomes live waited inactive addressed lost awaits few short = none_yet waited few
-  counts (suc units) outcomes live waited inactive addressed lost awaits few short =
+  counts serial zero outcomes live waited inactive addressed lost awaits few short = none_yet waited few
+  counts serial (suc units) outcomes live waited inactive addressed lost awaits few short =
       let step = heard_step (first_step outcomes) station live Ticks in
-      let asks : AsksInTime setup identity waited inactive live step =
-      awaiting_unit setup identity (first_step outcomes) station live waited inactive awaits same addressed (omega (arith, short)) in
+      let asks : AsksInTime setup serial identity waited inactive live step =
+      awaiting_unit setup identity (first_step outcomes) station live waited inactive serial awaits same addressed (omega (arith, short)) in
       then_count waited units (handed step) (run_of (later_steps outcomes) station step.live (replicate units Tick)).frames
-      (unit_count waited inactive live step lost asks)
-      (counts units (later_steps outcomes) step.live (counts_on waited) (inactive + 1)
+      (unit_count serial waited inactive live step lost asks)
+      (counts serial units (later_steps outcomes) step.live (counts_on waited) (inactive + 1)
       (record { suite = ap (λ values. values.running.suite) asks.values ∙ addressed.suite })
       (ap (λ values. values.is_lost) asks.values ∙ lost) asks.awaits (counts_below waited few) (omega (arith, short)))

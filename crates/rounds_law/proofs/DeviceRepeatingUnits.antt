@@ -50,11 +50,11 @@ ready_first identity address octets link true inputs is = ap (λ (frame : List �
 ready_first identity address octets link false inputs is = refl
 
 module _ (setup : Setup) (identity : Identity) (outcomes : List Outcome) (station : Station) (live : Live) (waited inactive : ℕ)
-    (before : Awaits setup waited inactive live) where
-  abbrev link : RelationState
+    (serial : ℕ) (before : Awaits setup serial waited inactive live) where
+  abbrev pub link : RelationState
   link = before.link
 
-  abbrev later : RelationState
+  abbrev pub later : RelationState
   later = unit_later link
 
   limit_is : limit_of link ≡ 1920000
@@ -63,11 +63,11 @@ module _ (setup : Setup) (identity : Identity) (outcomes : List Outcome) (statio
   again_is : is_again link ≡ completes waited
   again_is = ap₂ (λ (p : Phase) (n : ℕ). is_awaiting p && (n + 1 == 32000)) before.in_phase before.waits
 
-  waited_is : waited_later link ≡ counts_on waited
+  pub waited_is : waited_later link ≡ counts_on waited
   waited_is =
       ap₂ (λ (p : Phase) (n : ℕ). if is_awaiting p && (n + 1 == 32000) then 0 else (if is_awaiting p then n + 1 else n)) before.in_phase before.waits
 
-  inactive_is : inactive_later link ≡ inactive + 1
+  pub inactive_is : inactive_later link ≡ inactive + 1
   inactive_is = ap₂ (λ (p : Phase) (n : ℕ). if is_timed p then n + 1 else n) before.in_phase before.runs
 
   ready_is : IsAddressed setup live → ready_frame identity live.values.running.suite.address (ready_of later) ≡ readied_frame setup identity
@@ -76,7 +76,7 @@ module _ (setup : Setup) (identity : Identity) (outcomes : List Outcome) (statio
       ∙ ap₂ (λ (p : Partner) (r : Request). ready_frame identity setup.plan.station.suite.address (ready_of (record later { partner = p; request = r })))
       before.partner before.request
 
-  stays : inactive + 1 < 1920000 → ending_of link ≡ None
+  pub stays : inactive + 1 < 1920000 → ending_of link ≡ None
   stays few =
       rw (ap is_timed before.in_phase) (rw (not_over (limit_of link) link.inactive (omega (arith, limit_is, before.runs, few))) refl)
 
@@ -98,16 +98,16 @@ module _ (setup : Setup) (identity : Identity) (outcomes : List Outcome) (statio
       ∙ ap (λ (again : Bool). (if again then readied_frame setup identity ∷ [] else []) ++ map (bytes_of identity) inputs) again_is)
 
   pub awaiting_unit : station.identity ≡ identity → IsAddressed setup live → inactive + 1 < 1920000
-      → AsksInTime setup identity waited inactive live (heard_step outcomes station live Ticks)
+      → AsksInTime setup serial identity waited inactive live (heard_step outcomes station live Ticks)
   unfolding handled_step
   awaiting_unit same addressed few =
       let address = live.values.running.suite.address in
-      unit_goes (λ (step : Stepped). AsksInTime setup identity waited inactive live step) outcomes station live link None before.has (stays few)
+      unit_goes (λ (step : Stepped). AsksInTime setup serial identity waited inactive live step) outcomes station live link None before.has (stays few)
       (record {
         inputs = map (bytes_of identity) inputs;
         are_inputs =
-            all_inputs setup identity later.flow.cyclic.route later.flow.low.has_problem later.flow.cyclic.shown counter (tick_of link.flow).is_cyclic
-            before.route;
+            all_inputs serial setup identity later.flow.cyclic.route later.flow.low.has_problem later.flow.cyclic.shown counter (tick_of link.flow).is_cyclic
+            before.numbered.route;
         frames =
             ap (λ (i : Identity). map (bytes_of i) (due_frames address counter (due_by link None) (Some later))) same ∙ frames_are addressed;
         values = refl;
@@ -121,7 +121,7 @@ module _ (setup : Setup) (identity : Identity) (outcomes : List Outcome) (statio
             high = calm_later link.flow.alarms.sender.sending before.calm.high;
             low = calm_later link.flow.low.alarms.sender.sending before.calm.low;
           };
-          route = before.route;
+          numbered = record { few = before.numbered.few; route = before.numbered.route; endpoint = before.numbered.endpoint };
           waits = waited_is;
           runs = inactive_is;
         };
@@ -141,15 +141,15 @@ module _ (setup : Setup) (identity : Identity) (outcomes : List Outcome) (statio
       (ap (λ (i : Identity). farewell_frame i (farewell_of Activity link) ∷ []) same, refl)
 
 -- A relation whose PrmEnd was just answered.
-pub just_ended : (setup : Setup) (taken : List TakenRecord) (last : ℕ) (live : Live) → HasRelation setup Awaiting taken last 0 live → Awaits setup 0 0 live
-just_ended setup taken last live is = record {
+pub just_ended : (serial : ℕ) (setup : Setup) (taken : List TakenRecord) (last : ℕ) (live : Live) → HasRelation setup serial Awaiting taken last 0 live → Awaits setup serial 0 0 live
+just_ended serial setup taken last live is = record {
   link = is.link;
   has = is.has;
   in_phase = is.in_phase;
   request = is.request;
   partner = is.partner;
   calm = is.calm;
-  route = is.route;
+  numbered = is.numbered;
   waits = omega (arith, is.waited);
   runs = omega (arith, is.active);
 }

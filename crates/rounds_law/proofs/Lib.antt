@@ -5,6 +5,7 @@ pub mod CompositionEnds
 pub mod CompositionRounds
 pub mod CompositionRuns
 pub mod RoundsNet
+pub mod RestartNet
 pub mod DevicePassingRead
 pub mod DevicePassingLeft
 pub mod DevicePassingHeard
@@ -31,6 +32,10 @@ pub mod ControllerCallingResponses
 pub mod SearchingSizes
 pub mod SearchingDevice
 pub mod SearchingController
+pub mod MiddleLaws
+pub mod MiddleDevice
+pub mod MiddleController
+pub mod MiddleRounds
 pub mod AgainIgnored
 pub mod AgainKept
 pub mod AgainAlone
@@ -39,6 +44,7 @@ pub mod AgainLaw
 pub mod AgainRefused
 pub mod AgainUnits
 pub mod AgainUnset
+pub mod PowerBack
 pub mod DeviceRepeatingCalls
 pub mod DeviceRepeatingUnits
 pub mod DeviceRepeatingCounts
@@ -46,3 +52,11 @@ pub mod CauseController
 pub mod CauseDevice
 pub mod CauseModules
 pub mod CauseRounds
+pub mod AbandonedDevice
+pub mod AbandonedController
+pub mod AbandonedRounds
+pub mod AbandonedLaw
+pub mod ComesLaw
+pub mod AskingController
+pub mod AskingRounds
+mod Numbers

@@ -26,10 +26,10 @@ use Rattle.controller_core.specs.declared.stored.state.State.{State as Phases}
 use Rattle.controller_core.specs.declared.stored.state.State.TheVariants.{Addressing, Connecting}
 use Rattle.controller_core.specs.stored.State.{Controlling, Live, is_writing, left_in, patience_in}
 use Rattle.controller_core.specs.start_up.Answers.{ident_bytes, is_addressed, is_found, is_right}
-use Rattle.controller_core.specs.Machine.{answered, asking, first as first_live, over, stays, step_of, stepped, turned}
+use Rattle.controller_core.specs.Machine.{answered, asking, over, stays, step_of, stepped, turned}
 use Rattle.controller_core.specs.declared.stored.state.Cause.TheVariants as cause
 use Rattle.end_laws.specs.hearing.Hearing.{mine_hears}
-use Rattle.rounds_law.specs.Path.{Asks, AsksNext, FindsIt, IsSized, controller_step, hold_of}
+use Rattle.rounds_law.specs.Path.{Asks, AsksNext, FindsIt, IsSearching, IsSized, controller_step, hold_of}
 use Rattle.rounds_law.specs.Start.{IsPatient}
 use Rattle.rounds_law.proofs.SearchingSizes.{suites_same}
 
@@ -63,7 +63,7 @@ patience_left options left before next unwritten is =
 asks_next : (setup : Setup) (identity : Identity) (controller : Controlling) (live : Live) (phase : Phases) (request : Request)
     → length setup.plan.records.items ≤ 32 → IsPatient setup.plan setup.options → controller.setup ≡ setup → IsQuiet setup identity.mac live
     → patience_in setup.options phase ≡ setup.options.patience
-    → AsksNext setup identity phase request false (write_count setup.plan + 2) (stepped controller (asking setup phase request live))
+    → AsksNext setup identity phase request None (write_count setup.plan + 2) (stepped controller (asking setup phase request live))
 asks_next setup identity controller live phase request few patient of_setup quiet limited = record {
   asks = record {
     of_setup = of_setup;
@@ -88,17 +88,18 @@ asks_next setup identity controller live phase request few patient of_setup quie
 
 -- ---- the answer to the Identify
 
-quiet_first : (setup : Setup) (device : Mac) → IsQuiet setup device (record (first_live setup.plan) { device = device })
-quiet_first setup device = record {
+quiet_found : (setup : Setup) (device : Mac) (controller : Controlling) → IsSearching setup controller
+    → IsQuiet setup device (record controller.live { device = device })
+quiet_found setup device controller searches = record {
   of_device = refl;
-  unrelated = refl;
-  high = refl;
-  low = refl;
-  low_limit = omega arith;
-  alone = refl;
-  unbegun = refl;
-  limit = refl;
-  unwritten = refl;
+  unrelated = searches.unestablished;
+  high = searches.high;
+  low = searches.low;
+  low_limit = searches.low_limit;
+  alone = searches.alone;
+  unbegun = searches.unbegun;
+  limit = searches.limit;
+  unwritten = ap is_writing searches.in_phase;
 }
 
 pub found_by_name : (plan : Parts) (identity : Identity) (settings : Settings) → settings.name ≡ plan.station.name
@@ -116,24 +117,24 @@ right_by_idents plan identity settings vendor device =
 record Meets (setup : Setup) (settings : Settings) (controller : Controlling) : Type 0 where
   few : length setup.plan.records.items ≤ 32
   patient : IsPatient setup.plan setup.options
-  of_setup : controller.setup ≡ setup
+  searches : IsSearching setup controller
   sized : IsSized settings.suite
   planned : IsSized setup.plan.station.suite
 
-abbrev met : Setup → Identity → Live
-met setup identity = record (first_live setup.plan) { device = identity.mac }
+abbrev met : Controlling → Identity → Live
+met controller identity = record controller.live { device = identity.mac }
 
 -- it has the plan's IP suite, or another one
 by_address : (setup : Setup) (identity : Identity) (settings : Settings) (controller : Controlling) → Meets setup settings controller → (there : Bool)
     → pointwise nat_eq (suite_bytes settings.suite) (suite_bytes setup.plan.station.suite) ≡ there
     → FindsIt setup identity settings (write_count setup.plan + 2)
-    (stepped controller (if there then asking setup Connecting asks.Connect (met setup identity)
-    else asking setup Addressing asks.Address (met setup identity)))
+    (stepped controller (if there then asking setup Connecting asks.Connect (met controller identity)
+    else asking setup Addressing asks.Address (met controller identity)))
 by_address setup identity settings controller meets true is = inl (
   suites_same settings.suite setup.plan.station.suite meets.sized meets.planned
       (same_text (suite_bytes settings.suite) (suite_bytes setup.plan.station.suite) (sym is)),
-  asks_next setup identity controller (met setup identity) Connecting asks.Connect meets.few meets.patient meets.of_setup
-      (quiet_first setup identity.mac) refl,
+  asks_next setup identity controller (met controller identity) Connecting asks.Connect meets.few meets.patient meets.searches.of_setup
+      (quiet_found setup identity.mac controller meets.searches) refl,
 )
 by_address setup identity settings controller meets false is = inr (
   (λ same.
@@ -141,16 +142,16 @@ by_address setup identity settings controller meets false is = inr (
       ap (λ (s : Suite). pointwise nat_eq (suite_bytes s) (suite_bytes setup.plan.station.suite)) same
       ∙ nat_list_eq_equiv.refl (suite_bytes setup.plan.station.suite) in
       absurd cc),
-  asks_next setup identity controller (met setup identity) Addressing asks.Address meets.few meets.patient meets.of_setup
-      (quiet_first setup identity.mac) refl,
+  asks_next setup identity controller (met controller identity) Addressing asks.Address meets.few meets.patient meets.searches.of_setup
+      (quiet_found setup identity.mac controller meets.searches) refl,
 )
 
 by_answer : (setup : Setup) (identity : Identity) (settings : Settings) (controller : Controlling) → Meets setup settings controller → (is_it right : Bool)
     → is_it ≡ true → right ≡ true → FindsIt setup identity settings (write_count setup.plan + 2)
     (stepped controller (if is_it then (if right
     then (if is_addressed setup.plan (identify_said identity settings 1)
-    then asking setup Connecting asks.Connect (met setup identity) else asking setup Addressing asks.Address (met setup identity))
-    else stays (over cause.WrongDevice (first_live setup.plan))) else stays (first_live setup.plan)))
+    then asking setup Connecting asks.Connect (met controller identity) else asking setup Addressing asks.Address (met controller identity))
+    else stays (over cause.WrongDevice controller.live)) else stays controller.live))
 by_answer setup identity settings controller meets true true it ok =
     by_address setup identity settings controller meets (pointwise nat_eq (suite_bytes settings.suite) (suite_bytes setup.plan.station.suite)) refl
 by_answer setup identity settings controller meets true false it ok = absurd cc
@@ -175,13 +176,14 @@ pub found_so : (setup : Setup) (identity : Identity) (settings : Settings) (cont
     ≡ mine_hears setup.plan.controller setup.plan.controller.mac (Answers identity.mac (identify_said identity settings 1))
     → length setup.plan.records.items ≤ 32 → IsPatient setup.plan setup.options → IsSized setup.plan.station.suite
     → identity.vendor_id ≡ setup.plan.station.vendor_id → identity.device_id ≡ setup.plan.station.device_id
-    → settings.name ≡ setup.plan.station.name → IsSized settings.suite → controller.setup ≡ setup → controller.live ≡ first_live setup.plan
+    → settings.name ≡ setup.plan.station.name → IsSized settings.suite → IsSearching setup controller
     → FindsIt setup identity settings (write_count setup.plan + 2) (controller_step controller octets)
-found_so setup identity settings controller octets is few patient planned vendor device named sized of_setup made =
+found_so setup identity settings controller octets is few patient planned vendor device named sized searches =
     subst (FindsIt setup identity settings (write_count setup.plan + 2))
-    (sym (step_is setup controller (first_live setup.plan) (Answers identity.mac (identify_said identity settings 1)) octets of_setup made
-    (is ∙ mine_so setup.plan.controller (Answers identity.mac (identify_said identity settings 1)))))
-    (by_answer setup identity settings controller (record { few = few; patient = patient; of_setup = of_setup; sized = sized; planned = planned })
+    (sym (step_is setup controller controller.live (Answers identity.mac (identify_said identity settings 1)) octets searches.of_setup refl
+    (is ∙ mine_so setup.plan.controller (Answers identity.mac (identify_said identity settings 1)))
+    ∙ ap (λ (p : Phases). stepped controller (answered setup controller.live identity.mac (identify_said identity settings 1) p)) searches.in_phase))
+    (by_answer setup identity settings controller (record { few = few; patient = patient; searches = searches; sized = sized; planned = planned })
     (is_found setup.plan (identify_said identity settings 1)) (is_right setup.plan (identify_said identity settings 1))
     (found_by_name setup.plan identity settings named) (right_by_idents setup.plan identity settings vendor device))
 
@@ -193,10 +195,10 @@ accepted_said setup = set_said (address_asked setup.plan) (error.Done ∷ [])
 -- it asks for its relation
 pub set_so : (setup : Setup) (identity : Identity) (controller : Controlling) (octets : List ℕ) (spare : ℕ)
     → heard_of setup.plan.controller octets ≡ mine_hears setup.plan.controller setup.plan.controller.mac (Answers identity.mac (accepted_said setup))
-    → length setup.plan.records.items ≤ 32 → IsPatient setup.plan setup.options → Asks setup identity.mac Addressing asks.Address false spare controller
-    → AsksNext setup identity Connecting asks.Connect false (write_count setup.plan + 2) (controller_step controller octets)
+    → length setup.plan.records.items ≤ 32 → IsPatient setup.plan setup.options → Asks setup identity.mac Addressing asks.Address None spare controller
+    → AsksNext setup identity Connecting asks.Connect None (write_count setup.plan + 2) (controller_step controller octets)
 set_so setup identity controller octets spare is few patient waits =
-    subst (AsksNext setup identity Connecting asks.Connect false (write_count setup.plan + 2))
+    subst (AsksNext setup identity Connecting asks.Connect None (write_count setup.plan + 2))
     (sym (step_is setup controller controller.live (Answers identity.mac (accepted_said setup)) octets waits.of_setup refl
     (is ∙ mine_so setup.plan.controller (Answers identity.mac (accepted_said setup)))
     ∙ ap (λ (p : Phases). stepped controller (answered setup controller.live identity.mac (accepted_said setup) p)) waits.in_phase))

@@ -161,7 +161,7 @@ module _ (read : AreBlocksRead) (long : AreBlocksLong) (setup : Setup) (identity
     (number : ℕ) (below : number < write_count setup.plan) (headed : IsHeader (call_for setup (asks.Write number)).header)
     (outcomes : List Outcome) (station : Station) (live : Live) (age : ℕ) (own : station.identity ≡ identity) (plugged : station.real ≡ setup.plan.real)
     (addressed : IsAddressed setup live)
-    (relation : HasRelation setup Started (map taken_for (take (first_of setup.plan number) setup.plan.records.items)) number age live) where
+    (serial : ℕ) (relation : HasRelation setup serial Started (map taken_for (take (first_of setup.plan number) setup.plan.records.items)) number age live) where
   abbrev plan : Parts
   plan = setup.plan
 
@@ -345,9 +345,9 @@ module _ (read : AreBlocksRead) (long : AreBlocksLong) (setup : Setup) (identity
       × (after.frames ≡ octets ∷ [])
       × IsWritten setup identity number octets
       × (after.live.values ≡ live.values)
-      × HasRelation setup Started (map taken_for (take (first_of plan (number + 1)) records)) (number + 1) 0 after.live
+      × HasRelation setup serial Started (map taken_for (take (first_of plan (number + 1)) records)) (number + 1) 0 after.live
 
-  has_more : (after : Stepped) → IsDone after → HasRelation setup Started (map taken_for (take (first_of plan (number + 1)) records)) (number + 1) 0 after.live
+  has_more : (after : Stepped) → IsDone after → HasRelation setup serial Started (map taken_for (take (first_of plan (number + 1)) records)) (number + 1) 0 after.live
   has_more after it = record {
     link = restarted source (with_more (map taken_for group) link);
     has = it.taken.becomes;
@@ -358,7 +358,7 @@ module _ (read : AreBlocksRead) (long : AreBlocksLong) (setup : Setup) (identity
     active = subst (λ (b : Bool). cond b 0 link.inactive ≤ 0) (sym (alive (map taken_for group))) (omega arith);
     waited = tt;
     calm = relation.calm;
-    route = relation.route;
+    numbered = relation.numbered;
     unbegun = relation.unbegun;
     limit = relation.limit;
     low_limit = relation.low_limit;

@@ -1,12 +1,11 @@
 -- A controller that starts while its device may still have the relation of an earlier start. If it ends, it is started again.
-use Rattle.std.specs.Prelude.{◌≡◌, ◌⊎◌, ◌≤◌, ◌+◌, ◌-◌, ℕ, zero, suc, true, false, nat_le, List, [], ◌∷◌, ◌++◌, if◌then◌else◌, Some, None}
+use Rattle.std.specs.Prelude.{◌≡◌, ◌⊎◌, ◌≤◌, ◌+◌, ◌-◌, ◌<◌, ℕ, zero, suc, true, false, nat_le, List, [], ◌∷◌, ◌++◌, if◌then◌else◌, Some, None}
 use Rattle.std.specs.List.{AllByRecursion}
 use Rattle.flash_model.specs.declared.flash.Flash.{Ghosts as Flash}
 use Rattle.pn_values.specs.declared.identity.Identity.{Identity}
 use Rattle.pn_values.specs.declared.mac.Mac.{Mac}
 use Rattle.pn_alarms.specs.declared.abort.Abort.{Abort}
 use Rattle.pn_alarms.specs.declared.pdu.Header.{Header}
-use Rattle.controller_core.specs.stored.Opening.{route_of as outputs_route}
 use Rattle.controller_messages.specs.Sent.{Ends, bytes_of as controller_bytes}
 use Rattle.pn_values.specs.declared.set_item.BlockError.TheVariants.{InOperation}
 use Rattle.rpc_core.specs.declared.response.Status.{Status}
@@ -19,6 +18,7 @@ use Rattle.rpc_core.specs.Cache.{kept_of}
 use Rattle.device_frames.specs.Sent.{SetAnswer, bytes_of as device_bytes, response_frame}
 use Rattle.device_core.specs.State.{Live}
 use Rattle.device_core.specs.Handled.{partner_of}
+use Rattle.controller_messages.specs.declared.request.Request.{Request}
 use Rattle.controller_messages.specs.declared.request.Request.TheVariants as asks
 use Rattle.controller_messages.specs.declared.setup.Setup.{Setup}
 use Rattle.controller_messages.specs.Requests.{address_asked, call_for}
@@ -30,7 +30,7 @@ use Rattle.controller_core.specs.Machine.{Stepped, first as first_live, opening_
 use Rattle.network_world.specs.World.{is_ended}
 use Rattle.both_ends.specs.startup.request.Request.{request_for}
 use Rattle.both_ends.specs.startup.answer.Answer.{caller_of}
-use Rattle.rounds_law.specs.Path.{IsAddressed, IsIgnored, IsNamed, IsOutputs, IsSized}
+use Rattle.rounds_law.specs.Path.{IsAddressed, IsIgnored, IsNamed, IsOutputs, IsSized, route_to}
 use Rattle.rounds_law.specs.Rounds.{BothExchange, Net, Round}
 use Rattle.rounds_law.specs.Start.{CanBeAddressed, IsOfPlan}
 
@@ -42,7 +42,7 @@ abbrev pub units_left : RelationState → ℕ
 units_left link =
     if is_timed link.phase then limit_of link - link.inactive else link.flow.cyclic.hearing.limit - link.flow.cyclic.hearing.held
 
--- The device has the relation of an earlier start of this controller, with another ARUUID. If the controller is silent, the relation ends
+-- The device has the relation of an earlier start of this controller, of any number, with another ARUUID. If the controller is silent, the relation ends
 -- after at most this many units.
 pub record HasEarlier (setup : Setup) (left : ℕ) (live : Live) : Type 0 where
   pub link : RelationState
@@ -52,19 +52,25 @@ pub record HasEarlier (setup : Setup) (left : ℕ) (live : Live) : Type 0 where
   pub other : ar ≡ setup.ar → ⊥
   pub request : link.request ≡ request_for setup.plan ar
   pub partner : link.partner ≡ partner_of (caller_of setup.plan.controller)
-  pub route : link.flow.cyclic.route ≡ inputs_route (request_for setup.plan ar)
+  pub serial : ℕ
+  pub few : serial < 14336
+  pub route : link.flow.cyclic.route ≡ inputs_route serial (request_for setup.plan ar)
   pub begun : link.flow.cyclic.begun ≡ (if is_timed link.phase then false else true)
   pub time : units_left link ≤ left
 
 -- ---- the frames of a device that refuses
 
--- A negative response to the Connect.
-pub record IsRefusal (setup : Setup) (identity : Identity) (octets : List ℕ) : Type 0 where
+-- A negative response to a call.
+pub record IsDenial (setup : Setup) (identity : Identity) (request : Request) (octets : List ℕ) : Type 0 where
   pub status : Status
   pub negative : is_done status ≡ false
-  pub fits : CanBeAnswered (answer_to (call_for setup asks.Connect) status [])
+  pub fits : CanBeAnswered (answer_to (call_for setup request) status [])
   pub frame : octets ≡ response_frame identity (caller_of setup.plan.controller) setup.plan.station.suite.address
-      (answer_to (call_for setup asks.Connect) status [])
+      (answer_to (call_for setup request) status [])
+
+-- A negative response to the Connect.
+abbrev pub IsRefusal : Setup → Identity → List ℕ → Type 0
+IsRefusal setup identity octets = IsDenial setup identity asks.Connect octets
 
 -- The answer to the Set of the IP suite while a relation exists: its BlockError says that the Set is not possible in operation.
 abbrev pub unset_frame : Setup → Identity → List ℕ
@@ -80,13 +86,14 @@ pub record HasEnded (setup : Setup) (cause : Cause) (controller : Controlling) :
   pub unestablished : controller.live.stands ≡ false
   pub alone : controller.live.access.waiting ≡ None
 
--- It exchanges data and no frame of its device comes: its data hold time, which runs, lasts this many units at most. No AlarmAck waits for
+-- It exchanges data, in a relation of this number at the device, and no frame of its device comes: its data hold time, which runs, lasts this many units at most. No AlarmAck waits for
 -- its ACK, and no request of the application is open.
-pub record IsAlone (setup : Setup) (device : Mac) (left : ℕ) (controller : Controlling) : Type 0 where
+pub record IsAlone (setup : Setup) (serial : ℕ) (device : Mac) (left : ℕ) (controller : Controlling) : Type 0 where
   pub of_setup : controller.setup ≡ setup
   pub in_phase : controller.live.phase ≡ Exchanging
   pub established : controller.live.stands ≡ true
-  pub route : controller.live.cyclic.route ≡ outputs_route device 0xC000 1
+  pub few : serial < 14336
+  pub route : controller.live.cyclic.route ≡ route_to device serial
   pub high : controller.live.alarms.sending.waiting ≡ None
   pub low : controller.live.low_alarms.sending.waiting ≡ None
   pub unasked : controller.live.asked ≡ None
@@ -95,24 +102,25 @@ pub record IsAlone (setup : Setup) (device : Mac) (left : ℕ) (controller : Con
   pub time : controller.live.cyclic.hearing.limit - controller.live.cyclic.hearing.held ≤ left
 
 -- Its ERR.
-pub record IsEnd (setup : Setup) (device : Mac) (octets : List ℕ) : Type 0 where
+pub record IsEnd (setup : Setup) (serial : ℕ) (device : Mac) (octets : List ℕ) : Type 0 where
   pub header : Header
   pub reason : Abort
-  pub frame : octets ≡ controller_bytes setup (Ends (outputs_route device 0xC000 1) header reason)
+  pub few : serial < 14336
+  pub frame : octets ≡ controller_bytes setup (Ends (route_to device serial) header reason)
 
 -- It has ended by its data hold time, and its ERR is all that it sends.
-pub record HasLeft (setup : Setup) (device : Mac) (step : Stepped) : Type 0 where
+pub record HasLeft (setup : Setup) (serial : ℕ) (device : Mac) (step : Stepped) : Type 0 where
   pub octets : List ℕ
   pub frames : step.frames ≡ octets ∷ []
-  pub end : IsEnd setup device octets
+  pub end : IsEnd setup serial device octets
   pub ended : HasEnded setup DataHold step.controller
 
 -- It has a unit less, and sends outputs at most.
-pub record HasWaited (setup : Setup) (device : Mac) (left : ℕ) (step : Stepped) : Type 0 where
+pub record HasWaited (setup : Setup) (serial : ℕ) (device : Mac) (left : ℕ) (step : Stepped) : Type 0 where
   pub fewer : ℕ
   pub less : left ≡ suc fewer
-  pub outputs : AllByRecursion (IsOutputs setup device) step.frames
-  pub alone : IsAlone setup device fewer step.controller
+  pub outputs : AllByRecursion (IsOutputs setup (Some serial) device) step.frames
+  pub alone : IsAlone setup serial device fewer step.controller
 
 -- ---- a controller that is started again
 
@@ -188,8 +196,9 @@ pub record IsRestart {F : Type 0} (setup next : Setup) (identity : Identity) (le
 -- The device lost its power while data was exchanged, and has started again: it has no relation and has stored no answer of the next start.
 -- Its controller still exchanges data. Only outputs are under way to the device, and nothing to the controller.
 pub record IsDeserted {F : Type 0} (setup next : Setup) (identity : Identity) (left : ℕ) (plant : Plant F) : Type 0 where
-  pub alone : IsAlone setup identity.mac left plant.net.controller
-  pub outputs : AllByRecursion (IsOutputs setup identity.mac) plant.net.to_device
+  pub serial : ℕ
+  pub alone : IsAlone setup serial identity.mac left plant.net.controller
+  pub outputs : AllByRecursion (IsOutputs setup (Some serial) identity.mac) plant.net.to_device
   pub silent : plant.net.to_controller ≡ []
   pub more : List Setup
   pub later : plant.later ≡ next ∷ more

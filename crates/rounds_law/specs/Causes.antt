@@ -1,5 +1,5 @@
 -- A start-up that cannot succeed: where it begins, and how it ends.
-use Rattle.std.specs.Prelude.{◌≡◌, ◌⊎◌, ◌++◌, ℕ, zero, suc, true, false, List, [], ◌∷◌, Some}
+use Rattle.std.specs.Prelude.{◌≡◌, ◌⊎◌, ◌++◌, ℕ, zero, suc, true, false, List, [], ◌∷◌, Some, None}
 use Rattle.std.specs.List.{AllByRecursion}
 use Rattle.flash_model.specs.declared.flash.Flash.{Ghosts as Flash}
 use Rattle.pn_values.specs.declared.identity.Identity.{Identity}
@@ -13,6 +13,7 @@ use Rattle.device_frames.specs.declared.event.Event.TheVariants.{Frame}
 use Rattle.device_frames.specs.declared.note.Note.{Note}
 use Rattle.device_frames.specs.Heard.{Ticks, heard_of}
 use Rattle.device_frames.specs.Sent.{SetAnswer, bytes_of as device_bytes}
+use Rattle.device_core.specs.Handled.{number_now}
 use Rattle.device_core.specs.State.{Live, State}
 use Rattle.device_core.specs.Steps.{Steps}
 use Rattle.controller_messages.specs.declared.setup.Setup.{Setup}
@@ -101,30 +102,30 @@ pub record FailingRound {F : Type 0} {S : ℕ} (as_flash : Flash F S) (before af
 
 -- ---- modules that differ
 
--- The blocks with which a device with these modules answers the plan's Connect.
-abbrev pub blocks_with : Setup → Identity → Real → List ℕ
-blocks_with setup identity real = connect_blocks identity (request_for setup.plan setup.ar) (differing_of (request_for setup.plan setup.ar) real)
+-- The blocks with which a device with these modules answers the plan's Connect, in a relation of this number.
+abbrev pub blocks_with : Setup → Identity → ℕ → Real → List ℕ
+blocks_with setup identity serial real = connect_blocks identity serial (request_for setup.plan setup.ar) (differing_of (request_for setup.plan setup.ar) real)
 
 -- Its response with these blocks.
-abbrev pub differing_frame : Setup → Identity → Real → List ℕ
-differing_frame setup identity real = response_to setup identity Connect (blocks_with setup identity real)
+abbrev pub differing_frame : Setup → Identity → ℕ → Real → List ℕ
+differing_frame setup identity serial real = response_to setup identity Connect (blocks_with setup identity serial real)
 
 -- A controller that reads these blocks finds all that a relation needs, and a module or submodule that is neither the plan's nor a
 -- substitute.
-pub record Differs (setup : Setup) (identity : Identity) (real : Real) : Type 0 where
+pub record Differs (setup : Setup) (identity : Identity) (serial : ℕ) (real : Real) : Type 0 where
   pub found : Found
-  pub read : found_in 400 (blocks_with setup identity real) nothing ≡ Some found
+  pub read : found_in 400 (blocks_with setup identity serial real) nothing ≡ Some found
   pub whole : is_whole found ≡ true
   pub differs : found.differs ≡ true
 
 -- The Connect is under way to a device that has the plan's IP suite, no relation, and other modules.
 pub record ConnectsToOther {F : Type 0} (setup : Setup) (identity : Identity) (net : Net F) : Type 0 where
   pub spare : ℕ
-  pub asks : Asks setup identity.mac Connecting Connect false spare net.controller
+  pub asks : Asks setup identity.mac Connecting Connect None spare net.controller
   pub under_way : net.to_device ≡ request_to setup identity Connect ∷ []
   pub ignored : AllByRecursion (IsIgnored setup) net.to_controller
   pub of_device : net.device.station.identity ≡ identity
   pub interval : AcceptsInterval net.device.station.options setup.plan
   pub addressed : IsAddressed setup net.device.live
   pub free : IsFree setup net.device.live
-  pub differs : Differs setup identity net.device.station.real
+  pub differs : Differs setup identity (number_now net.device.station net.device.live) net.device.station.real

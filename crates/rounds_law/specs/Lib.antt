@@ -3,5 +3,11 @@ pub mod Path
 pub mod Repeating
 pub mod Start
 pub mod Stages
+pub mod Middle
 pub mod Again
+pub mod Power
 pub mod Causes
+pub mod Connects
+pub mod Abandoned
+pub mod Asking
+pub mod Comes

@@ -1,6 +1,6 @@
 -- The stations of a start-up that succeeds: what the device and the controller are after each of its rounds, and which frames go
 -- between them.
-use Rattle.std.specs.Prelude.{◌≡◌, ◌≤◌, ◌<◌, ◌+◌, ◌*◌, ◌⊎◌, ℕ, Bool, true, false, List, [], ◌∷◌, Option, Some, None, length}
+use Rattle.std.specs.Prelude.{◌≡◌, ◌≤◌, ◌<◌, ◌+◌, ◌*◌, ◌⊎◌, ℕ, Bool, true, false, List, [], ◌∷◌, Option, Some, None, is_some, length}
 use Rattle.pn_values.specs.IpSuite.{Suite}
 use Rattle.pn_values.specs.declared.identity.Identity.{Identity}
 use Rattle.pn_values.specs.declared.mac.Mac.{Mac}
@@ -16,6 +16,7 @@ use Rattle.block_codec.specs.Block.{block_bytes}
 use Rattle.records.specs.declared.writes.taken.TakenRecord.{TakenRecord}
 use Rattle.records.specs.status.Status.{done}
 use Rattle.cyclic_data.specs.Image.{Shown}
+use Rattle.cyclic_data.specs.declared.exchange.route.Route.{Route}
 use Rattle.cyclic_data.specs.exchange.Cyclic.{Cyclic}
 use Rattle.plans.specs.declared.parts.Parts.{Parts}
 use Rattle.plans.specs.Connect.{initiator_object}
@@ -29,6 +30,7 @@ use Rattle.diagnosis.specs.Sendable.{IsHeader}
 use Rattle.relations.specs.declared.phase.Phase.{Phase}
 use Rattle.relations.specs.declared.phase.Phase.TheVariants.{Started, Preparing, Awaiting, Exchanging as in_exchange}
 use Rattle.relations.specs.declared.ready.Ready.{Ready}
+use Rattle.relations.specs.Numbers.{endpoint_of}
 use Rattle.relations.specs.exchange.Flow.{Flow}
 use Rattle.relations.specs.exchange.Frames.{Inputs, Reports}
 use Rattle.relations.specs.exchange.Opening.{route_of as inputs_route}
@@ -50,7 +52,7 @@ use Rattle.controller_messages.specs.Requests.{address_asked, call_for}
 use Rattle.controller_messages.specs.Sent.{Agrees, Requests, Cycles, bytes_of as controller_bytes, calls_at, ready_answer}
 use Rattle.controller_core.specs.declared.start_up.outcomes.Outcomes.TheVariants.{AllWritten}
 use Rattle.controller_core.specs.declared.stored.state.State.{State as Phases}
-use Rattle.controller_core.specs.declared.stored.state.State.TheVariants.{Addressing, Connecting, Exchanging}
+use Rattle.controller_core.specs.declared.stored.state.State.TheVariants.{Addressing, Connecting, Exchanging, Looking}
 use Rattle.controller_core.specs.declared.stored.event.Event.TheVariants.{Frame}
 use Rattle.controller_core.specs.Machine.{Stepped, step_of}
 use Rattle.controller_core.specs.start_up.Outcomes.{outcomes_of}
@@ -97,9 +99,15 @@ WaitedFew Preparing age waited = Unit {0}
 WaitedFew Awaiting age waited = waited ≤ age
 WaitedFew in_exchange age waited = Unit {0}
 
--- The device has the plan's relation, in a phase before data is exchanged. It accepted these records, and the last call that it answered
--- has this number. Its timers have run for at most this many units. No alarm of low priority was sent or accepted.
-pub record HasRelation (setup : Setup) (phase : Phase) (taken : List TakenRecord) (last : ℕ) (age : ℕ) (live : Live) : Type 0 where
+-- A relation has this number at the device: in it are the FrameID of its outputs and the endpoint of its alarms.
+pub record HasNumber (setup : Setup) (serial : ℕ) (flow : Flow) : Type 0 where
+  pub few : serial < 14336
+  pub route : flow.cyclic.route ≡ inputs_route serial (request_for setup.plan setup.ar)
+  pub endpoint : flow.endpoint ≡ endpoint_of serial
+
+-- The device has the plan's relation, of this number, in a phase before data is exchanged. It accepted these records, and the last call
+-- that it answered has this sequence number. Its timers have run for at most this many units. No alarm of low priority was sent or accepted.
+pub record HasRelation (setup : Setup) (serial : ℕ) (phase : Phase) (taken : List TakenRecord) (last : ℕ) (age : ℕ) (live : Live) : Type 0 where
   pub link : RelationState
   pub has : live.rest.link ≡ Some link
   pub in_phase : link.phase ≡ phase
@@ -109,7 +117,7 @@ pub record HasRelation (setup : Setup) (phase : Phase) (taken : List TakenRecord
   pub active : link.inactive ≤ age
   pub waited : WaitedFew phase age link.waited
   pub calm : IsCalm link.flow
-  pub route : link.flow.cyclic.route ≡ inputs_route (request_for setup.plan setup.ar)
+  pub numbered : HasNumber setup serial link.flow
   pub unbegun : link.flow.cyclic.begun ≡ false
   pub limit : link.flow.cyclic.hearing.limit ≡ hold_of setup.plan
   pub low_limit : 3200 ≤ link.flow.low.alarms.sender.sending.limit
@@ -123,15 +131,15 @@ abbrev pub WaitsFew : ℕ → Option ℕ → Type 0
 WaitsFew age None = Unit {0}
 WaitsFew age (Some units) = units ≤ age
 
--- The device exchanges data. Its data hold time has run for at most this many units. If an alarm of low priority waits for its ACK, it has
+-- The device exchanges data in the plan's relation, of this number. Its data hold time has run for at most this many units. If an alarm of low priority waits for its ACK, it has
 -- waited for at most this many units.
-pub record Exchanges (setup : Setup) (age : ℕ) (live : Live) : Type 0 where
+pub record Exchanges (setup : Setup) (serial : ℕ) (age : ℕ) (live : Live) : Type 0 where
   pub link : RelationState
   pub has : live.rest.link ≡ Some link
   pub in_phase : link.phase ≡ in_exchange
   pub request : link.request ≡ request_for setup.plan setup.ar
   pub limit : link.flow.cyclic.hearing.limit ≡ hold_of setup.plan
-  pub route : link.flow.cyclic.route ≡ inputs_route (request_for setup.plan setup.ar)
+  pub numbered : HasNumber setup serial link.flow
   pub held_few : link.flow.cyclic.hearing.held ≤ age
   pub high : link.flow.alarms.sender.sending.waiting ≡ None
   pub low : WaitsFew age link.flow.low.alarms.sender.sending.waiting
@@ -139,15 +147,17 @@ pub record Exchanges (setup : Setup) (age : ℕ) (live : Live) : Type 0 where
 
 -- ---- the frames of the device
 
--- A frame of inputs.
+-- A frame of inputs in the plan's relation, of any number.
 pub record IsInputs (setup : Setup) (identity : Identity) (octets : List ℕ) : Type 0 where
+  pub serial : ℕ
   pub has_problem : Bool
   pub inputs : Shown
   pub counter : ℕ
-  pub frame : octets ≡ device_bytes identity (device_exchanges (inputs_route (request_for setup.plan setup.ar)) (Inputs has_problem inputs counter))
+  pub frame : octets ≡ device_bytes identity (device_exchanges (inputs_route serial (request_for setup.plan setup.ar)) (Inputs has_problem inputs counter))
 
--- An alarm of low priority that reports a diagnosis.
+-- An alarm of low priority that reports a diagnosis, in the plan's relation, of any number.
 pub record IsReport (setup : Setup) (identity : Identity) (octets : List ℕ) : Type 0 where
+  pub serial : ℕ
   pub tag : ℕ
   pub header : Header
   pub alarm : AlarmNotification
@@ -155,7 +165,7 @@ pub record IsReport (setup : Setup) (identity : Identity) (octets : List ℕ) : 
   pub is_data : header.kind ≡ pdu.Data
   pub header_good : IsHeader header
   pub alarm_good : IsAlarm alarm
-  pub frame : octets ≡ device_bytes identity (device_exchanges (inputs_route (request_for setup.plan setup.ar)) (Reports tag header alarm))
+  pub frame : octets ≡ device_bytes identity (device_exchanges (inputs_route serial (request_for setup.plan setup.ar)) (Reports tag header alarm))
 
 -- The answer to the Identify of a device with these settings.
 abbrev pub found_frame : Setup → Identity → Settings → List ℕ
@@ -205,20 +215,25 @@ readied_frame setup identity = ready_frame identity setup.plan.station.suite.add
 
 -- ---- the controller
 
--- If the controller's relation is established, its outputs go to this device.
-abbrev pub IsRoute : Bool → Mac → Cyclic → Type 0
-IsRoute false device cyclic = Unit {0}
-IsRoute true device cyclic = cyclic.route ≡ outputs_route device 0xC000 1
+-- The route of the controller to this device in a relation of this number at the device.
+abbrev pub route_to : Mac → ℕ → Route
+route_to device serial = outputs_route device (0xC000 + serial) (endpoint_of serial)
 
--- The controller waits for the response to this request. For this many units it does not send the request again and does not give up.
-pub record Asks (setup : Setup) (device : Mac) (phase : Phases) (request : Request) (stands : Bool) (spare : ℕ) (controller : Controlling) : Type 0 where
+-- If the controller's relation is established, it has this number at the device, to which its outputs go.
+abbrev pub IsRoute : Option ℕ → Mac → Cyclic → Type 0
+IsRoute None device cyclic = Unit {0}
+IsRoute (Some serial) device cyclic = (serial < 14336) × (cyclic.route ≡ route_to device serial)
+
+-- The controller waits for the response to this request. For this many units it does not send the request again and does not give up. Its
+-- relation is established, with this number at the device, or not.
+pub record Asks (setup : Setup) (device : Mac) (phase : Phases) (request : Request) (stands : Option ℕ) (spare : ℕ) (controller : Controlling) : Type 0 where
   pub of_setup : controller.setup ≡ setup
   pub in_phase : controller.live.phase ≡ phase
   pub asked : controller.live.asked ≡ Some request
   pub of_device : controller.live.device ≡ device
   pub unrepeated : controller.live.waited + spare < 31999
   pub patient : (controller.live.left ≡ 0) ⊎ (spare < controller.live.left)
-  pub established : controller.live.stands ≡ stands
+  pub established : controller.live.stands ≡ is_some stands
   pub route : IsRoute stands device controller.live.cyclic
   pub high : controller.live.alarms.sending.waiting ≡ None
   pub low : controller.live.low_alarms.sending.waiting ≡ None
@@ -227,13 +242,32 @@ pub record Asks (setup : Setup) (device : Mac) (phase : Phases) (request : Reque
   pub unbegun : controller.live.cyclic.begun ≡ false
   pub limit : controller.live.cyclic.hearing.limit ≡ hold_of setup.plan
 
--- The controller exchanges data. Its data hold time has run for at most this many units. If an AlarmAck of low priority waits for its ACK,
+-- The controller waits for the answer to this request, and its relation is not established. It may have sent the request several times.
+pub record HasAsked (setup : Setup) (device : Mac) (phase : Phases) (request : Request) (controller : Controlling) : Type 0 where
+  pub of_setup : controller.setup ≡ setup
+  pub in_phase : controller.live.phase ≡ phase
+  pub asked : controller.live.asked ≡ Some request
+  pub of_device : controller.live.device ≡ device
+  pub unestablished : controller.live.stands ≡ false
+  pub high : controller.live.alarms.sending.waiting ≡ None
+  pub low : controller.live.low_alarms.sending.waiting ≡ None
+  pub low_limit : 3200 ≤ controller.live.low_alarms.sending.limit
+  pub alone : controller.live.access.waiting ≡ None
+  pub unbegun : controller.live.cyclic.begun ≡ false
+  pub limit : controller.live.cyclic.hearing.limit ≡ hold_of setup.plan
+
+-- It looks for its station.
+abbrev pub IsSearching : Setup → Controlling → Type 0
+IsSearching setup controller = HasAsked setup controller.live.device Looking asks.Identify controller
+
+-- The controller exchanges data in a relation of this number at the device. Its data hold time has run for at most this many units. If an AlarmAck of low priority waits for its ACK,
 -- it has waited for at most this many units.
-pub record Controls (setup : Setup) (device : Mac) (age : ℕ) (controller : Controlling) : Type 0 where
+pub record Controls (setup : Setup) (serial : ℕ) (device : Mac) (age : ℕ) (controller : Controlling) : Type 0 where
   pub of_setup : controller.setup ≡ setup
   pub in_phase : controller.live.phase ≡ Exchanging
   pub established : controller.live.stands ≡ true
-  pub route : controller.live.cyclic.route ≡ outputs_route device 0xC000 1
+  pub few : serial < 14336
+  pub route : controller.live.cyclic.route ≡ route_to device serial
   pub high : controller.live.alarms.sending.waiting ≡ None
   pub low : WaitsFew age controller.live.low_alarms.sending.waiting
   pub low_limit : 3200 ≤ controller.live.low_alarms.sending.limit
@@ -247,15 +281,15 @@ abbrev pub request_to : Setup → Identity → Request → List ℕ
 request_to setup identity request = controller_bytes setup (Requests identity.mac request)
 
 -- The controller sends this request, and waits for its response.
-pub record AsksNext (setup : Setup) (identity : Identity) (phase : Phases) (request : Request) (stands : Bool) (spare : ℕ) (step : Stepped) : Type 0 where
+pub record AsksNext (setup : Setup) (identity : Identity) (phase : Phases) (request : Request) (stands : Option ℕ) (spare : ℕ) (step : Stepped) : Type 0 where
   pub asks : Asks setup identity.mac phase request stands spare step.controller
   pub frames : step.frames ≡ request_to setup identity request ∷ []
 
 -- The controller found its device. If the device has the plan's IP suite, the Connect is next, else the Set of the IP suite.
 abbrev pub FindsIt : Setup → Identity → Settings → ℕ → Stepped → Type 0
 FindsIt setup identity settings spare step =
-    ((settings.suite ≡ setup.plan.station.suite) × AsksNext setup identity Connecting asks.Connect false spare step)
-    ⊎ ((settings.suite ≡ setup.plan.station.suite → ⊥) × AsksNext setup identity Addressing asks.Address false spare step)
+    ((settings.suite ≡ setup.plan.station.suite) × AsksNext setup identity Connecting asks.Connect None spare step)
+    ⊎ ((settings.suite ≡ setup.plan.station.suite → ⊥) × AsksNext setup identity Addressing asks.Address None spare step)
 
 -- The controller after a frame, and what it sends.
 abbrev pub controller_step : Controlling → List ℕ → Stepped
@@ -272,11 +306,14 @@ device_step outcomes station live octets = heard_step outcomes station live (hea
 
 -- ---- the frames of the controller
 
--- A frame of outputs.
-pub record IsOutputs (setup : Setup) (device : Mac) (octets : List ℕ) : Type 0 where
+-- A frame of outputs in a relation of this number at the device, if one is established.
+pub record IsOutputs (setup : Setup) (stands : Option ℕ) (device : Mac) (octets : List ℕ) : Type 0 where
+  pub serial : ℕ
+  pub of_relation : stands ≡ Some serial
+  pub few : serial < 14336
   pub shown : Shown
   pub counter : ℕ
-  pub frame : octets ≡ controller_bytes setup (Cycles (outputs_route device 0xC000 1) shown counter)
+  pub frame : octets ≡ controller_bytes setup (Cycles (route_to device serial) shown counter)
 
 -- The device, as the caller of ApplicationReady.
 abbrev pub device_as_caller : Setup → Identity → Caller

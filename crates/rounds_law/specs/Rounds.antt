@@ -84,6 +84,10 @@ abbrev pub without : {F : Type 0} → End → Net F → Net F
 without Device net = record net { to_device = [] }
 without Controller net = record net { to_controller = [] }
 
+-- The same with this device.
+abbrev pub with_device : {F : Type 0} → State F → Net F → Net F
+with_device device net = record net { device = device }
+
 -- ---- a round
 
 -- Each frame that is under way to the device arrives there. Then each frame that is under way to the controller, and each that the device
@@ -107,13 +111,16 @@ Rounds {F} as_flash (suc number) before after = (next : Net F) × Round as_flash
 
 -- ---- both exchange data
 
--- The device and the controller exchange data, in the same relation.
+-- The device and the controller exchange data, in the same relation: the controller sends outputs with the FrameID that the device accepts,
+-- and alarms to the endpoint of the device.
 pub record BothExchange {F : Type 0} (net : Net F) : Type 0 where
   pub link : RelationState
   pub device : net.device.live.rest.link ≡ Some link
   pub exchanges : link.phase ≡ in_exchange
   pub ar : link.request.ar.uuid ≡ net.controller.setup.ar
   pub controller : net.controller.live.phase ≡ Exchanging
+  pub outputs : net.controller.live.cyclic.route.sent_id ≡ link.flow.cyclic.route.taken_id
+  pub alarms : net.controller.live.cyclic.route.reference ≡ link.flow.endpoint
 
 -- Between these two nets are rounds. After at most this many of them both ends exchange data.
 pub record ExchangeWithin {F : Type 0} {S : ℕ} (as_flash : Flash F S) (limit : ℕ) (first last : Net F) : Type 0 where

@@ -1,12 +1,14 @@
 //! The law of a start: the number of units within which both ends exchange data.
-ghost use Rattle.std.specs.Prelude.{◌+◌};
+ghost use Rattle.std.specs.Prelude.{◌+◌, ◌-◌};
 ghost use Rattle.controller_messages.specs.Requests.{write_count};
+ghost use Rattle.rounds_law.specs.Asking.{IsAskingAgain, Stage, stage_limit};
 ghost use Rattle.rounds_law.specs.Rounds.{ExchangeWithin, Net, Rounds};
 ghost use Rattle.rounds_law.specs.Stages.{IsAddressing, IsConnecting, IsLooking, Leads};
 ghost use Rattle.rounds_law.specs.Start.{CanStart, IsStart, start_up_limit};
 
 use crate::controller::{
-    controller_finds_its_device, controller_goes_on_in_time, controller_takes_responses,
+    controller_asks_again, controller_finds_its_device, controller_goes_on_in_time,
+    controller_takes_responses,
 };
 use crate::device::{
     device_answers_the_search, device_goes_on_in_time, device_takes_calls, device_takes_writes,
@@ -28,7 +30,11 @@ pub fn both_ends_start<F: Flash<S>, const S: usize>(setup: &Setup, identity: &Id
         → Leads F.Flash (write_count setup.now.plan + 4) net }
     ensures connecting { CanStart setup.now identity.now → (net : Net F) → IsConnecting setup.now identity.now net
         → Leads F.Flash (write_count setup.now.plan + 3) net }
+    // The same if the request of such a stage was lost: it is sent again as soon as its second is over.
+    ensures repeated { CanStart setup.now identity.now → (stage : Stage) (net : Net F) → IsAskingAgain setup.now identity.now stage net
+        → Leads F.Flash (32000 - net.controller.live.waited + stage_limit setup.now.plan stage) net }
 {
+    controller_asks_again(setup);
     device_answers_the_search(setup, identity);
     device_takes_calls(setup, identity);
     device_takes_writes(setup, identity);

@@ -1,11 +1,13 @@
 //! Both ends, the frames that are under way between them, and rounds.
-ghost use Rattle.std.specs.Prelude.{◌≡◌, ◌++◌, ◌∷◌, [], IfOk, OnOk};
+ghost use Rattle.std.specs.Prelude.{◌≡◌, ◌++◌, ◌∷◌, [], IfOk, IsOk, OnOk};
+ghost use Rattle.settings_journal.specs.Image.{LeftByDevice};
 ghost use Rattle.device_frames.specs.declared.event.Event.TheVariants.{Frame as comes};
 ghost use Rattle.device_frames.specs.Heard.{Ticks, heard_of};
+ghost use Rattle.device_core.specs.Cycle.{IsStartedFrom};
 ghost use Rattle.controller_core.specs.declared.stored.event.Event.TheVariants.{Frame as received, Tick};
 ghost use Rattle.controller_core.specs.Machine.{fresh_with, opening_of, step_of};
 ghost use Rattle.network_world.specs.Sent.{octets_of};
-ghost use Rattle.rounds_law.specs.Rounds.{Adds, IsReliable, Round, Takes, hears_all, under_way_to, without};
+ghost use Rattle.rounds_law.specs.Rounds.{Adds, IsReliable, Round, Takes, hears_all, under_way_to, with_device, without};
 
 use controller_core::{Controller, Event as ControllerEvent};
 use controller_messages::Setup;
@@ -13,6 +15,7 @@ use device_core::{Device, Event as DeviceEvent};
 use flash_model::Flash;
 use frame_codec::{Bytes, Frame, Outbox};
 use network_world::End;
+use settings_journal::BootFault;
 use std::alloc::{AllocError, Global};
 use std::marker::Model;
 
@@ -222,6 +225,20 @@ impl<F: Flash<S>, const S: usize> Net<F, S> {
             End::Device => self.to_device.clear(),
             End::Controller => self.to_controller.clear(),
         }
+    }
+
+    /// The device alone loses its power, and has it back at once: its flash stays as it is, and all else that it had is lost. The controller
+    /// and the frames that are under way stay as they are; `lose` loses those.
+    pub fn restart_device(&mut self) -> Result<(), BootFault>
+        // Only the device changes.
+        ensures others { self.new ≡ with_device self.new.device self.old }
+        // It has just started, with the settings of its flash.
+        ensures started { OnOk result (IsStartedFrom F.Flash self.old.device.station self.old.device.flash self.new.device) }
+        // Over a flash that never fails, what a device left there starts again, and the flash stays so.
+        ensures reliable { F.is_reliable self.old.device.flash → LeftByDevice (F.image self.old.device.flash)
+            → IsOk result × IsReliable F.Flash self.new.device }
+    {
+        self.device.load()
     }
 
     /// The device.

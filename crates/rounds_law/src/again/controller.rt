@@ -17,20 +17,20 @@ use pn_values::Identity;
 /// What a controller does if its device refuses it or is silent. These are laws of the machine by which each step of a controller is specified.
 pub fn controller_ends_refused(setup: &Setup, identity: &Identity)
     // After a negative response to its Connect, the controller has ended.
-    ensures refused { (controller : Controlling) (spare : ℕ) (octets : List ℕ) → Asks setup.now identity.now.mac Connecting Connect false spare controller
+    ensures refused { (controller : Controlling) (spare : ℕ) (octets : List ℕ) → Asks setup.now identity.now.mac Connecting Connect None spare controller
         → IsRefusal setup.now identity.now octets
         → ((controller_step controller octets).frames ≡ []) × HasEnded setup.now Refused (controller_step controller octets).controller }
     // After a negative answer to the Set of the IP suite, the controller has ended.
-    ensures unset { (controller : Controlling) (spare : ℕ) → Asks setup.now identity.now.mac Addressing Address false spare controller
+    ensures unset { (controller : Controlling) (spare : ℕ) → Asks setup.now identity.now.mac Addressing Address None spare controller
         → ((controller_step controller (unset_frame setup.now identity.now)).frames ≡ [])
         × HasEnded setup.now Refused (controller_step controller (unset_frame setup.now identity.now)).controller }
     // A controller that has ended sends nothing, and remains ended.
     ensures unit { (cause : Cause) (controller : Controlling) → HasEnded setup.now cause controller
         → ((step_of controller Tick).frames ≡ []) × HasEnded setup.now cause (step_of controller Tick).controller }
     // While data is exchanged and no frame comes, each unit brings the end of its data hold time one unit nearer. With that it ends.
-    ensures alone { (controller : Controlling) (left : ℕ) → IsAlone setup.now identity.now.mac left controller
-        → HasLeft setup.now identity.now.mac (step_of controller Tick)
-        ⊎ HasWaited setup.now identity.now.mac left (step_of controller Tick) }
+    ensures alone { (serial : ℕ) (controller : Controlling) (left : ℕ) → IsAlone setup.now serial identity.now.mac left controller
+        → HasLeft setup.now serial identity.now.mac (step_of controller Tick)
+        ⊎ HasWaited setup.now serial identity.now.mac left (step_of controller Tick) }
 {
     stations_are_real(setup, identity);
     responses_are_heard();

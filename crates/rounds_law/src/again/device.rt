@@ -57,8 +57,8 @@ pub fn device_keeps_an_earlier_relation(setup: &Setup, identity: &Identity)
         → ((heard_step outcomes station live Ticks).frames ≡ []) × ((heard_step outcomes station live Ticks).live.values ≡ live.values)
         × ((heard_step outcomes station live Ticks).live.rest.calls ≡ live.rest.calls) × ((heard_step outcomes station live Ticks).live.rest.link ≡ None) }
     // Without a relation, frames of outputs and an ERR change nothing, and nothing is sent.
-    ensures vain { (outcomes : List Outcome) (station : Station) (live : Live) (octets : List ℕ) → station.identity ≡ identity.now
-        → live.rest.link ≡ None → IsOutputs setup.now identity.now.mac octets ⊎ IsEnd setup.now identity.now.mac octets
+    ensures vain { (serial : ℕ) (outcomes : List Outcome) (station : Station) (live : Live) (octets : List ℕ) → station.identity ≡ identity.now
+        → live.rest.link ≡ None → IsOutputs setup.now (Some serial) identity.now.mac octets ⊎ IsEnd setup.now serial identity.now.mac octets
         → ((device_step outcomes station live octets).frames ≡ []) × ((device_step outcomes station live octets).live ≡ live) }
     // A relation whose time ends with the next unit is over after it.
     ensures last { (outcomes : List Outcome) (station : Station) (live : Live) → station.identity ≡ identity.now → HasEarlier setup.now 1 live

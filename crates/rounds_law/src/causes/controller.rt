@@ -41,12 +41,12 @@ pub fn controller_ends_with_its_cause(setup: &Setup, identity: &Identity)
         → EndedWith WrongDevice (controller_step controller (found_frame setup.now identity.now settings)).controller }
     // An error in the answer to the Set of the IP suite.
     ensures unstored { (controller : Controlling) (spare : ℕ) (error : BlockError) → IsUnstored error
-        → Asks setup.now identity.now.mac Addressing Address false spare controller
+        → Asks setup.now identity.now.mac Addressing Address None spare controller
         → EndedWith Refused (controller_step controller (unstored_frame setup.now identity.now error)).controller }
     // A response to the Connect that lists a module which it does not accept.
-    ensures differing { (real : Real) (controller : Controlling) (spare : ℕ) → Asks setup.now identity.now.mac Connecting Connect false spare controller
-        → Differs setup.now identity.now real → CanBeAnswered (answer_to (call_for setup.now Connect) done (blocks_with setup.now identity.now real))
-        → EndedWith ModuleDiff (controller_step controller (differing_frame setup.now identity.now real)).controller }
+    ensures differing { (serial : ℕ) (real : Real) (controller : Controlling) (spare : ℕ) → Asks setup.now identity.now.mac Connecting Connect None spare controller
+        → Differs setup.now identity.now serial real → CanBeAnswered (answer_to (call_for setup.now Connect) done (blocks_with setup.now identity.now serial real))
+        → EndedWith ModuleDiff (controller_step controller (differing_frame setup.now identity.now serial real)).controller }
     // It stays ended.
     ensures unit { (cause : Cause) (controller : Controlling) → EndedWith cause controller → EndedWith cause (step_of controller Tick).controller }
 {

@@ -4,6 +4,7 @@ ghost use Rattle.pn_values.specs.IpSuite.{is_suite, is_zero};
 ghost use Rattle.pn_values.specs.declared.set_item.BlockError.{BlockError};
 ghost use Rattle.settings_journal.specs.settings_store.Machine.{Outcome};
 ghost use Rattle.device_core.specs.State.{Live, Station};
+ghost use Rattle.device_core.specs.Handled.{number_now};
 ghost use Rattle.controller_messages.specs.declared.request.Request.TheVariants.{Address, Connect};
 ghost use Rattle.controller_messages.specs.Requests.{call_for};
 ghost use Rattle.rpc_core.specs.Response.{answer_to};
@@ -35,9 +36,9 @@ pub fn device_reports_its_modules(setup: &Setup, identity: &Identity)
         → (outcomes : List Outcome) (station : Station) (live : Live) → station.identity ≡ identity.now
         → AcceptsInterval station.options setup.now.plan → IsAddressed setup.now live → IsFree setup.now live
         → ((device_step outcomes station live (request_to setup.now identity.now Connect)).frames
-        ≡ differing_frame setup.now identity.now station.real ∷ [])
+        ≡ differing_frame setup.now identity.now (number_now station live) station.real ∷ [])
         × (AreSendable identity.now (device_step outcomes station live (request_to setup.now identity.now Connect)).sent
-        → CanBeAnswered (answer_to (call_for setup.now Connect) done (blocks_with setup.now identity.now station.real))) }
+        → CanBeAnswered (answer_to (call_for setup.now Connect) done (blocks_with setup.now identity.now (number_now station live) station.real))) }
 {
     stations_are_real(setup, identity);
     calls_can_be_sent();

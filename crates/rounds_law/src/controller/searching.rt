@@ -3,10 +3,9 @@ ghost use Rattle.std.specs.Prelude.{◌≡◌, ◌≤◌, ◌+◌, ℕ, false, l
 ghost use Rattle.pn_values.specs.declared.settings.Settings.{Settings};
 ghost use Rattle.controller_core.specs.declared.stored.state.State.TheVariants.{Addressing, Connecting};
 ghost use Rattle.controller_core.specs.stored.State.{Controlling};
-ghost use Rattle.controller_core.specs.Machine.{first as first_live};
 ghost use Rattle.controller_messages.specs.declared.request.Request.TheVariants.{Address, Connect};
 ghost use Rattle.controller_messages.specs.Requests.{write_count};
-ghost use Rattle.rounds_law.specs.Path.{Asks, AsksNext, FindsIt, IsSized, controller_step, found_frame, set_frame};
+ghost use Rattle.rounds_law.specs.Path.{Asks, AsksNext, FindsIt, IsSearching, IsSized, controller_step, found_frame, set_frame};
 ghost use Rattle.rounds_law.specs.Start.{IsPatient};
 
 use controller_messages::Setup;
@@ -27,13 +26,13 @@ pub fn controller_finds_its_device(setup: &Setup, identity: &Identity)
     ensures found { IsPatient setup.now.plan setup.now.options → identity.now.vendor_id ≡ setup.now.plan.station.vendor_id
         → identity.now.device_id ≡ setup.now.plan.station.device_id
         → (settings : Settings) (controller : Controlling) → settings.name ≡ setup.now.plan.station.name
-        → IsSized settings.suite → controller.setup ≡ setup.now → controller.live ≡ first_live setup.now.plan
+        → IsSized settings.suite → IsSearching setup.now controller
         → FindsIt setup.now identity.now settings (write_count setup.now.plan + 2)
         (controller_step controller (found_frame setup.now identity.now settings)) }
     // After the IP suite is set, it sends the Connect.
     ensures set { IsPatient setup.now.plan setup.now.options → (controller : Controlling) (spare : ℕ)
-        → Asks setup.now identity.now.mac Addressing Address false spare controller
-        → AsksNext setup.now identity.now Connecting Connect false (write_count setup.now.plan + 2)
+        → Asks setup.now identity.now.mac Addressing Address None spare controller
+        → AsksNext setup.now identity.now Connecting Connect None (write_count setup.now.plan + 2)
         (controller_step controller (set_frame setup.now identity.now)) }
 {
     stations_are_real(setup, identity);

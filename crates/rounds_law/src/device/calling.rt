@@ -7,6 +7,7 @@ ghost use Rattle.records.specs.declared.writes.taken.TakenRecord.{TakenRecord};
 ghost use Rattle.relations.specs.declared.phase.Phase.TheVariants.{Awaiting, Started};
 ghost use Rattle.device_frames.specs.Sendable.{AreSendable};
 ghost use Rattle.device_core.specs.State.{Live, Station};
+ghost use Rattle.device_core.specs.Handled.{number_now};
 ghost use Rattle.controller_messages.specs.declared.request.Request.TheVariants.{Connect, PrmEnd};
 ghost use Rattle.controller_messages.specs.Requests.{write_count};
 ghost use Rattle.both_ends.specs.startup.Played.{CanMeet};
@@ -29,26 +30,26 @@ pub fn device_takes_calls(setup: &Setup, identity: &Identity)
         → (outcomes : List Outcome) (station : Station) (live : Live) → station.identity ≡ identity.now → IsOfPlan setup.now station
         → IsAddressed setup.now live → IsFree setup.now live
         → ((device_step outcomes station live (request_to setup.now identity.now Connect)).frames
-        ≡ answer_frame setup.now identity.now station.options setup.now.plan.station.suite.address ∷ [])
+        ≡ answer_frame setup.now identity.now station.options (number_now station live) setup.now.plan.station.suite.address ∷ [])
         × ((device_step outcomes station live (request_to setup.now identity.now Connect)).live.values ≡ live.values)
-        × HasRelation setup.now Started [] 0 0 (device_step outcomes station live (request_to setup.now identity.now Connect)).live }
+        × HasRelation setup.now (number_now station live) Started [] 0 0 (device_step outcomes station live (request_to setup.now identity.now Connect)).live }
     // In the phase after the Connect it accepts PrmEnd, and sends ApplicationReady.
     ensures ended { CanMeet setup.now identity.now → is_zero setup.now.plan.station.suite.address ≡ false
-        → (outcomes : List Outcome) (station : Station) (live : Live) (taken : List TakenRecord) (last age : ℕ) → station.identity ≡ identity.now
-        → IsOfPlan setup.now station → IsAddressed setup.now live → last ≤ write_count setup.now.plan → HasRelation setup.now Started taken last age live
+        → (serial : ℕ) (outcomes : List Outcome) (station : Station) (live : Live) (taken : List TakenRecord) (last age : ℕ) → station.identity ≡ identity.now
+        → IsOfPlan setup.now station → IsAddressed setup.now live → last ≤ write_count setup.now.plan → HasRelation setup.now serial Started taken last age live
         → ((device_step outcomes station live (request_to setup.now identity.now PrmEnd)).frames
         ≡ ended_frame setup.now identity.now ∷ readied_frame setup.now identity.now ∷ [])
         × ((device_step outcomes station live (request_to setup.now identity.now PrmEnd)).live.values ≡ live.values)
-        × HasRelation setup.now Awaiting taken (write_count setup.now.plan + 1) 0
+        × HasRelation setup.now serial Awaiting taken (write_count setup.now.plan + 1) 0
         (device_step outcomes station live (request_to setup.now identity.now PrmEnd)).live }
     // With the response to ApplicationReady the exchange begins. The device reports a diagnosis, if one exists, and sends nothing else.
     ensures confirmed { CanMeet setup.now identity.now → is_zero setup.now.plan.station.suite.address ≡ false
-        → (outcomes : List Outcome) (station : Station) (live : Live) (taken : List TakenRecord) (last age : ℕ) → station.identity ≡ identity.now
-        → IsOfPlan setup.now station → IsAddressed setup.now live → HasRelation setup.now Awaiting taken last age live
+        → (serial : ℕ) (outcomes : List Outcome) (station : Station) (live : Live) (taken : List TakenRecord) (last age : ℕ) → station.identity ≡ identity.now
+        → IsOfPlan setup.now station → IsAddressed setup.now live → HasRelation setup.now serial Awaiting taken last age live
         → AreSendable identity.now (device_step outcomes station live (confirmed_frame setup.now identity.now)).sent
         → AllByRecursion (IsReport setup.now identity.now) (device_step outcomes station live (confirmed_frame setup.now identity.now)).frames
         × ((device_step outcomes station live (confirmed_frame setup.now identity.now)).live.values ≡ live.values)
-        × Exchanges setup.now 0 (device_step outcomes station live (confirmed_frame setup.now identity.now)).live }
+        × Exchanges setup.now serial 0 (device_step outcomes station live (confirmed_frame setup.now identity.now)).live }
 {
     stations_are_real(setup, identity);
     calls_can_be_sent();

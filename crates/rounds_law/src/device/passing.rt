@@ -22,25 +22,25 @@ pub fn device_goes_on_in_time(setup: &Setup, identity: &Identity)
         → ((heard_step outcomes station live Ticks).frames ≡ []) × ((heard_step outcomes station live Ticks).live.values ≡ live.values)
         × IsFree setup.now (heard_step outcomes station live Ticks).live }
     // Before data is exchanged, a unit changes only the timers of the relation, and only inputs are sent.
-    ensures unit { (outcomes : List Outcome) (station : Station) (live : Live) (phase : Phase) (taken : List TakenRecord) (last age : ℕ)
-        → station.identity ≡ identity.now → is_timed phase ≡ true → age < 31000 → HasRelation setup.now phase taken last age live
+    ensures unit { (serial : ℕ) (outcomes : List Outcome) (station : Station) (live : Live) (phase : Phase) (taken : List TakenRecord) (last age : ℕ)
+        → station.identity ≡ identity.now → is_timed phase ≡ true → age < 31000 → HasRelation setup.now serial phase taken last age live
         → AllByRecursion (IsInputs setup.now identity.now) (heard_step outcomes station live Ticks).frames
         × ((heard_step outcomes station live Ticks).live.values ≡ live.values)
-        × HasRelation setup.now phase taken last (suc age) (heard_step outcomes station live Ticks).live }
+        × HasRelation setup.now serial phase taken last (suc age) (heard_step outcomes station live Ticks).live }
     // A frame of outputs does not change this, and nothing is sent.
-    ensures outputs { (outcomes : List Outcome) (station : Station) (live : Live) (phase : Phase) (taken : List TakenRecord) (last age : ℕ)
-        (octets : List ℕ) → station.identity ≡ identity.now → IsOutputs setup.now identity.now.mac octets
-        → HasRelation setup.now phase taken last age live
+    ensures outputs { (serial : ℕ) (outcomes : List Outcome) (station : Station) (live : Live) (phase : Phase) (taken : List TakenRecord) (last age : ℕ)
+        (octets : List ℕ) → station.identity ≡ identity.now → IsOutputs setup.now (Some serial) identity.now.mac octets
+        → HasRelation setup.now serial phase taken last age live
         → ((device_step outcomes station live octets).frames ≡ []) × ((device_step outcomes station live octets).live.values ≡ live.values)
-        × HasRelation setup.now phase taken last age (device_step outcomes station live octets).live }
+        × HasRelation setup.now serial phase taken last age (device_step outcomes station live octets).live }
     // While data is exchanged, a unit and a frame of outputs do not end the exchange.
-    ensures later_unit { (outcomes : List Outcome) (station : Station) (live : Live) (age : ℕ) → station.identity ≡ identity.now
-        → age + 2 ≤ hold_of setup.now.plan → age < 3000 → Exchanges setup.now age live
-        → ((heard_step outcomes station live Ticks).live.values ≡ live.values) × Exchanges setup.now (suc age) (heard_step outcomes station live Ticks).live }
-    ensures later_outputs { (outcomes : List Outcome) (station : Station) (live : Live) (age : ℕ) (octets : List ℕ) → station.identity ≡ identity.now
-        → IsOutputs setup.now identity.now.mac octets → Exchanges setup.now age live
+    ensures later_unit { (serial : ℕ) (outcomes : List Outcome) (station : Station) (live : Live) (age : ℕ) → station.identity ≡ identity.now
+        → age + 2 ≤ hold_of setup.now.plan → age < 3000 → Exchanges setup.now serial age live
+        → ((heard_step outcomes station live Ticks).live.values ≡ live.values) × Exchanges setup.now serial (suc age) (heard_step outcomes station live Ticks).live }
+    ensures later_outputs { (serial : ℕ) (outcomes : List Outcome) (station : Station) (live : Live) (age : ℕ) (octets : List ℕ) → station.identity ≡ identity.now
+        → IsOutputs setup.now (Some serial) identity.now.mac octets → Exchanges setup.now serial age live
         → ((device_step outcomes station live octets).frames ≡ []) × ((device_step outcomes station live octets).live.values ≡ live.values)
-        × Exchanges setup.now age (device_step outcomes station live octets).live }
+        × Exchanges setup.now serial age (device_step outcomes station live octets).live }
 {
     formats_are_sound();
     stations_are_real(setup, identity);

@@ -44,26 +44,26 @@ pub fn device_repeats(setup: &Setup, identity: &Identity)
         × ((device_step outcomes station live (request_to setup.now identity.now request)).live ≡ live) }
     // While the activity time of the relation, 60 seconds, lasts, ApplicationReady is sent with each unit that completes a second
     // since it was sent last, and with no other unit.
-    ensures ready { (outcomes : List Outcome) (station : Station) (live : Live) (waited inactive : ℕ) → station.identity ≡ identity.now
-        → IsAddressed setup.now live → inactive + 1 < 1920000 → Awaits setup.now waited inactive live
-        → AsksInTime setup.now identity.now waited inactive live (heard_step outcomes station live Ticks) }
+    ensures ready { (serial : ℕ) (outcomes : List Outcome) (station : Station) (live : Live) (waited inactive : ℕ) → station.identity ≡ identity.now
+        → IsAddressed setup.now live → inactive + 1 < 1920000 → Awaits setup.now serial waited inactive live
+        → AsksInTime setup.now serial identity.now waited inactive live (heard_step outcomes station live Ticks) }
     // A frame of inputs is not ApplicationReady.
     ensures apart { (octets : List ℕ) → IsInputs setup.now identity.now octets → octets ≡ readied_frame setup.now identity.now → ⊥ }
     // The unit that completes the activity time ends the relation: its ERR is sent, and nothing else.
-    ensures over { (outcomes : List Outcome) (station : Station) (live : Live) (waited inactive : ℕ) → station.identity ≡ identity.now
-        → 1920000 ≤ inactive + 1 → (awaits : Awaits setup.now waited inactive live)
+    ensures over { (serial : ℕ) (outcomes : List Outcome) (station : Station) (live : Live) (waited inactive : ℕ) → station.identity ≡ identity.now
+        → 1920000 ≤ inactive + 1 → (awaits : Awaits setup.now serial waited inactive live)
         → ((heard_step outcomes station live Ticks).frames ≡ farewell_frame identity.now (farewell_of Activity awaits.link) ∷ [])
         × ((heard_step outcomes station live Ticks).live.rest.link ≡ None) }
     // After the response to PrmEnd, if nothing is heard: in any number of units below 60 seconds ApplicationReady is sent once for each
     // whole second.
-    ensures each { (outcomes : List (List Outcome)) (station : Station) (live : Live) (taken : List TakenRecord) (last units : ℕ)
+    ensures each { (serial : ℕ) (outcomes : List (List Outcome)) (station : Station) (live : Live) (taken : List TakenRecord) (last units : ℕ)
         → station.identity ≡ identity.now → IsAddressed setup.now live → live.values.is_lost ≡ false
-        → HasRelation setup.now Awaiting taken last 0 live → units < 1920000
+        → HasRelation setup.now serial Awaiting taken last 0 live → units < 1920000
         → count_of (readied_frame setup.now identity.now) (run_of outcomes station live (replicate units Tick)).frames ≡ units / 32000 }
     // The same from any later state in which the device still waits.
-    ensures each_from { (outcomes : List (List Outcome)) (station : Station) (live : Live) (waited inactive units : ℕ)
+    ensures each_from { (serial : ℕ) (outcomes : List (List Outcome)) (station : Station) (live : Live) (waited inactive units : ℕ)
         → station.identity ≡ identity.now → IsAddressed setup.now live → live.values.is_lost ≡ false
-        → Awaits setup.now waited inactive live → waited < 32000 → inactive + units < 1920000
+        → Awaits setup.now serial waited inactive live → waited < 32000 → inactive + units < 1920000
         → count_of (readied_frame setup.now identity.now) (run_of outcomes station live (replicate units Tick)).frames ≡ (waited + units) / 32000 }
 {
     stations_are_real(setup, identity);

@@ -47,14 +47,14 @@ fn plan_is_placed(plan: &Plan)
 pub fn device_takes_writes(setup: &Setup, identity: &Identity)
     // It accepts the plan's next Write: its response says for each record that it was written.
     ensures written { CanMeet setup.now identity.now → is_zero setup.now.plan.station.suite.address ≡ false → AreWritable setup.now
-        → (outcomes : List Outcome) (station : Station) (live : Live) (number age : ℕ) → station.identity ≡ identity.now
+        → (serial : ℕ) (outcomes : List Outcome) (station : Station) (live : Live) (number age : ℕ) → station.identity ≡ identity.now
         → IsOfPlan setup.now station → IsAddressed setup.now live → number < write_count setup.now.plan
-        → HasRelation setup.now Started (map taken_for (take (first_of setup.now.plan number) setup.now.plan.records.items)) number age live
+        → HasRelation setup.now serial Started (map taken_for (take (first_of setup.now.plan number) setup.now.plan.records.items)) number age live
         → (octets : List ℕ)
         × ((device_step outcomes station live (request_to setup.now identity.now (Write number))).frames ≡ octets ∷ [])
         × IsWritten setup.now identity.now number octets
         × ((device_step outcomes station live (request_to setup.now identity.now (Write number))).live.values ≡ live.values)
-        × HasRelation setup.now Started (map taken_for (take (first_of setup.now.plan (number + 1)) setup.now.plan.records.items)) (number + 1) 0
+        × HasRelation setup.now serial Started (map taken_for (take (first_of setup.now.plan (number + 1)) setup.now.plan.records.items)) (number + 1) 0
         (device_step outcomes station live (request_to setup.now identity.now (Write number))).live }
 {
     stations_are_real(setup, identity);

@@ -1,4 +1,5 @@
 -- This follows from the laws of both ends.
+use Rattle.rounds_law.proofs.AskingRounds.{asking_law}
 use Rattle.rounds_law.proofs.CompositionLaws.{Laws}
 use Rattle.rounds_law.proofs.CompositionRounds.{addressing_law, connecting_law, looking_law}
 use Rattle.rounds_law.proofs.CompositionRuns.{start_looks, within}
@@ -39,6 +40,10 @@ returns-clause-addressing g c = λ can net at. addressing_law g.F.Flash c.args.s
 
 pub returns-clause-connecting : goal.returns-clause-connecting
 returns-clause-connecting g c = λ can net at. connecting_law g.F.Flash c.args.setup.now c.args.identity.now (laws_of g c) can net at
+
+pub returns-clause-repeated : goal.returns-clause-repeated
+returns-clause-repeated g c = λ can stage net at.
+    asking_law g.F.Flash c.args.setup.now c.args.identity.now (laws_of g c) (record { again = c.controller_asks_again.ensures }) can stage net at
 
 pub returns-clause-start : goal.returns-clause-start
 returns-clause-start g c = λ can first last start rounds.

@@ -14,4 +14,4 @@ pub returns-clause-unit : goal.returns-clause-unit
 returns-clause-unit c = λ why controller ended. ended_unit c.args.setup.now why controller ended
 
 pub returns-clause-alone : goal.returns-clause-alone
-returns-clause-alone c = λ controller left is. alone_unit c.args.setup.now c.args.identity.now.mac left controller is
+returns-clause-alone c = λ serial controller left is. alone_unit c.args.setup.now serial c.args.identity.now.mac left controller is

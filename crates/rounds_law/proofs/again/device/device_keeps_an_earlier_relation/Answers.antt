@@ -67,5 +67,5 @@ pub returns-clause-unrelated : goal.returns-clause-unrelated
 returns-clause-unrelated c = λ outcomes station live none. no_relation_unit outcomes station live none
 
 pub returns-clause-vain : goal.returns-clause-vain
-returns-clause-vain c = said_in_vain c.formats_are_sound.ensures.ethernet c.formats_are_sound.ensures.layers c.args.setup.now c.args.identity.now
+returns-clause-vain c = λ serial. said_in_vain serial c.formats_are_sound.ensures.ethernet c.formats_are_sound.ensures.layers c.args.setup.now c.args.identity.now
     c.stations_are_real.ensures.setup c.stations_are_real.ensures.device

@@ -30,8 +30,8 @@ returns-clause-unstored c = λ controller spare error unstored waits.
     unstored waits
 
 pub returns-clause-differing : goal.returns-clause-differing
-returns-clause-differing c = λ real controller spare waits differs can.
-    differing_so c.args.setup.now c.args.identity.now real controller spare c.stations_are_real.ensures.setup c.stations_are_real.ensures.device
+returns-clause-differing c = λ serial real controller spare waits differs can.
+    differing_so c.args.setup.now c.args.identity.now serial real controller spare c.stations_are_real.ensures.setup c.stations_are_real.ensures.device
     c.responses_are_heard.ensures.controller waits differs can
 
 pub returns-clause-unit : goal.returns-clause-unit

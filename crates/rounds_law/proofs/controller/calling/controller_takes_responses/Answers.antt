@@ -19,23 +19,23 @@ heard_so c = record {
 }
 
 pub returns-clause-connected : goal.returns-clause-connected
-returns-clause-connected c = λ can patient options accepts controller spare it.
+returns-clause-connected c = λ can patient options accepts serial small controller spare it.
     let setup = c.args.setup.now in
     let identity = c.args.identity.now in
     let live = controller.live in
     let address : c.address-address.result ≡ setup.plan.station.suite.address =
     c.address-address.ensures.value ∙ ap (λ (s : Station). s.suite.address) c.station-station.ensures.value in
-    connected_next (heard_so c) setup identity c.stations_are_real.ensures.setup c.stations_are_real.ensures.device controller spare
-    (answer_frame setup identity options setup.plan.station.suite.address) patient it
-    (subst (λ (a : List ℕ). turn_of setup live (Frame (record { items = answer_frame setup identity options a }))
-    ≡ writing setup (writing_from setup.plan 0) (standing setup live (chosen_with 0xC000))) address
-    (c.connect_answer_is_read.ensures.goes_on can.named options accepts live it.asked))
+    connected_next (heard_so c) setup identity c.stations_are_real.ensures.setup c.stations_are_real.ensures.device serial small controller spare
+    (answer_frame setup identity options serial setup.plan.station.suite.address) patient it
+    (subst (λ (a : List ℕ). turn_of setup live (Frame (record { items = answer_frame setup identity options serial a }))
+    ≡ writing setup (writing_from setup.plan 0) (standing setup live (chosen_with serial))) address
+    (c.connect_answers_are_read.ensures serial small can.named options accepts live it.asked))
 
 pub returns-clause-written : goal.returns-clause-written
-returns-clause-written c = λ can patient controller number spare octets below few it written.
-    written_next (heard_so c) c.args.setup.now c.args.identity.now c.stations_are_real.ensures.setup c.stations_are_real.ensures.device
+returns-clause-written c = λ can patient serial controller number spare octets below few it written.
+    written_next (heard_so c) c.args.setup.now c.args.identity.now c.stations_are_real.ensures.setup c.stations_are_real.ensures.device serial
     controller number spare octets patient few it written
 
 pub returns-clause-readied : goal.returns-clause-readied
-returns-clause-readied c = λ can controller spare it.
-    readied_next (heard_so c) c.args.setup.now c.args.identity.now c.stations_are_real.ensures.setup c.stations_are_real.ensures.device controller spare it
+returns-clause-readied c = λ can serial controller spare it.
+    readied_next (heard_so c) c.args.setup.now c.args.identity.now c.stations_are_real.ensures.setup c.stations_are_real.ensures.device serial controller spare it

@@ -17,15 +17,15 @@ returns-clause-inputs c = λ controller phase request stands spare octets inputs
     c.stations_are_real.ensures.setup c.stations_are_real.ensures.device controller octets inputs phase request stands spare is
 
 pub returns-clause-later_unit : goal.returns-clause-later_unit
-returns-clause-later_unit c = λ controller age holds young is. later_unit c.args.setup.now c.args.identity.now.mac age controller holds young is
+returns-clause-later_unit c = λ serial controller age holds young is. later_unit c.args.setup.now serial c.args.identity.now.mac age controller holds young is
 
 pub returns-clause-later_inputs : goal.returns-clause-later_inputs
-returns-clause-later_inputs c = λ controller age octets inputs is.
+returns-clause-later_inputs c = λ serial controller age octets inputs is.
     inputs_later c.inputs_are_heard.ensures.controller c.formats_are_sound.ensures.ethernet
     c.formats_are_sound.ensures.layers c.args.setup.now c.args.identity.now
-    c.stations_are_real.ensures.setup c.stations_are_real.ensures.device controller octets inputs age is
+    c.stations_are_real.ensures.setup c.stations_are_real.ensures.device controller octets inputs serial age is
 
 pub returns-clause-reported : goal.returns-clause-reported
-returns-clause-reported c = λ controller age octets report is.
-    reported c.alarms_are_heard.ensures.low c.args.setup.now c.args.identity.now c.stations_are_real.ensures.setup
+returns-clause-reported c = λ serial controller age octets report is.
+    reported serial c.alarms_are_heard.ensures.low c.args.setup.now c.args.identity.now c.stations_are_real.ensures.setup
     c.stations_are_real.ensures.device controller age octets report is

@@ -35,7 +35,7 @@ returns-clause-connected c = λ meets some outcomes station live same of_plan ad
     (address_runs setup live addressed some)
 
 pub returns-clause-ended : goal.returns-clause-ended
-returns-clause-ended c = λ meets some outcomes station live taken last age same of_plan addressed few relation.
+returns-clause-ended c = λ meets some serial outcomes station live taken last age same of_plan addressed few relation.
     let setup = c.args.setup.now in
     let identity = c.args.identity.now in
     let address = setup.plan.station.suite.address in
@@ -44,7 +44,7 @@ returns-clause-ended c = λ meets some outcomes station live taken last age same
     let hears = c.calls_are_heard.ensures.device identity setup identity.mac call real c.stations_are_real.ensures.device
     (c.calls_can_be_sent.ensures.call setup PrmEnd real tt tt)
     ∙ own_heard identity setup.plan.controller.mac (calls_at setup.plan.controller.address) address (Calls call) in
-    ends setup identity station live taken last age relation outcomes same of_plan addressed few c.blocks_are_read.ensures.long
+    ends setup identity station live taken last age serial relation outcomes same of_plan addressed few c.blocks_are_read.ensures.long
     (c.blocks_are_read.ensures.alone (is.PrmEnd (control_of setup 1))
     (record { ar_uuid = real.ar; session_key = omega arith; control_command = omega arith; control_block_properties = omega arith }))
     (subst (λ (i : Identity). heard_of i (comes (request_to setup identity PrmEnd)) ≡ Reported (caller_of setup.plan.controller) address (Calls call))
@@ -52,7 +52,7 @@ returns-clause-ended c = λ meets some outcomes station live taken last age same
     (address_runs setup live addressed some)
 
 pub returns-clause-confirmed : goal.returns-clause-confirmed
-returns-clause-confirmed c = λ meets some outcomes station live taken last age same of_plan addressed relation sendable.
+returns-clause-confirmed c = λ meets some serial outcomes station live taken last age same of_plan addressed relation sendable.
     let setup = c.args.setup.now in
     let identity = c.args.identity.now in
     let address = setup.plan.station.suite.address in
@@ -64,7 +64,7 @@ returns-clause-confirmed c = λ meets some outcomes station live taken last age 
     (c.calls_can_be_sent.ensures.answer (ready_call (ready_for setup)) (ready_for setup).block
     (record { object = refl; interface = refl; activity = real.ar; sequence = omega arith; operation = omega arith }) (omega arith) real.ar)
     ∙ own_heard identity setup.plan.controller.mac (calls_at setup.plan.controller.address) address (Responds response) in
-    confirms setup identity station live taken last age relation outcomes same
+    confirms setup identity station live taken last age serial relation outcomes same
     (subst (λ (r : Real). AreSizedModules r.modules.items) (c.real-modules.ensures.value ∙ sym of_plan.plugged) c.modules_are_sized.ensures)
     (c.blocks_are_read.ensures.alone (is.ApplicationReadyRes (ready_done (ready_for setup).block))
     (record { ar_uuid = real.ar; session_key = omega arith; control_command = omega arith; control_block_properties = omega arith }, refl))

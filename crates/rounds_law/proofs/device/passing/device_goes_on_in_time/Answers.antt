@@ -7,17 +7,17 @@ pub returns-clause-free : goal.returns-clause-free
 returns-clause-free c = free_unit c.args.setup.now
 
 pub returns-clause-unit : goal.returns-clause-unit
-returns-clause-unit c = relation_unit c.args.setup.now c.args.identity.now
+returns-clause-unit c = λ serial. relation_unit serial c.args.setup.now c.args.identity.now
 
 pub returns-clause-outputs : goal.returns-clause-outputs
-returns-clause-outputs c =
+returns-clause-outputs c = λ serial.
     relation_stays c.formats_are_sound.ensures.ethernet c.formats_are_sound.ensures.layers c.args.setup.now c.args.identity.now
-    c.stations_are_real.ensures.setup c.stations_are_real.ensures.device
+    c.stations_are_real.ensures.setup c.stations_are_real.ensures.device serial
 
 pub returns-clause-later_unit : goal.returns-clause-later_unit
-returns-clause-later_unit c = λ outcomes station live age same. exchange_unit c.args.setup.now outcomes station live age
+returns-clause-later_unit c = λ serial outcomes station live age same. exchange_unit serial c.args.setup.now outcomes station live age
 
 pub returns-clause-later_outputs : goal.returns-clause-later_outputs
-returns-clause-later_outputs c =
+returns-clause-later_outputs c = λ serial.
     exchange_stays c.formats_are_sound.ensures.ethernet c.formats_are_sound.ensures.layers c.args.setup.now c.args.identity.now
-    c.stations_are_real.ensures.setup c.stations_are_real.ensures.device
+    c.stations_are_real.ensures.setup c.stations_are_real.ensures.device serial

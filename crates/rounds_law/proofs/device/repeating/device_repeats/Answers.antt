@@ -45,8 +45,8 @@ returns-clause-old c = λ outcomes station live request kept some same addressed
     (address_runs c.args.setup.now live addressed some) less
 
 pub returns-clause-ready : goal.returns-clause-ready
-returns-clause-ready c = λ outcomes station live waited inactive same addressed few awaits.
-    awaiting_unit c.args.setup.now c.args.identity.now outcomes station live waited inactive awaits same addressed few
+returns-clause-ready c = λ serial outcomes station live waited inactive same addressed few awaits.
+    awaiting_unit c.args.setup.now c.args.identity.now outcomes station live waited inactive serial awaits same addressed few
 
 differ : (c : goal.After-ready_calls_are_heard) (octets : List ℕ) → IsInputs c.args.setup.now c.args.identity.now octets
     → octets ≡ readied_frame c.args.setup.now c.args.identity.now → ⊥
@@ -66,14 +66,14 @@ pub returns-clause-apart : goal.returns-clause-apart
 returns-clause-apart c = differ c
 
 pub returns-clause-over : goal.returns-clause-over
-returns-clause-over c = λ outcomes station live waited inactive same long awaits.
-    last_unit c.args.setup.now c.args.identity.now outcomes station live waited inactive awaits same long
+returns-clause-over c = λ serial outcomes station live waited inactive same long awaits.
+    last_unit c.args.setup.now c.args.identity.now outcomes station live waited inactive serial awaits same long
 
 pub returns-clause-each : goal.returns-clause-each
-returns-clause-each c = λ outcomes station live taken last units same addressed lost relation few.
-    counts c.args.setup.now c.args.identity.now station same (differ c) units outcomes live 0 0 addressed lost
-    (just_ended c.args.setup.now taken last live relation) (omega arith) (omega (arith, few)) ∙ omega arith
+returns-clause-each c = λ serial outcomes station live taken last units same addressed lost relation few.
+    counts c.args.setup.now c.args.identity.now station same (differ c) serial units outcomes live 0 0 addressed lost
+    (just_ended serial c.args.setup.now taken last live relation) (omega arith) (omega (arith, few)) ∙ omega arith
 
 pub returns-clause-each_from : goal.returns-clause-each_from
-returns-clause-each_from c = λ outcomes station live waited inactive units same addressed lost awaits below few.
-    counts c.args.setup.now c.args.identity.now station same (differ c) units outcomes live waited inactive addressed lost awaits below few
+returns-clause-each_from c = λ serial outcomes station live waited inactive units same addressed lost awaits below few.
+    counts c.args.setup.now c.args.identity.now station same (differ c) serial units outcomes live waited inactive addressed lost awaits below few

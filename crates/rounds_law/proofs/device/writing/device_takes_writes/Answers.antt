@@ -9,7 +9,7 @@ use Rattle.rounds_law.proofs.device.writing.device_takes_writes.Goals as goal
 
 pub returns : goal.returns
 returns c = record {
-  written = λ can has_address writable outcomes station live number age own of_plan addressed below relation.
+  written = λ can has_address writable serial outcomes station live number age own of_plan addressed below relation.
       let setup = c.args.setup.now in
       let identity = c.args.identity.now in
       let good = c.stations_are_real.ensures.setup in
@@ -17,6 +17,6 @@ returns c = record {
       let call = c.calls_can_be_sent.ensures.call setup (Write number) good tt (omega (arith, number_few setup.plan number below few)) in
       let fits = fit_each setup.plan.real setup.plan.records.items can.records c.plan_is_placed.ensures good.plan.short_records writable in
       write_answered c.blocks_are_read.ensures.read c.blocks_are_read.ensures.long setup identity good.ar few fits has_address number below call.header
-      outcomes station live age own of_plan.plugged addressed relation (heard_of station.identity (comes (request_to setup identity (Write number))))
+      outcomes station live age own of_plan.plugged addressed serial relation (heard_of station.identity (comes (request_to setup identity (Write number))))
       (write_heard c.calls_are_heard.ensures.device setup identity station.identity number good c.stations_are_real.ensures.device call own);
 }
