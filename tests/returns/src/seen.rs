@@ -1,12 +1,12 @@
 //! What both ends tell.
 use crate::ends::World;
-use controller_core::{Cause, Priority, State};
+use controller_core::{Cause, Controller, Priority, State};
 use relations::Phase;
 
 impl World {
     /// The running IP address of the device.
-    pub fn address(&self) -> String {
-        spelled(&self.device().running().suite.address())
+    pub fn address(&self) -> [u8; 4] {
+        self.device().running().suite.address()
     }
 
     /// What both ends tell.
@@ -34,7 +34,7 @@ impl World {
             taken.join(" "),
             spelled(device.output(2, 1).unwrap_or(&[])),
             spelled(device.output(3, 1).unwrap_or(&[])),
-            self.address(),
+            spelled(&self.address()),
             if device.left() == 0 { "failed" } else { "stores" },
             diagnoses.join(" ")
         )
@@ -45,23 +45,33 @@ impl World {
         let alarm = controller.alarm().map_or(String::from("-"), |alarm| spelled(alarm.alarm_data.octets()));
         let diagnoses: Vec<String> = controller.diagnoses().iter().map(|diagnosis| diagnosis.channel.to_string()).collect();
         format!(
-            "{}#{} {} {}:{alarm} {} [{}] {}",
+            "{}#{} {} {}:{alarm} {} [{}] {} {}",
             state_name(controller.state()),
             self.turn,
             spelled(controller.value(1, 1).unwrap_or(&[])),
             accepted(controller.accepted(Priority::High)),
             accepted(controller.accepted(Priority::Low)),
             diagnoses.join(" "),
-            controller.left()
+            controller.left(),
+            requests(controller)
         )
     }
+}
+
+/// The request of the application that waits, and how the last one was answered.
+fn requests(controller: &Controller) -> String {
+    let waiting = controller.waiting().map_or(String::from("-"), |request| request.sequence.to_string());
+    let answer = controller
+        .answer()
+        .map_or(String::from("-"), |answer| format!("{}{}", if answer.status.is_done() { "yes" } else { "no" }, answer.request.sequence));
+    format!("{waiting}:{answer}")
 }
 
 fn accepted(number: Option<u16>) -> String {
     number.map_or(String::from("-"), |number| number.to_string())
 }
 
-fn spelled(octets: &[u8]) -> String {
+pub fn spelled(octets: &[u8]) -> String {
     octets.iter().map(|octet| format!("{octet:02x}")).collect()
 }
 

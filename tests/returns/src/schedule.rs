@@ -1,8 +1,8 @@
 //! A schedule from a seed: moves, and what both ends tell after each of them.
 use crate::draws::Draws;
-use crate::ends::{End, Options, World, set_suite};
+use crate::ends::{End, Options, Sent, World, set_suite};
 use crate::good::{come_back, run};
-use crate::strangers::Strangers;
+use crate::strangers::{Strangers, damaged};
 use crate::tokens::untagged;
 use arrayvec::ArrayVec;
 use controller_core::{Event as ControllerEvent, State};
@@ -10,7 +10,6 @@ use device_core::Event as DeviceEvent;
 use flash_model::Order;
 use lldp::Neighbour;
 use pn_values::{Mac, demo_identity};
-use std::io::Write;
 use test_stations::octets;
 
 /// What a schedule is played with.
@@ -30,31 +29,43 @@ struct Schedule<'a> {
     world: World,
     strangers: &'a mut Strangers,
     draws: Draws,
+    /// How many moves are left of a start: all frames are lost, a new controller is made, and then nothing is lost.
+    start: u8,
 }
 
-/// Plays a schedule. Each move is a line: the move, what the frames say that it sent, and what both ends tell after it.
-pub fn put_schedule(play: Play<'_>, strangers: &mut Strangers, out: &mut impl Write) -> std::io::Result<()> {
-    strangers.last = 0;
+/// A move: what it was, what the frames say that it sent to the other end, what both ends show after it, and the address of the device.
+pub struct Line<'a> {
+    pub made: &'a str,
+    pub said: &'a [String],
+    pub seen: &'a str,
+    pub address: [u8; 4],
+}
+
+/// Plays a schedule: `judge` gets each move, and ends it by an error.
+pub fn play(play: Play<'_>, strangers: &mut Strangers, mut judge: impl FnMut(&Line<'_>) -> Result<(), String>) -> Result<(), String> {
+    strangers.begin();
     let world = World::new(play.plan, play.options);
-    let mut schedule = Schedule { play, world, strangers, draws: Draws::new(play.seed) };
-    schedule.put(out, "begin")?;
+    let mut schedule = Schedule { play, world, strangers, draws: Draws::new(play.seed), start: 0 };
+    schedule.tell("begin", &mut judge)?;
     for number in 0..play.moves {
         // Each second schedule begins with a start-up in which nothing is lost.
         let made = if number == 0 && play.seed % 2 == 0 { schedule.progress(true) } else { schedule.make() };
-        schedule.put(out, &made)?;
+        schedule.tell(&made, &mut judge)?;
     }
-    writeln!(out, "over")
+    Ok(())
 }
 
 impl Schedule<'_> {
-    fn put(&mut self, out: &mut impl Write, made: &str) -> std::io::Result<()> {
-        writeln!(out, "{made} = {} = {}", self.world.said.join(" "), self.world.seen())?;
-        self.world.said.clear();
-        Ok(())
+    fn tell(&mut self, made: &str, judge: &mut impl FnMut(&Line<'_>) -> Result<(), String>) -> Result<(), String> {
+        let said = std::mem::take(&mut self.world.said);
+        judge(&Line { made, said: &said, seen: &self.world.seen(), address: self.world.address() })
     }
 
     /// Makes a move, and says which.
     fn make(&mut self) -> String {
+        if self.start > 0 {
+            return self.start_again();
+        }
         if !self.world.is_on && self.draws.one_in(4) {
             self.world.power_on();
             return String::from("on");
@@ -72,9 +83,14 @@ impl Schedule<'_> {
             460..560 => self.pass(),
             560..630 => self.run(),
             630..640 => self.again(),
-            640..780 => self.tell(),
-            780..970 => self.stranger(),
+            640..780 => self.use_ends(),
+            780..790 => self.damage(),
+            790..970 => self.stranger(),
             970..996 => self.rare(),
+            996 => {
+                self.start = 2;
+                self.lose_all()
+            }
             _ => {
                 let is_kept = self.draws.one_in(2);
                 self.progress(is_kept)
@@ -99,7 +115,7 @@ impl Schedule<'_> {
         let place = self.place();
         let is_kept = self.draws.one_in(6);
         let mut heard = self.world.flight[place].octets.clone();
-        let (number, to) = (self.world.flight[place].number, self.world.flight[place].to);
+        let Sent { number, to, .. } = self.world.flight[place];
         if self.draws.one_in(4) {
             heard = untagged(&heard);
         }
@@ -176,10 +192,10 @@ impl Schedule<'_> {
     }
 
     /// What the applications do.
-    fn tell(&mut self) -> String {
+    fn use_ends(&mut self) -> String {
         let value = self.draws.value();
         let spelled = format!("{:02x}{:02x}", value[0], value[1]);
-        match self.draws.below(10) {
+        match self.draws.below(11) {
             0..3 => {
                 let slot = 2 + self.draws.below(2) as u16;
                 self.world.at_controller(&ControllerEvent::Give(slot, 1, octets(&value)));
@@ -203,12 +219,25 @@ impl Schedule<'_> {
                 self.world.at_device(&DeviceEvent::Alarm(1, 1, octets(&value)));
                 format!("alarm {spelled}")
             }
-            _ => {
+            9 => {
                 let (channel, appears) = (1 + self.draws.below(5) as u16, self.draws.one_in(2));
                 self.world.at_device(&DeviceEvent::Diagnosis(1, 1, channel, 1, appears));
                 format!("diagnosis {channel} {}", u8::from(appears))
             }
+            _ => self.request(value),
         }
+    }
+
+    /// The application of the controller reads or writes a record: I&M0, a parameter, or one that does not exist.
+    fn request(&mut self, value: [u8; 2]) -> String {
+        let (slot, index) = self.draws.of(&[(0, 0xAFF0), (1, 1), (1, 2), (1, 7)]);
+        if index == 0xAFF0 || self.draws.one_in(4) {
+            self.world.at_controller(&ControllerEvent::Read(slot, 1, index));
+            return format!("read {index}");
+        }
+        let octets = octets(&[0, 0, value[0], value[1]]);
+        self.world.at_controller(&ControllerEvent::Write(slot, 1, index, octets));
+        format!("write {index}:0000{:02x}{:02x}", value[0], value[1])
     }
 
     fn stranger(&mut self) -> String {
@@ -216,13 +245,25 @@ impl Schedule<'_> {
         if end == End::Device && self.draws.one_in(12) {
             return self.meet();
         }
-        let (is_free, is_addressing) = (self.world.owner() == 0, self.world.controller().state() == State::Addressing);
-        let stranger = self.strangers.one(&mut self.draws, end, is_free, is_addressing);
+        let is_addressing = self.world.controller().state() == State::Addressing;
+        let stranger = self.strangers.one(&mut self.draws, end, self.world.owner(), is_addressing);
         if end == End::Device && self.draws.one_in(8) {
             self.world.hear_joined(&untagged(&stranger.octets));
         } else {
             self.world.hear(end, &stranger.octets);
         }
+        format!("stranger {}", stranger.name)
+    }
+
+    /// A frame that is under way is damaged. The frame itself may still come.
+    fn damage(&mut self) -> String {
+        if self.world.flight.is_empty() {
+            return self.stranger();
+        }
+        let place = self.place();
+        let to = self.world.flight[place].to;
+        let stranger = damaged(&mut self.draws, &self.world.flight[place].octets);
+        self.world.hear(to, &stranger.octets);
         format!("stranger {}", stranger.name)
     }
 
@@ -278,6 +319,15 @@ impl Schedule<'_> {
             return format!("arm {}", if is_cut { "cut" } else { "fault" });
         }
         self.pass()
+    }
+
+    fn start_again(&mut self) -> String {
+        self.start -= 1;
+        if self.start == 0 {
+            return self.progress(true);
+        }
+        self.world.make_controller();
+        String::from("restart")
     }
 
     /// From here on all is delivered, until both exchange data. What is under way comes too, or is lost.

@@ -1,6 +1,7 @@
 //! Time in which nothing is lost: each frame comes before the next unit, and what the controller then sends before the one that follows.
 //! The application of the device is ready at once, and the host makes a new controller a second after the end of one.
 use crate::ends::{End, PAUSE, World};
+use crate::seen::spelled;
 use device_core::Event as DeviceEvent;
 
 /// After this number of units both ends should exchange data again, from any world. It is more than any formula says here.
@@ -59,8 +60,10 @@ pub fn run(world: &mut World, units: u32) {
         let some = until_next(world, left);
         pass(world, some);
         left -= u64::from(some);
+        world.passed += u64::from(some);
     }
     settle(world);
+    world.passed = 0;
 }
 
 /// Power comes back, the flash does not fail any more, and nothing is lost from here on: the number of units until both ends exchange data
@@ -69,7 +72,7 @@ pub fn run(world: &mut World, units: u32) {
 pub fn come_back(world: &mut World) -> String {
     world.power_on();
     world.disarm();
-    let address = world.address();
+    let address = spelled(&world.address());
     world.is_told = false;
     let (before, mut units) = (world.count, 0);
     let told = loop {

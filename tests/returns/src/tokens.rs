@@ -74,13 +74,33 @@ fn real_time(body: &[u8], from: End) -> String {
     }
 }
 
+/// Where the entries of a Write begin that carries a list of records.
+pub fn entries(octets: &[u8]) -> Vec<usize> {
+    let mut places = Vec::new();
+    let is_list = octet(octets, 69) == 1 && number(octets, 110) == 3 && number(octets, 176) == 0xE040;
+    let (mut at, end) = (206, 206 + if is_list { long(octets, 178) as usize } else { 0 });
+    while at < end {
+        places.push(at);
+        at += 64 + (long(octets, at + 36) as usize).next_multiple_of(4);
+    }
+    places
+}
+
+/// The records that a Write carries, each with its index: one, or those of a list.
+fn records(octets: &[u8]) -> String {
+    let spelled = |at| format!("{}:{}", number(octets, at + 34), hex(octets, at + 64, long(octets, at + 36) as usize));
+    let records: Vec<String> = entries(octets).into_iter().map(spelled).collect();
+    if records.is_empty() { spelled(142) } else { records.join(",") }
+}
+
 /// A call or a response: whose it is, by the last octets of its activity, and its sequence number.
 fn datagram(octets: &[u8]) -> String {
     let (whose, sequence) = (long(octets, 94), long(octets, 106));
     match (octet(octets, 43), octet(octets, 69), number(octets, 110)) {
         (0, 1, 0) => format!("connect#{whose}:{sequence}"),
         (0, 1, 1) => format!("release#{whose}:{sequence}"),
-        (0, 1, 3) => format!("write#{whose}:{sequence}:{}:{}", number(octets, 176), hex(octets, 206, 4)),
+        (0, 1, 2) => format!("read#{whose}:{sequence}:{}", number(octets, 176)),
+        (0, 1, 3) => format!("write#{whose}:{sequence}:{}", records(octets)),
         (0, 1, 4) => format!("end#{whose}:{sequence}"),
         (0, 2, _) => format!("ready#{whose}"),
         (2, 1, _) if long(octets, 122) == 0 => format!("yes#{whose}:{sequence}"),

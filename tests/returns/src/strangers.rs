@@ -2,7 +2,7 @@
 //! own; the others are put together here.
 use crate::draws::Draws;
 use crate::ends::{End, controller_of, modules_of, numbered, station_of};
-use crate::tokens::{number, tagged, token, type_at};
+use crate::tokens::{entries, is_datagram, number, tagged, token, type_at};
 use controller_core::{ControllerOptions, Event as ControllerEvent};
 use device_core::Event as DeviceEvent;
 use frame_codec::{Outbox, ones_sum};
@@ -26,6 +26,7 @@ pub struct Stranger {
 type Frames = HashMap<String, Vec<Vec<u8>>>;
 
 /// The frames of strangers in a world with this plan.
+#[derive(Clone)]
 pub struct Strangers {
     /// Of another controller that asks for a relation of its own, to this device.
     rival: Frames,
@@ -36,8 +37,15 @@ pub struct Strangers {
     /// Of this device and of this controller, before their FrameID or their endpoint is changed.
     own: Frames,
     /// The number of the last relation that the rival asked for.
-    pub last: u32,
+    last: u32,
+    /// How many frames of its start the rival sent after that.
+    steps: usize,
+    /// The counter of its last outputs.
+    counter: u16,
 }
+
+/// Relations of the rival are numbered from here on.
+const RIVAL: u32 = 0x7000_0000;
 
 /// The identity of another device of the same type.
 fn other_identity() -> Identity {
@@ -136,6 +144,9 @@ fn numbered_call(mut call: Vec<u8>, whose: u32) -> Vec<u8> {
     put(&mut call, 94, &whose.to_be_bytes());
     put(&mut call, 162, &whose.to_be_bytes());
     put(&mut call, 40, &[0, 0]);
+    for entry in entries(&call) {
+        put(&mut call, entry + 20, &whose.to_be_bytes());
+    }
     call
 }
 
@@ -239,15 +250,23 @@ impl Strangers {
             other: scene(other_identity, "pump-2", &with_station(plan)),
             own: scene(demo_identity, "pump-1", plan),
             last: 0,
+            steps: 0,
+            counter: 0,
         }
     }
 
-    /// A frame of a stranger to this end. `is_free` says whether the device has no relation, and `is_addressing` whether the
-    /// controller waits for the answer to its Set.
-    pub fn one(&mut self, draws: &mut Draws, end: End, is_free: bool, is_addressing: bool) -> Stranger {
+    /// A schedule begins: the rival asked for nothing yet.
+    pub fn begin(&mut self) {
+        (self.last, self.steps, self.counter) = (0, 0, 0);
+    }
+
+    /// A frame of a stranger to this end. `owner` is the number of the device's relation, and `is_addressing` says whether the controller
+    /// waits for the answer to its Set.
+    pub fn one(&mut self, draws: &mut Draws, end: End, owner: u32, is_addressing: bool) -> Stranger {
         let stranger = match (end, draws.below(10)) {
-            (_, 0..4) => plain(draws, end),
-            (End::Device, 4) => self.rival_call(draws, is_free),
+            (End::Device, _) if owner > RIVAL && draws.one_in(2) => return self.rival_goes_on(draws),
+            (End::Device, 0..3) | (End::Controller, 0..4) => plain(draws, end),
+            (End::Device, 3..5) => self.rival_call(draws, owner == 0),
             (End::Device, 5..7) => self.talk(draws),
             (End::Device, _) => self.bent(draws, End::Device, &["out", "takenh", "lowtakenl", "ackh", "ackl", "err"]),
             (End::Controller, 4..8) => self.of_other(draws, is_addressing),
@@ -259,19 +278,50 @@ impl Strangers {
         stranger
     }
 
-    /// A Connect or a Release of another controller, or the Set of a name while there is a relation.
+    /// What another controller says that asks for a relation: a Connect, its Release, or the next frame of its start. Or the Set of a
+    /// name while there is a relation.
     fn rival_call(&mut self, draws: &mut Draws, is_free: bool) -> Stranger {
-        match draws.below(4) {
-            0 => {
-                self.last += u32::from(self.last == 0 || draws.one_in(2));
-                self.call(draws, false, "connect", 0x7000_0000 + self.last)
+        match draws.below(8) {
+            0..2 => {
+                if self.last == 0 || draws.one_in(2) {
+                    self.last += 1;
+                    self.steps = 0;
+                }
+                self.call(draws, false, "connect", RIVAL + self.last)
             }
-            1 if self.last != 0 => self.call(draws, false, "release", 0x7000_0000 + self.last),
-            2 if !is_free => Stranger {
-                name: String::from("x-set-name"),
-                octets: dcp(DEVICE, 0xFEFD, 4, b"\x02\x02\x00\x08\x00\x00pump-9"),
-            },
+            2 if self.last != 0 => self.call(draws, false, "release", RIVAL + self.last),
+            3 if !is_free => {
+                Stranger { name: String::from("x-set-name"), octets: dcp(DEVICE, 0xFEFD, 4, b"\x02\x02\x00\x08\x00\x00pump-9") }
+            }
+            4.. if self.last != 0 => self.rival_goes_on(draws),
             _ => plain(draws, End::Device),
+        }
+    }
+
+    /// The next frame of a start of the rival, mostly; then its outputs, with counters that rise.
+    fn rival_goes_on(&mut self, draws: &mut Draws) -> Stranger {
+        let step = self.steps.saturating_sub(usize::from(draws.one_in(6)));
+        self.steps = step + 1;
+        let calls: Vec<Vec<u8>> = ["write", "end", "confirm"]
+            .iter()
+            .flat_map(|word| self.rival.get(&format!("Controller {word}")).cloned().unwrap_or_default())
+            .collect();
+        let whose = RIVAL + self.last;
+        match calls.get(step) {
+            Some(octets) => {
+                let octets = numbered_call(octets.clone(), whose);
+                Stranger { name: format!("rival {}", token(&octets, End::Controller)), octets }
+            }
+            None => {
+                let mut octets = pick(draws, &self.rival, "Controller out").expect("outputs were sent");
+                let place = octets.len() - 4;
+                self.counter = self.counter.wrapping_add(draws.below(40) as u16);
+                put(&mut octets, place, &self.counter.to_be_bytes());
+                let at = type_at(&octets) + 4;
+                put(&mut octets, at, &draws.value());
+                put(&mut octets, at + 2, &[if draws.one_in(4) { 0 } else { 0x80 }]);
+                Stranger { name: format!("rival {}", token(&octets, End::Controller)), octets }
+            }
         }
     }
 
@@ -286,8 +336,8 @@ impl Strangers {
     fn talk(&self, draws: &mut Draws) -> Stranger {
         let whose = 0x6000_0000 + draws.below(6) as u32;
         match draws.below(10) {
-            0..2 => self.call(draws, true, "write", whose),
-            2 => self.call(draws, true, "end", whose),
+            0..2 if self.talker.contains_key("Controller write") => self.call(draws, true, "write", whose),
+            0..3 => self.call(draws, true, "end", whose),
             3 => self.call(draws, true, "release", whose),
             4 => self.of(draws, true, "confirm"),
             5 => self.of(draws, true, "out"),
@@ -331,5 +381,41 @@ impl Strangers {
             _ => put(&mut octets, at + 4, &[0, 9]),
         }
         Stranger { name: format!("x-bent-{word}"), octets }
+    }
+}
+
+/// How many octets of a frame say something: of a cyclic frame all but some of the last ones, else all without padding.
+fn contents(octets: &[u8]) -> usize {
+    let at = type_at(octets) + 2;
+    if is_datagram(octets) {
+        return at + usize::from(number(octets, at + 2));
+    }
+    match number(octets, at) {
+        0xFC01 | 0xFE01 => at + 14 + usize::from(number(octets, at + 12)),
+        0xFEFC.. => at + 12 + usize::from(number(octets, at + 10)),
+        _ => octets.len() - 5,
+    }
+}
+
+/// A frame of this device or of this controller that was damaged on its way: to another station, cut, or, if it has checksums, with
+/// another bit.
+pub fn damaged(draws: &mut Draws, octets: &[u8]) -> Stranger {
+    let mut octets = octets.to_vec();
+    let size = contents(&octets).min(octets.len());
+    match draws.below(3) {
+        0 => {
+            put(&mut octets, 0, &[2, 0, 0, 0, 0, 0x0E]);
+            Stranger { name: String::from("x-to-another"), octets }
+        }
+        1 if is_datagram(&octets) && number(&octets, 40) != 0 => {
+            let place = 14 + draws.below(size - 14);
+            let place = if place == 40 || place == 41 { 42 } else { place };
+            octets[place] ^= 1 << draws.below(8);
+            Stranger { name: String::from("x-another-bit"), octets }
+        }
+        _ => {
+            octets.truncate(12 + draws.below(size - 12));
+            Stranger { name: String::from("x-cut"), octets }
+        }
     }
 }

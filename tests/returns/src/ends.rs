@@ -1,5 +1,6 @@
 //! Both ends, and the frames between them: a device over a flash, the controller that is there now, and those of its frames that may
 //! still come. The host of the controller makes a new one for each relation, with a new ARUUID and a new activity.
+use crate::faults::{Fault, Memory};
 use crate::held::{ControllerEnd, DeviceEnd, Sending, Station};
 use crate::tokens::{is_cyclic, is_datagram, number, token, type_at};
 use arrayvec::ArrayVec;
@@ -61,6 +62,10 @@ pub struct Options {
     pub is_served: bool,
     /// Whether frames of an earlier relation may come after the next one began.
     pub is_late: bool,
+    /// Whether each relation has numbers of its own.
+    pub is_numbered: bool,
+    /// What is wrong with an end.
+    pub fault: Option<Fault>,
 }
 
 /// How long the host waits until it makes a new controller after the end of one: a second.
@@ -89,9 +94,28 @@ pub struct World {
     pub said: Vec<String>,
     /// Whether what the frames say is written down.
     pub is_told: bool,
+    /// The units of this move that both ends had before.
+    pub passed: u64,
     /// The number of the last controller whose relation began.
     relation: u32,
     has_failed: bool,
+    memory: Memory,
+    /// How often power came back.
+    starts: u16,
+}
+
+/// The options of a device at a start: a host that counts its starts gives other numbers at each, far from those of strangers.
+fn numbered_from(options: Options, starts: u16) -> DeviceOptions {
+    DeviceOptions { numbers_from: options.is_numbered.then_some(1_000 + 200 * starts), ..options.device }
+}
+
+/// The modules that are plugged.
+fn real_of(plan: &str, plant: Plant) -> Real {
+    let mut real = modules_of(plan);
+    if plant == Plant::WrongModule {
+        real.modules[3].ident = 33;
+    }
+    real
 }
 
 /// The ARUUID of the controller with this number.
@@ -114,7 +138,11 @@ fn number_of(uuid: &Uuid) -> u32 {
 /// The controller with this number.
 fn end_of(plan: &str, number: u32, options: Options) -> ControllerEnd {
     let plan = plan_from_json(Global, plan.as_bytes()).ok().expect("a plan");
-    ControllerEnd::new(plan, ar_of(number), numbered(0xB0, number), options.patience, options.is_served)
+    let patience = match options.fault {
+        Some(Fault::ControllerWaitsForEver) => ControllerOptions { waiting_patience: 0, ..options.patience },
+        _ => options.patience,
+    };
+    ControllerEnd::new(plan, ar_of(number), numbered(0xB0, number), patience, options.is_served)
 }
 
 /// A controller of a plan.
@@ -184,12 +212,9 @@ fn dcp_set(to: Mac, block: &[u8]) -> Vec<u8> {
 impl World {
     /// A device with its modules and name, and the first controller.
     pub fn new(plan: &str, options: Options) -> World {
-        let mut real = modules_of(plan);
-        if options.plant == Plant::WrongModule {
-            real.modules[3].ident = 33;
-        }
+        let real = real_of(plan, options.plant);
         let name = if options.plant == Plant::OtherName { "pump-3" } else { "pump-1" };
-        let device = station_of(demo_identity, real, name, options.device);
+        let device = station_of(demo_identity, real, name, numbered_from(options, 0));
         let mut world = World {
             plan: plan.to_string(),
             options,
@@ -203,8 +228,11 @@ impl World {
             count: 0,
             said: Vec::new(),
             is_told: true,
+            passed: 0,
             relation: 0,
             has_failed: false,
+            memory: Memory::default(),
+            starts: 0,
         };
         world.make_controller();
         world
@@ -218,6 +246,16 @@ impl World {
     /// The controller that is there now.
     pub fn controller(&self) -> &Controller {
         self.controller_end.controller()
+    }
+
+    /// What is wrong.
+    pub fn fault(&self) -> Option<Fault> {
+        self.options.fault
+    }
+
+    /// What a fault remembers.
+    pub fn memory(&mut self) -> &mut Memory {
+        &mut self.memory
     }
 
     /// The host makes a new controller in place of the one that is there. Its opening frame is sent.
@@ -258,7 +296,7 @@ impl World {
             End::Controller => true,
             End::Device => octets[..6] == self.controller().plan().controller().mac.octets,
         };
-        if !is_ours {
+        if !is_ours || self.is_dropped(from, &octets) {
             return;
         }
         if self.is_told {
@@ -379,10 +417,16 @@ impl World {
 
     /// These octets come to an end.
     pub fn hear(&mut self, end: End, heard: &[u8]) {
-        match end {
-            End::Device => self.at_device(&DeviceEvent::Frame(octets(heard))),
-            End::Controller => self.at_controller(&ControllerEvent::Frame(octets(heard))),
+        match (end, self.bend(end, heard)) {
+            (End::Device, Some(heard)) => self.hear_at_device(&heard),
+            (End::Controller, Some(heard)) => self.at_controller(&ControllerEvent::Frame(octets(&heard))),
+            (_, None) => {}
         }
+    }
+
+    /// These octets come to the device.
+    pub fn hear_at_device(&mut self, heard: &[u8]) {
+        self.at_device(&DeviceEvent::Frame(octets(heard)));
     }
 
     /// A call comes to the device as one that was joined from fragments.
@@ -391,6 +435,10 @@ impl World {
         if !is_datagram(heard) || end < 42 || end > heard.len() {
             return self.come(End::Device, heard);
         }
+        let Some(heard) = self.bend(End::Device, heard) else {
+            return;
+        };
+        let heard = heard.as_slice();
         let mut call = LongCall::new();
         let _ = call.try_extend_from_slice(&heard[42..end]);
         let caller = Caller {
@@ -403,26 +451,49 @@ impl World {
 
     /// Units pass at the device, one by one or by leaps.
     pub fn pass_at_device(&mut self, units: u32, by_leaps: bool) {
-        let mut left = units;
-        while left > 0 && self.is_on {
-            let some = if by_leaps { self.device_end.due().min(left) } else { 1 };
+        let is_missed = units > 1_000 && self.fault() == Some(Fault::UnitIsMissed);
+        let units = units - u32::from(is_missed);
+        let mut passed = 0;
+        while passed < units && self.is_on {
+            let before = self.before();
+            let some = if by_leaps { self.device_end.due().clamp(1, units - passed) } else { 1 };
             let sending = if by_leaps { self.device_end.elapse(some) } else { self.device_end.step(&DeviceEvent::Tick) };
             self.send_all(End::Device, sending);
-            left -= some;
+            passed += some;
+            self.date(before, passed);
         }
     }
 
     /// Units pass at the controller. Since its end the host counts them too.
     pub fn pass_at_controller(&mut self, units: u32, by_leaps: bool) {
-        let mut left = units;
-        while left > 0 {
-            let some = if by_leaps { self.controller_end.due().min(left) } else { 1 };
+        let mut passed = 0;
+        while passed < units {
+            let before = self.before();
+            let some = if by_leaps { self.controller_end.due().clamp(1, units - passed) } else { 1 };
             if self.is_ended() {
                 self.rest = self.rest.saturating_add(some);
             }
             let sending = if by_leaps { self.controller_end.elapse(some) } else { self.controller_end.step(&ControllerEvent::Tick) };
             self.send_all(End::Controller, sending);
-            left -= some;
+            passed += some;
+            self.date(before, passed);
+        }
+    }
+
+    /// What a unit may change: the number of tokens, the owner of the device's relation, and whether the controller has ended.
+    fn before(&self) -> (usize, u32, bool) {
+        (self.said.len(), self.owner(), self.is_ended())
+    }
+
+    /// Says at which unit of this move frames were sent, or an end left its relation.
+    fn date(&mut self, before: (usize, u32, bool), passed: u32) {
+        let (said, owner, is_ended) = before;
+        let has_left = owner != self.owner() || is_ended != self.is_ended();
+        if self.is_told && (self.said.len() > said || has_left) {
+            self.said.insert(said, format!("@{}", self.passed + u64::from(passed)));
+        }
+        if self.is_told && has_left {
+            self.said.push(String::from("left"));
         }
     }
 
@@ -442,13 +513,27 @@ impl World {
         if self.is_on {
             return;
         }
+        if self.fault() == Some(Fault::SettingsAreLost) {
+            let blank = station_of(demo_identity, modules_of(&self.plan), "pump-1", self.options.device);
+            self.device_end = DeviceEnd::new(blank, self.options.is_served);
+            self.is_on = true;
+            return;
+        }
         let scratch = station_of(demo_identity, Real { modules: ArrayVec::new() }, "x", self.options.device);
         let device = std::mem::replace(&mut self.device_end, DeviceEnd::new(scratch, false)).device;
         let up = |mut flash: MemoryFlash<768>| {
             flash.power_up();
             flash
         };
-        let device = device_core::restart(device, up).ok().expect("a station");
+        self.starts += 1;
+        let device = match self.options.is_numbered {
+            true => {
+                let real = real_of(&self.plan, self.options.plant);
+                Device::boot_with(demo_identity(), real, numbered_from(self.options, self.starts), up(device.into_flash()))
+            }
+            false => device_core::restart(device, up),
+        };
+        let device = device.ok().expect("a station");
         self.device_end = DeviceEnd::new(device, self.options.is_served);
         self.is_on = true;
         self.has_failed = false;
