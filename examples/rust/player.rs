@@ -80,7 +80,7 @@ fn hex(octets: &[u8]) -> String {
 /// Octets in hex; `None` if the text is not hex.
 fn octets_of(text: &str) -> Option<Vec<u8>> {
     let is_hex = text.bytes().all(|digit| digit.is_ascii_hexdigit());
-    if !is_hex || text.is_empty() || text.len() % 2 != 0 {
+    if !is_hex || text.is_empty() || !text.len().is_multiple_of(2) {
         return None;
     }
     (0..text.len())

@@ -56,7 +56,7 @@ pub fn parameters_in(submodule: &Submodule) -> &[Parameter]
 pub fn are_modules(modules: &[Module]) -> bool
     ensures { result ≡ list_all is_module modules.now }
 {
-    modules.iter().all(|entry| is_small(entry))
+    modules.iter().all(is_small)
 }
 
 fn is_small(entry: &Module) -> bool

@@ -89,10 +89,7 @@ fn submodules_in(modules: &[ModuleItem], place: Option<usize>) -> Option<&Submod
 fn has_no_place(places: &BTreeMap<String, usize>, id: &str) -> bool
     ensures { result ≡ not (is_some (get_by_text places.now id.now)) }
 {
-    match places.get(id) {
-        Some(_) => false,
-        None => true,
-    }
+    places.get(id).is_none()
 }
 
 /// Whether none of the modules has an ID. `places` has the place of each of them.

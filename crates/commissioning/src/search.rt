@@ -81,9 +81,8 @@ impl Search {
         // After the answer of a second station the name is still that of the first one.
         ensures kept { self.old.stations ≢ 0 → self.new.stations ≢ 1 → name_of self.new ≡ name_of self.old }
     {
-        match heard(tool, bytes) {
-            Hearing::Answers(source, answer) => self.hear_answer(source, &answer),
-            _ => {}
+        if let Hearing::Answers(source, answer) = heard(tool, bytes) {
+            self.hear_answer(source, &answer);
         }
     }
 

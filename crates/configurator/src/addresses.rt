@@ -74,10 +74,7 @@ fn mac_of(text: &[u8]) -> Option<[u8; 6]>
     }
     let digits = digits_of(text);
     let octets = <[u8; 6] as FromHex>::from_hex(digits.as_slice());
-    match octets {
-        Ok(octets) => Some(octets),
-        Err(_) => None,
-    }
+    octets.ok()
 }
 
 /// The controller's Ethernet address. `None` if the text is not one, or is the address of a group: its first octet is odd.
@@ -98,7 +95,7 @@ fn station_mac_of(controller: &ControllerItem) -> Option<Mac>
 fn is_host(octet: u8) -> bool
     ensures { result ≡ is_host octet }
 {
-    (1 <= octet && octet <= 126) || (128 <= octet && octet <= 223)
+    (1..=126).contains(&octet) || (128..=223).contains(&octet)
 }
 
 /// The controller's IP address. `None` if the text is not an address, or not that of a host.

@@ -13,7 +13,7 @@ use std::collections::BTreeSet;
 pub(crate) fn is_in(slots: &[u64], slot: u64) -> bool
     ensures { result ≡ is_in slot slots.now }
 {
-    slots.iter().any(|other| *other == slot)
+    slots.contains(&slot)
 }
 
 /// Whether no module but the one with this number is fixed in a slot. `fixed` is the number of the module that is fixed there.

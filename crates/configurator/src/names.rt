@@ -20,10 +20,7 @@ fn name_of(text: &str) -> Option<StationName>
     ensures value { IfSome result (λ name. name ≡ text.now) }
     ensures none { IfNone result (¬ IsStationName text.now) }
 {
-    match check(text.as_bytes()) {
-        Ok(name) => Some(name),
-        Err(_) => None,
-    }
+    check(text.as_bytes()).ok()
 }
 
 /// The station names of a project. `None` if one of them is not valid.

@@ -383,7 +383,7 @@ fn are_addresses(written: &WrittenPlan) -> bool
     ensures { result ≡ is_addressed written.now }
 {
     is_suite_in(written)
-        && written.controller_mac[0] % 2 == 0
+        && written.controller_mac[0].is_multiple_of(2)
         && is_host(written.controller_address[0])
 }
 
@@ -397,7 +397,7 @@ fn is_suite_in(written: &WrittenPlan) -> bool
 fn is_host(octet: u8) -> bool
     ensures { result ≡ is_host octet }
 {
-    (1 <= octet && octet <= 126) || (128 <= octet && octet <= 223)
+    (1..=126).contains(&octet) || (128..=223).contains(&octet)
 }
 
 // Whether the modules are in order, and no record belongs to the access point.

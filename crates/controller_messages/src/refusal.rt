@@ -195,7 +195,7 @@ fn is_whole(packet: &Packet) -> bool
     ensures { result ≡ is_whole_by packet.now }
 {
     packet.opening.representation / 16 < 2
-        && packet.opening.flags / 4 % 2 == 0
+        && (packet.opening.flags / 4).is_multiple_of(2)
         && packet.extent.fragment == 0
         && packet.extent.authentication == 0
 }

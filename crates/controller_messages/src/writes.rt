@@ -33,7 +33,7 @@ pub fn write_count(plan: &Plan) -> u32
 {
     let count = plan.records().len() as u32;
     if plan.has_multiple_write() {
-        (count + 9) / 10
+        count.div_ceil(10)
     } else {
         count
     }
@@ -108,7 +108,7 @@ fn put_padding(size: usize, blocks: &mut ArrayVec<u8, 1372>)
     ensures len { array_vec_len blocks.new + size ≤ array_vec_len blocks.old + 64 }
 {
     let zeros = [0; 3];
-    append(blocks, &zeros[..(size + 3) / 4 * 4 - size]);
+    append(blocks, &zeros[..size.div_ceil(4) * 4 - size]);
 }
 
 /// Appends a record of a list: its block, its octets, and the padding. There must be room.

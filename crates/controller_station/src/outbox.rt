@@ -1,5 +1,5 @@
 //! The frames that one event of a controller in a station sends.
-ghost use Rattle.std.specs.Prelude.{◌≡◌, ◌≤◌, length, map, option_map};
+ghost use Rattle.std.specs.Prelude.{◌≡◌, ◌==◌, ◌≤◌, length, map, option_map};
 ghost use Rattle.controller_station.specs.Served.{IsFrameAt, in_order, no_frames};
 
 use frame_codec::{Frame, Outbox};
@@ -51,6 +51,13 @@ impl ServedOutbox {
         ensures most { length result.now ≤ 4 }
     {
         self.services.as_slice()
+    }
+
+    /// Whether there are no frames, of either.
+    pub fn is_empty(&self) -> bool
+        ensures { result ≡ (length (in_order self.now) == 0) }
+    {
+        self.len() == 0
     }
 
     /// The number of frames, of both.

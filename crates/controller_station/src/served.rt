@@ -285,7 +285,7 @@ fn hear_beside(services: &mut ControllerServices, bytes: &[u8], sent: &Outbox, o
     ensures services { services.new ≡ after_frame services.old bytes.now (boxed sent.now) }
     ensures frames { boxed outbox.new ≡ beside_frame services.old bytes.now (boxed sent.now) }
 {
-    if sent.len() == 0 {
+    if sent.is_empty() {
         services.hear(bytes, outbox);
     }
 }

@@ -67,8 +67,7 @@ pub(crate) fn write_at(octets: &mut [u8], start: usize, value: &[u8])
 pub(crate) fn blank() -> [u8; 1440]
     ensures { result ≡ replicate 1440 0 }
 {
-    let octets = [0; 1440];
-    octets
+    [0; 1440]
 }
 
 /// The place of a kind and submodule, or `None` if there is no such place.

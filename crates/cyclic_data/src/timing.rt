@@ -109,7 +109,7 @@ fn is_newer(last: Option<u16>, counter: u16) -> bool
             // Modulo 65,536: the counter wraps about every two seconds. A frame more than 61,440 ahead was overtaken by a
             // later one.
             let gap = (u32::from(counter) + 65_536 - u32::from(last)) % 65_536;
-            gap >= 1 && gap <= 61_440
+            (1..=61_440).contains(&gap)
         }
         None => true,
     }

@@ -408,9 +408,8 @@ impl<F: Flash<S>, const S: usize> Device<F, S> {
     {
         let ended = self.relation.end(reason);
         log_err(&mut self.log, self.units, &ended);
-        match ended {
-            Some(farewell) => send_farewell(&self.identity, &farewell, outbox),
-            None => {}
+        if let Some(farewell) = ended {
+            send_farewell(&self.identity, &farewell, outbox);
         }
     }
 

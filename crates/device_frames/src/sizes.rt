@@ -123,10 +123,7 @@ fn has_six(mac: &Mac)
 fn has_two(tag: Option<u16>)
     ensures { IsTag tag }
 {
-    match tag {
-        Some(_word) => {}
-        None => {}
-    }
+    if let Some(_word) = tag {}
 }
 
 // The addresses of a holder have their sizes.

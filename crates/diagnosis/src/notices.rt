@@ -79,7 +79,7 @@ impl Notices {
     }
 
     /// Takes the first change, if one waits.
-    pub fn next(&mut self) -> Option<Notice>
+    pub fn take_first(&mut self) -> Option<Notice>
         ensures value { result ≡ first_of self.old }
         ensures state { self.new ≡ rest_of self.old }
     {

@@ -1,5 +1,5 @@
 //! The buffer of a frame that is sent.
-ghost use Rattle.std.specs.Prelude.{◌≡◌, ◌+◌, ◌≤◌, ◌<◌, ◌^◌, ◌++◌, [], length, take};
+ghost use Rattle.std.specs.Prelude.{◌≡◌, ◌==◌, ◌+◌, ◌≤◌, ◌<◌, ◌^◌, ◌++◌, [], length, take};
 ghost use Rattle.arrayvec.specs.ArrayVec.{array_vec_len};
 ghost use Rattle.byteorder.specs.Endian.{big_bytes};
 
@@ -45,6 +45,14 @@ impl Frame {
             room: [0; 1518],
             used: 0,
         }
+    }
+
+    /// Whether there are no octets.
+    #[inline]
+    pub fn is_empty(&self) -> bool
+        ensures { result ≡ (array_vec_len self.now == 0) }
+    {
+        self.used == 0
     }
 
     /// The number of octets.

@@ -52,6 +52,13 @@ impl Outbox {
         self.used == 4
     }
 
+    /// Whether there are no frames.
+    pub fn is_empty(&self) -> bool
+        ensures { result ≡ (array_vec_len self.now == 0) }
+    {
+        self.used == 0
+    }
+
     /// The number of frames.
     pub fn len(&self) -> usize
         // The result is the number of frames.

@@ -71,8 +71,5 @@ pub fn is_read_only(index: u16) -> bool
 pub fn is_module_diff(index: u16) -> bool
     ensures { result ≡ is_module_diff (record_with index) }
 {
-    match Record::of(index) {
-        Some(Record::ModuleDiff) => true,
-        _ => false,
-    }
+    matches!(Record::of(index), Some(Record::ModuleDiff))
 }

@@ -50,10 +50,7 @@ fn chassis_in(tlv: &Tlv<'_>) -> Option<Mac>
     if tlv.head / TYPE != ORGANIZATION {
         return None;
     }
-    match chassis_mac_at(tlv.octets) {
-        Ok(mac) => Some(mac),
-        Err(_) => None,
-    }
+    chassis_mac_at(tlv.octets).ok()
 }
 
 /// The MAC address that was told first.

@@ -142,6 +142,6 @@ impl Neighbour {
     fn has_dot(&self) -> bool
         ensures { result ≡ list_any (λ byte. byte == dot) self.now.port.items }
     {
-        self.port.as_slice().iter().any(|byte| *byte == b'.')
+        self.port.as_slice().contains(&b'.')
     }
 }

@@ -76,7 +76,7 @@ fn id_within(bytes: &[u8], kind: u16) -> Result<(Id<'_>, &[u8]), LldpFault>
     ensures { Gives (λ x. (id_as x.0, x.1.now)) result ((id kind).read bytes.now) }
 {
     let (size, rest) = typed_at(bytes, kind)?;
-    if size < 2 || size > 256 {
+    if !(2..=256).contains(&size) {
         return Err(LldpFault::Length);
     }
     let (inside, rest) = split(rest, size as usize, LldpFault::Short)?;

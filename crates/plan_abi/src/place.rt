@@ -38,10 +38,7 @@ pub fn show(alloc: Global, text: &[u8], room: &mut [u8]) -> u32
 fn is_memory(fault: PlanFault) -> bool
     ensures { result ≡ is_memory fault }
 {
-    match fault {
-        PlanFault::OutOfMemory => true,
-        _ => false,
-    }
+    matches!(fault, PlanFault::OutOfMemory)
 }
 
 /// Writes the place of a refusal: each place, however deep it is, however long its text, and into any room that has an octet. Returns 1 if it

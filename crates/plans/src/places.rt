@@ -14,10 +14,7 @@ fn octets_in(direction: IocrType, kind: PlaceKind, sub: &ExpectedData) -> u32
     ensures value { result ≡ octets_in direction kind sub.now }
     ensures few { result ≤ 65536 }
 {
-    match sub.taken(direction, kind) {
-        Some(size) => size,
-        None => 0,
-    }
+    sub.taken(direction, kind).unwrap_or(0)
 }
 
 /// The sum for at most 64 submodules.

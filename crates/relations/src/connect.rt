@@ -166,7 +166,7 @@ impl Relation {
     {
         // Only one relation, and the controller that has it keeps it: a second controller must not take a running
         // station from the first.
-        if let Some(_) = self.phase {
+        if self.phase.is_some() {
             return Err(refuse(&self.request.ar().uuid, blocks));
         }
         // The cyclic frames and alarms of the relation go to CMInitiatorMacAdd, which need not be the sender of the Connect.

@@ -66,9 +66,7 @@ impl Relation {
     pub fn ready(&self) -> Option<Ready>
         ensures { result ≡ option_map ready_of self.now }
     {
-        let Some(_) = self.phase else {
-            return None;
-        };
+        let _ = self.phase?;
         let ar = self.request.ar();
         Some(Ready {
             partner: self.partner,

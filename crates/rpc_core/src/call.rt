@@ -42,7 +42,7 @@ impl Call<'_> {
 
 /// ArgsMaximum and the blocks.
 #[tactic(auto, unfolding(crate::specs::Body::body))]
-fn call_body_at<'a>(order: Order, bytes: &'a [u8]) -> Result<(u32, u32, Option<&'a [u8]>), RpcFault>
+fn call_body_at(order: Order, bytes: &[u8]) -> Result<(u32, u32, Option<&[u8]>), RpcFault>
     ensures { Gives (λ x. (x.0, record { maximum = x.1; blocks = option_map (λ blocks. blocks.now) x.2 })) result
         ((body (ordered order 4) order).read bytes.now) }
 {

@@ -45,7 +45,7 @@ fn has_version(packet_type: u8, head: &Head) -> bool
 fn is_complete(head: &Head) -> bool
     ensures { result ≡ is_whole head.now }
 {
-    head.opening.flags / 4 % 2 == 0 && head.extent.fragment == 0
+    (head.opening.flags / 4).is_multiple_of(2) && head.extent.fragment == 0
 }
 
 /// Whether the interface is the one that is served, if one is given.

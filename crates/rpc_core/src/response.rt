@@ -72,10 +72,7 @@ fn status_at(order: Order, bytes: &[u8]) -> Result<(Status, &[u8]), RpcFault>
 
 /// PNIOStatus, MaximumCount and the blocks.
 #[tactic(auto, unfolding(crate::specs::Body::body))]
-fn response_body_at<'a>(
-    order: Order,
-    bytes: &'a [u8],
-) -> Result<(Status, u32, Option<&'a [u8]>), RpcFault>
+fn response_body_at(order: Order, bytes: &[u8]) -> Result<(Status, u32, Option<&[u8]>), RpcFault>
     ensures { Gives (λ x. (x.0, record { maximum = x.1; blocks = option_map (λ blocks. blocks.now) x.2 })) result
         ((body (status order) order).read bytes.now) }
 {

@@ -457,10 +457,7 @@ fn start(ar: &[u8], activity: &[u8]) -> Option<Command<'static>>
 fn identifier(word: &[u8]) -> Option<Uuid>
     ensures { result ≡ parsed word.now }
 {
-    match Uuid::try_parse_ascii(word) {
-        Ok(identifier) => Some(identifier),
-        Err(_) => None,
-    }
+    Uuid::try_parse_ascii(word).ok()
 }
 
 /// The command with an order to the flash.

@@ -49,7 +49,7 @@ pub(crate) fn read(digits: &[u8], bytes: &mut [u8]) -> bool
     ensures decoded { result ≡ true → decode_of digits.now ≡ Ok bytes.new }
     ensures refused { result ≡ false → IsErr (decode_of digits.now) }
 {
-    if digits.len() % 2 != 0 {
+    if !digits.len().is_multiple_of(2) {
         return false;
     }
     if !are_digits(digits) {

@@ -133,7 +133,7 @@ fn has_room(station: &Station) -> bool
 fn is_single(station: &Station) -> bool
     ensures { result ≡ has_own_mac station.now }
 {
-    station.mac[0] % 2 == 0
+    station.mac[0].is_multiple_of(2)
 }
 
 // Whether the smallest interval is one that a Connect may have.

@@ -55,7 +55,7 @@ fn are_subslots(submodules: &[Submodule]) -> bool
 fn is_subslot(subslot: u16) -> bool
     ensures { result ≡ is_subslot subslot }
 {
-    subslot >= 1 && subslot <= 36863
+    (1..=36863).contains(&subslot)
 }
 
 fn has_subslot(submodules: &[Submodule], subslot: u16) -> bool

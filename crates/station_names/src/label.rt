@@ -7,7 +7,7 @@ ghost use Rattle.station_names.specs.NameFault.{HasHyphenEnd};
 pub(crate) fn is_letter(byte: u8) -> bool
     ensures { result ≡ (nat_le 97 byte && nat_le byte 122) }
 {
-    matches!(byte, b'a'..=b'z')
+    byte.is_ascii_lowercase()
 }
 
 /// Whether the byte is one of `a` to `z`, `0` to `9` and `-`.

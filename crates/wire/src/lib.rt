@@ -7,10 +7,10 @@
 //! faults of `F`. `Whole F A` is a format of *all* the bytes given. Both have
 //!
 //! - `Spells`, the relation between bytes and values. It is a relation and not a function, so that bytes that a reader
-//! ignores (reserved fields, padding) may have any value, and no struct needs a field for them.
+//!   ignores (reserved fields, padding) may have any value, and no struct needs a field for them.
 //! - `read`, which returns the value or the first fault.
 //! - `write`, which returns the one spelling that is sent. `Fits` says which values can be written, and `size` how many
-//! bytes that takes.
+//!   bytes that takes.
 //!
 //! The laws that relate the four are proved once for each combinator, in one record: `IsSound` of a `Codec` and
 //! `IsSoundWhole` of a `Whole`. What is read is spelled by the bytes (`takes`), what is spelled is read (`again`), what

@@ -19,7 +19,6 @@ pub fn commit_times(flash: &mut Flash, times: u32) -> usize {
 /// The permanent Set of a name of two octets.
 fn naming(number: u32) -> Command {
     let name = station_names::check(&[b'n', b'a' + (number % 16) as u8])
-        .ok()
         .expect("two letters are a name");
     Command::SetName {
         permanent: true,

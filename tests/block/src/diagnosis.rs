@@ -102,7 +102,7 @@ fn changes_wait_in_order() {
     waiting.begin(&three(), &Listed(&[(1, 1)]));
     assert_eq!(waiting.as_slice().len(), 2);
     let mut taken = Vec::new();
-    while let Some(notice) = waiting.next() {
+    while let Some(notice) = waiting.take_first() {
         taken.push((notice.change.diagnosis.channel, notice.specifier(0)));
     }
     assert_eq!(taken, [(3, 0xA800), (0x7FFF, 0xA800)]);

@@ -137,7 +137,7 @@ fn number_of(uuid: &Uuid) -> u32 {
 
 /// The controller with this number.
 fn end_of(plan: &str, number: u32, options: Options) -> ControllerEnd {
-    let plan = plan_from_json(Global, plan.as_bytes()).ok().expect("a plan");
+    let plan = plan_from_json(Global, plan.as_bytes()).expect("a plan");
     let patience = match options.fault {
         Some(Fault::ControllerWaitsForEver) => ControllerOptions { waiting_patience: 0, ..options.patience },
         _ => options.patience,
@@ -147,7 +147,7 @@ fn end_of(plan: &str, number: u32, options: Options) -> ControllerEnd {
 
 /// A controller of a plan.
 pub fn controller_of(plan: &str, ar: Uuid, activity: Uuid, patience: ControllerOptions) -> Controller {
-    let plan = plan_from_json(Global, plan.as_bytes()).ok().expect("a plan");
+    let plan = plan_from_json(Global, plan.as_bytes()).expect("a plan");
     Controller::new_with(plan, ar, activity, patience)
 }
 
@@ -164,7 +164,7 @@ fn copied_parts(parts: &[RealSubmodule]) -> ArrayVec<RealSubmodule, 4> {
 
 /// The modules that a plan expects.
 pub fn modules_of(plan: &str) -> Real {
-    let plan = plan_from_json(Global, plan.as_bytes()).ok().expect("a plan");
+    let plan = plan_from_json(Global, plan.as_bytes()).expect("a plan");
     let modules = plan.real().modules.as_slice().iter().map(|module| RealModule {
         slot: module.slot,
         ident: module.ident,

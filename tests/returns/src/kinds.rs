@@ -90,7 +90,7 @@ pub fn text_of(plan: &str) -> String {
 
 /// The plan of a text.
 pub fn plan_of(text: &str) -> Plan {
-    plan_from_json(Global, text.as_bytes()).ok().expect("a plan")
+    plan_from_json(Global, text.as_bytes()).expect("a plan")
 }
 
 /// How a world of these words begins.

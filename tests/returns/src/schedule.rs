@@ -49,7 +49,7 @@ pub fn play(play: Play<'_>, strangers: &mut Strangers, mut judge: impl FnMut(&Li
     schedule.tell("begin", &mut judge)?;
     for number in 0..play.moves {
         // Each second schedule begins with a start-up in which nothing is lost.
-        let made = if number == 0 && play.seed % 2 == 0 { schedule.progress(true) } else { schedule.make() };
+        let made = if number == 0 && play.seed.is_multiple_of(2) { schedule.progress(true) } else { schedule.make() };
         schedule.tell(&made, &mut judge)?;
     }
     Ok(())

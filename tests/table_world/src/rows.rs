@@ -125,10 +125,8 @@ fn alike(net: &Net, number: usize) -> u32 {
     let mut found = 0_u32;
     if let Some(frame) = net.sent(number) {
         for other in number..number.saturating_add(20) {
-            if let Some(sent) = net.sent(other) {
-                if sent.as_slice() == frame.as_slice() {
-                    found = found.saturating_add(1);
-                }
+            if net.sent(other).is_some_and(|sent| sent.as_slice() == frame.as_slice()) {
+                found = found.saturating_add(1);
             }
         }
     }

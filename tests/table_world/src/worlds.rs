@@ -68,10 +68,7 @@ fn back(watched: &Watched, place: usize) -> Choice {
 
 /// An output is set, to another value each time.
 fn give(watched: &Watched) -> Choice {
-    let low = match u8::try_from(watched.count()) {
-        Ok(low) => low,
-        Err(_) => 0,
-    };
+    let low = u8::try_from(watched.count()).unwrap_or_default();
     Choice::Give(2, [7, low])
 }
 

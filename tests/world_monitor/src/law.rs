@@ -93,5 +93,5 @@ pub(crate) fn is_row_of_controller(before: State, now: State, came: Option<Kind>
 /// Whether a cycle counter is newer than the one before it: 1 to 61,440 units later, modulo 65,536.
 pub(crate) fn is_newer(last: u16, counter: u16) -> bool {
     let later = counter.wrapping_sub(last);
-    later >= 1 && later <= 61_440
+    (1..=61_440).contains(&later)
 }

@@ -39,7 +39,7 @@ pub struct Told {
 /// The first two octets, with zeros for those that are missing.
 fn pair_of(octets: &[u8]) -> [u8; 2] {
     [
-        octets.get(0).copied().unwrap_or(0),
+        octets.first().copied().unwrap_or(0),
         octets.get(1).copied().unwrap_or(0),
     ]
 }

@@ -320,10 +320,8 @@ impl Watched {
 
     /// An alarm that is raised is sent.
     fn note_raised(&mut self, choice: Choice, count: usize) {
-        if let Choice::Alarm(_) = choice {
-            if self.seen.len() != count {
-                self.raised = self.raised.saturating_add(1);
-            }
+        if matches!(choice, Choice::Alarm(_)) && self.seen.len() != count {
+            self.raised = self.raised.saturating_add(1);
         }
     }
 

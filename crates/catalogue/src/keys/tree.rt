@@ -11,7 +11,7 @@ use std::alloc::Global;
 
 /// The value at a required key. The fault is `WrongKind` if `tree` is not an object, and `MissingKey` if the key is absent.
 #[tactic(auto, unfolding(crate::specs::keys::Reader::member))]
-pub fn member_at<'a>(tree: &'a Value, key: Key) -> Result<&'a Value, PlacedFault>
+pub fn member_at(tree: &Value, key: Key) -> Result<&Value, PlacedFault>
     ensures { Gives (λ value. view value.now) result (member key (view tree.now)) }
 {
     if !tree.is_object() {
@@ -25,7 +25,7 @@ pub fn member_at<'a>(tree: &'a Value, key: Key) -> Result<&'a Value, PlacedFault
 
 /// The list at a key. An empty list if the key is absent. The fault is `WrongKind` if `tree` is not an object or the value is not a list.
 #[tactic(auto, unfolding(crate::specs::keys::Reader::items_of))]
-pub fn items_at<'a>(tree: &'a Value, key: Key) -> Result<&'a [Value], PlacedFault>
+pub fn items_at(tree: &Value, key: Key) -> Result<&[Value], PlacedFault>
     ensures { Gives (λ values. items_view values.now) result (items_of key (view tree.now)) }
 {
     if !tree.is_object() {
@@ -120,7 +120,7 @@ pub fn long_at(tree: &Value, key: Key, least: u32, greatest: u32) -> Result<u32,
 
 /// The text at a required key.
 #[tactic(auto, unfolding(crate::specs::keys::Reader::text_at))]
-pub fn text<'a>(tree: &'a Value, key: Key) -> Result<&'a str, PlacedFault>
+pub fn text(tree: &Value, key: Key) -> Result<&str, PlacedFault>
     ensures { Gives (λ text. text.now) result (text_at key (view tree.now)) }
 {
     let value = member_at(tree, key)?;

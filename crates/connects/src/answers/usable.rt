@@ -27,21 +27,21 @@ fn is_usable_submodule(row: &DiffSubmodule) -> bool
     // requests for maintenance: with them a submodule works.
     row.submodule_state / 0x8000 == 1
         && (row.submodule_state / 0x800) % 16 <= 1
-        && (row.submodule_state / 0x80) % 16 == 0
+        && (row.submodule_state / 0x80).is_multiple_of(16)
 }
 
 /// Whether all modules are usable.
 fn are_usable_modules(rows: &[DiffModule]) -> bool
     ensures { result ≡ list_all is_usable_module rows.now }
 {
-    rows.iter().all(|row| is_usable_module(row))
+    rows.iter().all(is_usable_module)
 }
 
 /// Whether all submodules are usable.
 fn are_usable_submodules(rows: &[DiffSubmodule]) -> bool
     ensures { result ≡ list_all is_usable_submodule rows.now }
 {
-    rows.iter().all(|row| is_usable_submodule(row))
+    rows.iter().all(is_usable_submodule)
 }
 
 /// Whether the modules of a ModuleDiffBlock are all usable.

@@ -170,7 +170,7 @@ impl DiagnosisAlarms {
         if self.alarms.raise_block(&alarm).is_err() {
             return false;
         }
-        self.notices.next();
+        self.notices.take_first();
         true
     }
 
@@ -268,9 +268,7 @@ impl DiagnosisAlarms {
         ensures len { IfSome result (λ octets. length octets.0 ≡ 40) }
         ensures few { IfSome result (λ octets. length octets.1.now ≤ 32) }
     {
-        let Some(alarm) = self.alarms.standing() else {
-            return None;
-        };
+        let alarm = self.alarms.standing()?;
         let front = diagnosis_front(header, &alarm);
         Some((front, alarm.alarm_data.octets()))
     }

@@ -53,7 +53,7 @@ fn padded(size: usize) -> usize
     requires { size ≤ 4294967295 }
     ensures { result ≡ padded size }
 {
-    (size + 3) / 4 * 4
+    size.div_ceil(4) * 4
 }
 
 /// The entry at the start of these octets, and the octets after it, if all of it is there.

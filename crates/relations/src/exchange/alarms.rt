@@ -65,9 +65,7 @@ impl DataExchange {
         ensures len { IfSome result (λ octets. length octets.0 ≡ 40) }
         ensures few { IfSome result (λ octets. length octets.1.now ≤ 32) }
     {
-        let Some(alarm) = self.alarms.standing() else {
-            return None;
-        };
+        let alarm = self.alarms.standing()?;
         let front = alarm_front(&self.header(PduType::Data), &alarm);
         Some((front, alarm.alarm_data.octets()))
     }

@@ -78,7 +78,7 @@ pub fn is_read(head: &Head, body: &[u8]) -> bool
 {
     head.opening.representation / 16 < 2
         && head.extent.authentication == 0
-        && head.opening.flags / 4 % 2 == 0
+        && (head.opening.flags / 4).is_multiple_of(2)
         && head.extent.fragment == 0
         && head.extent.length as usize <= body.len()
 }

@@ -73,11 +73,11 @@ pub(crate) fn put_annotation(out: &mut MapperAnswer, identity: &Identity)
     ensures len { array_vec_len out.new ≡ array_vec_len out.old + 64 }
 {
     put_type(out, identity);
-    append(out, &[b' ']);
+    append(out, b" ");
     append(out, &identity.order_id);
-    append(out, &[b' ']);
+    append(out, b" ");
     append(out, &in_five(identity.hardware_revision));
-    append(out, &[b' ']);
+    append(out, b" ");
     put_software(out, identity.software_revision);
     append(out, &[0]);
 }

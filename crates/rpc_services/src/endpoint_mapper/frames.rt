@@ -12,9 +12,7 @@ use services::Services;
 pub fn mapped_frame(services: &Services, identity: &Identity, bytes: &[u8]) -> Option<Frame>
     ensures { frame_in result ≡ mapped_frame services.now identity.now bytes.now }
 {
-    let Some(called) = services.call_in(bytes) else {
-        return None;
-    };
+    let called = services.call_in(bytes)?;
     match mapped(identity, services.address(), called.body) {
         Some(answer) => Some(services.reply(&called, answer.as_slice())),
         None => None,

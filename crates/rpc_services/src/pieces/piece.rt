@@ -134,6 +134,6 @@ impl Piece<'_> {
     pub(crate) fn asks(&self) -> bool
         ensures { result ≡ asks_by self.now.head.opening.flags }
     {
-        self.head.opening.flags / 8 % 2 == 0
+        (self.head.opening.flags / 8).is_multiple_of(2)
     }
 }

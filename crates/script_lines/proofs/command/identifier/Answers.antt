@@ -1,6 +1,8 @@
+use Rattle.std.proofs.Common.{◌∙◌}
 use Rattle.uuid.specs.Text.{parsed}
-use Rattle.script_lines.proofs.Identifiers.{unparsed}
+use Rattle.script_lines.proofs.Identifiers.{parsed_or_none}
 use Rattle.script_lines.proofs.command.identifier.Goals as goal
 
-pub returns-in-Err : goal.returns-in-Err
-returns-in-Err c = unparsed (parsed c.args.word.now) (λ identifier is. c.in-Err.ensures.ok.1 (identifier, is))
+pub returns : goal.returns
+returns c =
+    c.ok.ensures.value ∙ parsed_or_none c.try_parse_ascii.result (parsed c.args.word.now) c.try_parse_ascii.ensures.bytes c.try_parse_ascii.ensures.ok.1
