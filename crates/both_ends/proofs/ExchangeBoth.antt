@@ -16,9 +16,9 @@ use Rattle.diagnosis.specs.declared.reports.priority.Priority.TheVariants.{High,
 use Rattle.end_laws.specs.turns.Alarms.{last_of}
 use Rattle.diagnosis.specs.World.{IsPrefixOf}
 use Rattle.network_world.specs.declared.moves.Move.{Move}
-use Rattle.network_world.specs.World.{World, Played}
+use Rattle.network_world.specs.World.{AreMade, last_world, Played, World}
 use Rattle.end_laws.specs.both.StartUp.{WasExchanging, WasHanded}
-use Rattle.both_ends.specs.startup.Played.{AreMade, Begins, CanMeet, IsRunOf, last_world, moves_of, viewed}
+use Rattle.both_ends.specs.startup.Played.{Begins, CanMeet, IsRunOf, moves_of, viewed}
 use Rattle.both_ends.specs.startup.View.{rules_of, view_of}
 use Rattle.both_ends.specs.exchange.Given.{AreOfOneFrame, zero_for}
 use Rattle.both_ends.specs.exchange.Shown.{has_accepted}

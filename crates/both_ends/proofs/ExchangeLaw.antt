@@ -57,13 +57,13 @@ use Rattle.diagnosis.specs.World.{IsPrefixOf}
 use Rattle.network_world.specs.declared.moves.End.TheVariants.{Device, Controller}
 use Rattle.network_world.specs.declared.moves.Move.{Move}
 use Rattle.network_world.specs.declared.moves.Move.TheVariants as move
-use Rattle.network_world.specs.World.{World, AtDevice, Comes, Delivers, Happens, at_controller, is_skipped}
+use Rattle.network_world.specs.World.{AreMade, at_controller, AtDevice, Comes, Delivers, Happens, is_skipped, last_world, World}
 use Rattle.end_laws.specs.both.Small as small
 use Rattle.end_laws.specs.both.Small.{Rules}
 use Rattle.end_laws.specs.both.Steps.{DeviceSteps}
 use Rattle.end_laws.specs.device.Turn.{IsRaise, Makes, Turn}
 use Rattle.end_laws.specs.device.Small.{IsHeardAs, IsPlanned, Planned, heard_as, kept_in, link_of, small_of}
-use Rattle.both_ends.specs.startup.Played.{AreMade, AreMeant, Begins, CanMeet, last_world}
+use Rattle.both_ends.specs.startup.Played.{AreMeant, Begins, CanMeet}
 use Rattle.end_laws.specs.controller.Small.{said_to}
 use Rattle.both_ends.specs.startup.View.{IsMeant, IsMeantAtController, IsMeantAtDevice, is_planned, rules_of}
 use Rattle.both_ends.proofs.ExchangeEarly.{IsEarlyAt, IsEarlyFrame}

@@ -16,10 +16,10 @@ use Rattle.controller_messages.specs.declared.setup.Setup.{Setup}
 use Rattle.network_world.specs.declared.moves.End.TheVariants.{Device, Controller}
 use Rattle.network_world.specs.declared.moves.Move.{Move}
 use Rattle.network_world.specs.declared.moves.Move.TheVariants as move
-use Rattle.network_world.specs.World.{World, end_at}
+use Rattle.network_world.specs.World.{AreMade, end_at, last_world, World}
 use Rattle.end_laws.specs.both.Small as small
 use Rattle.end_laws.specs.both.Outputs.{AreAsGiven, ComesFromOne, IsShownRun, Outputs, Shown, ShowsNone, shown_last}
-use Rattle.both_ends.specs.startup.Played.{AreMade, AreMeant, Begins, last_world, moves_of}
+use Rattle.both_ends.specs.startup.Played.{AreMeant, Begins, moves_of}
 use Rattle.both_ends.specs.startup.View.{move_of}
 use Rattle.both_ends.specs.exchange.Shown.{accepted_in, has_accepted, image_in, outputs_of, shown_of, shown_run, taken_in, zeros_for}
 use Rattle.both_ends.specs.exchange.Given.{AreOfOneFrame, image_given, places_for, zero_for}

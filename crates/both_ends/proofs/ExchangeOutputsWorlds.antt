@@ -26,10 +26,10 @@ use Rattle.controller_core.specs.Machine.{first as first_live, opening_of, step_
 use Rattle.network_world.specs.declared.moves.End.TheVariants.{Device, Controller}
 use Rattle.network_world.specs.declared.moves.Move.{Move}
 use Rattle.network_world.specs.declared.moves.Move.TheVariants as move
-use Rattle.network_world.specs.World.{World, AtDevice, Comes, Delivers, Happens, at_controller, is_skipped}
+use Rattle.network_world.specs.World.{AreMade, at_controller, AtDevice, Comes, Delivers, Happens, is_skipped, last_world, World}
 use Rattle.end_laws.specs.both.Small as small
 use Rattle.end_laws.specs.both.Outputs.{BringsNone, GivesAtController, IsShownRun, Outputs, Shown, Shows, ShowsAtDevice, ShowsBehind, ShowsNone, shown_last}
-use Rattle.both_ends.specs.startup.Played.{AreMade, AreMeant, Begins, last_world, moves_of}
+use Rattle.both_ends.specs.startup.Played.{AreMeant, Begins, moves_of}
 use Rattle.both_ends.specs.startup.View.{IsMeant, IsMeantAtDevice, move_of, rules_of}
 use Rattle.end_laws.specs.both.Small.{Rules}
 use Rattle.settings_journal.specs.settings_store.Machine.{Outcome}

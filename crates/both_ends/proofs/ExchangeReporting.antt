@@ -22,12 +22,12 @@ use Rattle.controller_messages.specs.declared.setup.Setup.{Setup}
 use Rattle.network_world.specs.declared.moves.End.TheVariants.{Device, Controller}
 use Rattle.network_world.specs.declared.moves.Move.{Move}
 use Rattle.network_world.specs.declared.moves.Move.TheVariants as move
-use Rattle.network_world.specs.World.{World, AtDevice, Comes, Delivers, Happens, is_skipped}
+use Rattle.network_world.specs.World.{AreMade, AtDevice, Comes, Delivers, Happens, is_skipped, last_world, World}
 use Rattle.end_laws.specs.both.Small as small
 use Rattle.end_laws.specs.device.Small.{heard_as}
 use Rattle.end_laws.specs.hearing.Stations.{IsSetup}
 use Rattle.end_laws.specs.turns.Alarms.{AreAllTaken, ListsWhatIsReported, after_reports}
-use Rattle.both_ends.specs.startup.Played.{AreMade, AreMeant, Begins, CanMeet, last_world}
+use Rattle.both_ends.specs.startup.Played.{AreMeant, Begins, CanMeet}
 use Rattle.both_ends.specs.startup.View.{IsMeant, IsMeantAtDevice, is_planned, rules_of}
 use Rattle.both_ends.specs.exchange.Sized.{AreSizedModules}
 use Rattle.both_ends.specs.exchange.Over.{reported_by, reported_over, reported_with, taken_over, taken_with}

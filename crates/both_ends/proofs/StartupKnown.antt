@@ -29,7 +29,7 @@ use Rattle.controller_core.specs.Machine.{first as first_live, opening_of, step_
 use Rattle.network_world.specs.declared.moves.End.TheVariants.{Device, Controller}
 use Rattle.network_world.specs.declared.moves.Move.{Move}
 use Rattle.network_world.specs.declared.moves.Move.TheVariants as move
-use Rattle.network_world.specs.World.{World, AtDevice, Happens, at_controller}
+use Rattle.network_world.specs.World.{AreMade, at_controller, AtDevice, Happens, last_world, World}
 use Rattle.end_laws.specs.hearing.Stations.{IsDevice, IsSetup}
 use Rattle.end_laws.specs.sending.Addressed.{IsAimed, IsEventFrom}
 use Rattle.end_laws.specs.both.Small as small
@@ -41,7 +41,7 @@ use Rattle.end_laws.specs.device.Owed.{IsOfKept, IsOwed}
 use Rattle.end_laws.specs.device.Small.{heard_as, kept_in, link_of}
 use Rattle.end_laws.specs.device.Small as device
 use Rattle.both_ends.specs.startup.View.{IsMeant, IsMeantAtController, IsMeantAtDevice, move_of, rules_of, says_to_device, view_of}
-use Rattle.both_ends.specs.startup.Played.{AreMade, AreMeant, ArePlaced, Begins, CanMeet, last_world, viewed}
+use Rattle.both_ends.specs.startup.Played.{AreMeant, ArePlaced, Begins, CanMeet, viewed}
 use Rattle.both_ends.proofs.StartupEach.{each_at, each_behind, some_is}
 use Rattle.both_ends.proofs.StartupGiven.{GoesSo, HeardSo}
 use Rattle.both_ends.proofs.StartupHeard.{IsKnown, IsKnownCall, IsKnownHeard, IsMetAs, IsPlans, IsReported, all_heard, all_met, all_said, all_reported, known_activity, opening_reported}
@@ -261,10 +261,17 @@ module _ (so : HeardSo) (goes : GoesSo) where
         (ap (λ (w : small.World TakenRecord Request). w.device.link) (last_viewed first run ∙ ap (λ (w : World F). view_of w) last) ∙ ap (λ (l : Option RelationState). option_map link_of l) is)
         ∙ sym (ap (λ (r : Rules TakenRecord Request). r.request) same)
 
+    -- what comes next at the end of a run is heard as it is meant
+    next_meant : (run : List (Move × World F)) (now : World F) → last_world first run ≡ now → rules_at now ≡ rules → IsRun rules (view_of first) (viewed run)
+        → CanStart now.controller.setup now.device.station → HoldsAt now → InStep now → (one : Move) → IsMeant now one
+    next_meant run now last same steps can holds in_step one = all_meant now can holds in_step (plans_at run now last same steps) one
+
     pub on : (run : List (Move × World F)) (now : World F) → last_world first run ≡ now → rules_at now ≡ rules → IsRun rules (view_of first) (viewed run)
         → CanStart now.controller.setup now.device.station → HoldsAt now → InStep now
-        → (others : List (Move × World F)) → AreMade as_flash now others → IsRun rules (view_of first) (viewed (run ++ others)) × AreMeant now others
-    on run now last same steps can holds in_step [] made = (subst (λ (xs : List (Move × World F)). IsRun rules (view_of first) (viewed xs)) (sym (append-nil run)) steps, tt)
+        → (others : List (Move × World F)) → AreMade as_flash now others
+        → IsRun rules (view_of first) (viewed (run ++ others)) × AreMeant now others × ((one : Move) → IsMeant (last_world now others) one)
+    on run now last same steps can holds in_step [] made =
+        (subst (λ (xs : List (Move × World F)). IsRun rules (view_of first) (viewed xs)) (sym (append-nil run)) steps, tt, next_meant run now last same steps can holds in_step)
     on run now last same steps can holds in_step (one ∷ others) made =
         let plans = plans_at run now last same steps in
         let meant = all_meant now can holds in_step plans one.0 in
@@ -281,7 +288,7 @@ module _ (so : HeardSo) (goes : GoesSo) where
         subst (λ (s : Setup). CanStart s one.1.device.station) (sym step.setup) (subst (λ (s : Station). CanStart now.controller.setup s) (sym step.station) can) in
         let rest = on (run ++ one ∷ []) one.1 (last_more first run one) (still ∙ same) more starts
         (holds_behind now can holds in_step plans as_flash one.1 one.0 made.0) step.in_step others made.1 in
-        (subst (λ (xs : List (Move × World F)). IsRun rules (view_of first) (viewed xs)) (append_assoc run (one ∷ []) others) rest.0, (meant, rest.1))
+        (subst (λ (xs : List (Move × World F)). IsRun rules (view_of first) (viewed xs)) (append_assoc run (one ∷ []) others) rest.0, (meant, rest.1), rest.2)
 
   -- ---- the start
 
@@ -321,7 +328,7 @@ module _ (so : HeardSo) (goes : GoesSo) where
     first_in_step = subst (λ (l : ControllerLive). IsSteady first.controller.setup.plan l) (sym begins.made) (goes.begins first.controller.setup.plan).0
 
     pub runs_so : {S : ℕ} (as_flash : Flash F S) (run : List (Move × World F)) → AreMade as_flash first run
-        → IsRun (rules_at first) (view_of first) (viewed run) × AreMeant first run
+        → IsRun (rules_at first) (view_of first) (viewed run) × AreMeant first run × ((one : Move) → IsMeant (last_world first run) one)
     runs_so as_flash run made =
         on as_flash first (rules_at first) begins_small [] first refl refl tt can holds_first first_in_step run made
 
@@ -355,3 +362,6 @@ module _ (so : HeardSo) (goes : GoesSo) where
 
     pub meant_is : {S : ℕ} (as_flash : Flash F S) (run : List (Move × World F)) → AreMade as_flash first run → AreMeant first run
     meant_is as_flash run made = (runs_so first identity own_begins can_start as_flash run made).1
+
+    pub next_is : {S : ℕ} (as_flash : Flash F S) (run : List (Move × World F)) → AreMade as_flash first run → (one : Move) → IsMeant (last_world first run) one
+    next_is as_flash run made = (runs_so first identity own_begins can_start as_flash run made).2

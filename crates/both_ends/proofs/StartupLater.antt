@@ -19,11 +19,11 @@ use Rattle.controller_core.specs.stored.State.{Controlling}
 use Rattle.network_world.specs.declared.moves.End.TheVariants.{Device, Controller}
 use Rattle.network_world.specs.declared.moves.Move.{Move}
 use Rattle.network_world.specs.declared.moves.Move.TheVariants as move
-use Rattle.network_world.specs.World.{World, AtDevice, Happens, at_controller}
+use Rattle.network_world.specs.World.{AreMade, at_controller, AtDevice, Happens, last_world, World}
 use Rattle.end_laws.specs.device.Does.{Does}
 use Rattle.end_laws.specs.device.Small.{IsPlanned, IsPlannedCall}
 use Rattle.end_laws.specs.device.Turn.{Turn}
-use Rattle.both_ends.specs.startup.Played.{AreMade, AreMeant, last_world}
+use Rattle.both_ends.specs.startup.Played.{AreMeant}
 use Rattle.both_ends.specs.startup.View.{IsMeant, IsMeantAtDevice, rules_of}
 use Rattle.both_ends.proofs.ExchangeOutputsShows.{AreKept, kept_at, more_kept, none_kept}
 use Rattle.both_ends.proofs.ExchangeOutputsWorlds.{TurnsSo}

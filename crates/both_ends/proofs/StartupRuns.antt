@@ -25,7 +25,7 @@ use Rattle.network_world.specs.declared.moves.End.{End}
 use Rattle.network_world.specs.declared.moves.End.TheVariants.{Device, Controller}
 use Rattle.network_world.specs.declared.moves.Move.{Move}
 use Rattle.network_world.specs.declared.moves.Move.TheVariants as move
-use Rattle.network_world.specs.World.{World, AtDevice, Comes, Delivers, Happens, Played, at_controller, is_skipped}
+use Rattle.network_world.specs.World.{at_controller, AtDevice, Comes, Delivers, Happens, is_skipped, last_world, Played, World}
 use Rattle.end_laws.specs.both.Small as small
 use Rattle.end_laws.specs.both.Small.{Rules, ToDevice}
 use Rattle.end_laws.specs.both.Steps.{CallsWhile, DeviceSteps, ControllerSteps, IsSaid, SaysToDevice, Steps, StepsAtController, StepsAtDevice}
@@ -34,7 +34,7 @@ use Rattle.end_laws.specs.controller.Small.{GoesOn, IsSteady, said_by, said_in, 
 use Rattle.end_laws.specs.device.Small.{IsHeardAs, IsPlanned, heard_as, link_of}
 use Rattle.end_laws.specs.device.Small as device
 use Rattle.both_ends.specs.startup.View.{IsMeant, IsMeantAtController, IsMeantAtDevice, IsSaidAs, move_of, rules_of, view_of}
-use Rattle.both_ends.specs.startup.Played.{IsRunOf, last_world, viewed}
+use Rattle.both_ends.specs.startup.Played.{IsRunOf, viewed}
 
 -- ---- the laws of the crates below
 

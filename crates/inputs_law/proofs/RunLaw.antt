@@ -25,13 +25,13 @@ use Rattle.diagnosis.specs.declared.reports.priority.Priority.TheVariants.{High}
 use Rattle.network_world.specs.declared.moves.End.TheVariants.{Device, Controller}
 use Rattle.network_world.specs.declared.moves.Move.{Move}
 use Rattle.network_world.specs.declared.moves.Move.TheVariants as move
-use Rattle.network_world.specs.World.{World, Happens, at_controller, end_at}
+use Rattle.network_world.specs.World.{AreMade, at_controller, end_at, Happens, last_world, World}
 use Rattle.end_laws.specs.both.Small as small
 use Rattle.end_laws.specs.both.Outputs.{AreAsGiven, ComesFromOne, IsShownRun, Outputs, Shown, ShowsBehind, ShowsNone, shown_last}
 use Rattle.end_laws.specs.hearing.Stations.{IsSetup}
 use Rattle.end_laws.specs.turns.Inputs.{AreZeros, ShowsNothingWithout}
 use Rattle.end_laws.specs.turns.Runs.{behind_all}
-use Rattle.both_ends.specs.startup.Played.{AreMade, AreMeant, Begins, CanMeet, last_world}
+use Rattle.both_ends.specs.startup.Played.{AreMeant, Begins, CanMeet}
 use Rattle.both_ends.specs.startup.View.{IsMeant, move_of}
 use Rattle.both_ends.specs.exchange.Sized.{AreSizedModules}
 use Rattle.both_ends.proofs.ExchangeLaw.{DeviceSo, first_follows}

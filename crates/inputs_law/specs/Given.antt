@@ -27,9 +27,9 @@ use Rattle.controller_core.specs.Machine.{provider_of}
 use Rattle.network_world.specs.declared.moves.End.TheVariants.{Device, Controller}
 use Rattle.network_world.specs.declared.moves.Move.{Move}
 use Rattle.network_world.specs.declared.moves.Move.TheVariants as move
-use Rattle.network_world.specs.World.{World, end_at}
+use Rattle.network_world.specs.World.{end_at, last_world, World}
 use Rattle.both_ends.specs.startup.request.Request.{iocr_for, request_for}
-use Rattle.both_ends.specs.startup.Played.{last_world, moves_of}
+use Rattle.both_ends.specs.startup.Played.{moves_of}
 use Rattle.both_ends.specs.exchange.Given.{value_or_zeros, zeros_at}
 use Rattle.inputs_law.specs.Shown.{brought_by, zeros_for}
 

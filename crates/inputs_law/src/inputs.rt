@@ -2,8 +2,8 @@
 ghost use Rattle.std.specs.Prelude.{◌≡◌, List, ℕ, false, true};
 ghost use Rattle.cyclic_data.specs.exchange.Process.{value_at};
 ghost use Rattle.network_world.specs.declared.moves.Move.{Move};
-ghost use Rattle.network_world.specs.World.{World};
-ghost use Rattle.both_ends.specs.startup.Played.{AreMade, Begins, CanMeet, last_world};
+ghost use Rattle.network_world.specs.World.{AreMade, last_world, World};
+ghost use Rattle.both_ends.specs.startup.Played.{Begins, CanMeet};
 ghost use Rattle.both_ends.specs.exchange.Sized.{AreSizedModules};
 ghost use Rattle.inputs_law.specs.Given.{AreOfOneFrame, zero_for};
 ghost use Rattle.inputs_law.specs.Shown.{has_accepted};

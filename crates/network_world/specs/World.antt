@@ -151,3 +151,13 @@ abbrev pub Played : {F : Type 0} {S : ℕ} → Flash F S → World F → List Mo
 Played as_flash before [] after = after ≡ before
 Played {F} as_flash before (one ∷ moves) after =
     (next : World F) × Happens as_flash before one next × Played as_flash next moves after
+
+-- Each of these moves happens, with the world after it.
+abbrev pub AreMade : {F : Type 0} {S : ℕ} → Flash F S → World F → List (Move × World F) → Type 0
+AreMade as_flash before [] = Unit {0}
+AreMade as_flash before (one ∷ run) = Happens as_flash before one.0 one.1 × AreMade as_flash one.1 run
+
+-- The world after a run.
+abbrev pub last_world : {F : Type 0} → World F → List (Move × World F) → World F
+last_world before [] = before
+last_world before (one ∷ run) = last_world one.1 run

@@ -27,11 +27,11 @@ use Rattle.controller_core.specs.Machine.{step_of, turn_of, turned}
 use Rattle.network_world.specs.declared.moves.End.TheVariants.{Device, Controller}
 use Rattle.network_world.specs.declared.moves.Move.{Move}
 use Rattle.network_world.specs.declared.moves.Move.TheVariants as move
-use Rattle.network_world.specs.World.{World, Comes, Delivers, Happens, at_controller, is_skipped}
+use Rattle.network_world.specs.World.{AreMade, at_controller, Comes, Delivers, Happens, is_skipped, last_world, World}
 use Rattle.end_laws.specs.hearing.Stations.{IsSetup}
 use Rattle.end_laws.specs.sending.Sized.{IsLive, IsSized}
 use Rattle.end_laws.specs.turns.Alarms.{last_of}
-use Rattle.both_ends.specs.startup.Played.{AreMade, AreMeant, Begins, CanMeet, last_world}
+use Rattle.both_ends.specs.startup.Played.{AreMeant, Begins, CanMeet}
 use Rattle.both_ends.specs.exchange.Over.{raised_over, raised_with, taken_by, taken_from, taken_in, taken_over, taken_with}
 use Rattle.both_ends.specs.exchange.Sized.{AreSizedModules}
 use Rattle.both_ends.proofs.ExchangeLaw.{DeviceSo, FollowsAt, first_follows, in_at, one_follows}

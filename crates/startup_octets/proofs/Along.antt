@@ -29,7 +29,7 @@ use Rattle.controller_core.specs.Machine.{step_of, turn_of}
 use Rattle.network_world.specs.declared.moves.End.TheVariants.{Device, Controller}
 use Rattle.network_world.specs.declared.moves.Move.{Move}
 use Rattle.network_world.specs.declared.moves.Move.TheVariants as move
-use Rattle.network_world.specs.World.{World, AtDevice, Happens, at_controller, end_at}
+use Rattle.network_world.specs.World.{AreMade, at_controller, AtDevice, end_at, Happens, last_world, World}
 use Rattle.end_laws.specs.sending.Addressed.{IsEventFrom}
 use Rattle.end_laws.specs.turns.Turns.{IsTurn, came_by as controller_came}
 use Rattle.end_laws.specs.both.Small as small
@@ -40,7 +40,7 @@ use Rattle.end_laws.specs.device.Small.{IsPlanned, heard_as, kept_in, link_of}
 use Rattle.end_laws.specs.device.Small as device
 use Rattle.end_laws.specs.device.Turn.{Turn as DeviceTurn}
 use Rattle.both_ends.specs.startup.request.Request.{request_for}
-use Rattle.both_ends.specs.startup.Played.{AreMade, IsParameter, IsPlaced, last_world, viewed}
+use Rattle.both_ends.specs.startup.Played.{IsParameter, IsPlaced, viewed}
 use Rattle.both_ends.specs.startup.View.{is_planned, move_of, rules_of, view_of}
 use Rattle.both_ends.proofs.StartupEach.{each_at}
 use Rattle.both_ends.proofs.StartupGiven.{GoesSo, HeardSo}

@@ -8,8 +8,8 @@ use Rattle.record_blocks.specs.declared.alarm_notification.AlarmNotification.{Al
 use Rattle.network_world.specs.declared.moves.End.{End}
 use Rattle.network_world.specs.declared.moves.Move.{Move}
 use Rattle.network_world.specs.declared.moves.Move.TheVariants as move
-use Rattle.network_world.specs.World.{World, Happens, Played, end_at}
-use Rattle.both_ends.specs.startup.Played.{AreMade, last_world, moves_of}
+use Rattle.network_world.specs.World.{AreMade, end_at, Happens, last_world, Played, World}
+use Rattle.both_ends.specs.startup.Played.{moves_of}
 use Rattle.settings_journal.specs.declared.journal.BootFault.{BootFault}
 use Rattle.startup_octets.specs.declared.playing.PlayFault.TheVariants.{NoStart}
 use Rattle.startup_octets.specs.StartUp.{AreDelivered, AreStartUps, Written}

@@ -20,8 +20,8 @@ use Rattle.controller_core.specs.stored.State.{Controlling}
 use Rattle.network_world.specs.declared.moves.End.TheVariants.{Device, Controller}
 use Rattle.network_world.specs.declared.moves.Move.{Move}
 use Rattle.network_world.specs.declared.moves.Move.TheVariants as move
-use Rattle.network_world.specs.World.{World, Happens, at_controller}
-use Rattle.both_ends.specs.startup.Played.{AreMade, Begins, last_world, moves_of}
+use Rattle.network_world.specs.World.{AreMade, at_controller, Happens, last_world, World}
+use Rattle.both_ends.specs.startup.Played.{Begins, moves_of}
 use Rattle.both_ends.specs.exchange.Given.{AreOfOneFrame as OfOneFrame, image_given, places_for, zero_for, zeros_at}
 use Rattle.both_ends.specs.exchange.Shown.{has_accepted, zeros_for}
 use Rattle.both_ends.proofs.ExchangeOutputsMoves.{ArePlaced}

@@ -20,9 +20,9 @@ use Rattle.controller_messages.specs.declared.setup.Setup.{Setup}
 use Rattle.network_world.specs.declared.moves.End.TheVariants.{Device, Controller}
 use Rattle.network_world.specs.declared.moves.Move.{Move}
 use Rattle.network_world.specs.declared.moves.Move.TheVariants as move
-use Rattle.network_world.specs.World.{World, Happens}
+use Rattle.network_world.specs.World.{AreMade, Happens, World}
 use Rattle.end_laws.specs.both.Outputs.{BringsTo, GivesAtController, IsShownRun, Outputs, Shown, Shows, ShowsAtDevice, ShowsBehind}
-use Rattle.both_ends.specs.startup.Played.{AreMade, AreMeant, Begins}
+use Rattle.both_ends.specs.startup.Played.{AreMeant, Begins}
 use Rattle.both_ends.specs.startup.View.{move_of}
 use Rattle.both_ends.specs.exchange.Given.{places_for}
 use Rattle.both_ends.specs.exchange.Shown.{image_in, outputs_of, shown_of, shown_run, zeros_for}

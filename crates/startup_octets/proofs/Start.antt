@@ -16,13 +16,13 @@ use Rattle.controller_core.specs.Machine.{first as first_live, step_of}
 use Rattle.network_world.specs.declared.moves.End.TheVariants.{Device, Controller}
 use Rattle.network_world.specs.declared.moves.Move.{Move}
 use Rattle.network_world.specs.declared.moves.Move.TheVariants as move
-use Rattle.network_world.specs.World.{World, AtDevice, Happens, at_controller}
+use Rattle.network_world.specs.World.{AreMade, at_controller, AtDevice, Happens, World}
 use Rattle.end_laws.specs.hearing.Stations.{IsDevice, IsSetup}
 use Rattle.end_laws.specs.both.Small as small
 use Rattle.end_laws.specs.both.StartUp.{Begins as BeginsSmall}
 use Rattle.end_laws.specs.both.Steps.{records_of}
 use Rattle.both_ends.specs.startup.request.Request.{request_for}
-use Rattle.both_ends.specs.startup.Played.{AreMade, ArePlaced, Begins, CanMeet}
+use Rattle.both_ends.specs.startup.Played.{ArePlaced, Begins, CanMeet}
 use Rattle.both_ends.specs.startup.View.{AreThePlans, rules_of, taken_for, view_of}
 use Rattle.both_ends.proofs.StartupKnown.{CanStart, first_in_step, holds_first, starts_small}
 use Rattle.both_ends.proofs.StartupPlanned.{count_few}

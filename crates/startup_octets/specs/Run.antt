@@ -2,8 +2,8 @@
 use Rattle.std.specs.Prelude.{◌≡◌, ◌⊎◌, ◌++◌, ℕ, false, List, [], ◌∷◌, take, Some, None}
 use Rattle.flash_model.specs.declared.flash.Flash.{Ghosts as Flash}
 use Rattle.network_world.specs.declared.moves.Move.{Move}
-use Rattle.network_world.specs.World.{World}
-use Rattle.both_ends.specs.startup.Played.{AreMade, last_world, moves_of}
+use Rattle.network_world.specs.World.{AreMade, last_world, World}
+use Rattle.both_ends.specs.startup.Played.{moves_of}
 use Rattle.startup_octets.specs.Played.{turn_by}
 use Rattle.startup_octets.specs.Log.{Entry}
 use Rattle.startup_octets.specs.OutputWorlds.{outputs_shown}

@@ -1,8 +1,8 @@
 //! The law of process alarms, by the octets that came to the two ends and by those that they sent.
 ghost use Rattle.std.specs.Prelude.{◌∷◌, List};
 ghost use Rattle.network_world.specs.declared.moves.Move.{Move};
-ghost use Rattle.network_world.specs.World.{World};
-ghost use Rattle.both_ends.specs.startup.Played.{AreMade, Begins, CanMeet};
+ghost use Rattle.network_world.specs.World.{AreMade, World};
+ghost use Rattle.both_ends.specs.startup.Played.{Begins, CanMeet};
 ghost use Rattle.both_ends.specs.exchange.Sized.{AreSizedModules};
 ghost use Rattle.startup_octets.specs.Alarms.{AreAlarmsTaken};
 ghost use Rattle.startup_octets.specs.Run.{entries_of, opening_entry};

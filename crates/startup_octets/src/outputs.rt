@@ -1,8 +1,8 @@
 //! The outputs of a plan, and what a device shows as them.
 ghost use Rattle.std.specs.Prelude.{◌≡◌, ◌≤◌, ◌++◌, ◌∷◌, IfOk, List, OnOk, flat_map, length, option_map};
 ghost use Rattle.network_world.specs.declared.moves.Move.{Move};
-ghost use Rattle.network_world.specs.World.{World as Worlds};
-ghost use Rattle.both_ends.specs.startup.Played.{AreMade, Begins, CanMeet};
+ghost use Rattle.network_world.specs.World.{AreMade, World as Worlds};
+ghost use Rattle.both_ends.specs.startup.Played.{Begins, CanMeet};
 ghost use Rattle.startup_octets.specs.Outputs.{AreKept, AreShown, outputs_in, part_outputs};
 ghost use Rattle.startup_octets.specs.OutputWorlds.{octets_in, outputs_shown, shown_at};
 ghost use Rattle.startup_octets.specs.Run.{entries_of, opening_entry};

@@ -1,8 +1,8 @@
 //! The law of a start-up, by the octets that came to the two ends and by those that they sent.
 ghost use Rattle.std.specs.Prelude.{◌≡◌, ◌<◌, List, false};
 ghost use Rattle.network_world.specs.declared.moves.Move.{Move};
-ghost use Rattle.network_world.specs.World.{World};
-ghost use Rattle.both_ends.specs.startup.Played.{AreMade, ArePlaced, Begins, CanMeet};
+ghost use Rattle.network_world.specs.World.{AreMade, World};
+ghost use Rattle.both_ends.specs.startup.Played.{ArePlaced, Begins, CanMeet};
 ghost use Rattle.startup_octets.specs.StartUp.{AreDelivered, AreStartUps};
 ghost use Rattle.startup_octets.specs.Played.{records_for, seen_of, turns_of};
 

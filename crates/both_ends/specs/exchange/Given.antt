@@ -13,8 +13,8 @@ use Rattle.controller_messages.specs.declared.setup.Setup.{Setup}
 use Rattle.network_world.specs.declared.moves.End.TheVariants.{Device, Controller}
 use Rattle.network_world.specs.declared.moves.Move.{Move}
 use Rattle.network_world.specs.declared.moves.Move.TheVariants as move
-use Rattle.network_world.specs.World.{World, end_at}
-use Rattle.both_ends.specs.startup.Played.{last_world, moves_of}
+use Rattle.network_world.specs.World.{end_at, last_world, World}
+use Rattle.both_ends.specs.startup.Played.{moves_of}
 use Rattle.both_ends.specs.exchange.Shown.{outputs_of, taken_in, zeros_for}
 
 -- the places of the outputs of a plan

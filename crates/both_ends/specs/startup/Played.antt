@@ -9,7 +9,7 @@ use Rattle.rpc_core.specs.Cache.{kept_of}
 use Rattle.plans.specs.declared.parts.PlanRecord.{PlanRecord}
 use Rattle.controller_messages.specs.declared.setup.Setup.{Setup}
 use Rattle.network_world.specs.declared.moves.Move.{Move}
-use Rattle.network_world.specs.World.{World, Happens}
+use Rattle.network_world.specs.World.{AreMade, World, last_world}
 use Rattle.end_laws.specs.both.Small as small
 use Rattle.connects.specs.requests.Request.{Request}
 use Rattle.records.specs.declared.writes.taken.TakenRecord.{TakenRecord}
@@ -59,16 +59,6 @@ pub record CanMeet (setup : Setup) (identity : Identity) : Type 0 where
   pub apart : identity.mac ≡ setup.plan.controller.mac → ⊥
   pub named : is_some_uuid setup.ar ≡ true
   pub records : AllByRecursion IsParameter setup.plan.records.items
-
--- each move happens
-abbrev pub AreMade : {F : Type 0} {S : ℕ} → Flash F S → World F → List (Move × World F) → Type 0
-AreMade as_flash before [] = Unit {0}
-AreMade as_flash before (one ∷ run) = Happens as_flash before one.0 one.1 × AreMade as_flash one.1 run
-
--- the world after a run
-abbrev pub last_world : {F : Type 0} → World F → List (Move × World F) → World F
-last_world before [] = before
-last_world before (one ∷ run) = last_world one.1 run
 
 -- Moves that were played, as a run.
 pub record IsRunOf {F : Type 0} {S : ℕ} (as_flash : Flash F S) (before : World F) (moves : List Move) (after : World F) : Type 0 where

@@ -3,8 +3,8 @@ ghost use Rattle.std.specs.Prelude.{◌≡◌, List, ℕ, Some, false, true};
 ghost use Rattle.relations.specs.Exchanged.{output_in};
 ghost use Rattle.relations.specs.RelationState.{RelationState};
 ghost use Rattle.network_world.specs.declared.moves.Move.{Move};
-ghost use Rattle.network_world.specs.World.{World};
-ghost use Rattle.both_ends.specs.startup.Played.{AreMade, Begins, CanMeet, last_world};
+ghost use Rattle.network_world.specs.World.{AreMade, last_world, World};
+ghost use Rattle.both_ends.specs.startup.Played.{Begins, CanMeet};
 ghost use Rattle.both_ends.specs.exchange.Given.{AreOfOneFrame, zero_for};
 ghost use Rattle.both_ends.specs.exchange.Shown.{has_accepted};
 

@@ -4,8 +4,8 @@ ghost use Rattle.rpc_core.specs.Cache.{Kept, kept_of};
 ghost use Rattle.controller_core.specs.Machine.{first as first_live, opening_of};
 ghost use Rattle.controller_messages.specs.declared.setup.Setup.{Setup as NextSetup};
 ghost use Rattle.network_world.specs.declared.moves.Move.{Move};
-ghost use Rattle.network_world.specs.World.{World};
-ghost use Rattle.both_ends.specs.startup.Played.{AreMade, Begins, CanMeet, last_world};
+ghost use Rattle.network_world.specs.World.{AreMade, last_world, World};
+ghost use Rattle.both_ends.specs.startup.Played.{Begins, CanMeet};
 
 use crate::startup::worlds_start_up;
 use controller_messages::Setup;

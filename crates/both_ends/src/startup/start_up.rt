@@ -5,12 +5,12 @@ ghost use Rattle.relations.specs.RelationState.{RelationState};
 ghost use Rattle.relations.specs.declared.phase.Phase.TheVariants.{Exchanging as in_exchange};
 ghost use Rattle.controller_core.specs.declared.stored.state.State.TheVariants.{Exchanging};
 ghost use Rattle.network_world.specs.declared.moves.Move.{Move};
-ghost use Rattle.network_world.specs.World.{World, Played};
+ghost use Rattle.network_world.specs.World.{AreMade, last_world, Played, World};
 ghost use Rattle.end_laws.specs.both.Steps.{IsPart};
 ghost use Rattle.end_laws.specs.both.StartUp.{WasExchanging, WasHanded};
 ghost use Rattle.device_core.specs.State.{Station};
-ghost use Rattle.both_ends.specs.startup.View.{AreThePlans, rules_of, taken_for, view_of};
-ghost use Rattle.both_ends.specs.startup.Played.{AreMade, AreMeant, ArePlaced, Begins, CanMeet, IsRunOf, last_world, viewed};
+ghost use Rattle.both_ends.specs.startup.View.{AreThePlans, IsMeant, rules_of, taken_for, view_of};
+ghost use Rattle.both_ends.specs.startup.Played.{AreMeant, ArePlaced, Begins, CanMeet, IsRunOf, viewed};
 
 use crate::startup::request::connect_is_taken;
 use block_codec::blocks_are_read;
@@ -67,6 +67,10 @@ pub fn worlds_start_up<F: Flash<S>, const S: usize>(setup: &Setup, identity: &Id
     ensures meant { CanMeet setup.now identity.now →
         (first : World F) (run : List (Move × World F)) → Begins setup.now identity.now first
         → AreMade F.Flash first run → AreMeant first run }
+    // Each move that may be made next is heard so too, before it is made.
+    ensures next { CanMeet setup.now identity.now →
+        (first : World F) (run : List (Move × World F)) → Begins setup.now identity.now first
+        → AreMade F.Flash first run → (one : Move) → IsMeant (last_world first run) one }
     // If the controller exchanges data, it received an ApplicationReady that the device had sent at an earlier point.
     // At that point the device had accepted the plan's Connect; and had accepted the plan's records in order, each
     // once, if the plan does not say that the start-up goes on after a refused record; those that one call carried too. In any

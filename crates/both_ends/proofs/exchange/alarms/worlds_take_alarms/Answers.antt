@@ -3,7 +3,7 @@ use Rattle.both_ends.proofs.ExchangeMessages.{HearsSo}
 use Rattle.both_ends.proofs.ExchangeReporting.{known_so, list_so, low_so, told_so}
 use Rattle.both_ends.specs.exchange.Over.{raised_over, reported_over, taken_over}
 use Rattle.diagnosis.specs.declared.reports.priority.Priority.TheVariants.{High, Low}
-use Rattle.both_ends.specs.startup.Played.{last_world}
+use Rattle.network_world.specs.World.{last_world}
 use Rattle.both_ends.proofs.exchange.alarms.worlds_take_alarms.Goals as goal
 
 device_so : (g : _) → goal.After-alarms_are_taken_in_order g → DeviceSo

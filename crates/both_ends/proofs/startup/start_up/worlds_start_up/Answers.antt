@@ -11,7 +11,7 @@ use Rattle.both_ends.specs.startup.View.{rules_of, taken_for, view_of}
 use Rattle.both_ends.specs.startup.Played.{viewed}
 use Rattle.both_ends.proofs.StartupGiven.{GoesSo, HeardSo}
 use Rattle.both_ends.proofs.StartupLists.{are_the_plans}
-use Rattle.both_ends.proofs.StartupKnown.{meant_is, run_is, starts_small}
+use Rattle.both_ends.proofs.StartupKnown.{meant_is, next_is, run_is, starts_small}
 use Rattle.both_ends.proofs.StartupRuns.{exchanges_small, is_run, related_small}
 use Rattle.both_ends.proofs.startup.start_up.worlds_start_up.Goals as goal
 
@@ -62,6 +62,11 @@ pub returns-clause-meant : goal.returns-clause-meant
 returns-clause-meant g c = λ can first run begins made.
     meant_is (heard_so g c) (goes_so g c) c.args.setup.now c.args.identity.now c.stations_are_real.ensures.setup c.stations_are_real.ensures.device can
     c.plan_is_placed.ensures (c.connect_is_taken.ensures.read can.named) first begins g.F.Flash run made
+
+pub returns-clause-next : goal.returns-clause-next
+returns-clause-next g c = λ can first run begins made one.
+    next_is (heard_so g c) (goes_so g c) c.args.setup.now c.args.identity.now c.stations_are_real.ensures.setup c.stations_are_real.ensures.device can
+    c.plan_is_placed.ensures (c.connect_is_taken.ensures.read can.named) first begins g.F.Flash run made one
 
 pub returns-clause-controller : goal.returns-clause-controller
 returns-clause-controller g c = λ can first run begins made exchanges.
