@@ -110,7 +110,7 @@ module _ {F : Type 0} {S : ℕ} (as_flash : Flash F S) (real_time : RealTimeIsRe
   steps_leave : (old new : State F) (link : RelationState) (event : Event) (frames : Frames) (said : Note) → StationSteps as_flash old event frames said new
       → old.device.live.rest.link ≡ Some link → IsStrange old.device.station link event → IsStrangeOrNone old.device.station link (completing old.services event)
       → Leaves old.device new.device frames.device
-  steps_leave old new link event frames said steps exists strange behind =
+  steps_leave old new link event frames said steps exists strange completes =
       by_joined (joined_beside old.services steps.middle.live.values steps.note event) refl steps.gives
     where
       first : Leaves old.device steps.middle steps.first
@@ -127,7 +127,7 @@ module _ {F : Type 0} {S : ℕ} (as_flash : Flash F S) (real_time : RealTimeIsRe
           let same : steps.middle ≡ old.device = (steps.alone.refused (dropped_undone steps.note it.dropped)).0 in
           alone_leaves old.device new.device link call frames.device gives.1
           (subst (λ (d : device.State F). DeviceSteps as_flash d call frames.device gives.1 new.device) same gives.2) exists
-          (subst (IsStrangeOrNone old.device.station link) it.is behind)
+          (subst (IsStrangeOrNone old.device.station link) it.is completes)
 
   pub station_leaves : LeavesStations as_flash
   station_leaves old new link event frames said takes exists strange =

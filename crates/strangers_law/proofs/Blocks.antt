@@ -47,7 +47,7 @@ sixteen uuid mid more rest is wide =
 record IsOfKind (type : BlockType) (bytes : List ℕ) (value : Block) (rest : List ℕ) : Type 0 where
   inside : List ℕ
   spelled : (fields_of type).Spells inside value
-  behind : (n : ℕ) → drop (2 + (2 + n)) bytes ≡ drop n (inside ++ rest)
+  after : (n : ℕ) → drop (2 + (2 + n)) bytes ≡ drop n (inside ++ rest)
 
 of_kind : (type : BlockType) (bytes : List ℕ) (value : Block) (rest : List ℕ) → type_of (number_of type) ≡ Some type → big_number 2 bytes ≡ number_of type
     → IsBlock bytes value rest → IsOfKind type bytes value rest
@@ -61,7 +61,7 @@ of_kind type bytes value rest known number spells =
       inside = frame.0;
       spelled = subst (λ k. (body_of k).Spells frame.0 value) (ap type_of read ∙ known)
           (subst (λ v. (body_of (type_of spells.0.0)).Spells frame.0 v) spells.1 frame.4);
-      behind = λ n. past (2 + n) 2 bytes first.0 spells.2.0 first.2 first.1 ∙ past n 2 spells.2.0 size.0 frame.1 size.2 size.1 ∙ ap (drop n) frame.3;
+      after = λ n. past (2 + n) 2 bytes first.0 spells.2.0 first.2 first.1 ∙ past n 2 spells.2.0 size.0 frame.1 size.2 size.1 ∙ ap (drop n) frame.3;
     }
 
 -- ---- the fields
@@ -138,7 +138,7 @@ prm_end_named blocks value e =
     let at = single_kind kind.PrmEnd blocks one.0 refl one.1 in
     let fields = at.spelled in
     let same : fields.0 ≡ value = let e : Ok fields.0 ≡ Ok value = ap (λ v. or_fault fault.BlockForm (in_control v)) fields.1 ∙ one.2 in cc in
-    ap (take 16) (at.behind 4) ∙ control_named None at.inside fields.0 one.0.1 fields.2 ∙ ap (λ c. c.ar_uuid) same
+    ap (take 16) (at.after 4) ∙ control_named None at.inside fields.0 one.0.1 fields.2 ∙ ap (λ c. c.ar_uuid) same
 
 pub release_named : (blocks : List ℕ) (value : ControlBlock) → control_block kind.Release blocks ≡ Ok value → part 8 16 blocks ≡ value.ar_uuid
 unfolding fields_of number_of type_of
@@ -147,7 +147,7 @@ release_named blocks value e =
     let at = single_kind kind.Release blocks one.0 refl one.1 in
     let fields = at.spelled in
     let same : fields.0 ≡ value = let e : Ok fields.0 ≡ Ok value = ap (λ v. or_fault fault.BlockForm (in_control v)) fields.1 ∙ one.2 in cc in
-    ap (take 16) (at.behind 4) ∙ control_named None at.inside fields.0 one.0.1 fields.2 ∙ ap (λ c. c.ar_uuid) same
+    ap (take 16) (at.after 4) ∙ control_named None at.inside fields.0 one.0.1 fields.2 ∙ ap (λ c. c.ar_uuid) same
 
 -- A Read.
 pub request_named : (blocks : List ℕ) (value : IodReadReq) → request_of blocks ≡ Ok value → part 8 16 blocks ≡ value.header.ar_uuid
@@ -157,7 +157,7 @@ request_named blocks value e =
     let at = single_kind kind.IodReadReq blocks one.0 refl one.1 in
     let fields = at.spelled in
     let same : fields.0 ≡ value = let e : Ok fields.0 ≡ Ok value = ap (λ v. or_fault fault.BlockForm (in_iod_read_req v)) fields.1 ∙ one.2 in cc in
-    ap (take 16) (at.behind 4) ∙ read_named at.inside fields.0 one.0.1 fields.2 ∙ ap (λ c. c.header.ar_uuid) same
+    ap (take 16) (at.after 4) ∙ read_named at.inside fields.0 one.0.1 fields.2 ∙ ap (λ c. c.header.ar_uuid) same
 
 -- A Write.
 pub header_named : (blocks : List ℕ) (x : Block × List ℕ) (value : IodWriteReq) → single_of kind.IodWriteReq blocks ≡ Ok x → in_iod_write_req x.0 ≡ Some value
@@ -167,7 +167,7 @@ header_named blocks x value e found =
     let at = single_kind kind.IodWriteReq blocks x refl e in
     let fields = at.spelled in
     let same : fields.0 ≡ value = let e : Some fields.0 ≡ Some value = ap in_iod_write_req fields.1 ∙ found in cc in
-    ap (take 16) (at.behind 4) ∙ write_named at.inside fields.0 x.1 fields.2 ∙ ap (λ c. c.header.ar_uuid) same
+    ap (take 16) (at.after 4) ∙ write_named at.inside fields.0 x.1 fields.2 ∙ ap (λ c. c.header.ar_uuid) same
 
 -- An ApplicationReady, whatever the type of the block.
 ready_fields : (k : Option BlockType) (inside : List ℕ) (value : ControlBlock) → (body_of k).Spells inside (is.ApplicationReady value) → (body (control (Some 2))).Spells inside value

@@ -408,7 +408,7 @@ due_now link why timed is = by_timed (is_timed link.phase) refl
         by_silent (is_silent link.flow.cyclic) refl phase (sym (tick_same link.flow.cyclic (alarm_due link.flow) _) ∙ ends)
 
 module _ (link : RelationState) (timed : IsTimed link) (none : ending_of link ≡ None) where
-  later_timed : IsTimed (unit_later link)
+  pub later_timed : IsTimed (unit_later link)
   later_timed = record {
     runs = timed.runs;
     limit = by_begun link.flow.cyclic.begun;

@@ -1,5 +1,5 @@
 -- A controller and the frames of strangers.
-use Rattle.std.proofs.Common.{◌≡◌, inl, inr, ◌==◌, ◌&&◌, ◌||◌, ◌+◌, ℕ, Bool, true, false, not, nat_eq, List, [], ◌∷◌, ◌++◌, take, drop, Option, Some, None, unwrap_or, Result, Ok, Err, refl, sym, ap, subst, ◌∙◌, if◌then◌else◌}
+use Rattle.std.proofs.Common.{◌≡◌, inl, inr, ◌==◌, ◌&&◌, ◌||◌, ℕ, Bool, true, false, not, nat_eq, List, [], ◌∷◌, ◌++◌, take, drop, Option, Some, None, unwrap_or, Result, Ok, Err, refl, sym, ap, subst, ◌∙◌, if◌then◌else◌}
 use Rattle.std.proofs.lemmas.Bool.{and_parts, cond_both, cond-false, false_from_ne_true}
 use Rattle.std.specs.Cmp.Lexicographic.{pointwise}
 use Rattle.byteorder.specs.Endian.{big_number}
@@ -7,7 +7,7 @@ use Rattle.pn_values.specs.declared.mac.Mac.{Mac}
 use Rattle.frame_codec.specs.declared.fault.FrameFault.{FrameFault}
 use Rattle.frame_codec.specs.declared.udp.Caller.{Caller}
 use Rattle.frame_codec.specs.FrameId.{is_alarm, is_cyclic}
-use Rattle.frame_codec.specs.Frame.{datagram, frame_of}
+use Rattle.frame_codec.specs.Frame.{frame_of}
 use Rattle.frame_codec.specs.Meaning.{Content, Meaning, ArpPacket, RealTime, UdpDatagram}
 use Rattle.frame_codec.proofs.Frames.{frame_takes}
 use Rattle.dcp_core.specs.declared.request.DcpFault.{DcpFault}
@@ -33,7 +33,6 @@ use Rattle.wire.specs.declared.blocks.fault.BlockFault.{BlockFault}
 use Rattle.block_codec.specs.declared.block.Block.{Block}
 use Rattle.block_codec.specs.Block.{block_of}
 use Rattle.cyclic_data.specs.exchange.Received.{behind_frame, is_of_partner}
-use Rattle.plans.specs.Numbers.{alarm_endpoint}
 use Rattle.controller_messages.specs.declared.record_request.RecordRequest.{RecordRequest}
 use Rattle.controller_messages.specs.declared.refusal.Refusal.{Refusal}
 use Rattle.controller_messages.specs.declared.request.Request.{Request}
@@ -51,15 +50,15 @@ use Rattle.octets_law.specs.Octets.{activity_of, number, part, untagged}
 use Rattle.octets_law.proofs.Bare.{IsBare, bare_of}
 use Rattle.octets_law.proofs.CallPlaces.{IsCallRead, call_placed, skip}
 use Rattle.octets_law.proofs.CallReads.{tested}
-use Rattle.octets_law.proofs.Datagrams.{body_behind, kind_under}
-use Rattle.octets_law.proofs.EventSteps.{datagram_type, frame_type}
 use Rattle.octets_law.proofs.FrameSteps.{frame_timely, frame_to}
 use Rattle.octets_law.proofs.Repeats.{same_octets}
 use Rattle.octets_law.proofs.SetHeard.{IsTimely, four_ahead, one_front}
 use Rattle.strangers_law.specs.Controller.{AreAsWithout, LeavesControllers, after_events, belongs_to, is_awaited, is_said_to, marks_at, sent_at}
-use Rattle.strangers_law.specs.Strange.{is_alarm_of, is_call_of, is_cyclic_of, same}
+use Rattle.strangers_law.specs.Strange.{is_alarm_of, is_call_of, is_cyclic_of, is_datagram, same}
 use Rattle.strangers_law.proofs.Blocks.{ready_named}
-use Rattle.strangers_law.proofs.Hearing.{AreEndpoints, endpoints_of, holds, neither, second, sender_of}
+use Rattle.strangers_law.proofs.Hearing.{holds, neither, second}
+use Rattle.strangers_law.proofs.Marked.{AreEndpoints, endpoints_of, no_alarm, no_cyclic, sender_of}
+use Rattle.strangers_law.proofs.Ports.{datagram_is}
 use Rattle.strangers_law.proofs.Refusals.{refusal_activity}
 use Rattle.strangers_law.proofs.Responses.{response_activity}
 
@@ -283,7 +282,7 @@ module _ (controlling : Controlling) where
       awaited : is_awaited controlling.live.phase (untagged bytes) ≡ false
       cyclic : is_cyclic_of (marks_at controlling) (untagged bytes) ≡ false
       alarm : is_alarm_of (marks_at controlling) (untagged bytes) ≡ false
-      said : (number 12 2 (untagged bytes) == 0x0800 && is_said_to controlling (drop 42 (untagged bytes))) ≡ false
+      said : (is_datagram (untagged bytes) && is_said_to controlling (drop 42 (untagged bytes))) ≡ false
 
     others : AreOthersTo
     others =
@@ -298,49 +297,12 @@ module _ (controlling : Controlling) where
         let one = neither a b two.0 in
         record { awaited = one.0; cyclic = one.1; alarm = two.1; said = three.1 }
 
-    frame_behind : (n : ℕ) → drop (6 + (6 + (2 + n))) (untagged bytes) ≡ drop n bare.rest
-    frame_behind n =
-        ap (drop (6 + (6 + (2 + n)))) bare.is ∙ skip (6 + (2 + n)) 6 meaning.destination.octets _ bare.to ∙ skip (2 + n) 6 bare.source _ bare.from ∙ skip n 2 bare.type _ bare.two
-
     not_alarm : (id : ℕ) (body : List ℕ) (said : Header) → IsTimely (untagged bytes) id body → is_alarm id ≡ true → AreEndpoints body said
         → is_alarm_in controlling.live.cyclic.route meaning.source said ≡ false
-    not_alarm id body said it alarm ends =
-        let to : number 16 2 (untagged bytes) ≡ said.destination = ap (big_number 2) (it.behind 0) ∙ ends.destination in
-        let from : number 18 2 (untagged bytes) ≡ said.source = ap (big_number 2) (it.behind 2) ∙ ends.source in
-        let route = controlling.live.cyclic.route in
-        let other : ((number 12 2 (untagged bytes) == 0x8892) && is_alarm (number 14 2 (untagged bytes)) && pointwise nat_eq meaning.source.octets route.partner.octets
-        && (said.destination == alarm_endpoint) && (said.source == route.reference)) ≡ false =
-        subst (λ l. ((number 12 2 (untagged bytes) == 0x8892) && is_alarm (number 14 2 (untagged bytes)) && pointwise nat_eq l route.partner.octets
-        && (said.destination == alarm_endpoint) && (said.source == route.reference)) ≡ false) sender
-        (subst (λ n. ((number 12 2 (untagged bytes) == 0x8892) && is_alarm (number 14 2 (untagged bytes)) && pointwise nat_eq (part 6 6 (untagged bytes)) route.partner.octets
-        && (n == alarm_endpoint) && (said.source == route.reference)) ≡ false) to
-        (subst (λ n. ((number 12 2 (untagged bytes) == 0x8892) && is_alarm (number 14 2 (untagged bytes)) && pointwise nat_eq (part 6 6 (untagged bytes)) route.partner.octets
-        && (number 16 2 (untagged bytes) == alarm_endpoint) && (n == route.reference)) ≡ false) from others.alarm)) in
-        behind (number 12 2 (untagged bytes) == 0x8892) (is_alarm (number 14 2 (untagged bytes))) (pointwise nat_eq meaning.source.octets route.partner.octets)
-        (said.destination == alarm_endpoint) (said.source == route.reference) (holds _ 0x8892 it.ether_type) (ap is_alarm it.id ∙ alarm) other
-      where
-        behind : (a b c d e : Bool) → a ≡ true → b ≡ true → a && b && c && d && e ≡ false → c && (d && e) ≡ false
-        behind true true true true true p q r = r
-        behind true true true true false p q r = refl
-        behind true true true false e p q r = refl
-        behind true true false d e p q r = refl
-        behind true false c d e p q r = absurd cc
-        behind false b c d e p q r = absurd cc
+    not_alarm id body said it alarm ends = no_alarm (marks_at controlling) (untagged bytes) meaning.source.octets sender id body it said ends alarm others.alarm
 
     not_cyclic : (id : ℕ) (body : List ℕ) → IsTimely (untagged bytes) id body → is_of_partner controlling.live.cyclic.route meaning.source id ≡ false
-    not_cyclic id body it =
-        let route = controlling.live.cyclic.route in
-        swapped (number 12 2 (untagged bytes) == 0x8892) (id == route.taken_id) (pointwise nat_eq meaning.source.octets route.partner.octets)
-        (holds _ 0x8892 it.ether_type)
-        (subst (λ l. ((number 12 2 (untagged bytes) == 0x8892) && (id == route.taken_id) && pointwise nat_eq l route.partner.octets) ≡ false) sender
-        (subst (λ n. ((number 12 2 (untagged bytes) == 0x8892) && (n == route.taken_id) && pointwise nat_eq (part 6 6 (untagged bytes)) route.partner.octets) ≡ false)
-        it.id others.cyclic))
-      where
-        swapped : (a b c : Bool) → a ≡ true → a && b && c ≡ false → c && b ≡ false
-        swapped true true true p q = q
-        swapped true false true p q = refl
-        swapped true b false p q = refl
-        swapped false b c p q = absurd cc
+    not_cyclic id body it = no_cyclic (marks_at controlling) (untagged bytes) meaning.source.octets sender id body it others.cyclic
 
     answer_rests : (id : ℕ) (body : List ℕ) → IsTimely (untagged bytes) id body → (read : Result Answered DcpFault) → answer_of id body ≡ read → Rests (heard_answer meaning.source read)
     answer_rests id body it (Err why) is = refl
@@ -363,13 +325,10 @@ module _ (controlling : Controlling) where
     content_rests (RealTime id body) is = real_rests id body (frame_timely bytes meaning id body bare is)
     content_rests (ArpPacket packet) is = refl
     content_rests (UdpDatagram from to body) is =
-        let typed = datagram_type (big_number 2 bare.type) bare.rest meaning.content from to body is (kind_under (big_number 2 bare.type) bare.rest meaning.content bare.content) in
-        let behind = body_behind bare.rest from to body (subst (datagram.Spells bare.rest) is typed.1) in
-        let at : drop 42 (untagged bytes) ≡ body ++ behind.more = frame_behind 28 ∙ behind.is in
+        let it = datagram_is bytes meaning from to body bare is in
         cond_both (is_to controlling.setup.plan.controller.address to) _ _ Rests
-        (λ _. body_rests (record { mac = meaning.source; endpoint = from }) body behind.more
-        (subst (λ l. is_said_to controlling l ≡ false) at
-        (second (number 12 2 (untagged bytes) == 0x0800) _ others.said (holds _ 0x0800 (frame_type bytes meaning bare ∙ typed.0)))))
+        (λ _. body_rests (record { mac = meaning.source; endpoint = from }) body it.more
+        (subst (λ l. is_said_to controlling l ≡ false) it.is (second (is_datagram (untagged bytes)) _ others.said it.protocol)))
         (λ _. refl)
 
   frame_rests : (bytes : List ℕ) → belongs_to controlling (untagged bytes) ≡ false → (read : Result Meaning FrameFault) → frame_of bytes ≡ read

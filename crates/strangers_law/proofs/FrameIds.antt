@@ -1,5 +1,6 @@
 -- The FrameID of the outputs of a relation is one of cyclic frames, whichever number the relation has.
 use Rattle.std.proofs.Common.{◌≡◌, ◌<◌, ◌==◌, ◌+◌, ◌||◌, ◌&&◌, nat_lt, not, ℕ, zero, suc, Bool, true, false, List, [], ◌∷◌, length, Option, Some, None, is_some, Result, Ok, Err, refl, ap, subst, if◌then◌else◌, arith}
+use Rattle.std.proofs.Math.Nat.{mod-lt}
 use Rattle.std.proofs.lemmas.Bool.{cond_both}
 use Rattle.std.proofs.lemmas.Bool.Decides.{nat_tests}
 use Rattle.std.specs.List.{AllByRecursion}
@@ -33,7 +34,7 @@ use Rattle.connects.specs.requests.Request.{Request, chosen_id, given_id, iocr_o
 use Rattle.pn_values.specs.declared.mac.Mac.{Mac}
 use Rattle.relations.specs.declared.options.DeviceOptions.{DeviceOptions}
 use Rattle.relations.specs.Connect.{connect_within, is_foreign}
-use Rattle.relations.specs.Numbers.{output_id}
+use Rattle.relations.specs.Numbers.{number_of, output_id}
 use Rattle.octets_law.proofs.WriteCalls.{bind_ok, fault_ok}
 
 -- ---- a FrameID
@@ -186,3 +187,9 @@ pub connect_cyclic : (options : DeviceOptions) (source : Mac) (number : ℕ) (bl
 connect_cyclic options source number blocks request few e =
     cond_both (is_foreign options source None blocks) _ _ (λ (r : Result Request CallFault). r ≡ Ok request → is_cyclic (output_id number request.output) ≡ true)
     (λ _ e. absurd cc) (λ _ e. connect_assigns options.smallest_interval number blocks request few e) e
+
+-- ---- a number
+
+pub number_few : (numbers_from : Option ℕ) (made : ℕ) → number_of numbers_from made < 14336
+number_few None made = omega arith
+number_few (Some first) made = mod-lt (first + made) (omega arith)

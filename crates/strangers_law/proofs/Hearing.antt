@@ -5,15 +5,12 @@ use Rattle.std.proofs.lemmas.Bool.{and_parts, cond_both}
 use Rattle.std.proofs.lemmas.Bool.Decides.{nat_tests}
 use Rattle.std.specs.Cmp.Lexicographic.{pointwise}
 use Rattle.std.specs.List.{AllByRecursion, list_any}
-use Rattle.byteorder.specs.Endian.{big_number}
-use Rattle.pn_values.specs.declared.mac.Mac.{Mac}
 use Rattle.pn_values.specs.declared.identity.Identity.{Identity}
-use Rattle.wire.proofs.Fields.{bind_ok as bound}
 use Rattle.frame_codec.specs.declared.fault.FrameFault.{FrameFault}
 use Rattle.frame_codec.specs.declared.udp.Caller.{Caller}
 use Rattle.frame_codec.specs.Calls.{call_port}
 use Rattle.frame_codec.specs.FrameId.{is_alarm, is_cyclic}
-use Rattle.frame_codec.specs.Frame.{datagram, ethernet, frame_of, layers, mac}
+use Rattle.frame_codec.specs.Frame.{frame_of}
 use Rattle.frame_codec.specs.Meaning.{Content, Meaning, ArpPacket, RealTime, UdpDatagram}
 use Rattle.frame_codec.proofs.Frames.{frame_takes}
 use Rattle.dcp_core.specs.declared.request.DcpFault.{DcpFault}
@@ -33,14 +30,12 @@ use Rattle.rpc_core.specs.Call.{Asked as Called, call_of}
 use Rattle.rpc_core.specs.Response.{Answered, response_of}
 use Rattle.rpc_core.proofs.Sound.{call_behind, call_takes, response_behind, response_takes}
 use Rattle.pn_alarms.specs.declared.fault.AlarmFault.{AlarmFault}
-use Rattle.pn_alarms.specs.declared.message.Notice.{Notice}
 use Rattle.pn_alarms.specs.declared.message.Notice.TheVariants as message
 use Rattle.pn_alarms.specs.declared.pdu.Header.{Header}
-use Rattle.pn_alarms.specs.Format.{IsPdu, Said as Said_, header, kind, pdu, pdu_of}
+use Rattle.pn_alarms.specs.Format.{kind}
 use Rattle.pn_alarms.specs.Carried.{ack_of}
 use Rattle.diagnosis.specs.reports.Report.{low_ack_of}
-use Rattle.pn_alarms.specs.Message.{ToDevice, message_of, notice_in, notice_of}
-use Rattle.pn_alarms.proofs.Sound.{pdu_takes}
+use Rattle.pn_alarms.specs.Message.{ToDevice, message_of}
 use Rattle.diagnosis.specs.declared.reports.priority.Priority.{Priority}
 use Rattle.diagnosis.specs.declared.reports.priority.Priority.TheVariants.{High, Low}
 use Rattle.diagnosis.specs.reports.Priority.{priority_of}
@@ -51,17 +46,16 @@ use Rattle.device_frames.specs.declared.event.Event.TheVariants.{Frame, Call as 
 use Rattle.device_frames.specs.Heard.{Heard, Reported, broadcast, heard_alarm, heard_content, heard_frame, heard_low, heard_of, heard_reply, heard_request, is_own, is_taken, said_by, said_else, said_first}
 use Rattle.octets_law.specs.Octets.{dcp_blocks, is_dcp, number, part, untagged}
 use Rattle.octets_law.proofs.Bare.{IsBare, bare_of}
-use Rattle.octets_law.proofs.CallPlaces.{IsCallRead, call_placed, skip}
-use Rattle.octets_law.proofs.Datagrams.{body_behind, kind_under}
-use Rattle.octets_law.proofs.EventSteps.{datagram_type, frame_type}
+use Rattle.octets_law.proofs.CallPlaces.{IsCallRead, call_placed}
 use Rattle.octets_law.proofs.FrameSteps.{frame_timely, frame_to}
 use Rattle.octets_law.proofs.Responses.{response_kind}
-use Rattle.octets_law.proofs.SetFrames.{six}
-use Rattle.octets_law.proofs.SetHeard.{IsTimely, KindOf, set_read, two_ahead}
+use Rattle.octets_law.proofs.SetHeard.{IsTimely, KindOf, set_read}
 use Rattle.octets_law.proofs.SetItems.{AreRead}
 use Rattle.strangers_law.specs.Device.{marks_of}
-use Rattle.strangers_law.specs.Strange.{Marks, belongs, is_alarm_of, is_call_of, is_cyclic_of, is_own as is_own_event, is_reset, is_response_of, is_said_of, same}
+use Rattle.strangers_law.specs.Strange.{Marks, belongs, is_alarm_of, is_call_of, is_cyclic_of, is_datagram, is_own as is_own_event, is_reset, is_response_of, is_said_of, same}
 use Rattle.strangers_law.proofs.Harmless.{IsHarmless, IsQuiet}
+use Rattle.strangers_law.proofs.Marked.{AreEndpoints, endpoints_of, no_alarm, no_cyclic, sender_of}
+use Rattle.strangers_law.proofs.Ports.{datagram_is}
 use Rattle.strangers_law.proofs.Responses.{response_activity}
 
 -- ---- Bools
@@ -81,49 +75,6 @@ either_left false is = absurd cc
 
 pub holds : (n m : ℕ) → n ≡ m → (n == m) ≡ true
 holds n m is = grind (arith, nat_tests)
-
--- ---- the sender
-
-sender_at : (to from rest : List ℕ) → length to ≡ 6 → length from ≡ 6 → part 6 6 (untagged (to ++ (from ++ rest))) ≡ from
-sender_at to from rest t f =
-    six (λ to. part 6 6 (untagged (to ++ (from ++ rest))) ≡ from) to t (λ a b c d e g.
-    six (λ from. part 6 6 (untagged (a ∷ b ∷ c ∷ d ∷ e ∷ g ∷ (from ++ rest))) ≡ from) from f (λ h i j k l m.
-    cond_both (number 12 2 (a ∷ b ∷ c ∷ d ∷ e ∷ g ∷ h ∷ i ∷ j ∷ k ∷ l ∷ m ∷ rest) == 0x8100) _ _
-    (λ x. part 6 6 x ≡ h ∷ i ∷ j ∷ k ∷ l ∷ m ∷ []) (λ _. refl) (λ _. refl)))
-
-pub sender_of : (bytes : List ℕ) (meaning : Meaning) → layers.Spells bytes meaning → part 6 6 (untagged bytes) ≡ meaning.source.octets
-unfolding layers ethernet mac
-sender_of bytes meaning spells =
-    let head = spells.2.1 in
-    let to = head.2.1 in
-    let from = head.2.2.1 in
-    ap (λ l. part 6 6 (untagged l)) (to.2.1 ∙ ap (λ l. to.0 ++ l) from.2.1) ∙ sender_at to.0 from.0 _ to.2.0 from.2.0
-    ∙ (ap (λ (m : Mac). m.octets) from.1 ∙ ap (λ h. h.source.octets) head.1 ∙ ap (λ (m : Meaning). m.source.octets) spells.1)
-
--- ---- the endpoints of an alarm frame
-
-pub record AreEndpoints (body : List ℕ) (said : Header) : Type 0 where
-  pub destination : number 0 2 body ≡ said.destination
-  pub source : number 2 2 body ≡ said.source
-
-first_same : {B : Type 0} (one : Header) (notice : Notice B) (x : Header × Notice B) → (let r : Result (Header × Notice B) AlarmFault = Ok (one, notice) in r) ≡ Ok x → one ≡ x.0
-first_same one notice x e = cc
-
-pub endpoints_of : {B : Type 0} (block : List ℕ → Result B AlarmFault) (body : List ℕ) (x : Header × Notice B) → notice_of block body ≡ Ok x → AreEndpoints body x.0
-unfolding IsPdu pdu header kind
-endpoints_of block body x e =
-    let one = bound (pdu_of body) _ x e in
-    let two = bound (notice_in block one.0.header.kind one.0) _ x one.2 in
-    let is = pdu_takes body one.0 one.1 in
-    let same : one.0.header ≡ x.0 = first_same one.0.header two.0 x two.2 in
-    let parts = is.1.1 in
-    let g1 = parts.2.1.2 in
-    let g2 = g1.2 in
-    record {
-      destination = ap (big_number 2) g1.1.2 ∙ two_ahead g1.1.0 _ g1.1.1 ∙ sym g1.1.3 ∙ ap (λ (h : Header). h.destination) (parts.2.1.1 ∙ ap (λ (s : Said_). s.header) parts.1 ∙ same);
-      source = ap (λ l. big_number 2 (drop 2 l)) g1.1.2 ∙ ap (big_number 2) (skip 0 2 g1.1.0 _ g1.1.1 ∙ g2.1.2) ∙ two_ahead g2.1.0 _ g2.1.1 ∙ sym g2.1.3
-          ∙ ap (λ (h : Header). h.source) (parts.2.1.1 ∙ ap (λ (s : Said_). s.header) parts.1 ∙ same);
-    }
 
 -- ---- a Set
 
@@ -199,15 +150,11 @@ module _ (identity : Identity) (link : RelationState) where
     frame : List ℕ
     frame = untagged bytes
 
-    frame_behind : (n : ℕ) → drop (6 + (6 + (2 + n))) (untagged bytes) ≡ drop n bare.rest
-    frame_behind n =
-        ap (drop (6 + (6 + (2 + n)))) bare.is ∙ skip (6 + (2 + n)) 6 meaning.destination.octets _ bare.to ∙ skip (2 + n) 6 bare.source _ bare.from ∙ skip n 2 bare.type _ bare.two
-
     record AreOthers : Type 0 where
       cyclic : is_cyclic_of marks (untagged bytes) ≡ false
       alarm : is_alarm_of marks (untagged bytes) ≡ false
       reset : is_reset (untagged bytes) ≡ false
-      said : (number 12 2 (untagged bytes) == 0x0800 && is_said_of marks (drop 42 (untagged bytes))) ≡ false
+      said : (is_datagram (untagged bytes) && is_said_of marks (drop 42 (untagged bytes))) ≡ false
 
     -- A frame to this device is none of those of the relation.
     others : is_own identity meaning.destination ≡ true → AreOthers
@@ -232,27 +179,7 @@ module _ (identity : Identity) (link : RelationState) where
 
     not_alarm : (id : ℕ) (body : List ℕ) (said : Header) → IsTimely (untagged bytes) id body → is_own identity meaning.destination ≡ true → is_alarm id ≡ true → AreEndpoints body said
         → (pointwise nat_eq meaning.source.octets link.request.ar.initiator.octets && (said.destination == link.flow.endpoint && said.source == link.request.alarm.reference)) ≡ false
-    not_alarm id body said it own alarm ends =
-        let to : number 16 2 (untagged bytes) ≡ said.destination = ap (big_number 2) (it.behind 0) ∙ ends.destination in
-        let from : number 18 2 (untagged bytes) ≡ said.source = ap (big_number 2) (it.behind 2) ∙ ends.source in
-        let other : ((number 12 2 (untagged bytes) == 0x8892) && is_alarm (number 14 2 (untagged bytes)) && pointwise nat_eq meaning.source.octets link.request.ar.initiator.octets
-        && (said.destination == link.flow.endpoint) && (said.source == link.request.alarm.reference)) ≡ false =
-        subst (λ l. ((number 12 2 (untagged bytes) == 0x8892) && is_alarm (number 14 2 (untagged bytes)) && pointwise nat_eq l link.request.ar.initiator.octets
-        && (said.destination == link.flow.endpoint) && (said.source == link.request.alarm.reference)) ≡ false) sender
-        (subst (λ n. ((number 12 2 (untagged bytes) == 0x8892) && is_alarm (number 14 2 (untagged bytes)) && pointwise nat_eq (part 6 6 (untagged bytes)) link.request.ar.initiator.octets
-        && (n == link.flow.endpoint) && (said.source == link.request.alarm.reference)) ≡ false) to
-        (subst (λ n. ((number 12 2 (untagged bytes) == 0x8892) && is_alarm (number 14 2 (untagged bytes)) && pointwise nat_eq (part 6 6 (untagged bytes)) link.request.ar.initiator.octets
-        && (number 16 2 (untagged bytes) == link.flow.endpoint) && (n == link.request.alarm.reference)) ≡ false) from (others own).alarm)) in
-        behind (number 12 2 (untagged bytes) == 0x8892) (is_alarm (number 14 2 (untagged bytes))) (pointwise nat_eq meaning.source.octets link.request.ar.initiator.octets)
-        (said.destination == link.flow.endpoint) (said.source == link.request.alarm.reference) (holds _ 0x8892 it.ether_type) (ap is_alarm it.id ∙ alarm) other
-      where
-        behind : (a b c d e : Bool) → a ≡ true → b ≡ true → a && b && c && d && e ≡ false → c && (d && e) ≡ false
-        behind true true true true true p q r = r
-        behind true true true true false p q r = refl
-        behind true true true false e p q r = refl
-        behind true true false d e p q r = refl
-        behind true false c d e p q r = absurd cc
-        behind false b c d e p q r = absurd cc
+    not_alarm id body said it own alarm ends = no_alarm marks (untagged bytes) meaning.source.octets sender id body it said ends alarm (others own).alarm
 
     alarm_harmless : (id : ℕ) (body : List ℕ) → IsTimely (untagged bytes) id body → is_own identity meaning.destination && is_alarm id ≡ true
         → (read : Result (Header × ToDevice) AlarmFault) → message_of body ≡ read → Harmless (heard_alarm meaning.source id body read)
@@ -277,34 +204,18 @@ module _ (identity : Identity) (link : RelationState) where
         let it = frame_timely bytes meaning id body bare is in
         cond_both (is_taken identity meaning.destination id) _ _ Harmless (λ taken. request_harmless id body it taken (request_of id body) refl)
         (λ _. cond_both (is_own identity meaning.destination && is_alarm id) _ _ Harmless (λ taken. alarm_harmless id body it taken (message_of body) refl)
-        (λ _. cond_both (is_own identity meaning.destination && is_cyclic id) _ _ Harmless (λ taken. not_cyclic it (others (and_parts _ _ taken).0).cyclic) (λ _. tt)))
-      where
-        swapped : (a b c : Bool) → a ≡ true → a && b && c ≡ false → c && b ≡ false
-        swapped true true true p q = q
-        swapped true false true p q = refl
-        swapped true b false p q = refl
-        swapped false b c p q = absurd cc
-
-        not_cyclic : IsTimely (untagged bytes) id body → is_cyclic_of marks (untagged bytes) ≡ false
-            → (pointwise nat_eq meaning.source.octets link.flow.cyclic.route.partner.octets && id == link.flow.cyclic.route.taken_id) ≡ false
-        not_cyclic it other = swapped (number 12 2 (untagged bytes) == 0x8892) (id == link.flow.cyclic.route.taken_id) (pointwise nat_eq meaning.source.octets link.flow.cyclic.route.partner.octets)
-            (holds _ 0x8892 it.ether_type)
-            (subst (λ l. ((number 12 2 (untagged bytes) == 0x8892) && (id == link.flow.cyclic.route.taken_id) && pointwise nat_eq l link.flow.cyclic.route.partner.octets) ≡ false) sender
-            (subst (λ n. ((number 12 2 (untagged bytes) == 0x8892) && (n == link.flow.cyclic.route.taken_id) && pointwise nat_eq (part 6 6 (untagged bytes)) link.flow.cyclic.route.partner.octets) ≡ false)
-            it.id other))
+        (λ _. cond_both (is_own identity meaning.destination && is_cyclic id) _ _ Harmless
+        (λ taken. no_cyclic marks (untagged bytes) meaning.source.octets sender id body it (others (and_parts _ _ taken).0).cyclic) (λ _. tt)))
 
     content_harmless : (content : Content) → meaning.content ≡ content → Harmless (heard_content identity meaning.destination meaning.source content)
     content_harmless (RealTime id body) is = real_harmless id body is
     content_harmless (ArpPacket packet) is =
         cond_both (is_own identity meaning.destination || pointwise nat_eq meaning.destination.octets broadcast) _ _ Harmless (λ _. tt) (λ _. tt)
     content_harmless (UdpDatagram from to body) is =
-        let typed = datagram_type (big_number 2 bare.type) bare.rest meaning.content from to body is (kind_under (big_number 2 bare.type) bare.rest meaning.content bare.content) in
-        let behind = body_behind bare.rest from to body (subst (datagram.Spells bare.rest) is typed.1) in
-        let at : drop 42 (untagged bytes) ≡ body ++ behind.more = frame_behind 28 ∙ behind.is in
+        let it = datagram_is bytes meaning from to body bare is in
         cond_both (is_own identity meaning.destination && to.port == call_port) _ _ Harmless
-        (λ taken. said_harmless (record { mac = meaning.source; endpoint = from }) to.address body behind.more
-        (subst (λ l. is_said_of marks l ≡ false) at
-        (second (number 12 2 (untagged bytes) == 0x0800) _ (others (and_parts _ _ taken).0).said (holds _ 0x0800 (frame_type bytes meaning bare ∙ typed.0)))))
+        (λ taken. said_harmless (record { mac = meaning.source; endpoint = from }) to.address body it.more
+        (subst (λ l. is_said_of marks l ≡ false) it.is (second (is_datagram (untagged bytes)) _ (others (and_parts _ _ taken).0).said it.protocol)))
         (λ _. tt)
 
   -- ---- any event of a stranger

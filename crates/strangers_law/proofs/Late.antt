@@ -14,10 +14,11 @@ use Rattle.device_core.specs.State.{Live, Station}
 use Rattle.device_core.specs.Machine.{run_of}
 use Rattle.octets_law.specs.Octets.{is_dcp, number, part, untagged}
 use Rattle.strangers_law.specs.Device.{IsStrange, marks_of}
-use Rattle.strangers_law.specs.Strange.{Marks, belongs, is_alarm_of, is_cyclic_of, is_reset, is_said_of, same}
+use Rattle.strangers_law.specs.Strange.{Marks, belongs, is_alarm_of, is_cyclic_of, is_datagram, is_reset, is_said_of, same}
 use Rattle.strangers_law.specs.Earlier.{AreApart, Follows, IsNumbered, IsNumberedIn, IsRefused, LateAlarmsAreRefused, LateOutputsAreRefused, NumbersDiffer, made_with}
 use Rattle.strangers_law.proofs.Floods.{strange_left}
-use Rattle.strangers_law.proofs.Numbered.{counted, number_few, stay_numbered}
+use Rattle.strangers_law.proofs.FrameIds.{number_few}
+use Rattle.strangers_law.proofs.Numbered.{counted, stay_numbered}
 
 -- ---- numbers
 
@@ -118,10 +119,11 @@ strange_frame : (station : List ℕ) (marks : Marks) (frame : List ℕ) → numb
     → is_cyclic_of marks frame ≡ false → is_alarm_of marks frame ≡ false → belongs station marks frame ≡ false
 strange_frame station marks frame timely no_set cyclic alarm =
     second_false (same (take 6 frame) station) _
-    (neither_true (is_cyclic_of marks frame || is_alarm_of marks frame || is_reset frame) (number 12 2 frame == 0x0800 && is_said_of marks (drop 42 frame))
+    (neither_true (is_cyclic_of marks frame || is_alarm_of marks frame || is_reset frame) (is_datagram frame && is_said_of marks (drop 42 frame))
     (neither_true (is_cyclic_of marks frame || is_alarm_of marks frame) (is_reset frame)
     (neither_true (is_cyclic_of marks frame) (is_alarm_of marks frame) cyclic alarm) reset)
-    (first_false (number 12 2 frame == 0x0800) _ (unequal (number 12 2 frame) 0x0800 (λ is. other_type (number 12 2 frame) timely is))))
+    (first_false (is_datagram frame) _ (first_false (number 12 2 frame == 0x0800) _
+    (unequal (number 12 2 frame) 0x0800 (λ is. other_type (number 12 2 frame) timely is)))))
   where
     other_type : (n : ℕ) → n ≡ 0x8892 → n ≡ 0x0800 → ⊥
     other_type n one other = omega arith

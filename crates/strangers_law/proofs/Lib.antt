@@ -4,6 +4,7 @@ pub mod Refusals
 pub mod Harmless
 pub mod Unnamed
 pub mod Remaining
+pub mod Marked
 pub mod Hearing
 pub mod Sending
 pub mod Floods
@@ -12,13 +13,18 @@ pub mod Besides
 pub mod Clocks
 pub mod Resets
 pub mod Endings
-pub mod Timed
 pub mod FrameIds
+pub mod Changes
+pub mod Uncounted
+pub mod Moving
 pub mod Numbered
+pub mod Timed
 pub mod Late
 pub mod Ports
 pub mod Quiet
 pub mod Runs
+pub mod CallingRuns
+pub mod CallingCarried
 pub mod Layers
 pub mod Echoes
 pub mod Replying
@@ -26,3 +32,9 @@ pub mod Answering
 pub mod Unasked
 pub mod WholeCalls
 pub mod Sizes
+pub mod CallingStore
+pub mod CallingAlike
+pub mod CallingSteps
+pub mod CallingHeard
+pub mod CallingDevice
+pub mod CallingLeft

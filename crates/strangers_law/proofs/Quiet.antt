@@ -17,7 +17,7 @@ use Rattle.frame_codec.specs.declared.fault.FrameFault.{FrameFault}
 use Rattle.frame_codec.specs.declared.udp.Caller.{Caller}
 use Rattle.frame_codec.specs.Calls.{call_port}
 use Rattle.frame_codec.specs.FrameId.{is_alarm, is_cyclic}
-use Rattle.frame_codec.specs.Frame.{datagram, frame_of}
+use Rattle.frame_codec.specs.Frame.{frame_of}
 use Rattle.frame_codec.specs.Meaning.{Content, Meaning, ArpPacket, RealTime, UdpDatagram}
 use Rattle.frame_codec.proofs.Frames.{frame_takes}
 use Rattle.dcp_core.specs.declared.request.DcpFault.{DcpFault}
@@ -69,19 +69,18 @@ use Rattle.device_core.specs.Steps.{Steps}
 use Rattle.device_frames.specs.declared.note.Note.{Note}
 use Rattle.octets_law.specs.Octets.{dcp_blocks, is_dcp, number, part, untagged}
 use Rattle.octets_law.proofs.Bare.{IsBare, bare_of}
-use Rattle.octets_law.proofs.CallPlaces.{call_placed, skip}
+use Rattle.octets_law.proofs.CallPlaces.{call_placed}
 use Rattle.octets_law.proofs.CallReads.{tested}
-use Rattle.octets_law.proofs.Datagrams.{body_behind, kind_under}
-use Rattle.octets_law.proofs.EventSteps.{datagram_type, frame_type}
 use Rattle.octets_law.proofs.FrameSteps.{frame_timely, frame_to}
 use Rattle.octets_law.proofs.SetHeard.{IsSetRead, IsTimely, KindOf, set_read}
 use Rattle.octets_law.proofs.SetItems.{AreRead}
 use Rattle.strangers_law.specs.Quiet.{IsQuietAt, IsReturned, heard_in, belongs_in, is_asking, is_call, is_quiet_stranger, is_setting}
 use Rattle.strangers_law.specs.Device.{marks_of}
-use Rattle.strangers_law.specs.Strange.{Marks, is_alarm_of as is_alarm_in, is_cyclic_of, is_reset, same}
+use Rattle.strangers_law.specs.Strange.{Marks, is_alarm_of as is_alarm_in, is_cyclic_of, is_datagram, is_reset, same}
 use Rattle.strangers_law.proofs.Harmless.{IsHarmless, IsQuiet}
-use Rattle.strangers_law.proofs.Hearing.{holds, neither, second, sender_of, strange_harmless}
-use Rattle.strangers_law.proofs.Ports.{sent_to}
+use Rattle.strangers_law.proofs.Hearing.{holds, neither, second, strange_harmless}
+use Rattle.strangers_law.proofs.Marked.{sender_of}
+use Rattle.strangers_law.proofs.Ports.{datagram_is}
 use Rattle.strangers_law.proofs.Remaining.{quiet_carried, quiet_resets}
 use Rattle.strangers_law.proofs.Sending.{PacketsAreRead, RealTimeIsRead}
 
@@ -91,12 +90,8 @@ either_left : (b : Bool) → b || false ≡ true → b ≡ true
 either_left true is = refl
 either_left false is = absurd cc
 
-all_four : (a b c d : Bool) → a ≡ true → b ≡ true → c ≡ true → d ≡ true → a && b && c && d ≡ true
-all_four true true true true p q r s = refl
-all_four false b c d p q r s = absurd cc
-all_four true false c d p q r s = absurd cc
-all_four true true false d p q r s = absurd cc
-all_four true true true false p q r s = absurd cc
+all_three : (a b c : Bool) → a ≡ true → b ≡ true → c ≡ true → a && b && c ≡ true
+all_three a b c p q r = rw (p, q, r) refl
 
 clash : (b : Bool) → b ≡ false → b ≡ true → ⊥
 clash false other is = absurd cc
@@ -198,10 +193,6 @@ module _ (identity : Identity) (link : Option RelationState) (bytes : List ℕ) 
   no_call own =
       (neither (is_setting link (untagged bytes)) (is_call (untagged bytes)) (second (same (take 6 (untagged bytes)) identity.mac.octets) _ quiet (own_to own))).1
 
-  frame_behind : (n : ℕ) → drop (6 + (6 + (2 + n))) (untagged bytes) ≡ drop n bare.rest
-  frame_behind n =
-      ap (drop (6 + (6 + (2 + n)))) bare.is ∙ skip (6 + (2 + n)) 6 meaning.destination.octets _ bare.to ∙ skip (2 + n) 6 bare.source _ bare.from ∙ skip n 2 bare.type _ bare.two
-
   request_unasking : (id : ℕ) (body : List ℕ) → IsTimely (untagged bytes) id body → is_taken identity meaning.destination id ≡ true
       → (read : Result Asked DcpFault) → request_of id body ≡ read → Unasking (heard_request meaning.source read)
   request_unasking id body it taken (Err why) is = tt
@@ -252,17 +243,12 @@ module _ (identity : Identity) (link : Option RelationState) (bytes : List ℕ) 
   content_unasking (ArpPacket packet) is =
       cond_both (is_own identity meaning.destination || pointwise nat_eq meaning.destination.octets broadcast) _ _ Unasking (λ _. sym sender) (λ _. tt)
   content_unasking (UdpDatagram from to body) is =
-      let typed = datagram_type (big_number 2 bare.type) bare.rest meaning.content from to body is (kind_under (big_number 2 bare.type) bare.rest meaning.content bare.content) in
-      let spells = subst (datagram.Spells bare.rest) is typed.1 in
-      let behind = body_behind bare.rest from to body spells in
-      let to_port = sent_to bare.rest from to body spells in
-      let at : drop 42 (untagged bytes) ≡ body ++ behind.more = frame_behind 28 ∙ behind.is in
+      let it = datagram_is bytes meaning from to body bare is in
       cond_both (is_own identity meaning.destination && to.port == call_port) _ _ Unasking
-      (λ taken. said_unasking (record { mac = meaning.source; endpoint = from }) to.address body behind.more (λ kind.
+      (λ taken. said_unasking (record { mac = meaning.source; endpoint = from }) to.address body it.more (λ kind.
       clash (is_call (untagged bytes)) (no_call (and_parts _ _ taken).0)
-      (all_four (number 12 2 (untagged bytes) == 0x0800) (number 23 1 (untagged bytes) == 17) (number 36 2 (untagged bytes) == 34964) (number 0 2 (drop 42 (untagged bytes)) == 0x0400)
-      (holds _ 0x0800 (frame_type bytes meaning bare ∙ typed.0)) (holds _ 17 (ap (big_number 1) (frame_behind 9) ∙ to_port.protocol))
-      (holds _ 34964 (ap (big_number 2) (frame_behind 22) ∙ to_port.port ∙ tested to.port call_port (and_parts _ _ taken).1)) (holds _ 0x0400 (ap (big_number 2) at ∙ kind)))))
+      (all_three (is_datagram (untagged bytes)) (number 36 2 (untagged bytes) == 34964) (number 0 2 (drop 42 (untagged bytes)) == 0x0400)
+      it.protocol (holds _ 34964 (it.port ∙ tested to.port call_port (and_parts _ _ taken).1)) (holds _ 0x0400 (ap (big_number 2) it.is ∙ kind)))))
       (λ _. tt)
 
 frame_unasking : (identity : Identity) (link : Option RelationState) (bytes : List ℕ) → is_asking identity.mac.octets link (untagged bytes) ≡ false

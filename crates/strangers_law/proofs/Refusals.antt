@@ -70,8 +70,8 @@ uuid_parts representation bytes value rest = by_order (representation / 16 == 1)
     by_order true is spells = record { octets = spells.0; wide = spells.2.0; is = spells.2.1; value_is = sym spells.1 ∙ sym (cond-true _ _ _ is) }
     by_order false is spells = record { octets = value; wide = spells.0; is = spells.1; value_is = sym (cond-false _ _ _ is) }
 
-behind_eight : (a b c d e f g h rest more : List ℕ) → (a ++ (b ++ (c ++ (d ++ (e ++ (f ++ (g ++ (h ++ rest)))))))) ++ more ≡ a ++ (b ++ (c ++ (d ++ (e ++ (f ++ (g ++ (h ++ (rest ++ more))))))))
-behind_eight a b c d e f g h rest more =
+pub after_eight : (a b c d e f g h rest more : List ℕ) → (a ++ (b ++ (c ++ (d ++ (e ++ (f ++ (g ++ (h ++ rest)))))))) ++ more ≡ a ++ (b ++ (c ++ (d ++ (e ++ (f ++ (g ++ (h ++ (rest ++ more))))))))
+after_eight a b c d e f g h rest more =
     append_assoc a _ more ∙ ap (λ l. a ++ l) (append_assoc b _ more ∙ ap (λ l. b ++ l) (append_assoc c _ more ∙ ap (λ l. c ++ l) (append_assoc d _ more ∙ ap (λ l. d ++ l)
     (append_assoc e _ more ∙ ap (λ l. e ++ l) (append_assoc f _ more ∙ ap (λ l. f ++ l) (append_assoc g _ more ∙ ap (λ l. g ++ l) (append_assoc h rest more)))))))
 
@@ -96,12 +96,12 @@ refusal_activity bytes more refusal =
     let representation = parts.2.2.2.2.1 in
     let third = parts.2.2.2.2.2 in
     let read : spells.0.0.representation ≡ big_number 1 representation.0 = ap (λ o. o.representation) (sym opens.1) ∙ representation.3 in
-    let behind = spells.2.2 in
-    let names = behind.1 in
-    let activity = uuid_parts spells.0.0.representation _ _ _ behind.2.1 in
+    let rest_read = spells.2.2 in
+    let names = rest_read.1 in
+    let activity = uuid_parts spells.0.0.representation _ _ _ rest_read.2.1 in
     ap (λ l. activity_of (l ++ more)) (version.2 ∙ ap (λ l. version.0 ++ l) (type.2.1 ∙ ap (λ l. type.0 ++ l) (flags.2 ∙ ap (λ l. flags.0 ++ l) (serial.2.1 ∙ ap (λ l. serial.0 ++ l)
     (representation.2 ∙ ap (λ l. representation.0 ++ l) (third.2.1 ∙ ap (λ l. third.0 ++ l) (names.2.1 ∙ ap (λ l. names.0 ++ l) activity.is)))))))
-    ∙ ap activity_of (behind_eight version.0 type.0 flags.0 serial.0 representation.0 third.0 names.0 activity.octets _ more)
+    ∙ ap activity_of (after_eight version.0 type.0 flags.0 serial.0 representation.0 third.0 names.0 activity.octets _ more)
     ∙ placed version.0 type.0 flags.0 serial.0 representation.0 third.0 names.0 activity.octets _ version.1 type.2.0 flags.1 serial.2.0 representation.1 third.2.0 names.2.0 activity.wide
     ∙ ap (λ r. name_in r activity.octets) (sym read) ∙ sym activity.value_is ∙ ap (λ p. p.activity) spells.1 ∙ same_activity _ refusal three.2)
     (λ _ e. absurd cc)

@@ -23,15 +23,11 @@ use Rattle.rpc_services.proofs.PiecesSound.{head_sound}
 use Rattle.octets_law.specs.Octets.{activity_of, number}
 use Rattle.octets_law.proofs.CallReads.{name_in}
 use Rattle.octets_law.proofs.SetFrames.{number_front}
+use Rattle.strangers_law.proofs.Refusals.{after_eight}
 use Rattle.strangers_law.proofs.Responses.{placed}
 
 two_names : (object interface : List ℕ) → length object ≡ 16 → length interface ≡ 16 → length (object ++ interface) ≡ 32
 two_names object interface o i = length-append object interface ∙ omega (arith, o, i)
-
-behind_eight : (a b c d e f g h rest more : List ℕ) → (a ++ (b ++ (c ++ (d ++ (e ++ (f ++ (g ++ (h ++ rest)))))))) ++ more ≡ a ++ (b ++ (c ++ (d ++ (e ++ (f ++ (g ++ (h ++ (rest ++ more))))))))
-behind_eight a b c d e f g h rest more =
-    append_assoc a _ more ∙ ap (λ l. a ++ l) (append_assoc b _ more ∙ ap (λ l. b ++ l) (append_assoc c _ more ∙ ap (λ l. c ++ l) (append_assoc d _ more ∙ ap (λ l. d ++ l)
-    (append_assoc e _ more ∙ ap (λ l. e ++ l) (append_assoc f _ more ∙ ap (λ l. f ++ l) (append_assoc g _ more ∙ ap (λ l. g ++ l) (append_assoc h rest more)))))))
 
 -- ---- a header that was read
 
@@ -72,7 +68,7 @@ spelled bytes h rest spells =
         activity = subst (λ (n : Names). length n.activity ≡ 16) names_is activity.0;
       };
       activity = λ more. ap (λ l. activity_of (l ++ more)) octets
-          ∙ ap activity_of (behind_eight version.0 type.0 flags.0 serial.0 representation.0 third.0 (named.0.0 ++ named.0.1.0) named.0.1.1 _ more)
+          ∙ ap activity_of (after_eight version.0 type.0 flags.0 serial.0 representation.0 third.0 (named.0.0 ++ named.0.1.0) named.0.1.1 _ more)
           ∙ placed version.0 type.0 flags.0 serial.0 representation.0 third.0 (named.0.0 ++ named.0.1.0) named.0.1.1 _ version.1 type.1 flags.1 serial.2.0 representation.1 third.2.0
           (two_names named.0.0 named.0.1.0 object.0 interface.0) activity.0
           ∙ ap (λ r. name_in r named.0.1.1) read ∙ ap (λ (n : Names). name_in h.opening.representation n.activity) names_is;
@@ -86,16 +82,16 @@ head_is bytes h rest e = spelled bytes h rest (head_sound.takes bytes h rest e)
 pub written : (h : Head) (more : List ℕ) → AreNames h → h.opening.representation < 256 → activity_of (head.write h [] ++ more) ≡ name_in h.opening.representation h.names.activity
 unfolding head opening names
 written h more are small =
-    let behind = (turn (is_little h.opening.representation)).write h.turn ((extent (is_little h.opening.representation)).write h.extent []) in
+    let rest_written = (turn (is_little h.opening.representation)).write h.turn ((extent (is_little h.opening.representation)).write h.extent []) in
     let octets : head.write h [] ≡ big_bytes 1 4 ++ (big_bytes 1 h.opening.packet_type ++ (big_bytes 1 h.opening.flags ++ ((0 ∷ []) ++ (big_bytes 1 h.opening.representation ++ ((0 ∷ 0 ∷ 0 ∷ [])
-    ++ ((h.names.object ++ h.names.interface) ++ (h.names.activity ++ behind))))))) =
+    ++ ((h.names.object ++ h.names.interface) ++ (h.names.activity ++ rest_written))))))) =
     ap (λ l. big_bytes 1 4 ++ (big_bytes 1 h.opening.packet_type ++ (big_bytes 1 h.opening.flags ++ ((0 ∷ []) ++ (big_bytes 1 h.opening.representation ++ ((0 ∷ 0 ∷ 0 ∷ []) ++ l))))))
-    (sym (append_assoc h.names.object h.names.interface (h.names.activity ++ behind))) in
+    (sym (append_assoc h.names.object h.names.interface (h.names.activity ++ rest_written))) in
     ap (λ l. activity_of (l ++ more)) octets
-    ∙ ap activity_of (behind_eight (big_bytes 1 4) (big_bytes 1 h.opening.packet_type) (big_bytes 1 h.opening.flags) (0 ∷ []) (big_bytes 1 h.opening.representation) (0 ∷ 0 ∷ 0 ∷ [])
-    (h.names.object ++ h.names.interface) h.names.activity behind more)
+    ∙ ap activity_of (after_eight (big_bytes 1 4) (big_bytes 1 h.opening.packet_type) (big_bytes 1 h.opening.flags) (0 ∷ []) (big_bytes 1 h.opening.representation) (0 ∷ 0 ∷ 0 ∷ [])
+    (h.names.object ++ h.names.interface) h.names.activity rest_written more)
     ∙ placed (big_bytes 1 4) (big_bytes 1 h.opening.packet_type) (big_bytes 1 h.opening.flags) (0 ∷ []) (big_bytes 1 h.opening.representation) (0 ∷ 0 ∷ 0 ∷ [])
-    (h.names.object ++ h.names.interface) h.names.activity (behind ++ more) refl refl refl refl refl refl (two_names h.names.object h.names.interface are.object are.interface) are.activity
+    (h.names.object ++ h.names.interface) h.names.activity (rest_written ++ more) refl refl refl refl refl refl (two_names h.names.object h.names.interface are.object are.interface) are.activity
     ∙ ap (λ r. name_in r h.names.activity) (number_front 1 h.opening.representation [] small)
 
 sixteen : (n : ℕ) → n / 16 * 16 / 16 ≡ n / 16
@@ -140,7 +136,7 @@ headed responds body tail h answer type is order names_is representation kind ca
       ∙ sym (is.activity other);
 }
 
--- The refusal of a call that nobody serves, and the answer to a ping.
+-- The refusal of a call to an unknown interface or operation, and the answer to a ping.
 refused : (body tail : List ℕ) (h : Head) (refusal : Refusal) → IsHead body h → nat_lt (h.opening.representation / 16) 2 ≡ true → Replies false body (answer_bytes h refusal)
 unfolding answer_bytes
 refused body tail h NoCall is order =

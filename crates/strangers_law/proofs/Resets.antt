@@ -21,7 +21,7 @@ use Rattle.octets_law.proofs.Bare.{IsBare, bare_of}
 use Rattle.octets_law.proofs.Datagrams.{kind_under}
 use Rattle.octets_law.proofs.EventSteps.{datagram_type, frame_type}
 use Rattle.octets_law.proofs.FrameSteps.{frame_timely}
-use Rattle.strangers_law.specs.Strange.{Marks, belongs, is_alarm_of, is_cyclic_of, is_reset, is_said_of, same}
+use Rattle.strangers_law.specs.Strange.{Marks, belongs, is_alarm_of, is_cyclic_of, is_datagram, is_reset, is_said_of, same}
 use Rattle.strangers_law.specs.Silence.{is_frame_of}
 use Rattle.strangers_law.proofs.Clocks.{IsBeside}
 
@@ -79,7 +79,7 @@ pub reset_beside : (identity : Identity) (station : List ℕ) (marks : Marks) (b
 reset_beside identity station marks bytes other is =
     let reset : is_reset (untagged bytes) ≡ true =
     only_reset (same (take 6 (untagged bytes)) station) (is_cyclic_of marks (untagged bytes)) (is_alarm_of marks (untagged bytes)) (is_reset (untagged bytes))
-    (number 12 2 (untagged bytes) == 0x0800 && is_said_of marks (drop 42 (untagged bytes))) other is in
+    (is_datagram (untagged bytes) && is_said_of marks (drop 42 (untagged bytes))) other is in
     let set = (and_parts (is_dcp 0xFEFD 4 0 (untagged bytes)) _ reset).0 in
     let three = (and_parts (number 12 2 (untagged bytes) == 0x8892 && number 14 2 (untagged bytes) == 0xFEFD && number 16 1 (untagged bytes) == 4) _ set).0 in
     let two = (and_parts (number 12 2 (untagged bytes) == 0x8892 && number 14 2 (untagged bytes) == 0xFEFD) _ three).0 in

@@ -12,7 +12,7 @@ use Rattle.octets_law.proofs.CallReads.{name_in, name_parts}
 use Rattle.octets_law.proofs.SetFrames.{take_front}
 use Rattle.octets_law.proofs.SetReads.{one_octet}
 
--- The activity, where the octets before it have these lengths.
+-- The activity, if the octets before it have these lengths.
 pub placed : (version type flags serial representation third names activity rest : List ℕ) → length version ≡ 1 → length type ≡ 1 → length flags ≡ 1
     → length serial ≡ 1 → length representation ≡ 1 → length third ≡ 3 → length names ≡ 32 → length activity ≡ 16
     → activity_of (version ++ (type ++ (flags ++ (serial ++ (representation ++ (third ++ (names ++ (activity ++ rest))))))))
@@ -33,7 +33,7 @@ placed version type flags serial representation third names activity rest p q r 
     ap (λ l. name_in (z * 1 + 0) (take 16 l)) (skip 0 32 names (activity ++ rest) n)
     ∙ ap (name_in (z * 1 + 0)) (subst (λ n. take n (activity ++ rest) ≡ activity) a (take_front activity rest))))))))
 
-two_names : (object interface : List ℕ) → length object ≡ 16 → length interface ≡ 16 → length (object ++ interface) ≡ 32
+pub two_names : (object interface : List ℕ) → length object ≡ 16 → length interface ≡ 16 → length (object ++ interface) ≡ 32
 two_names object interface o i = length-append object interface ∙ omega arith
 
 header_known : (blocks : Option (List ℕ)) (header : CallHeader) (status : Status) (maximum : ℕ) (meaning : Answered)

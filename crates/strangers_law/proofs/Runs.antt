@@ -7,12 +7,12 @@ use Rattle.relations.specs.RelationState.{RelationState}
 use Rattle.controller_core.specs.declared.stored.event.Event.TheVariants as controller
 use Rattle.network_world.specs.declared.moves.End.{End}
 use Rattle.network_world.specs.declared.moves.End.TheVariants.{Device, Controller}
-use Rattle.network_world.specs.World.{World, at_controller}
+use Rattle.network_world.specs.World.{AreMade, at_controller, last_world, World}
 use Rattle.octets_law.specs.Octets.{part, untagged}
 use Rattle.strangers_law.specs.Controller.{belongs_to}
 use Rattle.strangers_law.specs.Device.{marks_of}
 use Rattle.strangers_law.specs.Quiet.{is_asking, is_quiet_stranger}
-use Rattle.strangers_law.specs.Runs.{AnswersAreStrangers, AreMade, AreMadeAmong, Happening, HappensAmong, IsOfNeither, IsRunAlone, IsStrangerTo, Own, Takes, Stranger, last_among, last_world, own_in}
+use Rattle.strangers_law.specs.Runs.{AnswersAreStrangers, AreMadeAmong, Happening, HappensAmong, IsOfNeither, IsRunAlone, IsStrangerTo, Own, Takes, Stranger, last_among, own_in}
 use Rattle.strangers_law.specs.Strange.{belongs, same}
 use Rattle.strangers_law.proofs.Controllers.{leaves_controllers}
 use Rattle.strangers_law.proofs.Quiet.{answers_senders, leaves_devices}

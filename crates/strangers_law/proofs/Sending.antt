@@ -1,5 +1,5 @@
 -- What a device sends to a stranger: no cyclic frame, no alarm and no call.
-use Rattle.std.proofs.Common.{◌≡◌, subst, ◌⊎◌, inl, inr, ◌==◌, ◌&&◌, ◌||◌, ◌+◌, ℕ, Bool, true, false, List, [], ◌∷◌, ◌++◌, drop, map, Option, None, Ok, refl, ap, ◌∙◌}
+use Rattle.std.proofs.Common.{◌≡◌, subst, ◌⊎◌, inl, inr, ◌==◌, ◌&&◌, ◌||◌, ℕ, Bool, true, false, List, [], ◌∷◌, ◌++◌, drop, map, Option, None, Ok, refl, ap, ◌∙◌}
 use Rattle.std.proofs.lemmas.List.{append-nil}
 use Rattle.std.specs.List.{AllByRecursion}
 use Rattle.byteorder.specs.Endian.{big_number}
@@ -9,7 +9,7 @@ use Rattle.frame_codec.specs.declared.arp.Arp.{Arp}
 use Rattle.frame_codec.specs.declared.udp.Endpoint.{Endpoint}
 use Rattle.rpc_core.specs.Sendable.{CanBeAnswered}
 use Rattle.frame_codec.specs.FrameId.{is_alarm, is_cyclic}
-use Rattle.frame_codec.specs.Frame.{datagram, frame_bytes, frame_of, padding_of}
+use Rattle.frame_codec.specs.Frame.{frame_bytes, frame_of, padding_of}
 use Rattle.frame_codec.specs.Meaning.{Meaning, ArpPacket, RealTime, UdpDatagram}
 use Rattle.frame_codec.specs.Sendable.{CanBeSent, carrying}
 use Rattle.frame_codec.proofs.Frames.{frame_takes}
@@ -19,13 +19,13 @@ use Rattle.device_frames.specs.Sent.{Sent, IdentifyAnswer, GetAnswer, SetAnswer,
 use Rattle.device_frames.specs.Sendable.{AreSendable, IsSendable}
 use Rattle.octets_law.specs.Octets.{number, untagged}
 use Rattle.octets_law.proofs.Bare.{bare_of}
-use Rattle.octets_law.proofs.CallPlaces.{skip}
-use Rattle.octets_law.proofs.Datagrams.{body_behind, kind_under}
-use Rattle.octets_law.proofs.EventSteps.{arp_type, datagram_type, frame_type}
+use Rattle.octets_law.proofs.Datagrams.{kind_under}
+use Rattle.octets_law.proofs.EventSteps.{arp_type, frame_type}
 use Rattle.octets_law.proofs.FrameSteps.{frame_timely}
 use Rattle.octets_law.proofs.Responses.{response_kind}
 use Rattle.strangers_law.specs.Device.{IsIn, IsNoExchange}
 use Rattle.strangers_law.specs.Strange.{is_of_exchange}
+use Rattle.strangers_law.proofs.Ports.{datagram_is}
 use Rattle.strangers_law.proofs.Remaining.{IsAnswer}
 
 -- What decides: EtherType, FrameID, and the first octets of a datagram.
@@ -54,12 +54,9 @@ pub datagram_quiet : (frame : List ℕ) (meaning : Meaning) (from to : Endpoint)
     → response_of body ≡ Ok answer → IsNoExchange frame
 datagram_quiet frame meaning from to body answer read is says =
     let bare = bare_of frame meaning (frame_takes frame meaning read).spelled in
-    let typed = datagram_type (big_number 2 bare.type) bare.rest meaning.content from to body is (kind_under (big_number 2 bare.type) bare.rest meaning.content bare.content) in
-    let behind = body_behind bare.rest from to body (subst (datagram.Spells bare.rest) is typed.1) in
-    let at : drop (6 + (6 + (2 + 28))) (untagged frame) ≡ body ++ behind.more =
-    ap (drop (6 + (6 + (2 + 28)))) bare.is ∙ skip (6 + (2 + 28)) 6 meaning.destination.octets _ bare.to ∙ skip (2 + 28) 6 bare.source _ bare.from ∙ skip 28 2 bare.type _ bare.two ∙ behind.is in
-    decided (untagged frame) 0x0800 _ _ 0x0402 (frame_type frame meaning bare ∙ typed.0) refl refl
-    (ap (number 0 2) at ∙ response_kind (body ++ behind.more) answer (response_behind body behind.more answer (response_takes body answer says))) (other_kind (number 23 1 (untagged frame) == 17))
+    let it = datagram_is frame meaning from to body bare is in
+    decided (untagged frame) 0x0800 _ _ 0x0402 it.type refl refl
+    (ap (number 0 2) it.is ∙ response_kind (body ++ it.more) answer (response_behind body it.more answer (response_takes body answer says))) (other_kind (number 23 1 (untagged frame) == 17))
   where
     other_kind : (b : Bool) → b && false ≡ false
     other_kind true = refl

@@ -1,4 +1,4 @@
--- The sizes of what the services of a station keep.
+-- The sizes of what the services of a station keep, and of what those beside a controller keep.
 use Rattle.std.proofs.Common.{◌≡◌, ℕ, zero, suc, List, [], ◌∷◌, length, map, set, Option, None, Some, Result, Ok, Err, refl, sym, ap, subst, ◌∙◌}
 use Rattle.std.proofs.lemmas.Bool.{cond_both}
 use Rattle.std.specs.List.{AllByRecursion}
@@ -25,7 +25,12 @@ use Rattle.device_frames.specs.declared.event.Event.TheVariants.{Frame, Call as 
 use Rattle.device_frames.specs.declared.note.Note.{Note}
 use Rattle.station.specs.Beside.{Beside, beside, event_beside, is_dropped}
 use Rattle.station.specs.Serving.{Serving, after_piece, met, observed, overheard, pieced}
-use Rattle.strangers_law.specs.Beside.{HaveSizes, IsHeaded, SizesAreKept}
+use Rattle.controller_core.specs.declared.stored.event.Event.{Event as ControllerEvent}
+use Rattle.controller_core.specs.declared.stored.event.Event.TheVariants as said
+use Rattle.controller_core.specs.Machine.{step_of}
+use Rattle.controller_station.specs.Beside as with
+use Rattle.controller_station.specs.Served.{after_frame, services_after}
+use Rattle.strangers_law.specs.Beside.{AddressesAreKept, HaveAddresses, HaveSizes, IsHeaded, SizesAreKept}
 use Rattle.strangers_law.proofs.Unasked.{IsPiece, get_headed, piece_is, told_sizes}
 
 -- ---- the services of the IP address keep their MAC address
@@ -137,4 +142,31 @@ sizes_are_kept as_flash = record {
       subst HaveSizes (sym takes.steps.knows)
       (beside_sizes takes.between.device.station.identity takes.between.services takes.steps.middle.live.values takes.steps.note event
       (subst HaveSizes (sym takes.ready.services) (told_sizes old.device.station old.device.live old.services old.services.has_news sizes)));
+}
+
+-- ---- beside a controller
+
+frame_addresses : (services : with.Beside) (octets : List ℕ) (frames : List (List ℕ)) → HaveAddresses services
+    → HaveAddresses (after_frame services octets frames)
+frame_addresses services octets [] addresses =
+    cond_both (with.is_real_time (frame_of octets)) _ _ HaveAddresses (λ _. addresses) (λ _. record {
+      ip = ap (λ (m : Mac). length m.octets) (heard_mac services.ip octets) ∙ addresses.ip;
+      near = ap (λ (m : Mac). length m.octets) (near_mac services.near octets) ∙ addresses.near;
+    })
+frame_addresses services octets (frame ∷ frames) addresses = addresses
+
+event_addresses : (services : with.Beside) (event : ControllerEvent) (frames : List (List ℕ)) → HaveAddresses services
+    → HaveAddresses (services_after services event frames)
+event_addresses services (said.Frame octets) frames addresses = frame_addresses services octets.items frames addresses
+event_addresses services said.Tick frames addresses = record { ip = addresses.ip; near = addresses.near }
+event_addresses services (said.Give slot subslot value) frames addresses = addresses
+event_addresses services (said.Status slot subslot is_good) frames addresses = addresses
+event_addresses services (said.Read slot subslot index) frames addresses = addresses
+event_addresses services (said.Write slot subslot index octets) frames addresses = addresses
+event_addresses services said.Stop frames addresses = addresses
+
+pub addresses_are_kept : AddressesAreKept
+addresses_are_kept = record {
+  first = λ setup mac. record { ip = mac; near = mac };
+  kept = λ served event addresses. event_addresses served.services event (step_of served.controller event).frames addresses;
 }

@@ -17,7 +17,7 @@ use Rattle.services.specs.Answer.{Call, answer_to, call_in}
 use Rattle.rpc_services.specs.declared.pieces.piece.Kind.{Kind}
 use Rattle.rpc_services.specs.pieces.Piece.{Piece, is_piece, piece_by, piece_of}
 use Rattle.rpc_services.specs.pieces.State as calls
-use Rattle.rpc_services.specs.pieces.State.{Unfinished, Outcome, Nothing, Drops, Waits, Joined, acknowledged, at_place, begun, blank, completes, continued, fack_bytes, fack_head, fack_of, fresh, heard_as, is_next, outcome_by, outcome_of, place_in, starts, whole_bytes, whole_head}
+use Rattle.rpc_services.specs.pieces.State.{Unfinished, Outcome, Nothing, Drops, Waits, Joined, acknowledged, at_place, begun, blank, completes, continued, fack_bytes, fack_head, heard_as, is_next, outcome_by, outcome_of, place_in, starts, whole_bytes, whole_head}
 use Rattle.rpc_services.specs.endpoint_mapper.Mapper.{mapped_frame}
 use Rattle.lldp.specs.Announcement as lldp
 use Rattle.lldp.specs.State as near
@@ -36,17 +36,14 @@ use Rattle.controller_core.specs.declared.stored.event.Event.TheVariants as said
 use Rattle.controller_core.specs.Machine.{step_of}
 use Rattle.controller_core.specs.stored.State.{Controlling}
 use Rattle.controller_station.specs.Beside as with
-use Rattle.controller_station.specs.Served.{Served, beside_frame}
+use Rattle.controller_station.specs.Served.{beside_frame}
 use Rattle.controller_station.specs.Served as served
-use Rattle.octets_law.specs.Octets.{activity_of, number, untagged}
+use Rattle.octets_law.specs.Octets.{activity_of}
 use Rattle.octets_law.proofs.CallReads.{name_in, tested}
 use Rattle.octets_law.proofs.Repeats.{same_octets}
-use Rattle.strangers_law.specs.Beside.{AreStrangeAt, AreStrangeTo, HaveAddresses, HaveSizes, IsHeaded, IsUnsaidAt, IsUnsaidTo, ServicesLeaveControllers, ServicesLeaveDevices, carried_by, padded}
-use Rattle.strangers_law.specs.Controller.{belongs_to}
-use Rattle.strangers_law.specs.Device.{marks_of}
-use Rattle.strangers_law.specs.Strange.{Marks, belongs, is_said_of}
+use Rattle.strangers_law.specs.Beside.{AreQuietAt, AreStrangeTo, HaveAddresses, HaveSizes, IsHeaded, IsNoPacketOf, ServicesLeaveControllers, ServicesLeaveDevices}
 use Rattle.strangers_law.proofs.Answering.{Fate, Fates, answering, call_is, fate_at, fate_to, mapping_frame, replying}
-use Rattle.strangers_law.proofs.Layers.{arp_typed, lldp_typed, strange_at, strange_to}
+use Rattle.strangers_law.proofs.Layers.{IsOther, arp_other, lldp_other, other_at, other_to}
 use Rattle.strangers_law.proofs.Replying.{IsHead, Replies, head_is, headed, unserved, written}
 
 some_is : {A : Type 0} (one other : A) → Some one ≡ Some other → one ≡ other
@@ -165,35 +162,47 @@ outcome_replies state body all = by_piece (piece_of state.kind body) refl
 -- ---- what is answered to a frame
 
 module _ (identity : Identity) (services : Serving) (heard : List ℕ) (sizes : HaveSizes services) where
-  replied_fates : (frame : List ℕ) → replied identity services heard ≡ Some frame → Fates heard frame
+  abbrev IsFated : List ℕ → Type 0
+  IsFated frame = Fates services.ip.mac.octets heard frame
+
+  replied_fates : (frame : List ℕ) → replied identity services heard ≡ Some frame → IsFated frame
   replied_fates frame e = by_answer (answer_to services.ip heard) refl e
     where
-      by_answer : (answer : Option (List ℕ)) → answer_to services.ip heard ≡ answer → or_else answer (mapped_frame services.ip identity heard) ≡ Some frame → Fates heard frame
+      by_answer : (answer : Option (List ℕ)) → answer_to services.ip heard ≡ answer → or_else answer (mapped_frame services.ip identity heard) ≡ Some frame → IsFated frame
       by_answer None is e = mapping_frame services.ip identity heard frame sizes.ip e
       by_answer (Some answer) is e = (false, answering services.ip heard frame sizes.ip (is ∙ e))
 
   by_outcome : (frame : List ℕ) (call : Call) → call_in services.ip heard ≡ Some call → (outcome : Outcome) → OutcomeReplies call.body outcome
-      → answer_by (piece_for services call outcome) (replied identity services heard) ≡ Some frame → Fates heard frame
+      → answer_by (piece_for services call outcome) (replied identity services heard) ≡ Some frame → IsFated frame
   by_outcome frame call is Nothing replies e = replied_fates frame e
   by_outcome frame call is (Drops None) replies e = replied_fates frame e
-  by_outcome frame call is (Drops (Some fack)) replies e =
-      (false, subst (Fate false heard) (some_is _ _ e) (replying false services.ip heard call fack sizes.ip (call_is services.ip heard call is) replies))
+  by_outcome frame call is (Drops (Some fack)) replies e = (
+    false,
+    subst (Fate false services.ip.mac.octets heard) (some_is _ _ e)
+        (replying false services.ip heard call fack sizes.ip (call_is services.ip heard call is) replies),
+  )
   by_outcome frame call is (Waits None) replies e = absurd cc
-  by_outcome frame call is (Waits (Some fack)) replies e =
-      (false, subst (Fate false heard) (some_is _ _ e) (replying false services.ip heard call fack sizes.ip (call_is services.ip heard call is) replies))
+  by_outcome frame call is (Waits (Some fack)) replies e = (
+    false,
+    subst (Fate false services.ip.mac.octets heard) (some_is _ _ e)
+        (replying false services.ip heard call fack sizes.ip (call_is services.ip heard call is) replies),
+  )
   by_outcome frame call is (Joined octets) replies e = by_refusal (unserved_answer octets) refl e
     where
       by_refusal : (refusal : Option (List ℕ)) → unserved_answer octets ≡ refusal
           → answer_by (completed_or (Given (record { mac = call.source; endpoint = call.caller }) services.ip.address (record { items = octets })) (option_map (reply_to services call) refusal))
-          (replied identity services heard) ≡ Some frame → Fates heard frame
+          (replied identity services heard) ≡ Some frame → IsFated frame
       by_refusal None says e = absurd cc
-      by_refusal (Some refusal) says e =
-          (false, subst (Fate false heard) (some_is _ _ e) (replying false services.ip heard call refusal sizes.ip (call_is services.ip heard call is) (replies refusal says)))
+      by_refusal (Some refusal) says e = (
+        false,
+        subst (Fate false services.ip.mac.octets heard) (some_is _ _ e)
+            (replying false services.ip heard call refusal sizes.ip (call_is services.ip heard call is) (replies refusal says)),
+      )
 
-  answered_fates : (frame : List ℕ) → answered identity services heard ≡ Some frame → Fates heard frame
+  answered_fates : (frame : List ℕ) → answered identity services heard ≡ Some frame → IsFated frame
   answered_fates frame e = by_call (call_in services.ip heard) refl e
     where
-      by_call : (call : Option Call) → call_in services.ip heard ≡ call → answer_by (piece_from services call) (replied identity services heard) ≡ Some frame → Fates heard frame
+      by_call : (call : Option Call) → call_in services.ip heard ≡ call → answer_by (piece_from services call) (replied identity services heard) ≡ Some frame → IsFated frame
       by_call None is e = replied_fates frame e
       by_call (Some call) is e =
           by_outcome frame call is (heard_as services.pieces call.body) (outcome_replies services.pieces call.body sizes.calls) e
@@ -208,83 +217,80 @@ all_both : (Q : List ℕ → Type 0) (frames others : List (List ℕ)) → AllBy
 all_both Q [] others one other = other
 all_both Q (frame ∷ frames) others one other = (one.0, all_both Q frames others one.1 other)
 
-abbrev IsTypedOther : List ℕ → Type 0
-IsTypedOther frame = (type : ℕ) × (number 12 2 (untagged frame) ≡ type) × ((type == 0x8892) ≡ false) × ((type == 0x0800) ≡ false)
-
-ip_ticks : (Q : List ℕ → Type 0) (state : ip.State) → length state.mac.octets ≡ 6 → ((frame : List ℕ) → IsTypedOther frame → Q frame) → AllByRecursion Q (ip.frames_in (ip.sent_by_tick state))
+ip_ticks : (Q : List ℕ → Type 0) (state : ip.State) → length state.mac.octets ≡ 6 → ((frame : List ℕ) → IsOther frame → Q frame)
+    → AllByRecursion Q (ip.frames_in (ip.sent_by_tick state))
 ip_ticks Q state mac other =
     cond_both (ip.announces state) _ _ (λ (o : Option (List ℕ)). AllByRecursion Q (ip.frames_in o))
-    (λ _. (other _ (0x0806, arp_typed (record { octets = ip.broadcast }) state.mac _ refl mac, refl, refl), tt)) (λ _. tt)
+    (λ _. (other _ (arp_other (record { octets = ip.broadcast }) state.mac _ refl mac), tt)) (λ _. tt)
 
-lldp_ticks : (Q : List ℕ → Type 0) (b : Bool) (station : lldp.Station) → length station.mac.octets ≡ 6 → ((frame : List ℕ) → IsTypedOther frame → Q frame)
+lldp_ticks : (Q : List ℕ → Type 0) (b : Bool) (station : lldp.Station) → length station.mac.octets ≡ 6 → ((frame : List ℕ) → IsOther frame → Q frame)
     → AllByRecursion Q (if b then lldp.announcement station ∷ [] else [])
-lldp_ticks Q true station mac other = (other _ (0x88CC, lldp_typed station mac, refl, refl), tt)
+lldp_ticks Q true station mac other = (other _ (lldp_other station mac), tt)
 lldp_ticks Q false station mac other = tt
-
-behind_false : (b : Bool) (c : Bool) → b ≡ false → (b && c) ≡ false
-behind_false b c e = rw e refl
-
-other_to : (controlling : Controlling) (frame : List ℕ) → IsTypedOther frame → belongs_to controlling (untagged frame) ≡ false
-other_to controlling frame it =
-    strange_to controlling (untagged frame) (ap (λ n. n == 0x8892) it.1 ∙ it.2) (behind_false _ _ (ap (λ n. n == 0x0800) it.1 ∙ it.3))
-
-other_at : (station : List ℕ) (marks : Marks) (frame : List ℕ) → IsTypedOther frame → belongs station marks (untagged frame) ≡ false
-other_at station marks frame it =
-    strange_at station marks (untagged frame) (ap (λ n. n == 0x8892) it.1 ∙ it.2) (behind_false _ _ (ap (λ n. n == 0x0800) it.1 ∙ it.3))
 
 -- ---- the services beside a device
 
 module _ (controlling : Controlling) (identity : Identity) (services : Serving) (sizes : HaveSizes services) (note : Note) where
-  event_strange : (event : Event) → IsUnsaidTo controlling event → AreStrangeTo controlling (event_beside identity services note event).sent
-  event_strange (Frame bytes) unsaid =
+  event_strange : (event : Event) → IsNoPacketOf controlling services.ip.mac.octets event
+      → AreStrangeTo controlling (event_beside identity services note event).sent
+  event_strange (Frame bytes) other =
       all_in _ (answer_beside identity services note bytes.items) (λ frame e.
-      let it : Fates bytes.items frame =
-      cond_both (is_dropped note) _ _ (λ (o : Option (List ℕ)). o ≡ Some frame → Fates bytes.items frame)
+      let it : Fates services.ip.mac.octets bytes.items frame =
+      cond_both (is_dropped note) _ _ (λ (o : Option (List ℕ)). o ≡ Some frame → Fates services.ip.mac.octets bytes.items frame)
       (λ _ e. answered_fates identity services bytes.items sizes frame e) (λ _ e. absurd cc) e in
-      fate_to controlling it.0 bytes.items frame unsaid it.1)
-  event_strange Tick unsaid =
+      fate_to controlling it.0 services.ip.mac.octets bytes.items frame other it.1)
+  event_strange Tick other =
       all_both _ _ _ (ip_ticks _ services.ip sizes.ip (other_to controlling)) (lldp_ticks _ (announces services) (said_of services) sizes.near (other_to controlling))
-  event_strange (Given caller address octets) unsaid = tt
-  event_strange (Input slot subslot value) unsaid = tt
-  event_strange (Alarm slot subslot octets) unsaid = tt
-  event_strange (Status slot subslot is_good) unsaid = tt
-  event_strange (Neighbour neighbour) unsaid = tt
-  event_strange (Diagnosis slot subslot channel error appears) unsaid = tt
-  event_strange Ready unsaid = tt
+  event_strange (Given caller address octets) other = tt
+  event_strange (Input slot subslot value) other = tt
+  event_strange (Alarm slot subslot octets) other = tt
+  event_strange (Status slot subslot is_good) other = tt
+  event_strange (Neighbour neighbour) other = tt
+  event_strange (Diagnosis slot subslot channel error appears) other = tt
+  event_strange Ready other = tt
 
-  beside_strange : (values : Values) (event : Event) → IsUnsaidTo controlling event → AreStrangeTo controlling (beside identity services values note event).sent
-  beside_strange values event unsaid =
-      cond_both values.is_lost _ _ (λ (b : Beside). AreStrangeTo controlling b.sent) (λ _. tt) (λ _. event_strange event unsaid)
+  beside_strange : (values : Values) (event : Event) → IsNoPacketOf controlling services.ip.mac.octets event
+      → AreStrangeTo controlling (beside identity services values note event).sent
+  beside_strange values event other =
+      cond_both values.is_lost _ _ (λ (b : Beside). AreStrangeTo controlling b.sent) (λ _. tt) (λ _. event_strange event other)
 
 pub told_sizes : (station : Station) (live : Live) (services : Serving) (news : Bool) → HaveSizes services → HaveSizes (told_if news station live services).services
 unfolding heard_of heard_step handled_step
 told_sizes station live services true sizes = record { ip = sizes.ip; near = sizes.near; calls = sizes.calls }
 told_sizes station live services false sizes = sizes
 
+told_mac : (station : Station) (live : Live) (services : Serving) (news : Bool) → (told_if news station live services).services.ip ≡ services.ip
+unfolding heard_of heard_step handled_step
+told_mac station live services true = refl
+told_mac station live services false = refl
+
 pub services_leave_controllers : {F : Type 0} {S : ℕ} (as_flash : Flash F S) → ServicesLeaveControllers as_flash
-services_leave_controllers as_flash old new event frames said controlling takes sizes unsaid =
+services_leave_controllers as_flash old new event frames said controlling takes sizes other =
     let between = subst HaveSizes (sym takes.ready.services) (told_sizes old.device.station old.device.live old.services old.services.has_news sizes) in
+    let same : takes.between.services.ip ≡ old.services.ip =
+    ap (λ (s : Serving). s.ip) takes.ready.services ∙ told_mac old.device.station old.device.live old.services old.services.has_news in
     subst (AreStrangeTo controlling) (sym takes.steps.sends)
-    (beside_strange controlling takes.between.device.station.identity takes.between.services between takes.steps.note takes.steps.middle.live.values event unsaid)
+    (beside_strange controlling takes.between.device.station.identity takes.between.services between takes.steps.note takes.steps.middle.live.values event
+    (subst (λ (s : ip.State). IsNoPacketOf controlling s.mac.octets event) (sym same) other))
 
 -- ---- the services beside a controller
 
-module _ (station : List ℕ) (link : RelationState) (services : with.Beside) (sizes : HaveAddresses services) where
-  frame_strange : (heard : List ℕ) (frames : List (List ℕ)) → ((size : ℕ) → is_said_of (marks_of link) (padded size (carried_by heard)) ≡ false)
-      → AreStrangeAt station link (beside_frame services heard frames)
-  frame_strange heard [] unsaid = all_in _ (answer_to services.ip heard) (λ frame e. fate_at station (marks_of link) heard frame unsaid (answering services.ip heard frame sizes.ip e))
-  frame_strange heard (frame ∷ frames) unsaid = tt
+module _ (station : List ℕ) (link : Option RelationState) (services : with.Beside) (sizes : HaveAddresses services) where
+  frame_quiet : (heard : List ℕ) (frames : List (List ℕ)) → AreQuietAt station link (beside_frame services heard frames)
+  frame_quiet heard [] =
+      all_in _ (answer_to services.ip heard) (λ frame e. fate_at station link services.ip.mac.octets heard frame (answering services.ip heard frame sizes.ip e))
+  frame_quiet heard (frame ∷ frames) = tt
 
-  event_at : (event : ControllerEvent) (frames : List (List ℕ)) → IsUnsaidAt link event → AreStrangeAt station link (served.beside services event frames)
-  event_at (said.Frame octets) frames unsaid = frame_strange octets.items frames unsaid
-  event_at said.Tick frames unsaid =
-      all_both _ _ _ (ip_ticks _ services.ip sizes.ip (other_at station (marks_of link)))
-      (lldp_ticks _ (near.is_sending services.near) (with.said_of services) sizes.near (other_at station (marks_of link)))
-  event_at (said.Give slot subslot value) frames unsaid = tt
-  event_at (said.Status slot subslot is_good) frames unsaid = tt
-  event_at (said.Read slot subslot index) frames unsaid = tt
-  event_at (said.Write slot subslot index octets) frames unsaid = tt
-  event_at said.Stop frames unsaid = tt
+  event_quiet : (event : ControllerEvent) (frames : List (List ℕ)) → AreQuietAt station link (served.beside services event frames)
+  event_quiet (said.Frame octets) frames = frame_quiet octets.items frames
+  event_quiet said.Tick frames =
+      all_both _ _ _ (ip_ticks _ services.ip sizes.ip (other_at station link))
+      (lldp_ticks _ (near.is_sending services.near) (with.said_of services) sizes.near (other_at station link))
+  event_quiet (said.Give slot subslot value) frames = tt
+  event_quiet (said.Status slot subslot is_good) frames = tt
+  event_quiet (said.Read slot subslot index) frames = tt
+  event_quiet (said.Write slot subslot index octets) frames = tt
+  event_quiet said.Stop frames = tt
 
 pub services_leave_devices : ServicesLeaveDevices
-services_leave_devices served event station link sizes unsaid = event_at station link served.services sizes event (step_of served.controller event).frames unsaid
+services_leave_devices served event station link sizes = event_quiet station link served.services sizes event (step_of served.controller event).frames

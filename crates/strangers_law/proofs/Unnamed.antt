@@ -48,14 +48,17 @@ use Rattle.octets_law.proofs.WriteCalls.{bind_ok, fault_ok}
 pub unnamed : (link : RelationState) (blocks uuid : List ℕ) → Names link blocks ≡ false → part 8 16 blocks ≡ uuid → is_relation (uuid_of (Some link)) uuid ≡ false
 unnamed link blocks uuid other at = subst (λ l. pointwise nat_eq link.request.ar.uuid l ≡ false) at other
 
-refused_relation : (link : RelationState) (blocks uuid : List ℕ) → Names link blocks ≡ false → part 8 16 blocks ≡ uuid → in_relation (uuid_of (Some link)) uuid ≡ Ok tt → ⊥
+refused_in : (standing : Option (List ℕ)) (uuid : List ℕ) → is_relation standing uuid ≡ false → in_relation standing uuid ≡ Ok tt → ⊥
 unfolding in_relation
-refused_relation link blocks uuid other at e =
-    let no : (not (is_relation (uuid_of (Some link)) uuid)) ≡ true = ap not (unnamed link blocks uuid other at) in
+refused_in standing uuid other e =
+    let no : (not (is_relation standing uuid)) ≡ true = ap not other in
     let refused : Result (Unit {0}) CallFault = Err fault.UnknownRelation in
     let fine : Result (Unit {0}) CallFault = Ok tt in
-    let r : (if not (is_relation (uuid_of (Some link)) uuid) then refused else fine) ≡ refused = cond-true _ refused fine no in
+    let r : (if not (is_relation standing uuid) then refused else fine) ≡ refused = cond-true _ refused fine no in
     absurd cc
+
+refused_relation : (link : RelationState) (blocks uuid : List ℕ) → Names link blocks ≡ false → part 8 16 blocks ≡ uuid → in_relation (uuid_of (Some link)) uuid ≡ Ok tt → ⊥
+refused_relation link blocks uuid other at e = refused_in (uuid_of (Some link)) uuid (unnamed link blocks uuid other at) e
 
 pub no_connect : (uuid : List ℕ) (pieces : List Piece) (request : Request) → request_in (Some uuid) pieces ≡ Ok request → ⊥
 unfolding request_in
@@ -93,7 +96,7 @@ named_refused : (link : RelationState) (blocks : List ℕ) (block : ControlBlock
     → named_of (Some link) block command ≡ Err fault.UnknownRelation
 named_refused link blocks block command other at = cond-true _ _ _ (ap not (unnamed link blocks block.ar_uuid other at))
 
-no_release : (link : RelationState) (blocks : List ℕ) (block : ControlBlock) → Names link blocks ≡ false → release_of (Some link) blocks ≡ Ok block → ⊥
+pub no_release : (link : RelationState) (blocks : List ℕ) (block : ControlBlock) → Names link blocks ≡ false → release_of (Some link) blocks ≡ Ok block → ⊥
 unfolding release_of
 no_release link blocks block other e =
     let one = bind_ok (control_block kind.Release blocks) (λ block. named_of (Some link) block 4 >>= λ _. Ok block) block e in
@@ -142,23 +145,26 @@ unnamed_read link blocks other = by_result (request_of blocks) refl
     by_result (Ok request) is = unnamed link blocks request.header.ar_uuid other (request_named blocks request is)
     by_result (Err why) is = refl
 
-pub no_write : (link : RelationState) (real : Real) (blocks : List ℕ) (writing : Writing) → Names link blocks ≡ false → writing_of (uuid_of (Some link)) real blocks ≡ Ok writing → ⊥
+-- A Write in which the ARUUID is not that of the relation, if there is one, is refused.
+pub no_writing : (standing : Option (List ℕ)) (real : Real) (blocks : List ℕ) (writing : Writing) → ((uuid : List ℕ) → part 8 16 blocks ≡ uuid → is_relation standing uuid ≡ false)
+    → writing_of standing real blocks ≡ Ok writing → ⊥
 unfolding writing_of several_of handled_record targeted
-no_write link real blocks writing other e =
-    let standing : Option (List ℕ) = uuid_of (Some link) in
+no_writing standing real blocks writing other e =
     let one = bind_ok (single_of kind.IodWriteReq blocks) (λ x. or_fault fault.BlockForm (in_iod_write_req x.0) >>= λ request. handled_writing standing real request x.1) writing e in
     let two = bind_ok (or_fault fault.BlockForm (in_iod_write_req one.0.0)) (λ request. handled_writing standing real request one.0.1) writing one.2 in
     let named = header_named blocks one.0 two.0 one.1 (fault_ok fault.BlockForm (in_iod_write_req one.0.0) two.0 two.1) in
-    refused_relation link blocks two.0.header.ar_uuid other named (by_kind two.0 one.0.1 two.2)
+    refused_in standing two.0.header.ar_uuid (other two.0.header.ar_uuid named) (by_kind two.0 one.0.1 two.2)
   where
-    by_kind : (request : IodWriteReq) (behind : List ℕ) → handled_writing (uuid_of (Some link)) real request behind ≡ Ok writing
-        → in_relation (uuid_of (Some link)) request.header.ar_uuid ≡ Ok tt
+    by_kind : (request : IodWriteReq) (behind : List ℕ) → handled_writing standing real request behind ≡ Ok writing → in_relation standing request.header.ar_uuid ≡ Ok tt
     by_kind request behind =
-        cond_both (is_several request) _ _ (λ (r : Result Writing CallFault). r ≡ Ok writing → in_relation (uuid_of (Some link)) request.header.ar_uuid ≡ Ok tt)
+        cond_both (is_several request) _ _ (λ (r : Result Writing CallFault). r ≡ Ok writing → in_relation standing request.header.ar_uuid ≡ Ok tt)
         (λ _ e.
-        let one = bind_ok (several_of (uuid_of (Some link)) request behind) _ writing e in
-        let two = bind_ok (in_relation (uuid_of (Some link)) request.header.ar_uuid) _ one.0 one.1 in two.1)
+        let one = bind_ok (several_of standing request behind) _ writing e in
+        let two = bind_ok (in_relation standing request.header.ar_uuid) _ one.0 one.1 in two.1)
         (λ _ e.
-        let one = bind_ok (handled_record (uuid_of (Some link)) real request behind) _ writing e in
-        let two = bind_ok (targeted (uuid_of (Some link)) real request) _ one.0 one.1 in
-        let three = bind_ok (in_relation (uuid_of (Some link)) request.header.ar_uuid) _ two.0 two.1 in three.1)
+        let one = bind_ok (handled_record standing real request behind) _ writing e in
+        let two = bind_ok (targeted standing real request) _ one.0 one.1 in
+        let three = bind_ok (in_relation standing request.header.ar_uuid) _ two.0 two.1 in three.1)
+
+pub no_write : (link : RelationState) (real : Real) (blocks : List ℕ) (writing : Writing) → Names link blocks ≡ false → writing_of (uuid_of (Some link)) real blocks ≡ Ok writing → ⊥
+no_write link real blocks writing other e = no_writing (uuid_of (Some link)) real blocks writing (λ uuid at. unnamed link blocks uuid other at) e

@@ -1,5 +1,5 @@
 -- What the services beside one end send, and the relation at the other end.
-use Rattle.std.specs.Prelude.{◌≡◌, ◌≤◌, ◌-◌, ℕ, true, false, List, [], ◌++◌, length, take, drop, replicate, Ok}
+use Rattle.std.specs.Prelude.{◌≡◌, ◌≤◌, ◌==◌, ◌&&◌, ℕ, Bool, true, false, List, [], length, take, drop, Option, Ok}
 use Rattle.std.specs.List.{AllByRecursion}
 use Rattle.flash_model.specs.declared.flash.Flash.{Ghosts as Flash}
 use Rattle.relations.specs.RelationState.{RelationState}
@@ -21,24 +21,16 @@ use Rattle.rpc_services.specs.pieces.State.{Unfinished}
 use Rattle.station.specs.Serving.{Serving, serving_at}
 use Rattle.station.specs.State.{Frames, State}
 use Rattle.station.specs.Steps.{StationTakes}
+use Rattle.controller_messages.specs.declared.setup.Setup.{Setup}
 use Rattle.controller_core.specs.declared.stored.event.Event.{Event as ControllerEvent}
-use Rattle.controller_core.specs.declared.stored.event.Event.TheVariants.{Frame as Heard}
 use Rattle.controller_core.specs.stored.State.{Controlling}
 use Rattle.controller_station.specs.Beside.{Beside}
-use Rattle.controller_station.specs.Runs.{sent_at}
-use Rattle.controller_station.specs.Served.{Served}
-use Rattle.octets_law.specs.Octets.{untagged}
-use Rattle.strangers_law.specs.Controller.{belongs_to, is_said_to}
-use Rattle.strangers_law.specs.Device.{marks_of}
-use Rattle.strangers_law.specs.Strange.{belongs, is_said_of}
-
--- What a frame has at the place of the body of a datagram, 42: also the data of an echo message (RFC 792).
-abbrev pub carried_by : List ℕ → List ℕ
-carried_by frame = drop 42 (untagged frame)
-
--- The first octets of these, with zeros up to 18: the padding of a frame of 60 octets.
-abbrev pub padded : ℕ → List ℕ → List ℕ
-padded size octets = take size octets ++ replicate (18 - size) 0
+use Rattle.controller_station.specs.Runs.{after_event, sent_at}
+use Rattle.controller_station.specs.Served.{Served, begun}
+use Rattle.octets_law.specs.Octets.{activity_of, number, untagged}
+use Rattle.strangers_law.specs.Controller.{belongs_to}
+use Rattle.strangers_law.specs.Quiet.{is_quiet_stranger}
+use Rattle.strangers_law.specs.Strange.{is_datagram, same}
 
 -- ---- the services beside a device, and a controller
 
@@ -53,21 +45,26 @@ pub record HaveSizes (services : Serving) : Type 0 where
   pub near : length services.near.mac.octets ≡ 6
   pub calls : AllByRecursion IsHeaded services.pieces.calls
 
--- An event that says nothing to this controller: if it is a frame, it carries no call with the ARUUID, and no packet with the activity of
--- the controller's calls, also not by its first octets alone. To whom it goes does not count.
-abbrev pub IsUnsaidTo : Controlling → Event → Type 0
-IsUnsaidTo controlling (Frame frame) = (size : ℕ) → is_said_to controlling (padded size (carried_by frame.items)) ≡ false
-IsUnsaidTo controlling event = Unit {0}
+-- A packet of a call to the station with this MAC address: a datagram to port 34964 (36) with this activity.
+abbrev pub is_packet_to : List ℕ → List ℕ → List ℕ → Bool
+is_packet_to station activity frame =
+    same (take 6 frame) station && is_datagram frame && number 36 2 frame == 34964 && same (activity_of (drop 42 frame)) activity
+
+-- An event that is no packet to this station with the activity of the controller's own calls.
+abbrev pub IsNoPacketOf : Controlling → List ℕ → Event → Type 0
+IsNoPacketOf controlling station (Frame frame) = is_packet_to station controlling.setup.activity (untagged frame.items) ≡ false
+IsNoPacketOf controlling station event = Unit {0}
 
 -- Each of these frames is a stranger's to this controller.
 abbrev pub AreStrangeTo : Controlling → List (List ℕ) → Type 0
 AreStrangeTo controlling frames = AllByRecursion (λ frame. belongs_to controlling (untagged frame) ≡ false) frames
 
--- What the services beside a device send at such an event is strange to the controller: ARP, replies to an echo request, LLDP,
--- acknowledgements of fragments, refusals of calls and answers of the endpoint mapper.
+-- What the services beside a device send at such an event is strange to the controller: ARP, replies to echo requests, LLDP,
+-- acknowledgements of fragments, refusals of calls and answers of the endpoint mapper. The last three have the activity of what they
+-- answer.
 abbrev pub ServicesLeaveControllers : {F : Type 0} {S : ℕ} → Flash F S → Type 0
 ServicesLeaveControllers {F} as_flash = (old new : State F) (event : Event) (frames : Frames) (said : Note) (controlling : Controlling)
-    → StationTakes as_flash old event frames said new → HaveSizes old.services → IsUnsaidTo controlling event
+    → StationTakes as_flash old event frames said new → HaveSizes old.services → IsNoPacketOf controlling old.services.ip.mac.octets event
     → AreStrangeTo controlling frames.services
 
 -- A frame that carries a whole call, no fragment, to the interface of the device, with an operation that the interface has (0 to 5).
@@ -108,18 +105,16 @@ pub record HaveAddresses (services : Beside) : Type 0 where
   pub ip : length services.ip.mac.octets ≡ 6
   pub near : length services.near.mac.octets ≡ 6
 
--- An event that says nothing to this relation of a device: if it is a frame, it carries no call and no response of the relation, also not by its
--- first octets alone. To whom it goes does not count.
-abbrev pub IsUnsaidAt : RelationState → ControllerEvent → Type 0
-IsUnsaidAt link (Heard frame) = (size : ℕ) → is_said_of (marks_of link) (padded size (carried_by frame.items)) ≡ false
-IsUnsaidAt link event = Unit {0}
+-- Each of these frames is a quiet stranger's to the device with this MAC address, with this relation or without one.
+abbrev pub AreQuietAt : List ℕ → Option RelationState → List (List ℕ) → Type 0
+AreQuietAt station link frames = AllByRecursion (λ frame. is_quiet_stranger station link (untagged frame) ≡ true) frames
 
--- Each of these frames is a stranger's to this relation of the device with this MAC address.
-abbrev pub AreStrangeAt : List ℕ → RelationState → List (List ℕ) → Type 0
-AreStrangeAt station link frames = AllByRecursion (λ frame. belongs station (marks_of link) (untagged frame) ≡ false) frames
-
--- What the services beside a controller send at such an event is strange to the device: ARP, replies to an echo request and LLDP.
+-- What the services beside a controller send at any event is so to each device: ARP, replies to echo requests and LLDP.
 abbrev pub ServicesLeaveDevices : Type 0
-ServicesLeaveDevices = (served : Served) (event : ControllerEvent) (station : List ℕ) (link : RelationState)
-    → HaveAddresses served.services → IsUnsaidAt link event
-    → AreStrangeAt station link (sent_at served event).services
+ServicesLeaveDevices = (served : Served) (event : ControllerEvent) (station : List ℕ) (link : Option RelationState)
+    → HaveAddresses served.services → AreQuietAt station link (sent_at served event).services
+
+-- The addresses are so at the start of a controller, and after each event.
+pub record AddressesAreKept : Type 0 where
+  pub first : (setup : Setup) → length setup.plan.controller.mac.octets ≡ 6 → HaveAddresses (begun setup).services
+  pub kept : (served : Served) (event : ControllerEvent) → HaveAddresses served.services → HaveAddresses (after_event served event).services

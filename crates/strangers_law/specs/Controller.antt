@@ -8,7 +8,7 @@ use Rattle.controller_core.specs.declared.stored.state.State.TheVariants.{Lookin
 use Rattle.controller_core.specs.stored.State.{Controlling}
 use Rattle.controller_core.specs.Machine.{step_of}
 use Rattle.octets_law.specs.Octets.{activity_of, number, untagged}
-use Rattle.strangers_law.specs.Strange.{Marks, is_alarm_of, is_call_of, is_cyclic_of, same}
+use Rattle.strangers_law.specs.Strange.{Marks, is_alarm_of, is_call_of, is_cyclic_of, is_datagram, same}
 
 -- By what its relation is known in frames to a controller.
 abbrev pub marks_at : Controlling → Marks
@@ -43,7 +43,7 @@ abbrev pub belongs_to : Controlling → List ℕ → Bool
 belongs_to controlling frame =
     same (take 6 frame) controlling.setup.plan.controller.mac.octets
     && (is_awaited controlling.live.phase frame || is_cyclic_of (marks_at controlling) frame || is_alarm_of (marks_at controlling) frame
-    || (number 12 2 frame == 0x0800 && is_said_to controlling (drop 42 frame)))
+    || (is_datagram frame && is_said_to controlling (drop 42 frame)))
 
 -- The frame of a stranger.
 abbrev pub IsStrangeTo : Controlling → Event → Type 0

@@ -14,7 +14,7 @@ use Rattle.strangers_law.specs.Strange.{is_alarm_of, is_cyclic_of}
 
 -- ---- the relations that a device makes
 
--- Whether a relation is made: there was none, and there is one.
+-- Whether a relation is made: there was no relation, and there is one.
 abbrev pub is_made : Option RelationState → Option RelationState → Bool
 is_made old new = not (is_some old) && is_some new
 

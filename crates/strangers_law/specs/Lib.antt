@@ -6,4 +6,6 @@ pub mod Silence
 pub mod Earlier
 pub mod Quiet
 pub mod Runs
+pub mod CallingRuns
 pub mod Beside
+pub mod Calling

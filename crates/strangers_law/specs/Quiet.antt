@@ -8,12 +8,12 @@ use Rattle.device_frames.specs.Heard.{Heard, heard_of}
 use Rattle.device_core.specs.State.{State}
 use Rattle.octets_law.specs.Octets.{dcp_blocks, is_dcp, number, part, untagged}
 use Rattle.strangers_law.specs.Device.{marks_of}
-use Rattle.strangers_law.specs.Strange.{belongs, same}
+use Rattle.strangers_law.specs.Strange.{belongs, is_datagram, same}
 
--- A call (C706, 12.5): EtherType 12 is 0x0800, the protocol 23 is 17, the port of destination 36 is 34964, and the datagram begins with version 4
--- and packet type 0. Everything is read at fixed places of a frame without its VLAN tag.
+-- A call (C706, 12.5): a datagram whose port of destination 36 is 34964, and whose body begins with version 4 and packet type 0. Everything is
+-- read at fixed places of a frame without its VLAN tag.
 abbrev pub is_call : List ℕ → Bool
-is_call frame = number 12 2 frame == 0x0800 && number 23 1 frame == 17 && number 36 2 frame == 34964 && number 0 2 (drop 42 frame) == 0x0400
+is_call frame = is_datagram frame && number 36 2 frame == 34964 && number 0 2 (drop 42 frame) == 0x0400
 
 -- A DCP Set (IEC 61158-6-10, 4.3) that may change a device. While a relation exists a Set is refused, but for a Signal (option 5, suboption 3), and
 -- for a reset, which belongs to the relation.

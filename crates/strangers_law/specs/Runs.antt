@@ -9,23 +9,11 @@ use Rattle.controller_core.specs.declared.stored.event.Event.TheVariants as cont
 use Rattle.network_world.specs.declared.moves.End.{End}
 use Rattle.network_world.specs.declared.moves.End.TheVariants.{Device, Controller}
 use Rattle.network_world.specs.declared.moves.Move.{Move}
-use Rattle.network_world.specs.World.{World, Happens, at_controller}
+use Rattle.network_world.specs.World.{AreMade, Happens, World, at_controller, last_world}
 use Rattle.octets_law.specs.Octets.{part, untagged}
 use Rattle.strangers_law.specs.Controller.{belongs_to}
 use Rattle.strangers_law.specs.Quiet.{IsQuietAt, heard_in}
 use Rattle.strangers_law.specs.Strange.{same}
-
--- ---- runs of both ends alone
-
--- Each of these moves of both ends happens, with the world after it: the runs of which the laws of both ends (`both_ends`) speak, in the same words.
-abbrev pub AreMade : {F : Type 0} {S : ℕ} → Flash F S → World F → List (Move × World F) → Type 0
-AreMade as_flash before [] = Unit {0}
-AreMade as_flash before (one ∷ run) = Happens as_flash before one.0 one.1 × AreMade as_flash one.1 run
-
--- The world after a run.
-abbrev pub last_world : {F : Type 0} → World F → List (Move × World F) → World F
-last_world before [] = before
-last_world before (one ∷ run) = last_world one.1 run
 
 -- ---- runs with strangers
 

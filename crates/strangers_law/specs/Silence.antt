@@ -1,5 +1,5 @@
 -- A device whose controller is silent: how long its relation lasts.
-use Rattle.std.specs.Prelude.{◌≡◌, ◌⊎◌, ◌+◌, ◌-◌, ◌*◌, ◌==◌, ◌&&◌, ◌||◌, ℕ, Bool, true, false, max}
+use Rattle.std.specs.Prelude.{◌≡◌, ◌⊎◌, ◌+◌, ◌-◌, ◌*◌, ◌&&◌, ◌||◌, ℕ, Bool, true, false, max}
 use Rattle.std.specs.Prelude.{if◌then◌else◌, List, [], ◌∷◌, take, drop, Option, Some, None}
 use Rattle.std.specs.List.{AllByRecursion}
 use Rattle.connects.specs.requests.Request.{Request}
@@ -15,9 +15,9 @@ use Rattle.device_frames.specs.Sent.{Ends, bytes_of}
 use Rattle.settings_journal.specs.settings_store.Machine.{Outcome}
 use Rattle.device_core.specs.State.{Live, Station}
 use Rattle.device_core.specs.Machine.{Stepped, first_step, later_steps, run_of, step_of}
-use Rattle.octets_law.specs.Octets.{number, untagged}
+use Rattle.octets_law.specs.Octets.{untagged}
 use Rattle.strangers_law.specs.Device.{marks_of, units_in}
-use Rattle.strangers_law.specs.Strange.{Marks, is_alarm_of, is_cyclic_of, is_said_of, same}
+use Rattle.strangers_law.specs.Strange.{Marks, is_alarm_of, is_cyclic_of, is_datagram, is_said_of, same}
 
 -- ---- silence
 
@@ -25,7 +25,7 @@ use Rattle.strangers_law.specs.Strange.{Marks, is_alarm_of, is_cyclic_of, is_sai
 abbrev pub is_frame_of : List ℕ → Marks → List ℕ → Bool
 is_frame_of station marks frame =
     same (take 6 frame) station
-    && (is_cyclic_of marks frame || is_alarm_of marks frame || (number 12 2 frame == 0x0800 && is_said_of marks (drop 42 frame)))
+    && (is_cyclic_of marks frame || is_alarm_of marks frame || (is_datagram frame && is_said_of marks (drop 42 frame)))
 
 -- The same of an event at a device: a frame, or a call that was joined of fragments. A unit of time, and what its application says,
 -- comes from no controller.
@@ -34,15 +34,15 @@ is_event_of station marks (Frame frame) = is_frame_of station marks (untagged fr
 is_event_of station marks (Joined caller address call) = is_said_of marks call.items
 is_event_of station marks event = false
 
--- The controller of a relation is silent: none of these events is one of the relation. Frames of anybody else may be among them, resets
--- of the settings too, and anything that the application of the device says.
+-- The controller of a relation is silent at an event: the event is not one of the relation. It may be a frame of any other station, a reset of
+-- the settings, and anything that the application of the device says.
 abbrev pub IsSilent : Station → RelationState → Event → Type 0
 IsSilent station link event = is_event_of station.identity.mac.octets (marks_of link) event ≡ false
 
 abbrev pub AreSilent : Station → RelationState → List Event → Type 0
 AreSilent station link events = AllByRecursion (IsSilent station link) events
 
--- The cable is pulled: none of these events is a frame or a joined call.
+-- A frame or a joined call is received. If the cable is pulled, no event is one of these.
 abbrev pub is_received : Event → Bool
 is_received (Frame frame) = true
 is_received (Joined caller address call) = true
@@ -62,7 +62,7 @@ hold_of request = request.output.data_hold_factor * interval_of request.output
 abbrev pub silence_limit : RelationState → ℕ
 silence_limit link = max 1 (if is_timed link.phase then limit_of link else hold_of link.request)
 
--- The units that remain, with the one that ends it: those that have passed since the controller was heard are taken off.
+-- The units that remain, with the one that ends it: those that have passed since the controller was heard are subtracted.
 abbrev pub left_of : ℕ → ℕ → ℕ
 left_of limit passed = max 1 (limit - passed)
 
@@ -98,7 +98,7 @@ pub record IsStill (link : RelationState) (units : ℕ) (now : Option RelationSt
 abbrev pub IsDue : RelationState → Abort → Type 0
 IsDue link reason = (reason ≡ Other) ⊎ (remaining link ≡ 1)
 
--- With an event the relation ends: there is none after it, and the first frame that is sent with it is the ERR of the relation. With a unit
+-- With an event the relation ends: after it there is no relation, and the first frame that is sent with it is the ERR. With a unit
 -- of time no other frame is sent.
 pub record EndsWith (station : Station) (link : RelationState) (event : Event) (step : Stepped) : Type 0 where
   pub none : step.live.rest.link ≡ None

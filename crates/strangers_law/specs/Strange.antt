@@ -1,5 +1,5 @@
 -- Which frames belong to a relation of a device, by their octets alone. Everything is read at fixed places: a frame of Ethernet from its
--- first octet, with the VLAN tag taken out; a call or a response from the first octet of its datagram.
+-- first octet, without its VLAN tag; a call or a response from the first octet of its datagram.
 use Rattle.std.specs.Prelude.{◌==◌, ◌&&◌, ◌||◌, ℕ, Bool, true, nat_eq, List, take, drop}
 use Rattle.std.specs.List.{list_any}
 use Rattle.std.specs.Cmp.Lexicographic.{pointwise}
@@ -48,11 +48,15 @@ is_response_of marks call = number 0 2 call == 0x0402 && same (activity_of call)
 abbrev pub is_said_of : Marks → List ℕ → Bool
 is_said_of marks call = is_call_of marks call || is_response_of marks call
 
+-- A datagram of UDP: EtherType 12 is 0x0800, and the protocol 23 is 17. Its body is at 42.
+abbrev pub is_datagram : List ℕ → Bool
+is_datagram frame = number 12 2 frame == 0x0800 && number 23 1 frame == 17
+
 -- A frame to this station that is one of these.
 abbrev pub belongs : List ℕ → Marks → List ℕ → Bool
 belongs station marks frame =
     same (take 6 frame) station
-    && (is_cyclic_of marks frame || is_alarm_of marks frame || is_reset frame || (number 12 2 frame == 0x0800 && is_said_of marks (drop 42 frame)))
+    && (is_cyclic_of marks frame || is_alarm_of marks frame || is_reset frame || (is_datagram frame && is_said_of marks (drop 42 frame)))
 
 -- The same of an event at a device: a frame, or a call that was joined of fragments. What its application says, and a unit of time, comes
 -- from no stranger.
@@ -61,8 +65,8 @@ is_own station marks (Frame frame) = belongs station marks (untagged frame.items
 is_own station marks (Joined caller address call) = is_said_of marks call.items
 is_own station marks event = true
 
--- Whether a frame is a cyclic frame, an alarm frame or a call, of any relation. A call is a datagram: protocol 23 is 17.
+-- Whether a frame is a cyclic frame, an alarm frame or a call, of any relation.
 abbrev pub is_of_exchange : List ℕ → Bool
 is_of_exchange frame =
     (number 12 2 frame == 0x8892 && (is_cyclic (number 14 2 frame) || is_alarm (number 14 2 frame)))
-    || (number 12 2 frame == 0x0800 && number 23 1 frame == 17 && number 0 2 (drop 42 frame) == 0x0400)
+    || (is_datagram frame && number 0 2 (drop 42 frame) == 0x0400)

@@ -22,7 +22,8 @@ use frame_codec::frames_are_read;
 /// the controller takes the alarms of the device in order and lists its diagnoses (`worlds_take_alarms`).
 ///
 /// Premise: a call of a stranger to the device is no such frame. It takes a place of the stored answers, which are those of the last four activities.
-/// After calls of four other activities a call that the controller repeats is carried out again, and some of these clauses fail.
+/// After calls of four other activities a call that the controller repeats is carried out again, and some of these clauses fail. With calls of at most
+/// three others they hold (`callers_leave_both_ends`).
 pub fn strangers_leave_both_ends<F: Flash<S>, const S: usize>()
     // A device stays exactly as it is, with its flash, with a relation and without one.
     ensures device { (old new : State F) (octets : List ℕ) (sent : List (List ℕ)) (said : Note)

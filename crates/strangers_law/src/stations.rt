@@ -1,4 +1,4 @@
-//! A station and the frames of strangers: what the services beside a device or a controller do moves no relation either.
+//! A station and the frames of strangers: what the services beside a device or a controller do changes no relation either.
 ghost use Rattle.strangers_law.specs.Station.{LeavesServed, LeavesStations};
 
 use flash_model::Flash;

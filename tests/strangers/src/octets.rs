@@ -78,6 +78,11 @@ fn is_call_of(marks: &Marks, call: &[u8]) -> bool {
     number(0, 2, call) == 0x0400 && part(8, 16, args_of(call)) == marks.uuid
 }
 
+/// A datagram of UDP.
+fn is_datagram(frame: &[u8]) -> bool {
+    number(12, 2, frame) == 0x0800 && number(23, 1, frame) == 17
+}
+
 /// Whether a frame belongs to the relation of a device.
 pub(crate) fn belongs(marks: &Marks, frame: &[u8]) -> bool {
     let frame = untagged(frame);
@@ -87,7 +92,7 @@ pub(crate) fn belongs(marks: &Marks, frame: &[u8]) -> bool {
         && (is_cyclic_of(marks, &frame)
             || is_alarm_of(marks, &frame)
             || is_reset(&frame)
-            || (number(12, 2, &frame) == 0x0800 && (is_call_of(marks, call) || is_response)))
+            || (is_datagram(&frame) && (is_call_of(marks, call) || is_response)))
 }
 
 fn is_dcp_answer(id: u64, service: u64, xid: u64, frame: &[u8]) -> bool {
@@ -110,7 +115,7 @@ pub(crate) fn belongs_to(marks: &Marks, state: State, activity: &[u8], frame: &[
         && (is_awaited
             || is_cyclic_of(marks, &frame)
             || is_alarm_of(marks, &frame)
-            || (number(12, 2, &frame) == 0x0800 && (is_call_of(marks, call) || activity_of(call) == activity)))
+            || (is_datagram(&frame) && (is_call_of(marks, call) || activity_of(call) == activity)))
 }
 
 /// Whether a frame is a DCP Set with one of these options and suboptions among its first 16 blocks; any Set if there are none of them.
@@ -140,10 +145,7 @@ fn is_reset(frame: &[u8]) -> bool {
 pub(crate) fn is_quiet(marks: &Marks, related: bool, frame: &[u8]) -> bool {
     let bare = untagged(frame);
     let is_setting = is_set_of(if related { &[0x0503] } else { &[] }, &bare);
-    let is_call = number(12, 2, &bare) == 0x0800
-        && number(23, 1, &bare) == 17
-        && number(36, 2, &bare) == 34964
-        && number(0, 2, from(42, &bare)) == 0x0400;
+    let is_call = is_datagram(&bare) && number(36, 2, &bare) == 34964 && number(0, 2, from(42, &bare)) == 0x0400;
     !(part(0, 6, &bare) == marks.station && (is_setting || is_call)) && !(related && belongs(marks, frame))
 }
 

@@ -1,5 +1,5 @@
 -- What the services send belongs to no relation.
-use Rattle.strangers_law.proofs.Sizes.{sizes_are_kept}
+use Rattle.strangers_law.proofs.Sizes.{addresses_are_kept, sizes_are_kept}
 use Rattle.strangers_law.proofs.Unasked.{services_leave_controllers, services_leave_devices}
 use Rattle.strangers_law.proofs.WholeCalls.{services_leave_calls}
 use Rattle.strangers_law.proofs.beside.services_leave_relations.Goals as goal
@@ -15,3 +15,6 @@ returns-clause-sizes g c = sizes_are_kept g.F.Flash
 
 pub returns-clause-controller : goal.returns-clause-controller
 returns-clause-controller g c = services_leave_devices
+
+pub returns-clause-addresses : goal.returns-clause-addresses
+returns-clause-addresses g c = addresses_are_kept

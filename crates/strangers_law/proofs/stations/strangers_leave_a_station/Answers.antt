@@ -1,4 +1,4 @@
--- What the services do moves no relation.
+-- What the services do changes no relation.
 use Rattle.strangers_law.proofs.Besides.{leaves_served, station_leaves}
 use Rattle.strangers_law.proofs.stations.strangers_leave_a_station.Goals as goal
 

@@ -1,0 +1,232 @@
+-- What a device does at a call of others: it changes nothing but the stored answers.
+use Rattle.std.proofs.Common.{◌≡◌, ◌==◌, ◌&&◌, ◌⊎◌, inl, inr, ℕ, Bool, true, false, List, drop, Option, Some, None, Result, Ok, Err, refl, sym, ap, subst, ◌∙◌}
+use Rattle.std.proofs.lemmas.Bool.{cond_both, cond-false}
+use Rattle.frame_codec.specs.declared.udp.Caller.{Caller}
+use Rattle.wire.specs.Codec.{◌>>=◌}
+use Rattle.rpc_core.specs.Call.{Asked as Call}
+use Rattle.rpc_core.specs.Cache.{Kept, Reported as Looked, again, kept_more, looked, new as fresh, old as late}
+use Rattle.connect_blocks.specs.declared.control.ControlBlock.{ControlBlock}
+use Rattle.records.specs.declared.status.call_fault.CallFault.{CallFault}
+use Rattle.records.specs.declared.status.operation.Operation.{Operation}
+use Rattle.records.specs.declared.status.operation.Operation.TheVariants.{Connect, Release, Read, Write, Control, ReadImplicit}
+use Rattle.records.specs.declared.writes.writing.Writing.{Writing}
+use Rattle.records.specs.status.Operation.{operation_of}
+use Rattle.records.specs.reads.Within.{names_relation}
+use Rattle.records.specs.writes.Asked.{writing_of}
+use Rattle.block_codec.specs.declared.block.Block.TheVariants as answers
+use Rattle.block_codec.specs.Block.{block_bytes}
+use Rattle.relations.specs.Calls.{done_of, prm_end_of, release_answer, release_of}
+use Rattle.relations.specs.Phases.{Handled as Moving, Ended, Named, Parameterized, answered, updated}
+use Rattle.relations.specs.RelationState.{RelationState, uuid_of}
+use Rattle.relations.specs.declared.phase.Partner.{Partner}
+use Rattle.device_records.specs.Reading.{implicit_read, relation_read}
+use Rattle.device_records.specs.declared.log_data.entry.LogEntry.{LogEntry}
+use Rattle.device_frames.specs.Heard.{Heard, Ticks, Unreadable, Elsewhere, Asks, Resolves, Reported, Cyclic, Alarms, LowReplies, LowConfirms, Given, Raised, Rated, Met, Diagnosed, Readied, Said, Calls, Responds, Garbled}
+use Rattle.device_core.specs.State.{Live, Rest, Station}
+use Rattle.device_core.specs.Handled.{Handled, Refuses, Sets, Writes, WritesEach, Moves, handled, handled_blocks, handled_call, handled_looked, handled_new, handled_said, handled_write, implicitly, is_request, is_running, known_of, partner_of}
+use Rattle.device_core.specs.Log.{release_log}
+use Rattle.octets_law.specs.Octets.{activity_of}
+use Rattle.strangers_law.specs.Calling.{is_among, operation_in}
+use Rattle.strangers_law.proofs.CallingHeard.{IsCallHeard}
+use Rattle.strangers_law.proofs.Harmless.{IsHarmless, Names}
+use Rattle.strangers_law.proofs.Unnamed.{no_prm_end, no_read, no_release, no_write, no_writing, unnamed_read}
+
+-- ---- what it leaves
+
+-- The first block of a call does not have the ARUUID of the relation, if there is one.
+abbrev pub IsApart : Option RelationState → List ℕ → Type 0
+IsApart None blocks = Unit {0}
+IsApart (Some link) blocks = Names link blocks ≡ false
+
+-- One more answer of these activities is stored, or none.
+abbrev pub IsStored : List (List ℕ) → Rest → Rest → Type 0
+IsStored others old new = (new ≡ old) ⊎ ((one : Kept) × (is_among one.activity others ≡ true) × (new ≡ record old { calls = kept_more 4 one old.calls }))
+
+-- An outcome that asks nothing of the settings, and changes nothing but the stored answers.
+abbrev pub Leaves : List (List ℕ) → Live → Handled → Type 0
+Leaves others live (Refuses note) = Unit {0}
+Leaves others live (Sets asker request in_operation) = ⊥
+Leaves others live (Writes caller address call header value) = ⊥
+Leaves others live (WritesEach caller address call header judged) = ⊥
+Leaves others live (Moves rest sent) = IsStored others live.rest rest
+
+-- A rest with these stored answers, this relation and this log.
+abbrev pub with_parts : Rest → List Kept → Option RelationState → List LogEntry → Rest
+with_parts rest calls link log = record rest { calls = calls; link = link; log = log }
+
+-- The relation and the log are as they were.
+as_was : (rest : Rest) (calls : List Kept) (link : Option RelationState) (log : List LogEntry) → link ≡ rest.link → log ≡ rest.log
+    → with_parts rest calls link log ≡ record rest { calls = calls }
+as_was rest calls link log links logs =
+    ap (λ l. with_parts rest calls l log) links ∙ ap (with_parts rest calls rest.link) logs
+
+-- ---- the operations, with a relation and without one
+
+release_logs : (link : Option RelationState) (blocks : List ℕ) → IsApart link blocks → (time : ℕ) (log : List LogEntry)
+    → release_log (uuid_of link) (release_answer link blocks) time log ≡ log
+release_logs None blocks other time log = by_result (release_of None blocks)
+  where
+    by_result : (r : Result ControlBlock CallFault)
+        → release_log (uuid_of None) (r >>= λ block. Ok (block_bytes (answers.ReleaseRes (done_of block)))) time log ≡ log
+    by_result (Ok block) = refl
+    by_result (Err why) = refl
+release_logs (Some link) blocks other time log = by_result (release_of (Some link) blocks) refl
+  where
+    by_result : (r : Result ControlBlock CallFault) → release_of (Some link) blocks ≡ r
+        → release_log (uuid_of (Some link)) (r >>= λ block. Ok (block_bytes (answers.ReleaseRes (done_of block)))) time log ≡ log
+    by_result (Ok block) is = absurd (no_release link blocks block other is)
+    by_result (Err why) is = refl
+
+release_stays : (link : Option RelationState) (blocks : List ℕ) → IsApart link blocks → updated (answered Ended (release_of link blocks)) link ≡ link
+release_stays None blocks other = by_result (release_of None blocks)
+  where
+    by_result : (r : Result ControlBlock CallFault) → updated (answered Ended r) None ≡ None
+    by_result (Ok block) = refl
+    by_result (Err why) = refl
+release_stays (Some link) blocks other = by_result (release_of (Some link) blocks) refl
+  where
+    by_result : (r : Result ControlBlock CallFault) → release_of (Some link) blocks ≡ r → updated (answered Ended r) (Some link) ≡ Some link
+    by_result (Ok block) is = absurd (no_release link blocks block other is)
+    by_result (Err why) is = refl
+
+prm_end_stays : (partner : Partner) (by_application : Bool) (link : Option RelationState) (blocks : List ℕ) → IsApart link blocks
+    → updated (answered (Named partner) (prm_end_of link blocks)) (updated (answered (Parameterized by_application) (prm_end_of link blocks)) link) ≡ link
+prm_end_stays partner by_application None blocks other = by_result (prm_end_of None blocks)
+  where
+    by_result : (r : Result ControlBlock CallFault) → updated (answered (Named partner) r) (updated (answered (Parameterized by_application) r) None) ≡ None
+    by_result (Ok block) = refl
+    by_result (Err why) = refl
+prm_end_stays partner by_application (Some link) blocks other = rw (no_prm_end link blocks other).is refl
+
+implicit_stays : (partner : Partner) (link : Option RelationState) (blocks : List ℕ) (r : Result (List ℕ) CallFault) → IsApart link blocks
+    → updated (answered (implicitly partner link blocks) r) link ≡ link
+implicit_stays partner None blocks (Ok octets) other =
+    cond_both (names_relation (uuid_of None) blocks) _ _ (λ (m : Moving). updated m None ≡ None) (λ _. refl) (λ _. refl)
+implicit_stays partner (Some link) blocks (Ok octets) other =
+    ap (λ (m : Moving). updated m (Some link)) (cond-false (names_relation (uuid_of (Some link)) blocks) _ _ (unnamed_read link blocks other))
+implicit_stays partner link blocks (Err why) other = refl
+
+no_writes : (station : Station) (link : Option RelationState) (blocks : List ℕ) (writing : Writing) → IsApart link blocks
+    → writing_of (uuid_of link) station.real blocks ≡ Ok writing → ⊥
+no_writes station None blocks writing other e = no_writing (uuid_of None) station.real blocks writing (λ uuid at. refl) e
+no_writes station (Some link) blocks writing other e = no_write link station.real blocks writing other e
+
+not_connect : (number : ℕ) → (number == 0) ≡ false → operation_of number ≡ Some Connect → ⊥
+unfolding operation_of
+not_connect number other =
+    cond_both (number == 0) _ _ (λ (o : Option Operation). o ≡ Some Connect → ⊥) (λ is e. unlike (number == 0) is other)
+    (λ _. cond_both (number == 1) _ _ (λ (o : Option Operation). o ≡ Some Connect → ⊥) (λ _ e. absurd cc)
+    (λ _. cond_both (number == 2) _ _ (λ (o : Option Operation). o ≡ Some Connect → ⊥) (λ _ e. absurd cc)
+    (λ _. cond_both (number == 3) _ _ (λ (o : Option Operation). o ≡ Some Connect → ⊥) (λ _ e. absurd cc)
+    (λ _. cond_both (number == 4) _ _ (λ (o : Option Operation). o ≡ Some Connect → ⊥) (λ _ e. absurd cc)
+    (λ _. cond_both (number == 5) _ _ (λ (o : Option Operation). o ≡ Some Connect → ⊥) (λ _ e. absurd cc) (λ _ e. absurd cc))))))
+  where
+    unlike : (b : Bool) → b ≡ true → b ≡ false → ⊥
+    unlike true is other = absurd cc
+    unlike false is other = absurd cc
+
+-- What is heard belongs to no relation.
+abbrev pub IsForeign : Option RelationState → Heard → Type 0
+IsForeign None heard = Unit {0}
+IsForeign (Some link) heard = IsHarmless link heard
+
+module _ (others : List (List ℕ)) (station : Station) (live : Live) where
+  abbrev Left : Handled → Type 0
+  Left what = Leaves others live what
+
+  module _ (caller : Caller) (call : Call) (among : is_among call.header.activity others ≡ true) where
+    -- What is stored of an answer, while the relation and the log are as they were.
+    stored : (one : Kept) (link : Option RelationState) (log : List LogEntry) → one.activity ≡ call.header.activity → link ≡ live.rest.link
+        → log ≡ live.rest.log
+        → IsStored others live.rest (with_parts live.rest (kept_more 4 one live.rest.calls) link log)
+    stored one link log is links logs =
+        inr (one, subst (λ a. is_among a others ≡ true) (sym is) among, as_was live.rest (kept_more 4 one live.rest.calls) link log links logs)
+
+    new_left : (blocks : List ℕ) (operation : Operation) → IsApart live.rest.link blocks → (operation ≡ Connect → ⊥)
+        → Left (handled_new station live caller call blocks operation)
+    new_left blocks Connect other none = absurd (none refl)
+    new_left blocks Release other none =
+        stored _ _ _ refl (release_stays live.rest.link blocks other) (release_logs live.rest.link blocks other live.rest.units live.rest.log)
+    new_left blocks Read other none =
+        stored _ _ _ refl (by_link live.rest.link refl other read refl) refl
+      where
+        read : Result (List ℕ) CallFault
+        read = relation_read (known_of station live) station.identity station.real live.values.running blocks
+
+        by_link : (link : Option RelationState) → live.rest.link ≡ link → IsApart link blocks → (r : Result (List ℕ) CallFault)
+            → read ≡ r → updated (answered (Named (partner_of caller)) r) link ≡ link
+        by_link None is other (Ok octets) e = refl
+        by_link (Some link) is other (Ok octets) e =
+            absurd (no_read (known_of station live) station.identity station.real live.values.running link blocks octets is other e)
+        by_link link is other (Err why) e = refl
+    new_left blocks Write other none = by_result (writing_of (uuid_of live.rest.link) station.real blocks) refl
+      where
+        by_result : (r : Result Writing CallFault) → writing_of (uuid_of live.rest.link) station.real blocks ≡ r
+            → Left (handled_write station live caller call r)
+        by_result (Ok writing) is = absurd (no_writes station live.rest.link blocks writing other is)
+        by_result (Err why) is = stored _ _ _ refl refl refl
+    new_left blocks Control other none =
+        stored _ _ _ refl (prm_end_stays (partner_of caller) station.options.ready_by_application live.rest.link blocks other) refl
+    new_left blocks ReadImplicit other none =
+        stored _ _ _ refl (implicit_stays (partner_of caller) live.rest.link blocks read other) refl
+      where
+        read : Result (List ℕ) CallFault
+        read = implicit_read (known_of station live) station.identity station.real live.values.running blocks
+
+    looked_left : (blocks : List ℕ) (operation : Operation) (found : Looked) → IsApart live.rest.link blocks → (operation ≡ Connect → ⊥)
+        → Left (handled_looked station live caller call blocks operation found)
+    looked_left blocks operation fresh other none = new_left blocks operation other none
+    looked_left blocks operation (again frame) other none = inl refl
+    looked_left blocks operation late other none = tt
+
+    blocks_left : (operation : Operation) (blocks : Option (List ℕ)) → call.blocks ≡ blocks
+        → ((some : List ℕ) → call.blocks ≡ Some some → IsApart live.rest.link some)
+        → (operation ≡ Connect → ⊥) → Left (handled_blocks station live caller call operation blocks)
+    blocks_left Connect None is other none = absurd (none refl)
+    blocks_left Release None is other none = inl refl
+    blocks_left Read None is other none = inl refl
+    blocks_left Write None is other none = inl refl
+    blocks_left Control None is other none = inl refl
+    blocks_left ReadImplicit None is other none = inl refl
+    blocks_left operation (Some blocks) is other none =
+        looked_left blocks operation (looked call.header.activity call.header.sequence live.rest.calls) (other blocks is) none
+
+    call_left : (operation : Option Operation) → ((some : List ℕ) → call.blocks ≡ Some some → IsApart live.rest.link some) → (operation ≡ Some Connect → ⊥)
+        → Left (handled_call station live caller call operation)
+    call_left None other none = tt
+    call_left (Some operation) other none = blocks_left operation call.blocks refl other (λ e. none (ap Some e))
+
+  module _ (frame : List ℕ) (among : is_among (activity_of (drop 42 frame)) others ≡ true) (none : (operation_in (drop 42 frame) == 0) ≡ false) where
+    unnamed : (caller : Caller) (address : List ℕ) (call : Call) (link : Option RelationState) → IsForeign link (Reported caller address (Calls call))
+        → (some : List ℕ) → call.blocks ≡ Some some → IsApart link some
+    unnamed caller address call None other some is = tt
+    unnamed caller address call (Some link) other some is = other some is
+
+    said_left : (caller : Caller) (address : List ℕ) (said : Said) → IsCallHeard frame (Reported caller address said)
+        → IsForeign live.rest.link (Reported caller address said)
+        → Left (handled_said station live caller said)
+    said_left caller address (Calls call) hears other =
+        call_left caller call (subst (λ a. is_among a others ≡ true) hears.0 among) (operation_of call.header.operation)
+        (unnamed caller address call live.rest.link other) (not_connect call.header.operation (subst (λ n. (n == 0) ≡ false) hears.1 none))
+    said_left caller address (Responds response) hears other = absurd hears
+    said_left caller address Garbled hears other = tt
+
+    pub left : (heard : Heard) → IsCallHeard frame heard → IsForeign live.rest.link heard → Left (handled station live heard)
+    left (Reported caller address said) hears other =
+        cond_both (is_running live.values.running address) _ _ Left (λ _. said_left caller address said hears other) (λ _. tt)
+    left (Resolves asker packet) hears other =
+        cond_both (is_request packet.operation && is_running live.values.running packet.target.address) _ _ Left (λ _. inl refl) (λ _. tt)
+    left Unreadable hears other = tt
+    left Elsewhere hears other = tt
+    left (Asks asker request) hears other = absurd hears
+    left (Cyclic source frame_id body) hears other = absurd hears
+    left (Alarms source header told) hears other = absurd hears
+    left (LowReplies source header told) hears other = absurd hears
+    left (LowConfirms source header told) hears other = absurd hears
+    left Ticks hears other = absurd hears
+    left (Given slot subslot value) hears other = absurd hears
+    left (Raised slot subslot octets) hears other = absurd hears
+    left (Rated slot subslot is_good) hears other = absurd hears
+    left (Met peer) hears other = absurd hears
+    left (Diagnosed change) hears other = absurd hears
+    left Readied hears other = absurd hears
