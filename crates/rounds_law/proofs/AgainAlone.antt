@@ -42,12 +42,12 @@ either_left (suc held) (suc (suc limit)) = one_more (either_left held (suc limit
     one_more (inl few) = inl (omega (arith, few))
     one_more (inr over) = inr (omega (arith, over))
 
-still_few : (cyclic : Cyclic) → cyclic.begun ≡ true → is_silent cyclic ≡ false → cyclic.hearing.held + 2 ≤ cyclic.hearing.limit
+pub still_few : (cyclic : Cyclic) → cyclic.begun ≡ true → is_silent cyclic ≡ false → cyclic.hearing.held + 2 ≤ cyclic.hearing.limit
 still_few cyclic begun heard =
     few_left cyclic.hearing.held cyclic.hearing.limit (either_left cyclic.hearing.held cyclic.hearing.limit)
     (sym (ap (λ (b : Bool). b && (held_on cyclic.hearing).held == cyclic.hearing.limit) begun) ∙ heard)
 
-held_on_more : (begun : Bool) (hearing : Hearing) → begun ≡ true → hearing.held + 2 ≤ hearing.limit
+pub held_on_more : (begun : Bool) (hearing : Hearing) → begun ≡ true → hearing.held + 2 ≤ hearing.limit
     → (if begun then held_on hearing else hearing).held ≡ hearing.held + 1
 held_on_more true hearing is few = omega (arith, few)
 held_on_more false hearing is few = absurd cc

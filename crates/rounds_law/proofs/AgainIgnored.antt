@@ -89,7 +89,7 @@ ignored setup octets quiet = λ controller same unrelated.
 -- ---- frames of real-time data
 
 -- A FrameID of cyclic frames or of alarms.
-abbrev IsExchanged : ℕ → Type 0
+abbrev pub IsExchanged : ℕ → Type 0
 IsExchanged frame_id = (is_cyclic frame_id ≡ true) ⊎ ((is_cyclic frame_id ≡ false) × (is_alarm_id frame_id ≡ true))
 
 alarm_quiet : (setup : Setup) (source : Mac) (frame_id : ℕ) (read : Result (Header × ToController) AlarmFault)
@@ -110,7 +110,7 @@ module _ (real_time : (destination source : Mac) (tag : Option ℕ) (frame_id : 
     → CanBeSent (carrying destination source tag (RealTime frame_id body))
     → frame_of (frame_bytes (carrying destination source tag (RealTime frame_id body)))
     ≡ Ok (carrying destination source tag (RealTime frame_id (body ++ padding_of (carrying destination source tag (RealTime frame_id body)))))) where
-  exchange_quiet : (setup : Setup) (destination source : Mac) (tag : ℕ) (frame_id : ℕ) (body : List ℕ) → IsExchanged frame_id
+  pub exchange_quiet : (setup : Setup) (destination source : Mac) (tag : ℕ) (frame_id : ℕ) (body : List ℕ) → IsExchanged frame_id
       → CanBeSent (carrying destination source (Some tag) (RealTime frame_id body))
       → IsQuiet setup (heard_of setup.plan.controller (frame_bytes (carrying destination source (Some tag) (RealTime frame_id body))))
   unfolding heard_of

@@ -1,4 +1,4 @@
--- What a device does with the requests of a controller while it has an earlier relation.
+-- What a device does with the Connect of a controller while it has a relation.
 use Rattle.std.proofs.Common.{◌≡◌, ℕ, zero, suc, Bool, true, false, List, [], ◌∷◌, Option, Some, None, Result, Ok, Err, refl, sym, ap, subst, ◌∙◌}
 use Rattle.std.specs.Prelude.{if◌then◌else◌, take}
 use Rattle.std.specs.Cmp.Lexicographic.{same_text}
@@ -35,7 +35,7 @@ use Rattle.controller_messages.specs.Requests.{blocks_of, call_for}
 use Rattle.end_laws.specs.hearing.Hearing.{comes}
 use Rattle.both_ends.specs.startup.answer.Answer.{caller_of}
 use Rattle.rounds_law.specs.Path.{IsAddressed, device_step, request_to}
-use Rattle.rounds_law.specs.Again.{HasEarlier, IsRefusal}
+use Rattle.rounds_law.specs.Again.{IsRefusal}
 use Rattle.rounds_law.proofs.DeviceCallingSteps.{first_new, step_is}
 use Rattle.rounds_law.proofs.DeviceCallingConnected.{is_connect}
 
@@ -51,7 +51,7 @@ unfolding request_in
 refused_pieces standing [] = (fault.BlockMissing, refl)
 refused_pieces standing (piece ∷ pieces) = refused_ar standing pieces (ar_in piece)
 
-refused_within : (smallest : ℕ) (standing blocks : List ℕ) → (refusal : CallFault) × (request_within smallest (Some standing) blocks ≡ Err refusal)
+pub refused_within : (smallest : ℕ) (standing blocks : List ℕ) → (refusal : CallFault) × (request_within smallest (Some standing) blocks ≡ Err refusal)
 unfolding request_within request_of any_short
 refused_within smallest standing blocks = refused_pieces standing (pieces_of blocks)
 
@@ -134,18 +134,18 @@ module _ (setup : Setup) (identity : Identity) (station : Station) (live : Live)
       let because = refused_within station.options.smallest_interval link.request.ar.uuid blocks in
       (because.0, ap (λ (l : Option RelationState). connect_within station.options caller.mac l blocks) has ∙ because.1)
 
-  pub refuses : (outcomes : List Outcome) (left : ℕ) → station.identity ≡ identity → IsAddressed setup live
-      → HasEarlier setup left live → kept_of setup.activity live.rest.calls ≡ None
+  pub refuses : (outcomes : List Outcome) (link : RelationState) → station.identity ≡ identity → IsAddressed setup live
+      → live.rest.link ≡ Some link → kept_of setup.activity live.rest.calls ≡ None
       → ((operation : Operation) (refusal : CallFault) → is_done (status_of operation refusal) ≡ false)
       → heard_of station.identity (comes (request_to setup identity asks.Connect)) ≡ Reported caller setup.plan.station.suite.address (Calls call)
       → is_running live.values.running setup.plan.station.suite.address ≡ true
       → AreSendable identity (device_step outcomes station live (request_to setup identity asks.Connect)).sent
       → IsRefused setup identity live (device_step outcomes station live (request_to setup identity asks.Connect))
-  refuses outcomes left same addressed earlier uncalled negative hears running sendable =
+  refuses outcomes link same addressed has uncalled negative hears running sendable =
       let stepped = step_is outcomes station live (request_to setup identity asks.Connect) caller setup.plan.station.suite.address
       (Calls call) rest (sent ∷ []) hears running
       (is_handled uncalled) in
-      let because = refused_by earlier.link earlier.has in
+      let because = refused_by link has in
       let message = ap (λ (asked : Result Request CallFault). answer_from live.values.running.suite.address caller call Connect
       (asked >>= λ request. Ok (connect_blocks station.identity (number_now station live) request (differing_of request station.real)))) because.1
       ∙ ap (λ suite. answer_from suite.address caller call Connect (Err because.0)) addressed.suite in

@@ -54,7 +54,7 @@ leads_more as_flash pause (suc n) (suc m) plant few (inr leads) = inr (λ next r
 exchanging_on : {F : Type 0} (net : Net F) → BothExchange net → is_ended net.controller.live.phase ≡ false
 exchanging_on net both = ap is_ended both.controller
 
-leads_on : {F : Type 0} {S : ℕ} (as_flash : Flash F S) (n : ℕ) (net : Net F) → Leads as_flash n net → is_ended net.controller.live.phase ≡ false
+pub leads_on : {F : Type 0} {S : ℕ} (as_flash : Flash F S) (n : ℕ) (net : Net F) → Leads as_flash n net → is_ended net.controller.live.phase ≡ false
 leads_on as_flash zero net both = exchanging_on net both
 leads_on as_flash (suc n) net (inl both) = exchanging_on net both
 leads_on as_flash (suc n) net (inr leads) = leads.0

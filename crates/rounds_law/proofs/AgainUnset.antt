@@ -25,7 +25,7 @@ use Rattle.rounds_law.proofs.SearchingSizes.{suite_asked, suite_length, suite_re
 use Rattle.rounds_law.proofs.Choices.{where_both}
 
 -- the one block of a Set of a valid suite is refused while a relation exists
-asks_unset : (suite : Suite) → IsSized suite → is_suite suite ≡ true → plan_of true (suite_asked suite) ≡ Answer error.InOperation ∷ []
+pub asks_unset : (suite : Suite) → IsSized suite → is_suite suite ≡ true → plan_of true (suite_asked suite) ≡ Answer error.InOperation ∷ []
 unfolding plan_of
 asks_unset suite sized valid =
     ap (λ (item : SetItem). item ∷ [])

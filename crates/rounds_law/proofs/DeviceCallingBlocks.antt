@@ -33,13 +33,13 @@ end_type : (control : ControlBlock) → big_number 2 (block_bytes (is.PrmEnd con
 unfolding block block_bytes number_of
 end_type control = refl
 
-at_least : (n : ℕ) → nat_lt (4 + n) 4 ≡ false
+pub at_least : (n : ℕ) → nat_lt (4 + n) 4 ≡ false
 at_least n = grind (arith, nat_tests)
 
-not_none : (n : ℕ) → ((4 + n) == 0) ≡ false
+pub not_none : (n : ℕ) → ((4 + n) == 0) ≡ false
 not_none n = grind (arith, nat_tests)
 
-alike : (n : ℕ) → not (n == n) ≡ false
+pub alike : (n : ℕ) → not (n == n) ≡ false
 alike n = grind (arith, nat_tests)
 
 -- a block has as many octets as its size says
@@ -58,7 +58,7 @@ end_long : HasSize → (control : ControlBlock) → nat_lt (length (block_bytes 
 unfolding block_size
 end_long long control = ap (λ (n : ℕ). nat_lt n 4) (long (is.PrmEnd control)) ∙ at_least ((fields_of kind.PrmEnd).size (is.PrmEnd control))
 
-passed : {A : Type 0} (fails : Bool) (why : CallFault) (others : List (Bool × CallFault)) (otherwise : Result A CallFault) → fails ≡ false
+pub passed : {A : Type 0} (fails : Bool) (why : CallFault) (others : List (Bool × CallFault)) (otherwise : Result A CallFault) → fails ≡ false
     → in_order ((fails, why) ∷ others) otherwise ≡ in_order others otherwise
 passed fails why others otherwise e = ap (λ (b : Bool). if b then Err why else in_order others otherwise) e
 

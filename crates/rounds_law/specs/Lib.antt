@@ -11,3 +11,8 @@ pub mod Connects
 pub mod Abandoned
 pub mod Asking
 pub mod Comes
+pub mod AnywhereFrames
+pub mod AnywhereSame
+pub mod Anywhere
+pub mod AnywhereRuns
+pub mod AnywhereAgain

@@ -3,10 +3,11 @@
 //! `rounds` has both ends with the frames that are under way between them, and a round. `device` and `controller` have what each end does
 //! with each frame of a start-up that succeeds. `law` has the law of a start, and `middle` the law of a start-up that has begun. `again` has
 //! the law of a controller that starts while its device still has an earlier relation, and `power` the law of a device that loses its power
-//! while data is exchanged. `causes` has the law of starts that cannot succeed.
+//! while data is exchanged. `anywhere` has the law of any state of both ends. `causes` has the law of starts that cannot succeed.
 #![tactic(auto)]
 
 mod again;
+mod anywhere;
 mod causes;
 mod controller;
 mod device;
@@ -19,6 +20,7 @@ pub use again::{
     both_ends_come_back, controller_ends_halfway, controller_ends_refused, device_denies_calls,
     device_keeps_an_earlier_relation,
 };
+pub use anywhere::{both_ends_come_back_after_any_pause, both_ends_come_back_from_anywhere};
 pub use causes::starts_end_with_their_cause;
 pub use controller::{
     controller_asks_again, controller_finds_its_device, controller_goes_on_in_time,

@@ -22,7 +22,7 @@ pub fn power_comes_back<F: Flash<S>, const S: usize>(
     ensures deserts { (left : ℕ) (plant : Plant F) (device : State F) → CanLosePower F.Flash setup.now next.now identity.now left plant
         → IsStartedFrom F.Flash plant.net.device.station plant.net.device.flash device
         → IsDeserted setup.now next.now identity.now left (powered device plant) }
-    // Both ends exchange data again within what is left of the data hold time of the controller, the pause, and the time of a start.
+    // Both ends exchange data again within the rest of the data hold time of the controller, the pause, and the time of a start.
     ensures back { CanStart setup.now identity.now → CanStart next.now identity.now → AreStarts setup.now next.now
         → (pause left : ℕ) → 2 ≤ pause → (plant : Plant F) (device : State F) → CanLosePower F.Flash setup.now next.now identity.now left plant
         → IsStartedFrom F.Flash plant.net.device.station plant.net.device.flash device

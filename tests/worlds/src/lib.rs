@@ -2,6 +2,7 @@
 #![cfg(test)]
 
 mod alarms;
+mod anywhere;
 mod diagnosis;
 mod later;
 mod lists;

@@ -33,7 +33,7 @@ pub fn both_ends_come_back<F: Flash<S>, const S: usize>(
     ensures again { CanStart setup.now identity.now → CanStart next.now identity.now → AreStarts setup.now next.now
         → (pause left : ℕ) → left ≤ pause → (plant : Plant F) → IsRestart setup.now next.now identity.now left plant
         → LeadsBack F.Flash pause (suc (pause + start_up_limit setup.now.plan)) plant }
-    // If the device loses its power while data is exchanged, both ends exchange data again within what is left of the data hold time of the
+    // If the device loses its power while data is exchanged, both ends exchange data again within the rest of the data hold time of the
     // controller, the pause, and the time of a start.
     ensures deserted { CanStart setup.now identity.now → CanStart next.now identity.now → AreStarts setup.now next.now
         → (pause left : ℕ) → 2 ≤ pause → (plant : Plant F) → IsDeserted setup.now next.now identity.now left plant
@@ -44,7 +44,7 @@ pub fn both_ends_come_back<F: Flash<S>, const S: usize>(
         → (pause left number : ℕ) → 2 ≤ pause → (plant : Plant F) → AsksInVain setup.now next.now identity.now number left plant
         → LeadsBack F.Flash pause (left + pause + start_up_limit setup.now.plan) plant }
     // If the device has no relation any more and does not answer, since it has no IP address, or since the controller waits for
-    // ApplicationReady, which never comes: both ends exchange data within what is left of the patience, the pause, and the time of a start.
+    // ApplicationReady, which never comes: both ends exchange data within the rest of the patience, the pause, and the time of a start.
     ensures unanswered { CanStart setup.now identity.now → CanStart next.now identity.now → AreStarts setup.now next.now
         → (pause left : ℕ) (awaited : Awaited) → 2 ≤ pause → (plant : Plant F) → WaitsInVain setup.now next.now identity.now awaited left plant
         → LeadsBack F.Flash pause (left + pause + start_up_limit setup.now.plan) plant }

@@ -13,7 +13,7 @@ use end_laws::{answers_are_heard, stations_are_real};
 use pn_values::Identity;
 
 /// A station type has at most 25 octets.
-fn type_is_short(identity: &Identity)
+pub(crate) fn type_is_short(identity: &Identity)
     ensures { length identity.now.station_type.items ≤ 25 }
 {
     let _length = identity.station_type.len();

@@ -36,7 +36,7 @@ fn are_placed(records: &[PlanRecord])
 }
 
 /// The slots and subslots of a plan's records have 16 bits.
-fn plan_is_placed(plan: &Plan)
+pub(crate) fn plan_is_placed(plan: &Plan)
     ensures { ArePlaced plan.now.records.items }
 {
     are_placed(plan.records());

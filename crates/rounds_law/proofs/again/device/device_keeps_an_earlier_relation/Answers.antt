@@ -27,7 +27,7 @@ returns-clause-refused c = λ meets some outcomes station live left same address
     let hears = c.calls_are_heard.ensures.device identity setup identity.mac call real c.stations_are_real.ensures.device
     (c.calls_can_be_sent.ensures.call setup Connect real tt tt)
     ∙ own_heard identity setup.plan.controller.mac (calls_at setup.plan.controller.address) setup.plan.station.suite.address (Calls call) in
-    refuses setup identity station live outcomes left same addressed earlier uncalled c.refusals_are_not_done.ensures
+    refuses setup identity station live outcomes earlier.link same addressed earlier.has uncalled c.refusals_are_not_done.ensures
     (subst (λ (i : Identity). heard_of i (comes (request_to setup identity Connect))
     ≡ Reported (caller_of setup.plan.controller) setup.plan.station.suite.address (Calls call)) (sym same) hears)
     (address_runs setup live addressed some) sendable

@@ -1,0 +1,337 @@
+-- The calls of a controller at a device in any state.
+use Rattle.std.proofs.Common.{◌≡◌, ◌⊎◌, inl, inr, ◌<◌, ◌+◌, ◌==◌, ℕ, Bool, true, false, List, [], ◌∷◌}
+use Rattle.std.proofs.Common.{Option, Some, None, Result, Ok, Err, refl, sym, ap, subst, ◌∙◌, arith}
+use Rattle.std.specs.Prelude.{if◌then◌else◌, nat_lt}
+use Rattle.std.specs.List.{AllByRecursion}
+use Rattle.std.proofs.lemmas.Bool.Decides.{nat_tests}
+use Rattle.pn_values.specs.declared.identity.Identity.{Identity}
+use Rattle.pn_values.specs.declared.real.Real.{Real}
+use Rattle.wire.specs.Codec.{◌>>=◌}
+use Rattle.wire.specs.blocks.modules.Lists.{Listed}
+use Rattle.connect_blocks.specs.declared.control.ControlBlock.{ControlBlock}
+use Rattle.connect_blocks.specs.declared.module_diff.DiffModule.{DiffModule}
+use Rattle.connect_blocks.specs.declared.module_diff.DiffSubmodule.{DiffSubmodule}
+use Rattle.block_codec.specs.declared.block.Block.TheVariants as is
+use Rattle.block_codec.specs.Block.{block_bytes}
+use Rattle.frame_codec.specs.declared.udp.Caller.{Caller}
+use Rattle.rpc_core.specs.Cache.{Kept, again, kept_of, looked, new, old, reported_by}
+use Rattle.rpc_core.specs.Call.{Asked as Call}
+use Rattle.rpc_core.specs.Response.{answer_to}
+use Rattle.records.specs.declared.status.call_fault.CallFault.{CallFault}
+use Rattle.records.specs.declared.status.operation.Operation.{Operation}
+use Rattle.records.specs.declared.status.operation.Operation.TheVariants.{Connect, Control, Release, Write}
+use Rattle.records.specs.status.Operation.{operation_of}
+use Rattle.records.specs.status.Status.{done}
+use Rattle.record_blocks.specs.declared.write_record.IodWriteReq.{IodWriteReq}
+use Rattle.records.specs.declared.writes.taken.TakenRecord.{TakenRecord}
+use Rattle.records.specs.declared.writes.write.Effect.{Effect}
+use Rattle.records.specs.declared.writes.write.Effect.TheVariants.{Keeps, Stores}
+use Rattle.records.specs.declared.writes.write.Write.{Write as Asking}
+use Rattle.records.specs.declared.writes.writing.Writing.{Writing}
+use Rattle.records.specs.declared.writes.writing.Writing.TheVariants.{Each, One}
+use Rattle.records.specs.writes.Answer.{answer_of}
+use Rattle.records.specs.writes.Asked.{writing_of}
+use Rattle.connects.specs.requests.Request.{Request}
+use Rattle.relations.specs.Calls.{done_of, prm_end_of, release_of}
+use Rattle.relations.specs.Connect.{connect_blocks, connect_within, differing_of, making, rows_of}
+use Rattle.relations.specs.Numbers.{endpoint_of}
+use Rattle.relations.specs.Phases.{Ended, Named, Parameterized, Records, Took, answered, differing_octets, keeping, made_of, taking, updated}
+use Rattle.relations.specs.RelationState.{RelationState, uuid_of}
+use Rattle.device_frames.specs.Heard.{Calls}
+use Rattle.device_frames.specs.Relation.{ready_calls}
+use Rattle.device_core.specs.State.{Live, Station}
+use Rattle.device_core.specs.Log.{but_rest, connect_log, release_log, with_log}
+use Rattle.device_core.specs.Handled.{Handled, counted_by, handled_blocks, handled_call, handled_effect, handled_looked}
+use Rattle.device_core.specs.Handled.{handled_new, handled_said, handled_write, kept_answer}
+use Rattle.device_core.specs.Handled.{number_now, partner_of, ready_behind, served, starting_of}
+use Rattle.device_core.specs.Machine.{effect_link, link_behind, one_link, several_answer}
+use Rattle.device_core.specs.Several.{Judged, judged_each}
+use Rattle.controller_messages.specs.declared.setup.Setup.{Setup}
+use Rattle.controller_messages.specs.declared.request.Request.TheVariants as asks
+use Rattle.controller_messages.specs.Requests.{blocks_of, call_for, control_of, write_count}
+use Rattle.both_ends.specs.startup.answer.Answer.{IsAllThere, caller_of}
+use Rattle.both_ends.specs.startup.request.Request.{request_for}
+use Rattle.rounds_law.specs.Anywhere.{AllLast, IsAnyDevice}
+use Rattle.rounds_law.proofs.AgainKept.{refused_within}
+use Rattle.rounds_law.proofs.AnywhereDeviceFine.{IsFine, parameterized_lasts, records_last, restarted_lasts, stored_before}
+use Rattle.rounds_law.proofs.AnywhereDeviceSays.{IsFitting}
+use Rattle.rounds_law.proofs.AnywhereDeviceWrites.{IsQuiet}
+use Rattle.rounds_law.proofs.DeviceCallingConnected.{is_connect}
+use Rattle.rounds_law.proofs.Numbers.{number_few}
+use Rattle.rounds_law.proofs.AnywhereDeviceAnswers.{CallLaws, chosen_fit, fit_later, fit_no, served_move, unchosen_fit}
+
+module _ (setup next : Setup) (identity : Identity) (silence : ℕ) (station : Station) (laws : CallLaws setup next silence station) where
+  abbrev caller : Caller
+  caller = caller_of setup.plan.controller
+
+  abbrev Fine : Live → Handled → Type 0
+  Fine live what = IsFine setup next identity silence station live what
+
+  -- ---- Connect
+
+  abbrev connect_by : Live → Result Request CallFault → Handled
+  connect_by live asked =
+      let answer = asked >>= λ request. Ok (connect_blocks station.identity (number_now station live) request (differing_of request station.real)) in
+      served station (but_rest live (counted_by answer (with_log (connect_log (blocks_of setup asks.Connect) answer) live.rest)))
+      caller (call_for setup asks.Connect) Connect answer
+      (updated (making station.real (partner_of caller) station.options (starting_of station live) asked) live.rest.link) []
+
+  connect_refused : (live : Live) → IsAnyDevice setup next identity silence station live → (refusal : CallFault) → Fine live (connect_by live (Err refusal))
+  connect_refused live before refusal =
+      served_move setup next identity silence station laws live before (counted_by (let e : Result (List ℕ) CallFault = Err refusal in e)
+      (with_log (connect_log (blocks_of setup asks.Connect) (let e : Result (List ℕ) CallFault = Err refusal in e)) live.rest))
+      refl (call_for setup asks.Connect) refl live.values.running.suite.address Connect (Err refusal)
+      (fit_no setup next identity silence station laws (call_for setup asks.Connect) Connect refusal) live.rest.link before.lasts [] tt
+
+  no_difference : differing_of (request_for setup.plan setup.ar) station.real ≡ []
+  no_difference =
+      ap (λ (real : Real). differing_of (request_for setup.plan setup.ar) real) laws.plugged
+      ∙ ap (λ (rows : Listed DiffModule DiffSubmodule). differing_octets rows) laws.same
+
+  connect_taken : (live : Live) → IsAnyDevice setup next identity silence station live → Fine live (connect_by live (Ok (request_for setup.plan setup.ar)))
+  connect_taken live before =
+      let request = request_for setup.plan setup.ar in
+      let number = number_now station live in
+      let blocks = connect_blocks station.identity number request (differing_of request station.real) in
+      let answer : Result (List ℕ) CallFault = Ok blocks in
+      let few = number_few station.options.numbers_from live.rest.made in
+      served_move setup next identity silence station laws live before
+      (counted_by answer (with_log (connect_log (blocks_of setup asks.Connect) answer) live.rest))
+      refl (call_for setup asks.Connect) refl live.values.running.suite.address Connect answer
+      (chosen_fit setup (answer_to (call_for setup asks.Connect) done blocks) number few
+      (subst (λ (differing : List ℕ). IsAllThere (connect_blocks station.identity number request differing) (0xC000 + number) (endpoint_of number))
+      (sym no_difference) (laws.whole number few)))
+      (Some (made_of request (partner_of caller) (rows_of request station.real) station.options (starting_of station live)))
+      (record { runs = λ untimed. absurd cc; active = laws.active; holds = laws.holds; named = laws.good.ar; object = refl; inputs = refl }) [] tt
+
+  connect_fine : (live : Live) → IsAnyDevice setup next identity silence station live
+      → Fine live (handled_new station live caller (call_for setup asks.Connect) (blocks_of setup asks.Connect) Connect)
+  connect_fine live before = by_link live.rest.link refl
+    where
+      by_link : (link : Option RelationState) → live.rest.link ≡ link
+          → Fine live (connect_by live (connect_within station.options setup.plan.controller.mac live.rest.link (blocks_of setup asks.Connect)))
+      by_link None has =
+          subst (λ (r : Result Request CallFault). Fine live (connect_by live r))
+          (sym (ap (λ (l : Option RelationState). connect_within station.options setup.plan.controller.mac l (blocks_of setup asks.Connect)) has
+          ∙ laws.accepted))
+          (connect_taken live before)
+      by_link (Some link) has =
+          let because = refused_within station.options.smallest_interval link.request.ar.uuid (blocks_of setup asks.Connect) in
+          subst (λ (r : Result Request CallFault). Fine live (connect_by live r))
+          (sym (ap (λ (l : Option RelationState). connect_within station.options setup.plan.controller.mac l (blocks_of setup asks.Connect)) has ∙ because.1))
+          (connect_refused live before because.0)
+
+  -- ---- Release
+
+  abbrev release_by : Live → Call → Result ControlBlock CallFault → Handled
+  release_by live call ended =
+      let answer = ended >>= λ block. Ok (block_bytes (is.ReleaseRes (done_of block))) in
+      served station (but_rest live (with_log (release_log (uuid_of live.rest.link) answer) live.rest)) caller call Release answer
+      (updated (answered Ended ended) live.rest.link) []
+
+  release_fine : (live : Live) → IsAnyDevice setup next identity silence station live → (sequence : ℕ)
+      → Fine live (handled_new station live caller (call_for setup (asks.Release sequence)) (blocks_of setup (asks.Release sequence)) Release)
+  release_fine live before sequence = by_outcome (laws.released live.rest.link)
+    where
+      by_outcome : (release_of live.rest.link (blocks_of setup (asks.Release 0)) ≡ Ok (control_of setup 4))
+          ⊎ ((refusal : CallFault) × (release_of live.rest.link (blocks_of setup (asks.Release 0)) ≡ Err refusal))
+          → Fine live (release_by live (call_for setup (asks.Release sequence)) (release_of live.rest.link (blocks_of setup (asks.Release 0))))
+      by_outcome (inl e) =
+          let blocks = block_bytes (is.ReleaseRes (done_of (control_of setup 4))) in
+          let answer : Result (List ℕ) CallFault = Ok blocks in
+          subst (λ (r : Result ControlBlock CallFault). Fine live (release_by live (call_for setup (asks.Release sequence)) r)) (sym e)
+          (served_move setup next identity silence station laws live before
+          (with_log (release_log (uuid_of live.rest.link) answer) live.rest) refl (call_for setup (asks.Release sequence)) refl
+          live.values.running.suite.address Release answer (unchosen_fit setup (answer_to (call_for setup (asks.Release sequence)) done blocks) laws.unchosen)
+          None tt [] tt)
+      by_outcome (inr e) =
+          let answer : Result (List ℕ) CallFault = Err e.0 in
+          subst (λ (r : Result ControlBlock CallFault). Fine live (release_by live (call_for setup (asks.Release sequence)) r)) (sym e.1)
+          (served_move setup next identity silence station laws live before
+          (with_log (release_log (uuid_of live.rest.link) answer) live.rest) refl (call_for setup (asks.Release sequence)) refl
+          live.values.running.suite.address Release answer
+          (fit_no setup next identity silence station laws (call_for setup (asks.Release sequence)) Release e.0) live.rest.link before.lasts [] tt)
+
+  -- ---- PrmEnd
+
+  not_first : (n : ℕ) → ((n + 1) == 0) ≡ false
+  not_first n = grind (arith, nat_tests)
+
+  ready_fits : (address : List ℕ) (link : Option RelationState) → AllLast silence link → AllByRecursion (IsFitting setup) (ready_calls address link)
+  ready_fits address None lasts = tt
+  ready_fits address (Some link) lasts = (
+    record {
+      header = record { object = lasts.object; interface = refl; activity = lasts.named; sequence = omega arith; operation = omega arith };
+      interface = refl;
+      uuid = lasts.named;
+    },
+    tt,
+  )
+
+  behind_fits : (by_application : Bool) (address : List ℕ) (link : Option RelationState) (block : ControlBlock) → AllLast silence link
+      → AllByRecursion (IsFitting setup) (ready_behind by_application address link (Ok block))
+  behind_fits true address link block lasts = tt
+  behind_fits false address link block lasts = ready_fits address link lasts
+
+  abbrev control_by : Live → Result ControlBlock CallFault → Handled
+  control_by live ended =
+      let by_application = station.options.ready_by_application in
+      let link = updated (answered (Named (partner_of caller)) ended) (updated (answered (Parameterized by_application) ended) live.rest.link) in
+      served station live caller (call_for setup asks.PrmEnd) Control (ended >>= λ block. Ok (block_bytes (is.PrmEndRes (done_of block)))) link
+      (ready_behind by_application live.values.running.suite.address link ended)
+
+  control_fine : (live : Live) → IsAnyDevice setup next identity silence station live
+      → Fine live (handled_new station live caller (call_for setup asks.PrmEnd) (blocks_of setup asks.PrmEnd) Control)
+  control_fine live before = by_outcome (prm_end_of live.rest.link (blocks_of setup asks.PrmEnd))
+    where
+      by_outcome : (ended : Result ControlBlock CallFault) → Fine live (control_by live ended)
+      by_outcome (Ok block) =
+          let by_application = station.options.ready_by_application in
+          let after = updated (Named (partner_of caller)) (updated (Parameterized by_application) live.rest.link) in
+          let lasts = restarted_lasts silence (partner_of caller) (updated (Parameterized by_application) live.rest.link)
+          (parameterized_lasts silence by_application live.rest.link before.lasts) in
+          served_move setup next identity silence station laws live before
+          live.rest refl (call_for setup asks.PrmEnd) refl live.values.running.suite.address Control
+          (Ok (block_bytes (is.PrmEndRes (done_of block))))
+          (fit_later setup next identity silence station laws (call_for setup asks.PrmEnd) (block_bytes (is.PrmEndRes (done_of block)))
+          (not_first (write_count setup.plan))) after lasts
+          (ready_behind by_application live.values.running.suite.address after (Ok block))
+          (behind_fits by_application live.values.running.suite.address after block lasts)
+      by_outcome (Err refusal) =
+          served_move setup next identity silence station laws live before
+          live.rest refl (call_for setup asks.PrmEnd) refl live.values.running.suite.address Control (Err refusal)
+          (fit_no setup next identity silence station laws (call_for setup asks.PrmEnd) Control refusal) live.rest.link before.lasts [] tt
+
+  -- ---- Write
+
+  took_lasts : (parameter : TakenRecord) (kept : Result Records CallFault) (link : Option RelationState) → AllLast silence link
+      → AllLast silence (updated (taking kept) link)
+  took_lasts parameter (Ok records) link lasts = records_last silence records link lasts
+  took_lasts parameter (Err refusal) link lasts = lasts
+
+  one_lasts : (one : Judged) (link : Option RelationState) → AllLast silence link → AllLast silence (one_link one.1 link)
+  one_lasts one link lasts = by_result one.1
+    where
+      by_effect : (effect : Effect) → AllLast silence (effect_link effect link)
+      by_effect (Stores value) = lasts
+      by_effect (Keeps parameter) = took_lasts parameter (keeping parameter link) link lasts
+
+      by_result : (result : Result Asking CallFault) → AllLast silence (one_link result link)
+      by_result (Ok write) = by_effect write.effect
+      by_result (Err refusal) = lasts
+
+  each_lasts : (judged : List Judged) (link : Option RelationState) → AllLast silence link → AllLast silence (link_behind judged link)
+  each_lasts [] link lasts = lasts
+  each_lasts (one ∷ judged) link lasts = each_lasts judged (one_link one.1 link) (one_lasts one link lasts)
+
+  kept_fine : (live : Live) → IsAnyDevice setup next identity silence station live → (number : ℕ) (header : IodWriteReq) (kept : Result Records CallFault)
+      → Fine live (served station live caller (call_for setup (asks.Write number)) Write (kept_answer header kept)
+      (updated (answered (Named (partner_of caller)) kept) (updated (taking kept) live.rest.link)) [])
+  kept_fine live before number header (Ok records) =
+      served_move setup next identity silence station laws live before
+      live.rest refl (call_for setup (asks.Write number)) refl live.values.running.suite.address Write (kept_answer header (Ok records))
+      (fit_later setup next identity silence station laws (call_for setup (asks.Write number)) (answer_of header) (not_first number))
+      (updated (Named (partner_of caller)) (updated (Took records) live.rest.link))
+      (restarted_lasts silence (partner_of caller) (updated (Took records) live.rest.link) (records_last silence records live.rest.link before.lasts)) [] tt
+  kept_fine live before number header (Err refusal) =
+      served_move setup next identity silence station laws live before
+      live.rest refl (call_for setup (asks.Write number)) refl live.values.running.suite.address Write (Err refusal)
+      (fit_no setup next identity silence station laws (call_for setup (asks.Write number)) Write refusal) live.rest.link before.lasts [] tt
+
+  writing_fine : (live : Live) → IsAnyDevice setup next identity silence station live → (number : ℕ) (writing : Result Writing CallFault)
+      → IsQuiet (uuid_of live.rest.link) station.real writing → Fine live (handled_write station live caller (call_for setup (asks.Write number)) writing)
+  writing_fine live before number (Err refusal) quiet =
+      served_move setup next identity silence station laws live before
+      live.rest refl (call_for setup (asks.Write number)) refl live.values.running.suite.address Write (Err refusal)
+      (fit_no setup next identity silence station laws (call_for setup (asks.Write number)) Write refusal) live.rest.link before.lasts [] tt
+  writing_fine live before number (Ok (One write)) quiet =
+      subst (λ (effect : Effect). Fine live (handled_effect station live caller (call_for setup (asks.Write number)) write.request effect)) (sym quiet.1)
+      (kept_fine live before number write.request (keeping quiet.0 live.rest.link))
+  writing_fine live before number (Ok (Each header entries)) quiet =
+      let judged = judged_each (uuid_of live.rest.link) station.real entries in (
+        quiet,
+        served_move setup next identity silence station laws live before
+            live.rest refl (call_for setup (asks.Write number)) refl live.values.running.suite.address Write
+            (Ok (several_answer header judged [] live.rest.link))
+            (fit_later setup next identity silence station laws (call_for setup (asks.Write number)) (several_answer header judged [] live.rest.link)
+            (not_first number))
+            (updated (Named (partner_of caller)) (link_behind judged live.rest.link))
+            (restarted_lasts silence (partner_of caller) (link_behind judged live.rest.link) (each_lasts judged live.rest.link before.lasts)) [] tt,
+      )
+
+  write_fine : (live : Live) → IsAnyDevice setup next identity silence station live → (number : ℕ) → number < 65536
+      → Fine live (handled_new station live caller (call_for setup (asks.Write number)) (blocks_of setup (asks.Write number)) Write)
+  write_fine live before number small =
+      writing_fine live before number (writing_of (uuid_of live.rest.link) station.real (blocks_of setup (asks.Write number)))
+      (laws.quiet number small (uuid_of live.rest.link))
+
+  -- ---- a call, by what is stored
+
+  looked_fine : (live : Live) → IsAnyDevice setup next identity silence station live → (call : Call) → call.header.activity ≡ setup.activity
+      → (blocks : List ℕ) (operation : Operation) → Fine live (handled_new station live caller call blocks operation)
+      → Fine live (handled_looked station live caller call blocks operation (looked call.header.activity call.header.sequence live.rest.calls))
+  looked_fine live before call own blocks operation fine =
+      subst (λ (activity : List ℕ). Fine live (handled_looked station live caller call blocks operation (looked activity call.header.sequence live.rest.calls)))
+      (sym own)
+      (by_kept (kept_of setup.activity live.rest.calls) refl)
+    where
+      by_number : (kept : Kept) → kept_of setup.activity live.rest.calls ≡ Some kept → (same less : Bool)
+          → Fine live (handled_looked station live caller call blocks operation (if same then again kept.frame else (if less then old else new)))
+      by_number kept found true less = (before.lasts, λ can. stored_before setup next identity silence station live before, (before.stored kept found, tt))
+      by_number kept found false true = tt
+      by_number kept found false false = fine
+
+      by_kept : (found : Option Kept) → kept_of setup.activity live.rest.calls ≡ found
+          → Fine live (handled_looked station live caller call blocks operation (reported_by call.header.sequence found))
+      by_kept None e = fine
+      by_kept (Some kept) e = by_number kept e (call.header.sequence == kept.sequence) (nat_lt call.header.sequence kept.sequence)
+
+  said_fine : (live : Live) (call : Call) (operation : Operation) (blocks : List ℕ) → call.blocks ≡ Some blocks
+      → operation_of call.header.operation ≡ Some operation
+      → Fine live (handled_looked station live caller call blocks operation (looked call.header.activity call.header.sequence live.rest.calls))
+      → Fine live (handled_said station live caller (Calls call))
+  said_fine live call operation blocks counted is fine =
+      subst (λ (o : Option Operation). Fine live (handled_call station live caller call o)) (sym is)
+      (subst (λ (o : Option (List ℕ)). Fine live (handled_blocks station live caller call operation o)) (sym counted) fine)
+
+  is_release : operation_of 1 ≡ Some Release
+  unfolding operation_of
+  is_release = refl
+
+  is_write : operation_of 3 ≡ Some Write
+  unfolding operation_of
+  is_write = refl
+
+  is_control : operation_of 4 ≡ Some Control
+  unfolding operation_of
+  is_control = refl
+
+  -- ---- each call
+
+  pub connect_said : (live : Live) → IsAnyDevice setup next identity silence station live
+      → Fine live (handled_said station live caller (Calls (call_for setup asks.Connect)))
+  connect_said live before =
+      let call = call_for setup asks.Connect in
+      said_fine live call Connect (blocks_of setup asks.Connect) refl is_connect
+      (looked_fine live before call refl (blocks_of setup asks.Connect) Connect (connect_fine live before))
+
+  pub write_said : (live : Live) → IsAnyDevice setup next identity silence station live → (number : ℕ) → number < 65536
+      → Fine live (handled_said station live caller (Calls (call_for setup (asks.Write number))))
+  write_said live before number small =
+      let call = call_for setup (asks.Write number) in
+      said_fine live call Write (blocks_of setup (asks.Write number)) refl is_write
+      (looked_fine live before call refl (blocks_of setup (asks.Write number)) Write (write_fine live before number small))
+
+  pub prm_end_said : (live : Live) → IsAnyDevice setup next identity silence station live
+      → Fine live (handled_said station live caller (Calls (call_for setup asks.PrmEnd)))
+  prm_end_said live before =
+      let call = call_for setup asks.PrmEnd in
+      said_fine live call Control (blocks_of setup asks.PrmEnd) refl is_control
+      (looked_fine live before call refl (blocks_of setup asks.PrmEnd) Control (control_fine live before))
+
+  pub release_said : (live : Live) → IsAnyDevice setup next identity silence station live → (sequence : ℕ)
+      → Fine live (handled_said station live caller (Calls (call_for setup (asks.Release sequence))))
+  release_said live before sequence =
+      let call = call_for setup (asks.Release sequence) in
+      said_fine live call Release (blocks_of setup (asks.Release sequence)) refl is_release
+      (looked_fine live before call refl (blocks_of setup (asks.Release sequence)) Release (release_fine live before sequence))

@@ -1,0 +1,260 @@
+-- What is exchanged, and units, at a device in any state.
+use Rattle.std.proofs.Common.{◌≡◌, ◌++◌, ℕ, Bool, true, false, List, [], ◌∷◌, Option, Some, None, refl, sym, subst, arith}
+use Rattle.std.specs.Prelude.{if◌then◌else◌}
+use Rattle.std.specs.List.{AllByRecursion}
+use Rattle.pn_values.specs.declared.identity.Identity.{Identity}
+use Rattle.pn_values.specs.declared.mac.Mac.{Mac}
+use Rattle.pn_alarms.specs.Message.{ToDevice}
+use Rattle.pn_alarms.specs.Device.{heard_as}
+use Rattle.pn_alarms.specs.declared.abort.Abort.{Abort}
+use Rattle.pn_alarms.specs.declared.device.PduFate.{PduFate}
+use Rattle.pn_alarms.specs.declared.device.PduFate.TheVariants as fate
+use Rattle.pn_alarms.specs.declared.pdu.Header.{Header}
+use Rattle.pn_alarms.specs.declared.receiver.Taken.{Taken}
+use Rattle.cyclic_data.specs.declared.exchange.route.Route.{Route}
+use Rattle.cyclic_data.specs.declared.exchange.received.Received.{Received}
+use Rattle.cyclic_data.specs.declared.exchange.received.Received.TheVariants as received
+use Rattle.relations.specs.declared.farewell.Farewell.{Farewell}
+use Rattle.relations.specs.declared.hearing.ReadyAnswer.{ReadyAnswer}
+use Rattle.relations.specs.declared.hearing.ReadyAnswer.TheVariants as to_ready
+use Rattle.relations.specs.Diagnosed.{begin_one, has_sent_low, heard_low, hearing_low, report_one}
+use Rattle.relations.specs.Exchanged.{heard_by, hearing, hearing_as, received_by, receiving, receiving_as}
+use Rattle.relations.specs.exchange.Diagnosis.{behind_low, diagnoses_begun, next_reported}
+use Rattle.relations.specs.exchange.Flow.{Flow}
+use Rattle.relations.specs.exchange.Frames.{Frame, alarm_frame, low_alarm_frame}
+use Rattle.relations.specs.exchange.Notices.{behind_message}
+use Rattle.relations.specs.exchange.Received.{behind_frame, received_as}
+use Rattle.relations.specs.Phases.{Confirmed, exchanging_from, passing, passing_by, updated, with_flow}
+use Rattle.relations.specs.RelationState.{RelationState, flow_of, is_alarm_of}
+use Rattle.relations.specs.Timers.{Due, due_of, ending_of}
+use Rattle.device_frames.specs.Relation.{alarms_of, due_frames, farewells_in, frames_in, inputs_of, low_alarms_of, low_replies_of, ready_calls}
+use Rattle.device_frames.specs.Relation.{replies_of, where_due}
+use Rattle.device_frames.specs.Sent.{Sent}
+use Rattle.device_core.specs.State.{Live, Station, counter_of, units_after}
+use Rattle.device_frames.specs.declared.note.Note.TheVariants as note
+use Rattle.device_core.specs.Handled.{Handled, Refuses, goes_on_with, handled_alarm, handled_answer, handled_beginning, handled_cyclic, handled_low}
+use Rattle.device_core.specs.Handled.{handled_low_confirm, handled_low_message}
+use Rattle.device_core.specs.Handled.{handled_low_pdu, handled_low_reply, handled_message, handled_pdu, handled_received, ticked}
+use Rattle.controller_messages.specs.declared.setup.Setup.{Setup}
+use Rattle.rounds_law.specs.Anywhere.{AllLast, IsAnyDevice, Lasts}
+use Rattle.rounds_law.proofs.AnywhereDeviceFine.{IsFine, exchanging_lasts, flow_lasts, passed_lasts, stored_before}
+use Rattle.rounds_law.proofs.AnywhereDeviceSays.{IsFitting}
+use Rattle.rounds_law.proofs.DevicePassingLeft.{frame_left}
+
+-- ---- the messages of a relation are fit
+
+pub both_fit : (setup : Setup) (one other : List Sent) → AllByRecursion (IsFitting setup) one → AllByRecursion (IsFitting setup) other
+    → AllByRecursion (IsFitting setup) (one ++ other)
+both_fit setup [] other ones others = others
+both_fit setup (message ∷ one) other ones others = (ones.0, both_fit setup one other ones.1 others)
+
+due_fit : (setup : Setup) (is_due : Bool) (sent : List Sent) → AllByRecursion (IsFitting setup) sent → AllByRecursion (IsFitting setup) (where_due is_due sent)
+due_fit setup true sent all = all
+due_fit setup false sent all = tt
+
+frames_fit : (setup : Setup) (route : Route) (frame : Option Frame) → AllByRecursion (IsFitting setup) (frames_in route frame)
+frames_fit setup route None = tt
+frames_fit setup route (Some frame) = (tt, tt)
+
+alarms_fit : (setup : Setup) (flow : Option Flow) → AllByRecursion (IsFitting setup) (alarms_of flow)
+alarms_fit setup None = tt
+alarms_fit setup (Some flow) = frames_fit setup flow.cyclic.route (alarm_frame flow)
+
+low_fit : (setup : Setup) (flow : Option Flow) → AllByRecursion (IsFitting setup) (low_alarms_of flow)
+low_fit setup None = tt
+low_fit setup (Some flow) = frames_fit setup flow.cyclic.route (low_alarm_frame flow)
+
+replies_fit : (setup : Setup) (taken : Taken) (flow : Option Flow) → AllByRecursion (IsFitting setup) (replies_of taken flow)
+replies_fit setup taken None = tt
+replies_fit setup taken (Some flow) = (tt, tt)
+
+low_replies_fit : (setup : Setup) (taken : Taken) (flow : Option Flow) → AllByRecursion (IsFitting setup) (low_replies_of taken flow)
+low_replies_fit setup taken None = tt
+low_replies_fit setup taken (Some flow) = (tt, tt)
+
+inputs_fit : (setup : Setup) (counter : ℕ) (flow : Option Flow) → AllByRecursion (IsFitting setup) (inputs_of counter flow)
+inputs_fit setup counter None = tt
+inputs_fit setup counter (Some flow) = (tt, tt)
+
+pub farewells_fit : (setup : Setup) (farewell : Option Farewell) → AllByRecursion (IsFitting setup) (farewells_in farewell)
+farewells_fit setup None = tt
+farewells_fit setup (Some farewell) = (tt, tt)
+
+pub ready_fits : (setup : Setup) (silence : ℕ) (address : List ℕ) (link : Option RelationState) → AllLast silence link
+    → AllByRecursion (IsFitting setup) (ready_calls address link)
+ready_fits setup silence address None lasts = tt
+ready_fits setup silence address (Some link) lasts = (
+  record {
+    header = record { object = lasts.object; interface = refl; activity = lasts.named; sequence = omega arith; operation = omega arith };
+    interface = refl;
+    uuid = lasts.named;
+  },
+  tt,
+)
+
+unit_fit : (setup : Setup) (silence : ℕ) (address : List ℕ) (counter : ℕ) (due : Due) (link : Option RelationState) → AllLast silence link
+    → AllByRecursion (IsFitting setup) (due_frames address counter due link)
+unit_fit setup silence address counter due link lasts =
+    both_fit setup (farewells_in due.farewell) _ (farewells_fit setup due.farewell)
+    (both_fit setup (where_due due.is_alarm (alarms_of (flow_of link))) _ (due_fit setup due.is_alarm _ (alarms_fit setup (flow_of link)))
+    (both_fit setup (where_due due.is_low (low_alarms_of (flow_of link))) _ (due_fit setup due.is_low _ (low_fit setup (flow_of link)))
+    (both_fit setup (where_due due.is_ready (ready_calls address link)) _ (due_fit setup due.is_ready _ (ready_fits setup silence address link lasts))
+    (due_fit setup due.is_cyclic _ (inputs_fit setup counter (flow_of link))))))
+
+-- ---- what is heard
+
+module _ (setup next : Setup) (identity : Identity) (silence : ℕ) (station : Station) where
+  abbrev Device : Live → Type 0
+  Device live = IsAnyDevice setup next identity silence station live
+
+  abbrev Fine : Live → Handled → Type 0
+  Fine live what = IsFine setup next identity silence station live what
+
+  -- the same relation, in another state
+  gone_on : (live : Live) → Device live → (link : Option RelationState) → AllLast silence link → (sent : List Sent) → AllByRecursion (IsFitting setup) sent
+      → Fine live (goes_on_with live link sent)
+  gone_on live before link lasts sent fits = (lasts, λ can. stored_before setup next identity silence station live before, fits)
+
+  lasts_at : (live : Live) → Device live → (link : RelationState) → live.rest.link ≡ Some link → Lasts silence link
+  lasts_at live before link has = subst (AllLast silence) has before.lasts
+
+  -- ---- cyclic frames
+
+  received_fine : (live : Live) → Device live → (link : RelationState) → Lasts silence link → (flow : Flow) → Lasts silence (with_flow flow link)
+      → (one : Received)
+      → Fine live (handled_received live one (updated (receiving_as one flow) (Some link)))
+  received_fine live before link lasts flow later received.Foreign = tt
+  received_fine live before link lasts flow later received.Short = tt
+  received_fine live before link lasts flow later received.Stale = tt
+  received_fine live before link lasts flow later received.Taken = gone_on live before (Some (with_flow flow link)) later [] tt
+
+  pub cyclic_fine : (live : Live) → Device live → (source : Mac) (frame_id : ℕ) (body : List ℕ) → Fine live (handled_cyclic live source frame_id body)
+  cyclic_fine live before source frame_id body = by_link live.rest.link refl
+    where
+      by_link : (link : Option RelationState) → live.rest.link ≡ link → Fine live (handled_cyclic live source frame_id body)
+      by_link None has =
+          subst (λ (l : Option RelationState). Fine live (handled_received live (received_by source frame_id body l)
+          (updated (receiving source frame_id body l) l))) (sym has) tt
+      by_link (Some link) has =
+          let left = frame_left link.flow.cyclic source frame_id body in
+          let lasts = lasts_at live before link has in
+          subst (λ (l : Option RelationState). Fine live (handled_received live (received_by source frame_id body l)
+          (updated (receiving source frame_id body l) l))) (sym has)
+          (received_fine live before link lasts (behind_frame link.flow source frame_id body)
+          (flow_lasts silence link (behind_frame link.flow source frame_id body) left.begun left.limit left.route lasts)
+          (received_as link.flow source frame_id body))
+
+  -- ---- alarms
+
+  pdu_fine : (live : Live) → Device live → (link : RelationState) → Lasts silence link → (flow : Flow) → Lasts silence (with_flow flow link) → (one : PduFate)
+      → Fine live (handled_pdu live one (updated (hearing_as one flow) (Some link)))
+  pdu_fine live before link lasts flow later (fate.Data taken) =
+      gone_on live before (Some (with_flow flow link)) later (replies_of taken (Some flow)) (replies_fit setup taken (Some flow))
+  pdu_fine live before link lasts flow later fate.Done = gone_on live before (Some (with_flow flow link)) later [] tt
+  pdu_fine live before link lasts flow later fate.Ignored = tt
+  pdu_fine live before link lasts flow later (fate.Aborted status) = (tt, λ can. stored_before setup next identity silence station live before, tt)
+
+  message_fine : (live : Live) → Device live → (message : ToDevice) → Fine live (handled_message live message)
+  message_fine live before message = by_link live.rest.link refl
+    where
+      by_link : (link : Option RelationState) → live.rest.link ≡ link → Fine live (handled_message live message)
+      by_link None has =
+          subst (λ (l : Option RelationState). Fine live (handled_pdu live (heard_by message l) (updated (hearing message l) l))) (sym has) tt
+      by_link (Some link) has =
+          let lasts = lasts_at live before link has in
+          subst (λ (l : Option RelationState). Fine live (handled_pdu live (heard_by message l) (updated (hearing message l) l))) (sym has)
+          (pdu_fine live before link lasts (behind_message link.flow message) (flow_lasts silence link (behind_message link.flow message) refl refl refl lasts)
+          (heard_as link.flow.alarms message))
+
+  pub alarm_fine : (live : Live) → Device live → (source : Mac) (header : Header) (message : ToDevice) → Fine live (handled_alarm live source header message)
+  alarm_fine live before source header message = by_test (is_alarm_of source header.destination header.source live.rest.link)
+    where
+      by_test : (own : Bool) → Fine live (if own then handled_message live message else Refuses note.NoRelation)
+      by_test true = message_fine live before message
+      by_test false = tt
+
+  low_pdu_fine : (live : Live) → Device live → (link : RelationState) → Lasts silence link → (one : PduFate)
+      → Fine live (handled_low_pdu station live one (Some link))
+  low_pdu_fine live before link lasts (fate.Data taken) =
+      let real = station.real.modules.items in
+      let later = with_flow (next_reported real link.flow) link in
+      gone_on live before (Some later) (flow_lasts silence link (next_reported real link.flow) refl refl refl lasts)
+      (low_replies_of taken (Some link.flow) ++ where_due (report_one real (Some link)) (low_alarms_of (Some later.flow)))
+      (both_fit setup (low_replies_of taken (Some link.flow)) _ (low_replies_fit setup taken (Some link.flow))
+      (due_fit setup (report_one real (Some link)) _ (low_fit setup (Some later.flow))))
+  low_pdu_fine live before link lasts fate.Done = gone_on live before (Some link) lasts [] tt
+  low_pdu_fine live before link lasts fate.Ignored = tt
+  low_pdu_fine live before link lasts (fate.Aborted status) = tt
+
+  low_message_fine : (live : Live) → Device live → (message : ToDevice) → Fine live (handled_low_message station live message)
+  low_message_fine live before message = by_link live.rest.link refl
+    where
+      by_link : (link : Option RelationState) → live.rest.link ≡ link → Fine live (handled_low_message station live message)
+      by_link None has =
+          subst (λ (l : Option RelationState). Fine live (handled_low_pdu station live (heard_low message l) (updated (hearing_low message l) l))) (sym has) tt
+      by_link (Some link) has =
+          subst (λ (l : Option RelationState). Fine live (handled_low_pdu station live (heard_low message l) (updated (hearing_low message l) l))) (sym has)
+          (low_pdu_fine live before (with_flow (behind_low link.flow message) link)
+          (flow_lasts silence link (behind_low link.flow message) refl refl refl (lasts_at live before link has)) (heard_as link.flow.low.alarms message))
+
+  low_fine : (live : Live) → Device live → (source : Mac) (header : Header) (message : ToDevice) → Fine live (handled_low station live source header message)
+  low_fine live before source header message = by_test (is_alarm_of source header.destination header.source live.rest.link)
+    where
+      by_test : (own : Bool) → Fine live (if own then handled_low_message station live message else Refuses note.NoRelation)
+      by_test true = low_message_fine live before message
+      by_test false = tt
+
+  pub low_reply_fine : (live : Live) → Device live → (source : Mac) (header : Header) (message : ToDevice)
+      → Fine live (handled_low_reply station live source header message)
+  low_reply_fine live before source header message = by_test (has_sent_low live.rest.link)
+    where
+      by_test : (low : Bool) → Fine live (if low then handled_low station live source header message else handled_alarm live source header message)
+      by_test true = low_fine live before source header message
+      by_test false = alarm_fine live before source header message
+
+  pub low_confirm_fine : (live : Live) → Device live → (source : Mac) (header : Header) (message : ToDevice)
+      → Fine live (handled_low_confirm station live source header message)
+  low_confirm_fine live before source header message = by_test (has_sent_low live.rest.link)
+    where
+      by_test : (low : Bool) → Fine live (if low then handled_low station live source header message else Refuses note.Fault)
+      by_test true = low_fine live before source header message
+      by_test false = tt
+
+  -- ---- the answer to ApplicationReady
+
+  beginning_fine : (live : Live) → Device live → (link : Option RelationState) → AllLast silence link
+      → Fine live (handled_beginning station live (updated Confirmed link))
+  beginning_fine live before None lasts = (tt, λ can. stored_before setup next identity silence station live before, tt)
+  beginning_fine live before (Some link) lasts =
+      let real = station.real.modules.items in
+      let now = exchanging_from link in
+      let told = diagnoses_begun real live.rest.diagnoses now.flow in (
+        flow_lasts silence now told refl refl refl (exchanging_lasts silence link lasts),
+        λ can. stored_before setup next identity silence station live before,
+        due_fit setup (begin_one real live.rest.diagnoses (Some now)) _ (low_fit setup (Some told)),
+      )
+
+  pub answer_fine : (live : Live) → Device live → (answer : ReadyAnswer) → Fine live (handled_answer station live answer)
+  answer_fine live before to_ready.NotWanted = tt
+  answer_fine live before to_ready.Garbled = tt
+  answer_fine live before to_ready.Confirmed = beginning_fine live before live.rest.link before.lasts
+  answer_fine live before (to_ready.Refused farewell) = (tt, λ can. stored_before setup next identity silence station live before, (tt, tt))
+
+  -- ---- units
+
+  passed_all : (link : Option RelationState) → AllLast silence link → AllLast silence (updated (passing link) link)
+  passed_all None lasts = tt
+  passed_all (Some link) lasts = by_ending (ending_of link)
+    where
+      by_ending : (ending : Option Abort) → AllLast silence (updated (passing_by ending) (Some link))
+      by_ending None = passed_lasts silence link lasts
+      by_ending (Some reason) = tt
+
+  pub unit_fine : (live : Live) → Device live → Fine live (ticked live)
+  unit_fine live before =
+      let link = updated (passing live.rest.link) live.rest.link in
+      let lasts = passed_all live.rest.link before.lasts in (
+        lasts,
+        λ can. stored_before setup next identity silence station live before,
+        unit_fit setup silence live.values.running.suite.address (counter_of (units_after 1 live.rest.units)) (due_of live.rest.link) link lasts,
+      )

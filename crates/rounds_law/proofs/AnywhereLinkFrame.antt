@@ -1,0 +1,285 @@
+-- What a message of a controller that exchanges data does to a relation of a device, and what the device sends then.
+use Rattle.std.proofs.Common.{◌≡◌, inl, inr, ◌-◌, ◌≤◌, ◌==◌, ◌&&◌, ℕ, Bool, true, false, nat_eq, List, Option, Some, None, refl, sym, ap, subst, ◌∙◌}
+use Rattle.std.specs.Prelude.{if◌then◌else◌}
+use Rattle.std.specs.Cmp.Lexicographic.{pointwise, same_text}
+use Rattle.std.proofs.lemmas.Bool.{eqb-true}
+use Rattle.flash_model.specs.declared.flash.Flash.{Ghosts as Flash}
+use Rattle.pn_values.specs.declared.identity.Identity.{Identity}
+use Rattle.pn_values.specs.declared.mac.Mac.{Mac}
+use Rattle.frame_codec.specs.declared.udp.Caller.{Caller}
+use Rattle.rpc_core.specs.Response.{Answered, is_done}
+use Rattle.settings_journal.specs.settings_store.Machine.{Outcome}
+use Rattle.block_codec.specs.Block.{block_of}
+use Rattle.pn_alarms.specs.Device.{heard_as}
+use Rattle.pn_alarms.specs.Message.{ToDevice}
+use Rattle.pn_alarms.specs.declared.abort.Abort.TheVariants.{Other}
+use Rattle.pn_alarms.specs.declared.device.PduFate.{PduFate}
+use Rattle.pn_alarms.specs.declared.device.PduFate.TheVariants as fate
+use Rattle.pn_alarms.specs.declared.pdu.Header.{Header}
+use Rattle.cyclic_data.specs.Tail.{cyclic_of}
+use Rattle.cyclic_data.specs.declared.exchange.received.Received.{Received}
+use Rattle.cyclic_data.specs.declared.exchange.received.Received.TheVariants.{Foreign, Short, Stale, Taken}
+use Rattle.cyclic_data.specs.declared.exchange.route.Route.{Route}
+use Rattle.cyclic_data.specs.exchange.Received.{is_of_partner, received_in}
+use Rattle.relations.specs.Diagnosed.{begin_one, has_sent_low, report_one}
+use Rattle.relations.specs.Exchanged.{hearing_as, receiving_as}
+use Rattle.relations.specs.Phases.{exchanging_from, updated, with_flow}
+use Rattle.relations.specs.Ready.{answer_of, confirmed_block, confirmed_by, is_answer_to}
+use Rattle.relations.specs.Farewells.{farewell_of}
+use Rattle.relations.specs.RelationState.{RelationState, is_alarm_of, is_awaiting}
+use Rattle.relations.specs.Timers.{is_timed, limit_of}
+use Rattle.relations.specs.declared.hearing.ReadyAnswer.{ReadyAnswer}
+use Rattle.relations.specs.declared.hearing.ReadyAnswer.TheVariants as to_ready
+use Rattle.relations.specs.exchange.Diagnosis.{behind_low, diagnoses_begun, next_reported}
+use Rattle.relations.specs.exchange.Flow.{Flow}
+use Rattle.relations.specs.exchange.Notices.{behind_message}
+use Rattle.relations.specs.exchange.Received.{behind_frame, received_as}
+use Rattle.device_frames.specs.Heard.{Said, Calls, Garbled, Responds, heard_of}
+use Rattle.device_frames.specs.Heard.{Heard, Ticks, Unreadable, Elsewhere, Asks, Resolves, Reported, Cyclic, Alarms, LowReplies, LowConfirms}
+use Rattle.device_frames.specs.Heard.{Given, Raised, Rated, Met, Diagnosed, Readied}
+use Rattle.device_frames.specs.Relation.{low_alarms_of}
+use Rattle.device_frames.specs.declared.note.Note.{Note}
+use Rattle.device_frames.specs.declared.note.Note.TheVariants as note
+use Rattle.device_core.specs.State.{Live, Station}
+use Rattle.device_core.specs.Handled.{Refuses, handled_alarm, handled_answer, handled_low, handled_low_message, handled_low_pdu, handled_message, handled_pdu}
+use Rattle.device_core.specs.Handled.{handled_received, handled_said, is_running}
+use Rattle.device_core.specs.Machine.{handled_step, heard_step}
+use Rattle.controller_messages.specs.declared.setup.Setup.{Setup}
+use Rattle.end_laws.specs.hearing.Hearing.{comes}
+use Rattle.rounds_law.specs.Again.{units_left}
+use Rattle.rounds_law.proofs.AgainVain.{Keeps, in_vain}
+use Rattle.rounds_law.proofs.AnywhereLinkHears.{IsNoCall, IsOfData, own_is_of_data}
+use Rattle.rounds_law.proofs.AnywhereLinkLaws.{ExchangeLaws}
+use Rattle.rounds_law.proofs.AnywhereLinkMoved.{IsNow, Went, as_before, due_of_link, no_more, report_of_link, timed_in, timed_units}
+use Rattle.rounds_law.proofs.AnywhereParts.{AcceptsOutputs, IsMoved, LinkFrame}
+use Rattle.rounds_law.proofs.DevicePassingLeft.{frame_left}
+use Rattle.rounds_law.proofs.DevicePassingTaken.{with_link}
+
+-- ---- the answer to ApplicationReady
+
+confirming : (awaiting answers : Bool) (answer : ReadyAnswer) → (if awaiting && answers then answer else to_ready.NotWanted) ≡ to_ready.Confirmed
+    → awaiting ≡ true
+confirming true answers answer e = refl
+confirming false answers answer e = absurd cc
+
+confirmed_timed : (response : Answered) (link : RelationState) → answer_of response (Some link) ≡ to_ready.Confirmed → is_timed link.phase ≡ true
+unfolding answer_of
+confirmed_timed response link e =
+    timed_in link.phase (confirming (is_awaiting link.phase) (is_answer_to link.request.ar.uuid response.header)
+    (if is_done response.status then confirmed_by link.request.ar.uuid (confirmed_block (block_of response.blocks))
+    else to_ready.Refused (farewell_of Other link)) e)
+
+module _ (setup : Setup) (route : Route) (outcomes : List Outcome) (station : Station) (live : Live) (link : RelationState) where
+  -- The device with this relation.
+  abbrev now : Live
+  now = with_link live link
+
+  refused_went : (why : Note) → Went setup route link (handled_step outcomes station now (Refuses why))
+  unfolding handled_step
+  refused_went why = (as_before setup route link link refl refl (no_more (units_left link)), tt)
+
+  answer_went : (answer : ReadyAnswer) → (answer ≡ to_ready.Confirmed → is_timed link.phase ≡ true)
+      → Went setup route link (handled_step outcomes station now (handled_answer station now answer))
+  unfolding handled_step
+  answer_went to_ready.NotWanted timed = refused_went note.NoRelation
+  answer_went to_ready.Garbled timed = refused_went note.Fault
+  answer_went to_ready.Confirmed timed =
+      let begun = exchanging_from link in
+      let real = station.real.modules.items in
+      let flow = diagnoses_begun real live.rest.diagnoses begun.flow in (
+        inr (with_flow flow begun, refl, record { route = refl }, inr (inr (timed refl, refl))),
+        due_of_link link.flow.cyclic.route (begin_one real live.rest.diagnoses (Some begun)) (low_alarms_of (Some flow))
+            (report_of_link link.flow.cyclic.route flow flow.low.alarms.sender.standing),
+      )
+  answer_went (to_ready.Refused farewell) timed = (inl refl, (tt, tt))
+
+  said_went : (caller : Caller) (said : Said) → IsNoCall said → Went setup route link (handled_step outcomes station now (handled_said station now caller said))
+  said_went caller (Calls call) is = absurd is
+  said_went caller (Responds response) is = answer_went (answer_of response (Some link)) (λ e. confirmed_timed response link e)
+  said_went caller Garbled is = refused_went note.Fault
+
+  datagram_went : (caller : Caller) (said : Said) → IsNoCall said → (runs : Bool)
+      → Went setup route link (handled_step outcomes station now (if runs then handled_said station now caller said else Refuses note.NotMine))
+  datagram_went caller said is true = said_went caller said is
+  datagram_went caller said is false = refused_went note.NotMine
+
+  -- ---- a cyclic frame
+
+  with_units : (flow : Flow) → is_timed link.phase ≡ true → units_left (with_flow flow link) ≤ units_left link
+  with_units flow timed =
+      timed_units (is_timed link.phase) (limit_of link) link.inactive (flow.cyclic.hearing.limit - flow.cyclic.hearing.held)
+      (link.flow.cyclic.hearing.limit - link.flow.cyclic.hearing.held) timed
+
+  taken_moved : (flow : Flow) → AcceptsOutputs setup route link → (timed : Bool) → is_timed link.phase ≡ timed → IsMoved setup route link (with_flow flow link)
+  taken_moved flow accepts true is = inl (refl, with_units flow is)
+  taken_moved flow accepts false is = inr (inl (is, refl, accepts))
+
+  received_went : (flow : Flow) → flow.cyclic.route ≡ link.flow.cyclic.route → (received : Received) → (received ≡ Taken → AcceptsOutputs setup route link)
+      → Went setup route link (handled_step outcomes station now (handled_received now received (updated (receiving_as received flow) (Some link))))
+  unfolding handled_step
+  received_went flow way Foreign accepts = refused_went note.NoRelation
+  received_went flow way Short accepts = refused_went note.Fault
+  received_went flow way Stale accepts = refused_went note.StaleCycle
+  received_went flow way Taken accepts =
+      (inr (with_flow flow link, refl, record { route = way }, taken_moved flow (accepts refl) (is_timed link.phase) refl), tt)
+
+  -- A frame that is accepted is one of the partner, under the FrameID of the relation.
+  taken_of_partner : (partner : Bool) (received : Received) → (if partner then received else Foreign) ≡ Taken → partner ≡ true
+  taken_of_partner true received e = refl
+  taken_of_partner false received e = absurd cc
+
+  and_true : (one other : Bool) → (one && other) ≡ true → (one ≡ true) × (other ≡ true)
+  and_true true true e = (refl, refl)
+  and_true true false e = absurd cc
+  and_true false other e = absurd cc
+
+  accepts_by : (source : Mac) (frame_id : ℕ) (body : List ℕ) → source ≡ setup.plan.controller.mac → frame_id ≡ route.sent_id
+      → received_as link.flow source frame_id body ≡ Taken → AcceptsOutputs setup route link
+  accepts_by source frame_id body from under taken =
+      let way = link.flow.cyclic.route in
+      let parts = and_true (pointwise nat_eq source.octets way.partner.octets) (frame_id == way.taken_id)
+      (taken_of_partner (is_of_partner way source frame_id) (received_in link.flow.cyclic (cyclic_of link.flow.cyclic.taken.data_length body)) taken) in
+      let same : way.partner ≡ source = ap (λ (octets : List ℕ). record { octets = octets }) (sym (same_text source.octets way.partner.octets (sym parts.0))) in
+      record { outputs = sym under ∙ eqb-true frame_id way.taken_id parts.1; sender = same ∙ from }
+
+  -- ---- alarms
+
+  pdu_went : (message : ToDevice) (what : PduFate)
+      → Went setup route link (handled_step outcomes station now (handled_pdu now what
+      (updated (hearing_as what (behind_message link.flow message)) (Some link))))
+  unfolding handled_step
+  pdu_went message (fate.Data taken) =
+      (as_before setup route link (with_flow (behind_message link.flow message) link) refl refl (no_more (units_left link)), (tt, tt))
+  pdu_went message fate.Done =
+      (as_before setup route link (with_flow (behind_message link.flow message) link) refl refl (no_more (units_left link)), tt)
+  pdu_went message fate.Ignored = refused_went note.Filter
+  pdu_went message (fate.Aborted status) = (inl refl, tt)
+
+  alarm_went : (message : ToDevice) (belongs : Bool)
+      → Went setup route link (handled_step outcomes station now (if belongs then handled_message now message else Refuses note.NoRelation))
+  alarm_went message true = pdu_went message (heard_as link.flow.alarms message)
+  alarm_went message false = refused_went note.NoRelation
+
+  low_pdu_went : (message : ToDevice) (what : PduFate)
+      → Went setup route link (handled_step outcomes station now (handled_low_pdu station now what (Some (with_flow (behind_low link.flow message) link))))
+  unfolding handled_step
+  low_pdu_went message (fate.Data taken) =
+      let real = station.real.modules.items in
+      let later = with_flow (behind_low link.flow message) link in
+      let flow = next_reported real later.flow in (
+        as_before setup route link (with_flow flow later) refl refl (no_more (units_left link)),
+        (
+          tt,
+          due_of_link link.flow.cyclic.route (report_one real (Some later)) (low_alarms_of (Some flow))
+              (report_of_link link.flow.cyclic.route flow flow.low.alarms.sender.standing),
+        ),
+      )
+  low_pdu_went message fate.Done =
+      (as_before setup route link (with_flow (behind_low link.flow message) link) refl refl (no_more (units_left link)), tt)
+  low_pdu_went message fate.Ignored = refused_went note.Filter
+  low_pdu_went message (fate.Aborted status) = refused_went note.Filter
+
+  low_went : (source : Mac) (header : Header) (message : ToDevice)
+      → Went setup route link (handled_step outcomes station now (handled_low station now source header message))
+  low_went source header message = by_belongs (is_alarm_of source header.destination header.source (Some link))
+    where
+      by_belongs : (belongs : Bool)
+          → Went setup route link (handled_step outcomes station now (if belongs then handled_low_message station now message else Refuses note.NoRelation))
+      by_belongs true = low_pdu_went message (heard_as link.flow.low.alarms message)
+      by_belongs false = refused_went note.NoRelation
+
+  low_reply_went : (source : Mac) (header : Header) (message : ToDevice) (low : Bool)
+      → Went setup route link (handled_step outcomes station now
+      (if low then handled_low station now source header message else handled_alarm now source header message))
+  low_reply_went source header message true = low_went source header message
+  low_reply_went source header message false = alarm_went message (is_alarm_of source header.destination header.source (Some link))
+
+  low_confirm_went : (source : Mac) (header : Header) (message : ToDevice) (low : Bool)
+      → Went setup route link (handled_step outcomes station now (if low then handled_low station now source header message else Refuses note.Fault))
+  low_confirm_went source header message true = low_went source header message
+  low_confirm_went source header message false = refused_went note.Fault
+
+  -- ---- all that belongs to an exchange
+
+  now_went : (heard : Heard) → IsOfData setup route heard → Went setup route link (heard_step outcomes station now heard)
+  unfolding heard_step
+  now_went Ticks is = absurd is
+  now_went Unreadable is = absurd is
+  now_went Elsewhere is = refused_went note.NotMine
+  now_went (Asks source request) is = absurd is
+  now_went (Resolves asker arp) is = absurd is
+  now_went (Reported caller address said) is = datagram_went caller said is (is_running live.values.running address)
+  now_went (Cyclic source frame_id body) is =
+      received_went (behind_frame link.flow source frame_id body) (frame_left link.flow.cyclic source frame_id body).route
+      (received_as link.flow source frame_id body) (accepts_by source frame_id body is.0 is.1)
+  now_went (Alarms source header message) is = alarm_went message (is_alarm_of source header.destination header.source (Some link))
+  now_went (LowReplies source header message) is = low_reply_went source header message (has_sent_low (Some link))
+  now_went (LowConfirms source header message) is = low_confirm_went source header message (has_sent_low (Some link))
+  now_went (Given slot subslot value) is = absurd is
+  now_went (Raised slot subslot octets) is = absurd is
+  now_went (Rated slot subslot is_good) is = absurd is
+  now_went (Met peer) is = absurd is
+  now_went (Diagnosed change) is = absurd is
+  now_went Readied is = absurd is
+
+  pub data_went : (heard : Heard) → IsOfData setup route heard → live.rest.link ≡ Some link → Went setup route link (heard_step outcomes station live heard)
+  data_went heard is has =
+      let same : with_link live link ≡ live = ap (λ (l : Option RelationState). record live { rest = record live.rest { link = l } }) (sym has) in
+      subst (λ (l : Live). Went setup route link (heard_step outcomes station l heard)) same (now_went heard is)
+
+-- ---- without a relation
+
+said_in_vain : (outcomes : List Outcome) (station : Station) (live : Live) (caller : Caller) (said : Said) → IsNoCall said → live.rest.link ≡ None
+    → Keeps live (handled_step outcomes station live (handled_said station live caller said))
+unfolding handled_step answer_of
+said_in_vain outcomes station live caller (Calls call) is none = absurd is
+said_in_vain outcomes station live caller (Responds response) is none =
+    subst (λ (l : Option RelationState). Keeps live (handled_step outcomes station live (handled_answer station live (answer_of response l)))) (sym none)
+    (refl, refl)
+said_in_vain outcomes station live caller Garbled is none = (refl, refl)
+
+datagram_in_vain : (outcomes : List Outcome) (station : Station) (live : Live) (caller : Caller) (said : Said) → IsNoCall said → live.rest.link ≡ None
+    → (runs : Bool)
+    → Keeps live (handled_step outcomes station live (if runs then handled_said station live caller said else Refuses note.NotMine))
+unfolding handled_step
+datagram_in_vain outcomes station live caller said is none true = said_in_vain outcomes station live caller said is none
+datagram_in_vain outcomes station live caller said is none false = (refl, refl)
+
+data_in_vain : (setup : Setup) (route : Route) (outcomes : List Outcome) (station : Station) (live : Live) (heard : Heard) → IsOfData setup route heard
+    → live.rest.link ≡ None → Keeps live (heard_step outcomes station live heard)
+unfolding heard_step
+data_in_vain setup route outcomes station live Ticks is none = absurd is
+data_in_vain setup route outcomes station live Unreadable is none = absurd is
+data_in_vain setup route outcomes station live Elsewhere is none = in_vain outcomes station live Elsewhere none tt
+data_in_vain setup route outcomes station live (Asks source request) is none = absurd is
+data_in_vain setup route outcomes station live (Resolves asker arp) is none = absurd is
+data_in_vain setup route outcomes station live (Reported caller address said) is none =
+    datagram_in_vain outcomes station live caller said is none (is_running live.values.running address)
+data_in_vain setup route outcomes station live (Cyclic source frame_id body) is none = in_vain outcomes station live (Cyclic source frame_id body) none tt
+data_in_vain setup route outcomes station live (Alarms source header message) is none = in_vain outcomes station live (Alarms source header message) none tt
+data_in_vain setup route outcomes station live (LowReplies source header message) is none =
+    in_vain outcomes station live (LowReplies source header message) none tt
+data_in_vain setup route outcomes station live (LowConfirms source header message) is none =
+    in_vain outcomes station live (LowConfirms source header message) none tt
+data_in_vain setup route outcomes station live (Given slot subslot value) is none = absurd is
+data_in_vain setup route outcomes station live (Raised slot subslot octets) is none = absurd is
+data_in_vain setup route outcomes station live (Rated slot subslot is_good) is none = absurd is
+data_in_vain setup route outcomes station live (Met peer) is none = absurd is
+data_in_vain setup route outcomes station live (Diagnosed change) is none = absurd is
+data_in_vain setup route outcomes station live Readied is none = absurd is
+
+-- ---- the part
+
+module _ {F : Type 0} {S : ℕ} (as_flash : Flash F S) (setup next : Setup) (identity : Identity) (silence : ℕ) where
+  pub link_frame : ExchangeLaws setup → LinkFrame as_flash setup next identity silence
+  link_frame laws = λ long route before after octets frames goes device own.
+      let outcomes = goes.steps.outcomes in
+      let heard = heard_of before.station.identity (comes octets) in
+      let is = own_is_of_data setup laws long.real before.station.identity route octets own in (
+        λ none. (
+            let kept = data_in_vain setup route outcomes before.station before.live heard is none in
+            (ap (λ (l : Live). l.rest.link) (goes.steps.live ∙ kept.1) ∙ none, goes.steps.frames ∙ kept.0)
+            ),
+        λ link has. subst (IsNow setup route link) (sym (ap (λ (l : Live). l.rest.link) goes.steps.live))
+            (data_went setup route outcomes before.station before.live link heard is has).0,
+      )
