@@ -133,7 +133,7 @@ typedef struct pn_module {
 } pn_module;
 
 /* Beside a device are the services of its IP address and its neighbours. They answer echo requests (ping), the endpoint mapper's lookups,
- * pings of RPC and calls that nobody serves; they announce the address, count its conflicts (pn_conflicts) and defend it. They send LLDP each
+ * pings of RPC and calls to unknown interfaces or operations; they announce the address, count its conflicts (pn_conflicts) and defend it. They send LLDP each
  * five seconds and hear that of the neighbour, which the device then knows: its port and interface records and the name by its place
  * (AliasName) tell it. They hear only what the device does not accept, and ARP. With `without_services` the device is alone, and all of
  * these are silent; it answers ARP by itself in both cases.
@@ -325,7 +325,7 @@ static inline uint32_t pn_frame(pn_device *device, pn_op *op, const uint8_t *oct
 
 /* The same of a frame before which `units` units of time have passed, in one call in place of pn_tick and pn_frame. As many of them as bring nothing pass
  * first, so that the timers that the frame starts begin with its own time. `units` of the operation is then the number that remain, for the next
- * pn_tick: those from the next one on that brings something, or all of them if the device is still to be told of its neighbour. Do not hand in
+ * pn_tick: those from the next one on that brings something, or all of them if its neighbour is not yet reported to the device. Do not hand in
  * more than one less than pn_due or the last pn_tick returned, and none remain. */
 static inline uint32_t pn_frame_after(pn_device *device, pn_op *op, uint32_t units, const uint8_t *octets, size_t length)
 {
@@ -369,7 +369,7 @@ static inline uint32_t pn_alarm(pn_device *device, pn_op *op, uint16_t slot, uin
     return pn_ask(device, op, PN_OP_ALARM, octets, length);
 }
 
-/* The application says whether the inputs of a submodule are good (for one without inputs: whether it is): its IOPS in the cyclic frames.
+/* The application says whether the inputs of a submodule are good (for a submodule without inputs: the submodule itself): its IOPS in the cyclic frames.
  * Good at first; kept until it is said again, also over relations, and forgotten at a start. `note` is PN_REFUSED if nothing is plugged
  * there. A sensor that fails: its inputs stay as they are, and their status is bad. May also return PN_NO_SLOT (no number of 16 bits). */
 static inline uint32_t pn_status(pn_device *device, pn_op *op, uint16_t slot, uint16_t subslot, int is_good)
@@ -400,7 +400,7 @@ static inline uint32_t pn_diagnosis(pn_device *device, pn_op *op, uint16_t slot,
     return pn_ask(device, op, PN_OP_DIAGNOSIS, NULL, 0);
 }
 
-/* The application of a station with `ready_by_application` has taken its parameters: ApplicationReady is sent. Once in each relation, after
+/* The application of a station with `ready_by_application` has applied its parameters: ApplicationReady is sent. Once in each relation, after
  * PrmEnd (pn_parameters_end); otherwise `note` is PN_REFUSED, and always without the option. */
 static inline uint32_t pn_ready(pn_device *device, pn_op *op)
 {
@@ -687,7 +687,7 @@ static inline uint32_t pn_running(const pn_device *device, pn_op *op, pn_setting
     return answer == PN_OK ? pn_settings_of(op, settings) : answer;
 }
 
-/* The settings that a restart finds, once all work has been taken and done. */
+/* The settings that a restart finds, once all work has been fetched and done. */
 static inline uint32_t pn_stored(const pn_device *device, pn_op *op, pn_settings *settings)
 {
     uint32_t answer;
@@ -697,7 +697,7 @@ static inline uint32_t pn_stored(const pn_device *device, pn_op *op, pn_settings
     return answer == PN_OK ? pn_settings_of(op, settings) : answer;
 }
 
-/* How many commits the flash still accepts once all work has been taken and done (`place` of the operation): that many further commands
+/* How many commits the flash still accepts once all work has been fetched and done (`place` of the operation): that many further commands
  * that change settings are accepted. At 0 each is refused, and the device continues with its present settings. */
 static inline uint32_t pn_left(const pn_device *device, pn_op *op, uint32_t *left)
 {

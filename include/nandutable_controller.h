@@ -133,8 +133,8 @@ typedef struct pn_tool {
 /* Which stations answered to a name by the place. pn_tool_ask writes all of it. */
 typedef struct pn_search {
     uint32_t stations;  /* how many answered: 0, 1, or 2 for more than one */
-    uint32_t is_told;   /* 1: the first one told its name, else 0 */
-    uint32_t length;    /* the octets of that name, at most 240; 0: the station has no name, or told none */
+    uint32_t is_told;   /* 1: the answer of the first one has its name, else 0 */
+    uint32_t length;    /* the octets of that name, at most 240; 0: the station has no name, or its answer has none */
     uint32_t xid;       /* Xid of the Identify: only answers with this number count */
     uint8_t first[6];   /* the MAC address of the first one */
     uint8_t other[6];   /* that of another one, if more than one answered */
@@ -260,7 +260,7 @@ static inline uint32_t pn_controller_make(void *room, size_t size, uint32_t abi,
 }
 
 /* Makes the controller of a plan, and copies the plan. `ar` names its relation, `activity` its calls: unique numbers of 16 octets (UUIDs).
- * Its first frame waits to be taken. Returns PN_BAD_PLAN if pn_plan_fault finds a fault in the plan, or if `ar` is zeros.
+ * Its first frame waits to be fetched. Returns PN_BAD_PLAN if pn_plan_fault finds a fault in the plan, or if `ar` is zeros.
  * May return PN_NULL, PN_BAD_ABI, PN_SMALL_ROOM, PN_BAD_PLAN. */
 static inline uint32_t pn_controller_start(pn_controller *controller, const pn_plan *plan, const uint8_t ar[16], const uint8_t activity[16])
 {
@@ -291,7 +291,7 @@ static inline uint32_t pn_controller_read(const pn_controller *controller, pn_op
     return pn_controller_ask((pn_controller *)(uintptr_t)controller, op, what, NULL, 0);
 }
 
-/* --- Events. Before each, all frames of the previous one must be taken, otherwise PN_HAS_WORK. They may also return PN_NULL, PN_NOT_MADE,
+/* --- Events. Before each, all frames of the previous one must be fetched, otherwise PN_HAS_WORK. They may also return PN_NULL, PN_NOT_MADE,
  * and what each names. What a function does not name as set keeps its value in the operation. --- */
 
 /* Hands in a received frame: its octets from the destination address on, without the check sequence. The interface must accept the
@@ -581,8 +581,8 @@ static inline uint32_t pn_tool_heard(const pn_tool *tool, pn_search *search, con
     return PN_OK;
 }
 
-/* Writes a Set of a name to the station that answered, which then has it for good: only if it is the only one that answered, and told that
- * it has no name. The Set has the next Xid of the tool; to send it again, send the same frame again. May return PN_NULL, PN_PLAN_NAME (the text
+/* Writes a Set of a name to the station that answered, which then has it for good: only if it is the only one that answered, and its
+ * answer says that it has no name. The Set has the next Xid of the tool; to send it again, send the same frame again. May return PN_NULL, PN_PLAN_NAME (the text
  * is no station name), PN_NOBODY, PN_SEVERAL, PN_HAS_NAME, PN_NAME_UNTOLD; then nothing changes. */
 static inline uint32_t pn_tool_give(pn_tool *tool, const pn_search *search, pn_op *op, const uint8_t *text, size_t length)
 {

@@ -24,7 +24,7 @@ enum {
     PN_NULL = 1,       /* a pointer is null, or a function of pn_host */
     PN_BAD_ABI = 2,    /* the version of the header, or one of its sizes, is not the library's */
     PN_SMALL_ROOM = 3, /* the room is too small, or its address is not a multiple of 16 */
-    PN_HAS_WORK = 7,   /* work of the previous step was not taken yet: take it first */
+    PN_HAS_WORK = 7,   /* work of the previous step was not fetched yet: fetch it first */
     PN_BAD_LENGTH = 8, /* a sector, a value or settings have another number of octets */
     PN_NO_SLOT = 9,    /* no such input or output is plugged in this slot and subslot, or no alarm was accepted yet */
     PN_UNKNOWN = 10,   /* no such operation */
@@ -86,7 +86,7 @@ static inline const char *pn_strerror(uint32_t number)
     case PN_BAD_STATION: return "a count of the station is more than its list holds";
     case PN_NOT_BOOTED: return "the device has not started: pn_boot comes first";
     case PN_IS_BOOTED: return "the device has already started";
-    case PN_HAS_WORK: return "work of the previous step was not taken yet";
+    case PN_HAS_WORK: return "work of the previous step was not fetched yet";
     case PN_BAD_LENGTH: return "another number of octets is expected";
     case PN_NO_SLOT: return "no such input or output is plugged there, or no alarm was accepted yet";
     case PN_UNKNOWN: return "no such operation";

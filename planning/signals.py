@@ -194,7 +194,7 @@ def judged(tree, names, places):
         raise Refused("Direction is Input or Output")
     slot, subslot, octet = (number(tree, key, 0, 65_535) for key in ("Slot", "Subslot", "Octet"))
     if not isinstance(kind, str) or not types.is_known(kind):
-        raise Refused("Type is none of the DataTypes of GSDML")
+        raise Refused("Type is not a DataType of GSDML")
     length, bit = length_of(tree, kind), tree.get("Bit")
     if bit is not None and (number(tree, "Bit", 0, 7) is None or kind != types.BOOLEAN):
         raise Refused("Bit takes the Type Boolean")

@@ -7,7 +7,7 @@
  *
  * It keeps to these rules, which are worth copying:
  *   - an output is used only while host_output gives it; at every other time the plant goes to its safe position,
- *   - parameters are used when all of them have come, and only then is the controller told that the device is ready,
+ *   - parameters are used when all of them have come, and only then does ApplicationReady tell the controller so,
  *   - a sensor that fails is reported three times: its status is bad, a diagnosis appears, and its last value stays,
  *   - what the device forgets at a start is said again: the status and the diagnosis. */
 #include "application.h"
@@ -56,7 +56,7 @@ static const struct parameters defaults = DEFAULTS;
 static struct parameters used = DEFAULTS;   /* those in use */
 static struct parameters coming = DEFAULTS; /* those of the start-up that is going on */
 static int has_all;                         /* whether the parameters of this relation have ended */
-static int is_ready_due;                    /* they are in use, and the device was not told yet */
+static int is_ready_due;                    /* they are in use, and pn_ready was not called yet */
 static uint16_t pressure;                   /* the last one that the sensor gave */
 static int is_told_bad;                     /* what the device knows of the sensor */
 static int is_told_high;                    /* an alarm was raised since the pressure was low */

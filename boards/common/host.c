@@ -8,7 +8,7 @@
 #include "meter.h"
 #include "plant.h"
 
-/* Frames that are taken in one turn of the loop: a flood delays neither the time nor the watchdog. */
+/* Frames that one turn of the loop reads: a flood delays neither the time nor the watchdog. */
 #define FRAMES_AT_ONCE 16u
 /* The application is called each millisecond, in units, or a little earlier with the newest outputs. */
 #define STEP 32u

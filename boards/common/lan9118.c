@@ -205,7 +205,7 @@ int lan9118_has_frames(void)
     return has_frames;
 }
 
-/* Skips the frame whose status was taken. */
+/* Skips the frame whose status was read. */
 static void skip(void)
 {
     put(RX_DP_CTL, FAST_FORWARD);
@@ -225,7 +225,7 @@ static int is_waiting(void)
 }
 
 /* Takes words from the FIFO. Its port is at eight addresses, so that two instructions copy eight words. An interrupt between two of these words takes
- * none twice: the base is none of the registers, so a Cortex-M4 goes on with the next word, and a Cortex-A9 does not interrupt what accesses a device. */
+ * none twice: the base is not a register, so a Cortex-M4 goes on with the next word, and a Cortex-A9 does not interrupt what accesses a device. */
 static __attribute__((noinline)) void take_words(uint32_t *to, uint32_t count)
 {
     for (; count >= 8; count -= 8)

@@ -239,7 +239,7 @@ static void start_again(struct controller *controller, struct relation *relation
     look_at_state(controller, relation);
 }
 
-/* Whether a controller that has ended is to be started again. */
+/* Whether a controller that has ended must be started again. */
 static int is_wanted_again(const struct controller *controller, const struct relation *relation)
 {
     return !controller->is_stopped && (relation->is_wanted || (controller->pause != 0 && !relation->is_stopped));
@@ -570,7 +570,7 @@ static void take_place(struct options *options, const char *word)
     options->place = word;
 }
 
-/* `--read SLOT SUBSLOT INDEX`: getopt knows of one argument; the two after it are taken here. */
+/* `--read SLOT SUBSLOT INDEX`: getopt knows of one argument; the two after it are read here. */
 static void take_record(struct options *options, char *word)
 {
     char *words[3] = {word, NULL, NULL};

@@ -83,8 +83,8 @@ struct device {
     int is_lamp_on;
     int is_stopped; /* the controller; -1: it is not known */
     uint32_t due;   /* units until something is due, as the last pn_tick said; 0: an event came since, or it did not say */
-    int has_told_link; /* whether the device that runs was told of the link */
-    int is_link_up;    /* what it was told */
+    int has_told_link; /* whether the link was reported to the device that runs */
+    int is_link_up;    /* what was reported */
     int knows_link;
     pn_link link;
     int has_news_of_kernel; /* whether to look for the device's address at the kernel: a Set came, or a relation began */

@@ -14,8 +14,8 @@
 
 /* A reader and writer of lines. */
 struct talker {
-    int in;  /* -1 if there is none, or if it has ended */
-    int out; /* -1 if there is none */
+    int in;  /* -1 if it does not exist or has ended */
+    int out; /* -1 if it does not exist */
     int is_socket;
     int is_too_long; /* applies to the line that is being read */
     char given[LINES_LONGEST];
@@ -69,7 +69,7 @@ void lines_send(struct lines *lines, unsigned talker, const char *line);
 /* Whether standard input has ended, or is not read. */
 int lines_input_has_ended(const struct lines *lines);
 
-/* How many octets a reader has room for, after what waits for it is written as far as possible; 0 if there is none. */
+/* How many octets a reader has room for, after what waits for it is written as far as possible; 0 if it has no room. */
 size_t lines_room(struct lines *lines, unsigned talker);
 
 /* Which reader sent the line that is being answered, or -1. */

@@ -52,7 +52,7 @@ static void arm(struct loop *loop)
     ticker_arm(&loop->ticker, due < look ? due : look);
 }
 
-/* What is to be done about a link that is down. */
+/* What to do about a link that is down. */
 static void tell_down(struct loop *loop)
 {
     char words[WIRE_WHY];

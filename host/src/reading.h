@@ -12,7 +12,7 @@ struct reading_station {
     uint8_t mac[6];
 };
 
-/* Prints a record of it. If there is none to print, ends the program with a message. */
+/* Prints a record of it. Without a record to print it ends the program with a message. */
 void reading_print(const struct caller *caller, struct wire *wire, const struct reading_station *station, const struct access *access);
 
 #endif

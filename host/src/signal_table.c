@@ -83,7 +83,7 @@ static long number_at(const struct place_of_fault *at, const json_t *tree, const
     return (long)json_integer_value(value);
 }
 
-/* The text at a key; empty if there is none. */
+/* The text at a key; empty if there is no text. */
 static const char *text_at(const struct place_of_fault *at, const json_t *tree, const char *key, size_t most)
 {
     const json_t *value = json_object_get(tree, key);
@@ -120,7 +120,7 @@ static void take_type(const struct place_of_fault *at, const json_t *tree, struc
     const json_t *bit = json_object_get(tree, "Bit");
     entry->type = name == NULL ? NULL : signal_type(name);
     if (entry->type == NULL)
-        refuse(at, "Type is none of the DataTypes of GSDML");
+        refuse(at, "Type is not a DataType of GSDML");
     entry->length = (uint16_t)number_at(at, tree, "Length", 1, SIGNAL_OCTETS, entry->type->length == 0 ? -1 : entry->type->length);
     if (entry->type->length != 0 && entry->length != entry->type->length)
         refuse(at, "Length of %s is %u", name, entry->type->length);

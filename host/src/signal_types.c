@@ -85,7 +85,7 @@ static void put_unsigned(uint8_t *octets, size_t length, uint64_t value)
         octets[i] = (uint8_t)value;
 }
 
-/* The greatest number of so many octets without a sign. */
+/* The greatest number of that many octets without a sign. */
 static uint64_t most_of(size_t length)
 {
     return length == 8 ? UINT64_MAX : (UINT64_C(1) << 8 * length) - 1;
@@ -233,7 +233,7 @@ static int parse_float(const char *text, uint8_t *octets, size_t length)
 
 /* --- Strings --- */
 
-/* The number of octets of the letter of UTF-8 at the front of a text, or 0: it is none, or a control character. */
+/* The number of octets of the letter of UTF-8 at the front of a text, or 0: it is not a letter, or it is a control character. */
 static size_t letter_at(const uint8_t *octets, size_t length)
 {
     static const uint32_t least[] = {0, 0, 0x80, 0x800, 0x10000};

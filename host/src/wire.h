@@ -50,7 +50,7 @@ int wire_look(struct wire *wire);
 /* Room for the words of wire_why_down. */
 #define WIRE_WHY 96
 
-/* What is to be done about a link that is down. Returns the words. */
+/* What to do about a link that is down. Returns the words. */
 const char *wire_why_down(const struct wire *wire, char words[WIRE_WHY]);
 
 /* How many frames the kernel dropped before the socket, since the start. */

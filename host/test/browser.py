@@ -128,7 +128,7 @@ def main():
             name, words = json.loads(line)
             try:
                 answer = [True, getattr(driver, name)(*words)]
-            except Exception as fault:  # is told to the test
+            except Exception as fault:  # is reported to the test
                 answer = [False, f"{type(fault).__name__}: {fault}"]
             print(json.dumps(answer), flush=True)
     finally:

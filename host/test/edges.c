@@ -70,7 +70,7 @@ static void takes(const char *what)
 static void bend_numbers(void)
 {
     pn_submodule *part = &bent.modules[1].submodules[0];
-    takes("records that are taken");
+    takes("records that are accepted");
     bent.send_clock_factor = 0, refuses("no clock", PN_PLAN_NUMBER);
     bent.send_clock_factor = 129, refuses("a slow clock", PN_PLAN_NUMBER);
     bent.reduction_ratio = 0, refuses("no ratio", PN_PLAN_NUMBER);

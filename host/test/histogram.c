@@ -1,4 +1,4 @@
-/* The histogram alone: what is counted below 8,192 microseconds is told exactly, what is above at most 1/128 too long, and nothing beyond the
+/* The histogram alone: what is counted below 8,192 microseconds is reported exactly, what is above at most 1/128 too long, and nothing beyond the
  * longest. */
 #include "histogram.h"
 #include <inttypes.h>
@@ -10,7 +10,7 @@ static void must(int is_so, const char *what, uint64_t microseconds, uint64_t to
 {
     if (is_so)
         return;
-    printf("histogram: %s: %" PRIu64 " us, told as %" PRIu64 "\n", what, microseconds, told);
+    printf("histogram: %s: %" PRIu64 " us, reported as %" PRIu64 "\n", what, microseconds, told);
     exit(1);
 }
 
@@ -30,7 +30,7 @@ static void one(uint64_t microseconds)
 {
     uint64_t told = told_among(microseconds, 4000000000);
     must(told >= microseconds, "it is not exceeded", microseconds, told);
-    must(told - microseconds <= (microseconds < 8192 ? 0 : microseconds / 128), "it is told closely", microseconds, told);
+    must(told - microseconds <= (microseconds < 8192 ? 0 : microseconds / 128), "it is reported closely", microseconds, told);
     must(told_among(microseconds, microseconds) == microseconds, "the longest is not exceeded", microseconds, told_among(microseconds, microseconds));
 }
 

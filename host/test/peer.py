@@ -43,7 +43,7 @@ def folded(octets):
 
 
 def echo(sender, target, kind, rest):
-    """An IPv4 packet with a message of ICMP: an echo request (8) or reply (0), with the octets behind its checksum, an even number of them."""
+    """An IPv4 packet with a message of ICMP: an echo request (8) or reply (0), with the octets after its checksum, an even number of them."""
     def packet(checksum):
         return struct.pack(">BBHHHBBH4s4s", 0x45, 0, 24 + len(rest), 0x1234, 0x4000, 64, 1, checksum, sender, target)
     message = struct.pack(">BBH", kind, 0, folded(struct.pack(">BBH", kind, 0, 0) + rest)) + rest
@@ -60,7 +60,7 @@ class Station(threading.Thread):
     `silences`: how many calls of a kind it does not answer, before it answers them.
     `identifies`: how often it answers an Identify for its name; `is_careless`: for another name too. `sets`: the BlockError of its answer to a
     Set, None for no answer. `arp`: the address for which it answers ARP, or None. `calls`: the PNIOStatus of its answer to a call, by the type of
-    the first block, or for a Write by that type and the index; no answer if there is none. `rejects`: a packet type (FAULT, REJECT) and the octets
+    the first block, or for a Write by that type and the index; no answer if it has no entry. `rejects`: a packet type (FAULT, REJECT) and the octets
     with which it answers such a call instead. `place`: its name by its place (AliasName), or None; `is_coy`: it does not tell its name; `late`: for how many
     seconds it keeps its answer to an Identify. `differs`: the ModuleState and the SubmoduleState of slot 1 subslot 1 in its answer to the Connect, or
     None. `reference`: its LocalAlarmReference."""
@@ -323,7 +323,7 @@ def chosen_in(blocks):
 
 
 def texts(number, count):
-    """So many records of I&M2 and I&M3 in turn, each with a text of its own: slot, subslot, index and octets."""
+    """That many records of I&M2 and I&M3 in turn, each with a text of its own: slot, subslot, index and octets."""
     return [(0, 1, 0xAFF2 + at % 2, block_of(0x22 + at % 2, f"{number} {at}".encode().ljust((16, 54)[at % 2]))) for at in range(count)]
 
 
@@ -334,7 +334,7 @@ def arguments(blocks, most=None):
 
 class Opener:
     """Calls the demo station at d0 from c0, as a controller does: from this MAC address and this IP address, with the CMInitiatorMacAdd `initiator`,
-    which is that MAC address if there is none. `seconds`: the activity timeout of its relation."""
+    which is that MAC address if it has no name. `seconds`: the activity timeout of its relation."""
 
     # In the first block of a Connect: the ARUUID, CMInitiatorMacAdd, CMInitiatorActivityTimeoutFactor.
     AR_AT, INITIATOR_AT, TIMEOUT_AT = 8, 26, 52

@@ -284,7 +284,7 @@ class SignalTests:
             for value in (-1, 65536, "1", 1.5, None, True):
                 fault([{**good, key: value}], f"{key} is a number from 0 to 65535")
         for kind in ("Float16", "", 1, None, "float32", "unsigned8"):
-            fault([{**good, "Type": kind}], "Type is none of the DataTypes of GSDML")
+            fault([{**good, "Type": kind}], "Type is not a DataType of GSDML")
         fault([{**good, "Length": 1}], "Length of Unsigned16 is 2")
         for length in (0, 1441, "2", None):
             fault([{**good, "Type": "OctetString", "Length": length}], "Length is a number from 1 to 1440")

@@ -2,7 +2,7 @@
  *
  *   length TYPE             its octets, 0 if it has no fixed length, or `no type`
  *   print TYPE HEX          the value of these octets
- *   parse TYPE LENGTH TEXT  the octets of this value, or why it is none
+ *   parse TYPE LENGTH TEXT  the octets of this value, or why it is not a value
  */
 #include "signal_types.h"
 #include "words.h"

@@ -47,7 +47,7 @@ class Asked(NamedTuple):
 
 
 class Rate:
-    """At most so many a second, in bursts of as many."""
+    """At most that many per second, in bursts of at most that many."""
 
     def __init__(self, most: int, clock: Callable[[], float] = time.monotonic) -> None:
         self.most, self.clock = most, clock

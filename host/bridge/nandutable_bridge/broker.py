@@ -104,7 +104,7 @@ class Broker:
     # -- a turn
 
     def turn(self, wait: float) -> None:
-        """Waits at most so many seconds for something to do, and does it."""
+        """Waits at most that many seconds for something to do, and does it."""
         if self._client is None and time.monotonic() >= self._begins_at:
             self._begin()
         self._look(min(wait, LONGEST_WAIT))

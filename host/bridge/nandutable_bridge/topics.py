@@ -43,7 +43,7 @@ class Topics:
         self.sets = f"{prefix}/+/+/{SET}"  # the filter of the topics that the bridge subscribes to
 
     def station(self, name: Optional[str], part: str) -> str:
-        """A topic about a station, or about the controller if there is none."""
+        """A topic about a station, or about the controller if no station is named."""
         return f"{self.prefix}/{name}/_{part}" if name is not None else f"{self.prefix}/_{part}"
 
     def signal(self, name: str, *part: str) -> str:

@@ -14,7 +14,7 @@ class Refused(Error):
 
 
 class NotExchanging(Refused):
-    """The command needs an exchange of data with the station, and there is none. It is not kept for later."""
+    """The command needs an exchange of data with the station, which does not exist. It is not kept for later."""
 
 
 class NoSuchName(Error, AttributeError, KeyError):

@@ -28,7 +28,7 @@ READY = 30.0  # seconds within which each station exchanges data
 LISTENING = 3.0  # seconds within which a controller opens its socket
 SETTLE = 1.0  # seconds within which a device says that its data are good, after the exchange has begun
 LISTED = 10  # names in a message
-ALARMS = 1000  # alarms of a station that wait until they are taken
+ALARMS = 1000  # alarms of a station that wait until they are fetched
 
 Found = TypeVar("Found")
 
@@ -63,7 +63,7 @@ class Follower:
             thread.start()
 
     def join(self, timeout: float = 10) -> None:
-        """Waits until the last line was taken."""
+        """Waits until the last line was read."""
         self.ended.wait(timeout)
 
     def _take_lines(self) -> None:
@@ -348,12 +348,12 @@ class Plant:
             self._alarms.setdefault(line.station, collections.deque(maxlen=ALARMS)).append((self._alarm_count, line))
 
     def take_alarm(self, station: str) -> Optional[lines.Alarm]:
-        """The oldest alarm of a station that was not taken, or None."""
+        """The oldest alarm of a station that was not fetched, or None."""
         waiting = self._alarms.get(station)
         return waiting.popleft()[1] if waiting else None
 
     def _take_any_alarm(self) -> Optional[lines.Alarm]:
-        """The oldest alarm that was not taken, of any station."""
+        """The oldest alarm that was not fetched, of any station."""
         first = min(((waiting[0][0], name) for name, waiting in list(self._alarms.items()) if waiting), default=None)
         return None if first is None else self.take_alarm(first[1])
 
@@ -466,7 +466,7 @@ def plant(*plans: str, interface: Optional[str] = None, socket: Optional[str] = 
         with nandutable.plant(socket="/run/nandutable-controller/eth2/lines") as plant:
 
     Returns when each station exchanges data. Raises `TimedOut` after `ready` seconds, with what the controller waits for; with ready=None it does
-    not wait. With `retry` a relation that has ended is started again after so many seconds. `options` are more words for the controller, such as
+    not wait. With `retry` a relation that has ended is started again after that many seconds. `options` are more words for the controller, such as
     ("--deadband", "flow=0.5"), `controller` is its path, and `prefix` are words in front of it. Starting a controller takes the capability
     CAP_NET_RAW, using a socket takes only the right to open it."""
     if (socket is None) == (interface is None) or (socket is None) == (not plans):

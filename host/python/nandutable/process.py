@@ -1,7 +1,7 @@
 """The controller as a process, or as the socket of one that runs already, and the queue of its lines.
 
 A `Connection` has a thread that reads each line as soon as it is there, so the controller never waits for a reader (it would not wait anyway:
-it would drop lines). What waits to be taken is bounded:
+it would drop lines). What waits to be fetched is bounded:
 
 - of each signal only the newest line is kept, in the place of the older one;
 - of all other lines at most `most` are kept; if more wait, the oldest is dropped.
@@ -86,7 +86,7 @@ class Queue:
 
     @property
     def ended(self) -> bool:
-        """Whether each line was taken, and none follows."""
+        """Whether each line was read, and no more follow."""
         with self._news:
             return self._ended and not self._waiting
 
@@ -149,7 +149,7 @@ class Connection:
 
     @property
     def ended(self) -> bool:
-        """Whether the controller has ended or closed its socket, and each of its lines was taken."""
+        """Whether the controller has ended or closed its socket, and each of its lines was read."""
         return self.queue.ended
 
     @property

@@ -51,7 +51,7 @@ class Change:
 
 
 class Changes:
-    """What a subscriber has not taken yet. Of the controller, each station and each signal only the newest is kept; of alarms and messages at most
+    """What a subscriber has not fetched yet. Of the controller, each station and each signal only the newest is kept; of alarms and messages at most
     `most`: if more wait, the oldest is dropped, and `dropped` counts it. `notify` is called, without arguments and by the thread that takes
     lines, when there is something after there was nothing; it must return at once."""
 
@@ -77,7 +77,7 @@ class Changes:
         if was_empty and self.notify is not None:
             try:
                 self.notify()
-            except Exception:  # its program is ending: the lines are taken for the others all the same
+            except Exception:  # its program is ending: the lines are still read for the others
                 self.notify = None
 
     def take(self, timeout: Optional[float] = 0) -> List[Change]:

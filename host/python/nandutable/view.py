@@ -109,7 +109,7 @@ class Counts:
 
 
 class Server(http.server.ThreadingHTTPServer):
-    """The server of a page over a state. `commands` returns the commands to the controller, or None while there is none."""
+    """The server of a page over a state. `commands` returns the commands to the controller, or None while no controller runs."""
 
     daemon_threads = True
     request_queue_size = 32
