@@ -125,9 +125,59 @@ fn a_run_is_that_of_its_events() {
     let mut port = begun(Global);
     let mut host = Patient::new(usize::MAX);
     assert!(play(&mut port, &operations, &mut host));
-    let mut all = host.fetched;
-    all.extend(taken(&mut port));
-    let wanted = sent(&host.events);
-    assert!(wanted.len() > 100, "{}", wanted.len());
-    assert_eq!(all, wanted);
+    let waiting = taken(&mut port);
+    assert!(host.fetched.len() > 100, "{}", host.fetched.len());
+    assert!(are_all(&host, &waiting));
+}
+
+/// The law: what a host fetched, and then what still waits, is all that the accepted events sent, in order.
+fn are_all(host: &Patient, waiting: &[Vec<u8>]) -> bool {
+    [&host.fetched[..], waiting].concat() == sent(&host.events)
+}
+
+/// A host that hands in some frames and units, and fetches nothing at the end.
+fn hosted() -> (Patient, Vec<Vec<u8>>) {
+    let frame = spelled(ECHO);
+    let steps: [(u32, u32); 9] = [(7, 0), (7, 0), (7, 0), (3, 0), (7, 0), (7, 0), (7, 0), (4, 64_000), (5, 0)];
+    let operations: Vec<Asked<'_>> = steps
+        .map(|(what, units)| Asked {
+            op: operation(what, units),
+            given: if what == 3 { &frame } else { &[] },
+        })
+        .into();
+    let mut port = begun(Global);
+    let mut host = Patient::new(usize::MAX);
+    assert!(play(&mut port, &operations, &mut host));
+    let waiting = taken(&mut port);
+    assert!(are_all(&host, &waiting) && host.fetched.len() > 1 && !waiting.is_empty());
+    assert_ne!(host.fetched[0], host.fetched[1]);
+    (host, waiting)
+}
+
+// A frame is fetched twice, one is lost, two come in another order, and one that still waits is gone.
+#[test]
+fn hosts_that_fetch_other_frames() {
+    let (mut twice, waiting) = hosted();
+    twice.fetched.insert(1, twice.fetched[0].clone());
+    assert!(!are_all(&twice, &waiting));
+    let (mut lost, waiting) = hosted();
+    lost.fetched.remove(0);
+    assert!(!are_all(&lost, &waiting));
+    let (mut exchanged, waiting) = hosted();
+    exchanged.fetched.swap(0, 1);
+    assert!(!are_all(&exchanged, &waiting));
+    let (whole, mut waiting) = hosted();
+    waiting.pop();
+    assert!(!are_all(&whole, &waiting));
+}
+
+// Units count that were refused, because frames waited; and an event does not count that was accepted.
+#[test]
+fn hosts_whose_refused_events_count() {
+    let (mut refused, waiting) = hosted();
+    refused.events.extend((0..64_000).map(|_| Event::Tick));
+    assert!(!are_all(&refused, &waiting));
+    let (mut accepted, waiting) = hosted();
+    accepted.events.retain(|event| !matches!(event, Event::Frame(_)));
+    assert!(!are_all(&accepted, &waiting));
 }

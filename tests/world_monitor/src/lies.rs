@@ -6,11 +6,18 @@ use rattle_std::alloc::Global;
 /// The plan of the first line of the schedules of `tests/table_world`: two records, and outputs of slots 2 and 3.
 const SCHEDULES: &str = include_str!("../../table_world/stdin");
 
-/// A watched world in which nothing has happened yet.
-fn fresh() -> Watched {
-    let catalogue = SCHEDULES.lines().next().and_then(|line| line.strip_prefix("plan ")).expect("a catalogue");
+fn catalogue() -> &'static str {
+    SCHEDULES.lines().next().and_then(|line| line.strip_prefix("plan ")).expect("a catalogue")
+}
+
+/// A watched world of a catalogue in which nothing has happened yet.
+fn fresh_of(catalogue: &str) -> Watched {
     let fresh = both_ends::fresh_world(Global, catalogue, None).expect("there is a world");
     Watched::new(Global, fresh).expect("memory")
+}
+
+fn fresh() -> Watched {
+    fresh_of(catalogue())
 }
 
 /// Makes a move after which all laws hold.
@@ -86,6 +93,26 @@ fn two_records_in_one_move() {
     assert_eq!(watched.told.taken, 2);
     watched.told.taken = 0;
     assert_eq!(said_after_a_unit(&mut watched), Some(Law::Records));
+}
+
+// The controller writes the second record first.
+#[test]
+fn records_in_another_order() {
+    let (first, second) = (r#"{"Subslot":1,"Index":1,"Data":"00000064"}"#, r#"{"Subslot":1,"Index":2,"Data":"000000c8"}"#);
+    let other = catalogue().replace(&format!("{first},{second}"), &format!("{second},{first}"));
+    assert_ne!(other, catalogue());
+    let mut watched = fresh_of(&other);
+    let mut number = 0;
+    let said = loop {
+        assert!(number < watched.count(), "no law is broken");
+        let end = watched.other_end(number);
+        if let Some(law) = watched.make(Choice::Deliver(end, number)).expect("memory") {
+            break law;
+        }
+        number += 1;
+    };
+    assert_eq!(said, Law::Records);
+    assert_eq!(watched.kind(number), Kind::Write);
 }
 
 #[test]
