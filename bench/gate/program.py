@@ -10,12 +10,23 @@ import importlib.machinery
 import importlib.util
 import os
 import shutil
+import subprocess
 import sys
 
 TOP = os.path.dirname(os.path.dirname(os.path.dirname(os.path.realpath(__file__))))
 
 # Debian's package of what a tool calls, where its name is another one.
 PACKAGES = {"cc": "gcc", "ip": "iproute2", "lldpcli": "lldpd", "objdump": "binutils", "text2pcap": "tshark"}
+
+# Toolchains whose `rt ci` takes no names of crates and keeps nothing of what it proved.
+WITHOUT_NAMES = ("rattle-kit-13b",)
+
+
+def takes_names():
+    """Whether `rt ci NAME..` proves these crates and tries their mutants. If not, `rt check` and `rt lib` in a crate's folder prove it and
+    keep it, and `rt must-fail NAME..` tries its mutants."""
+    version = subprocess.run(["rt", "version"], stdout=subprocess.PIPE, text=True).stdout.split()
+    return version[:1] != [] and version[0] not in WITHOUT_NAMES
 
 
 def launcher():
