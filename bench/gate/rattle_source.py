@@ -17,6 +17,12 @@ WORD = re.compile(r"ghost\s+(\w+)\s*[:=]\s*\{")
 CLAUSE = re.compile(r"\b(requires|ensures)(\*?)(?:\s+(\w+))?\s*$")
 
 
+def libraries_in(text, is_antt):
+    """The crates that a file names: `Rattle.NAME.` in definitions, proofs and ghost imports, `NAME::` in code. Comments do not count."""
+    bare = re.sub(r"--.*" if is_antt else r"//[^\n]*", "", text)
+    return re.findall(r"(?<![\w.])Rattle\.(\w+)", bare) + ([] if is_antt else re.findall(r"(?<![\w:.])(\w+)\s*::", bare))
+
+
 class Broken(Exception):
     """A source that cannot be read, with its file and line."""
 
