@@ -1,4 +1,4 @@
-"""What is rarely meant in a catalogue: keys that it does not have, and an interval at which cyclic frames are not taken as newer. These are warnings:
+"""What is rarely meant in a catalogue: keys that it does not have, and an interval at which cyclic frames do not count as newer. These are warnings:
 they change neither what the program prints nor its status.
 """
 

@@ -26,7 +26,7 @@ class Frame:
 
     def put(self, place, kind, offset, length):
         if offset + length > self.length or any(self.octets[offset:offset + length]):
-            raise NoPlan(f"the place {offset} of {kind} {place[0]} {place[1]} is taken, or after the frame's end")
+            raise NoPlan(f"the place {offset} of {kind} {place[0]} {place[1]} is in use, or after the frame's end")
         if kind == "iocs":
             self.octets[offset] = (place, OUTLINE)
         else:

@@ -33,7 +33,7 @@ def slug(text):
 
 
 def parted(text):
-    """A text without the unit at its end, and the unit; nothing if there is none."""
+    """A text without the unit at its end, and the unit; nothing if it has none."""
     found = UNIT.fullmatch(text)
     return (found[1], found[2].strip()) if found and len(found[2].strip()) <= LONGEST_UNIT else (text, "")
 

@@ -259,7 +259,7 @@ int main(void)
     keep(pn_settings_of(&op, &settings));
     if (settings.name_length != 240)
         return 1;
-    wants("a record that was not taken", pn_taken(&device, &op, 0), PN_NO_RECORD);
+    wants("a record that was not accepted", pn_taken(&device, &op, 0), PN_NO_RECORD);
     wants("a record that was not passed on", pn_passed(&device, &op, 0), PN_NO_RECORD);
     wants("a record for no operation", pn_passed(&device, NULL, 0), PN_NULL);
     wants("no place for their number", pn_passed_on(&device, &op, NULL), PN_NULL);
