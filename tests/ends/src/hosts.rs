@@ -3,7 +3,7 @@
 use super::operations::{asked, begun, taken};
 use super::served::{ECHO, NEIGHBOUR, REQUEST, RIVAL, spelled};
 use c_layout::Op;
-use controller_abi::{Asked, Host, play};
+use controller_abi::{Asked, Host, play, serve};
 use controller_core::Event;
 use frame_codec::Bytes;
 use rattle_std::alloc::Global;
@@ -17,6 +17,23 @@ struct Patient {
     answers: Vec<Answer>,
     events: Vec<Event>,
     fetched: Vec<Vec<u8>>,
+    read: Vec<Read>,
+}
+
+/// What a host read: after how many events, with which operation, and the numbers and octets that it got.
+#[derive(Clone, Debug, PartialEq)]
+struct Read {
+    after: usize,
+    what: u32,
+    answer: u32,
+    phase: u32,
+    note: u32,
+    octets: Vec<u8>,
+}
+
+fn read_of(after: usize, op: &Op, answer: u32) -> Read {
+    let octets = op.octets.get(..op.length as usize).map_or(Vec::new(), <[u8]>::to_vec);
+    Read { after, what: op.what, answer, phase: op.phase, note: op.note, octets }
 }
 
 impl Patient {
@@ -26,6 +43,7 @@ impl Patient {
             answers: Vec::new(),
             events: Vec::new(),
             fetched: Vec::new(),
+            read: Vec::new(),
         }
     }
 }
@@ -50,6 +68,7 @@ impl Host for Patient {
                 self.fetched.push(reported.octets[..reported.length as usize].to_vec());
             }
             (13, 0) => self.events.push(Event::Stop),
+            (8 | 9, _) => self.read.push(read_of(self.events.len(), reported, answer)),
             _ => {}
         }
         self.answers.len() < self.most
@@ -138,7 +157,7 @@ fn are_all(host: &Patient, waiting: &[Vec<u8>]) -> bool {
 /// A host that hands in some frames and units, and fetches nothing at the end.
 fn hosted() -> (Patient, Vec<Vec<u8>>) {
     let frame = spelled(ECHO);
-    let steps: [(u32, u32); 9] = [(7, 0), (7, 0), (7, 0), (3, 0), (7, 0), (7, 0), (7, 0), (4, 64_000), (5, 0)];
+    let steps: [(u32, u32); 9] = [(7, 0), (7, 0), (7, 0), (3, 0), (7, 0), (7, 0), (7, 0), (4, 32_000), (5, 0)];
     let operations: Vec<Asked<'_>> = steps
         .map(|(what, units)| Asked {
             op: operation(what, units),
@@ -152,6 +171,49 @@ fn hosted() -> (Patient, Vec<Vec<u8>>) {
     assert!(are_all(&host, &waiting) && host.fetched.len() > 1 && !waiting.is_empty());
     assert_ne!(host.fetched[0], host.fetched[1]);
     (host, waiting)
+}
+
+/// The law: what a host reads is what the controller shows after the events accepted before.
+fn are_shown(host: &Patient) -> bool {
+    host.read.iter().all(|read| {
+        let mut port = begun(Global);
+        taken(&mut port);
+        for event in &host.events[..read.after] {
+            port.take(event);
+            taken(&mut port);
+        }
+        let mut op = operation(read.what, 0);
+        let answer = serve(&mut port, &mut op, &[]);
+        read_of(read.after, &op, answer) == *read
+    })
+}
+
+/// A host that reads the state and an input, stops the controller, and reads them again.
+fn reader() -> Patient {
+    let steps: [u32; 9] = [7, 7, 9, 8, 13, 7, 7, 9, 8];
+    let operations: Vec<Asked<'_>> = steps.map(|what| Asked { op: operation(what, 0), given: &[] }).into();
+    let mut host = Patient::new(usize::MAX);
+    assert!(play(&mut begun(Global), &operations, &mut host));
+    assert!(are_shown(&host) && host.read.len() == 4);
+    assert_ne!(host.read[0].phase, host.read[2].phase);
+    host
+}
+
+// The state of before, another cause, and octets of an input that the controller does not show.
+#[test]
+fn hosts_that_read_something_else() {
+    let mut late = reader();
+    late.read[2].phase = late.read[0].phase;
+    assert!(!are_shown(&late));
+    let mut other = reader();
+    other.read[2].note += 1;
+    assert!(!are_shown(&other));
+    let mut input = reader();
+    input.read[1].octets.push(1);
+    assert!(!are_shown(&input));
+    let mut early = reader();
+    early.read[2].after = 0;
+    assert!(!are_shown(&early));
 }
 
 // A frame is fetched twice, one is lost, two come in another order, and one that still waits is gone.
@@ -175,7 +237,7 @@ fn hosts_that_fetch_other_frames() {
 #[test]
 fn hosts_whose_refused_events_count() {
     let (mut refused, waiting) = hosted();
-    refused.events.extend((0..64_000).map(|_| Event::Tick));
+    refused.events.extend((0..32_001).map(|_| Event::Tick));
     assert!(!are_all(&refused, &waiting));
     let (mut accepted, waiting) = hosted();
     accepted.events.retain(|event| !matches!(event, Event::Frame(_)));

@@ -8,6 +8,7 @@ mod exchange;
 mod inputs;
 mod owed;
 mod plant;
+mod refused;
 mod reports;
 mod settings;
 mod times;
