@@ -38,8 +38,8 @@ KINDS = {
     "cycle": ("a millisecond: 32 units, a frame in, a frame out", (32, 1), 900),
 }
 
-# Above these a turn takes more than it did. A body that always answers that something may be due (`ServedPort::is_quiet`, `skip`, `is_calm`,
-# `Port::is_counted`), or that lets units pass one by one, keeps each clause and costs only time. Each of these passes one of these numbers.
+# Above these a turn takes more than it did. A body that always answers that something may be due (`Port::is_quiet`, `skip`, `is_calm`,
+# `is_counted`), or that lets units pass one by one, keeps each clause and costs only time. Each of these passes one of these numbers.
 MOST_TODAY = {"unit": 95, "alone": 65, "addressed": 65, "leap": 95, "second": 400, "cyclic": 195, "sent": 233}
 
 # The frames of a kind without a relation: LLDP each five seconds.

@@ -4,7 +4,7 @@
 const ROOM: usize = 88_064;
 const ALIGNMENT: usize = 16;
 
-const _: () = assert!(size_of::<ServedPort>() <= ROOM && align_of::<ServedPort>() <= ALIGNMENT);
+const _: () = assert!(size_of::<Port>() <= ROOM && align_of::<Port>() <= ALIGNMENT);
 const _: () = assert!(size_of::<Op>() == 1568 && size_of::<Station>() == 1528);
 
 /// There is no heap: nothing here takes memory. `uuid` names an allocator without using it.

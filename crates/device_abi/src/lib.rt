@@ -1,7 +1,7 @@
 //! The device as a host in C drives it: events go in, and work comes out, flash calls first and then frames.
 //!
 //! `recorded` is a flash in memory that records its calls, `recording` a step of the device over it, `port` the device with the
-//! work of its last step and the law for hosts.
+//! services beside it and the work of its last step, and the law for hosts.
 #![tactic(auto)]
 
 mod port;

@@ -9,17 +9,17 @@ ghost use Rattle.std.specs.Borrow.{full_share};
 ghost use base.Logic.{ex};
 ghost use types.Logic.{sem};
 ghost use denote.RawPtr.{lies_at, room_at};
-ghost use Rattle.station_port.specs.contracts.served.ServedPort.{the_row as Row};
+ghost use Rattle.device_abi.specs.contracts.port.served.Port.{the_row as Row};
 ghost use Rattle.station_abi.specs.Made.{IsMade, why_not_made};
 ghost use Rattle.device_abi.specs.port.State.{closed};
-ghost use Rattle.station_port.specs.State.{Served};
+ghost use Rattle.device_abi.specs.port.Served.{Served};
 ghost use Rattle.station_abi.specs.Serves.{HandsOut, Serves, operation_of};
 ghost use Rattle.station_abi.specs.Stations.{is_station};
 ghost use Rattle.nandutable.specs.Handed.{Lends};
 
 use c_layout::Op;
+use device_abi::Port;
 use station_abi::{Station, hand_out, judge, port_of, serve};
-use station_port::ServedPort;
 
 /// Returns why no device can be made from this station in a memory of `size` octets, or 0.
 #[unsafe(no_mangle)]
@@ -35,7 +35,7 @@ pub unsafe extern "C" fn pn_put(room: *mut u8, station: &Station)
     requires* { sem 𝓛 (room_at Row room) ∗ ⌜ is_station station.now ≡ true ⌝ }
     ensures* { ex 𝓤 (λ (port : Served). sem 𝓛 (lies_at Row full_share room port) ∗ ⌜ IsMade station.now port ⌝) }
 {
-    unsafe { std::ptr::write(room as *mut ServedPort, port_of(station)) };
+    unsafe { std::ptr::write(room as *mut Port, port_of(station)) };
 }
 
 /// Carries out one operation on the device in the memory at `room`. Returns 0, or why nothing changed.
@@ -45,7 +45,7 @@ pub unsafe extern "C" fn pn_step(room: *mut u8, op: &mut Op, given: &[u8]) -> u3
     requires* { sem 𝓛 (lies_at Row full_share room port) }
     ensures* { ex 𝓤 (λ (new : Served). sem 𝓛 (lies_at Row full_share room new) ∗ ⌜ Serves (operation_of op.old.what) port op.old given.now result new op.new ⌝) }
 {
-    serve(unsafe { &mut *(room as *mut ServedPort) }, op, given)
+    serve(unsafe { &mut *(room as *mut Port) }, op, given)
 }
 
 /// Hands out the next piece of work of the device in the memory at `room`: `octets` becomes the place in that memory where
@@ -64,6 +64,6 @@ pub unsafe extern "C" fn pn_fetch(
     requires* { sem 𝓛 (lies_at Row full_share room port) }
     ensures* { ex 𝓤 (λ (new : Served). ex 𝓤 (λ (handed : List ℕ). Lends 𝓛 Row room new octets.new handed ∗ ⌜ HandsOut (closed port.port.stage) port op.old answer.new handed new op.new ⌝)) }
 {
-    let handed = hand_out(unsafe { &mut *(room as *mut ServedPort) }, op, answer);
+    let handed = hand_out(unsafe { &mut *(room as *mut Port) }, op, answer);
     *octets = handed.as_ptr();
 }

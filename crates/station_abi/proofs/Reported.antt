@@ -8,8 +8,8 @@ use Rattle.device_abi.specs.port.State.{IsUnreported, has_some, waiting}
 use Rattle.device_abi.specs.port.Refusals.{refusal_number}
 use Rattle.device_abi.specs.declared.port.refusal.Refusal.{Refusal}
 use Rattle.c_layout.specs.declared.op.Op.{Op}
-use Rattle.station_port.specs.State.{Served, barred_both, due_both, or_own, waiting_both}
-use Rattle.station_port.specs.Steps.{PassesBoth}
+use Rattle.device_abi.specs.port.Served.{Served, barred_both, due_both, or_own, waiting_both}
+use Rattle.device_abi.specs.port.ServedSteps.{PassesBoth}
 use Rattle.pn_values.specs.declared.settings.Settings.{Settings}
 use Rattle.cyclic_data.specs.declared.exchange.exchange.ProviderStatus.{ProviderStatus}
 use Rattle.c_layout.specs.Reported.{with_octets}

@@ -1,6 +1,6 @@
 -- What is made from a station that a host wrote.
 use Rattle.std.specs.Prelude.{◌≡◌, ◌==◌, ◌&&◌, ℕ, None, nat_lt, not, if◌then◌else◌}
-use Rattle.station_port.specs.State.{Served, IsFetched}
+use Rattle.device_abi.specs.port.Served.{Served, IsFetched}
 use Rattle.device_abi.specs.declared.port.stage.Stage.TheVariants.{Made}
 use Rattle.station_abi.specs.Stations.{fault_of, station_of}
 use Rattle.station_abi.specs.declared.c_station.Station.{Station}

@@ -28,8 +28,8 @@ use Rattle.device_abi.specs.declared.port.refusal.Refusal.{Refusal}
 use Rattle.device_abi.specs.declared.port.refusal.Refusal.TheVariants as refusal
 use Rattle.device_abi.specs.port.Refusals.{refusal_number}
 use Rattle.device_abi.specs.port.State.{State, closed}
-use Rattle.station_port.specs.State.{Served, advanced_both, conflicts_of, due_both, frames_of, linked_both, lost_both, waiting_both}
-use Rattle.station_port.specs.Steps.{AnswersBoth, KnowsBothOrNot, PassesBothOrNot, QuietOrNot, StartsBothOrNot}
+use Rattle.device_abi.specs.port.Served.{Served, advanced_both, conflicts_of, due_both, frames_of, linked_both, lost_both, waiting_both}
+use Rattle.device_abi.specs.port.ServedSteps.{AnswersBoth, KnowsBothOrNot, PassesBothOrNot, QuietOrNot, StartsBothOrNot}
 use Rattle.station_abi.specs.declared.operation.Operation.{Operation}
 use Rattle.station_abi.specs.declared.operation.Operation.TheVariants as operation
 
@@ -182,10 +182,6 @@ IsLoss old answer new = (result : Result (Unit {0}) Refusal)
     × (answer ≡ answer_of result)
 
 -- ---- values that are reported: what a closed port returns, and what an open one reports
-
--- What a port returns of a value with this property: the value, or why it is closed.
-abbrev pub IsRead : {T : Type 0} → Option Refusal → (T → Type 0) → Result T Refusal → Type 0
-IsRead why holds read = MatchResult read (λ value. (why ≡ None) × holds value) (λ refusal. why ≡ Some refusal)
 
 -- A number is reported in its place of an operation.
 abbrev pub IsNumber : Option Refusal → ℕ → ℕ → ℕ → ℕ → Type 0

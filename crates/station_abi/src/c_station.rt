@@ -12,9 +12,9 @@ use c_layout::{
     BAD_ABI, BAD_DATA, BAD_MAC, BAD_OPTION, BAD_PARAMETER, BAD_SLOT, BAD_STATION, BAD_SUBSLOT,
     Module, SMALL_ROOM, are_modules, modules,
 };
+use device_abi::Port;
 use pn_values::{Identity, Mac, Real};
 use relations::DeviceOptions;
-use station_port::ServedPort;
 
 /// The version of the header.
 const ABI: u32 = 5;
@@ -77,11 +77,11 @@ pub fn judge(size: usize, abi: u32, op_size: usize, station: &Station) -> u32
 
 /// A port of this station that did not start.
 #[inline(always)]
-pub fn port_of(station: &Station) -> ServedPort
+pub fn port_of(station: &Station) -> Port
     requires { is_station station.now ≡ true }
     ensures { IsMade station.now result }
 {
-    ServedPort::new(
+    Port::new(
         identity_in(station),
         real_in(station),
         options_in(station),

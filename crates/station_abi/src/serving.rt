@@ -9,13 +9,13 @@ ghost use Rattle.std.specs.Prelude.{⊤};
 ghost use mathlib.Core.Option.{none};
 ghost use types.Logic.{sem};
 ghost use denote.Follow.{follows_so};
-ghost use Rattle.station_port.specs.contracts.served.ServedPort.{the_row as Row};
-ghost use Rattle.device_abi.specs.port.State.{closed, has_some};
-ghost use Rattle.station_port.specs.State.{advanced_both, conflicts_of, due_both, frames_of, waiting_both};
+ghost use Rattle.device_abi.specs.contracts.port.served.Port.{the_row as Row};
+ghost use Rattle.device_abi.specs.port.State.{IsRead, closed, has_some};
+ghost use Rattle.device_abi.specs.port.Served.{advanced_both, conflicts_of, due_both, frames_of, waiting_both};
 ghost use Rattle.c_layout.specs.Places.{place_in};
 ghost use Rattle.c_layout.specs.Reported.{with_octets};
 ghost use Rattle.station_abi.specs.Serves.{IsAlarm, IsBoot, IsCall, IsDiagnosis, IsEvent, IsFrameAfter, IsInput, IsLink, IsLoss, HandsOut, IsHanded, IsOutput, with_frame, with_nothing};
-ghost use Rattle.station_abi.specs.Serves.{IsNumber, IsRead, IsReceived, IsReceivedAt, IsReceivedOf, IsRecordAt, IsRecordOf, IsProvider, IsProviderAt, IsProviderOf, IsSector, IsSettings, IsState, IsStatus, IsTick, IsValueOf, Serves, answer_of, back_at, link_of};
+ghost use Rattle.station_abi.specs.Serves.{IsNumber, IsReceived, IsReceivedAt, IsReceivedOf, IsRecordAt, IsRecordOf, IsProvider, IsProviderAt, IsProviderOf, IsSector, IsSettings, IsState, IsStatus, IsTick, IsValueOf, Serves, answer_of, back_at, link_of};
 ghost use Rattle.station_abi.specs.Serves.{noted as is_noted, operation_of as operation_in, with_passed, phase_number};
 ghost use Rattle.station_abi.specs.Serves.{sector_number as number_of, sector_of, settings_octets, value_of};
 
@@ -31,10 +31,9 @@ use lldp::Link;
 use pn_values::Settings;
 use records::TakenRecord;
 use relations::{Phase, ProviderStatus, ReceivedValue};
-use station_port::ServedPort;
 
 /// Carries out one operation, with the given octets. Returns 0, or why nothing changed.
-pub fn serve(port: &mut ServedPort, op: &mut Op, given: &[u8]) -> u32
+pub fn serve(port: &mut Port, op: &mut Op, given: &[u8]) -> u32
     ensures { Serves (operation_in op.old.what) port.old op.old given.now result port.new op.new }
 {
     // What happens in each millisecond of an exchange makes few comparisons.
@@ -48,7 +47,7 @@ pub fn serve(port: &mut ServedPort, op: &mut Op, given: &[u8]) -> u32
         return input(port, op, given);
     }
     if op.what == 25 {
-        return received(port.port(), op);
+        return received(port, op);
     }
     if op.what == 3 {
         return frame(port, op, given);
@@ -58,7 +57,7 @@ pub fn serve(port: &mut ServedPort, op: &mut Op, given: &[u8]) -> u32
 
 // The same of any operation.
 #[inline(never)]
-fn serve_other(port: &mut ServedPort, op: &mut Op, given: &[u8]) -> u32
+fn serve_other(port: &mut Port, op: &mut Op, given: &[u8]) -> u32
     ensures { Serves (operation_in op.old.what) port.old op.old given.now result port.new op.new }
 {
     match operation_of(op.what) {
@@ -69,7 +68,7 @@ fn serve_other(port: &mut ServedPort, op: &mut Op, given: &[u8]) -> u32
 
 // Carries out a known operation. Each has a function of its own, so that a unit of time saves no register that only another
 // operation needs.
-fn perform(operation: Operation, port: &mut ServedPort, op: &mut Op, given: &[u8]) -> u32
+fn perform(operation: Operation, port: &mut Port, op: &mut Op, given: &[u8]) -> u32
     ensures { Serves (Some operation) port.old op.old given.now result port.new op.new }
 {
     match operation {
@@ -79,24 +78,24 @@ fn perform(operation: Operation, port: &mut ServedPort, op: &mut Op, given: &[u8
         Operation::Tick => tick(port, op),
         Operation::Input => input(port, op, given),
         Operation::Alarm => alarm(port, op, given),
-        Operation::Output => output(port.port(), op),
-        Operation::State => state(port.port(), op),
-        Operation::Running => tell_settings(port.port().running(), op),
-        Operation::Stored => tell_settings(port.port().stored(), op),
+        Operation::Output => output(port, op),
+        Operation::State => state(port, op),
+        Operation::Running => tell_settings(port.running(), op),
+        Operation::Stored => tell_settings(port.stored(), op),
         Operation::Lose => lose(port),
-        Operation::Record => tell_taken(port.port(), op),
-        Operation::Left => tell_number(port.port().left(), &mut op.place),
+        Operation::Record => tell_taken(port, op),
+        Operation::Left => tell_number(port.left(), &mut op.place),
         Operation::Due => tell_number(port.due(), &mut op.units),
         Operation::Status => status(port, op),
         Operation::Ready => ready(port, op),
-        Operation::Provider => provider(port.port(), op),
+        Operation::Provider => provider(port, op),
         Operation::Diagnosis => diagnosis(port, op),
         Operation::Conflicts => tell_number(conflicts(port), &mut op.units),
         Operation::Link => link(port, op, given),
-        Operation::Passed => tell_passed_record(port.port(), op),
-        Operation::PassedOn => tell_number(port.port().passed_on(), &mut op.units),
+        Operation::Passed => tell_passed_record(port, op),
+        Operation::PassedOn => tell_number(port.passed_on(), &mut op.units),
         Operation::FrameAfter => frame_after(port, op, given),
-        Operation::Received => received(port.port(), op),
+        Operation::Received => received(port, op),
     }
 }
 
@@ -104,7 +103,7 @@ fn perform(operation: Operation, port: &mut ServedPort, op: &mut Op, given: &[u8
 
 // The content of a sector of the chip, before a start.
 #[inline(never)]
-fn fill(port: &mut ServedPort, op: &Op, given: &[u8]) -> u32
+fn fill(port: &mut Port, op: &Op, given: &[u8]) -> u32
     ensures { IsSector (sector_of op.now.sector) port.old given.now result port.new }
 {
     match sector_at(op.sector) {
@@ -126,7 +125,7 @@ fn sector_at(number: u32) -> Option<Sector>
 
 // A start.
 #[inline(never)]
-fn boot(port: &mut ServedPort) -> u32
+fn boot(port: &mut Port) -> u32
     ensures { IsBoot port.old result port.new }
 {
     done(port.boot())
@@ -145,7 +144,7 @@ fn done(outcome: Result<(), Refusal>) -> u32
 // ---- events
 
 #[inline(never)]
-fn frame(port: &mut ServedPort, op: &mut Op, given: &[u8]) -> u32
+fn frame(port: &mut Port, op: &mut Op, given: &[u8]) -> u32
     ensures { IsEvent port.old (Framed (record { items = take 1519 given.now })) op.old result port.new op.new }
 {
     hear(port, op, given)
@@ -153,7 +152,7 @@ fn frame(port: &mut ServedPort, op: &mut Op, given: &[u8]) -> u32
 
 // The same. It is part of both functions that handle a frame.
 #[inline(always)]
-fn hear(port: &mut ServedPort, op: &mut Op, given: &[u8]) -> u32
+fn hear(port: &mut Port, op: &mut Op, given: &[u8]) -> u32
     ensures { IsEvent port.old (Framed (record { items = take 1519 given.now })) op.old result port.new op.new }
 {
     match port.frame(given) {
@@ -164,7 +163,7 @@ fn hear(port: &mut ServedPort, op: &mut Op, given: &[u8]) -> u32
 
 // A frame after units of time that passed before it: those that bring nothing pass first.
 #[inline(never)]
-fn frame_after(port: &mut ServedPort, op: &mut Op, given: &[u8]) -> u32
+fn frame_after(port: &mut Port, op: &mut Op, given: &[u8]) -> u32
     ensures { IsFrameAfter port.old given.now op.old result port.new op.new }
 {
     match port.pass_quiet(op.units) {
@@ -188,7 +187,7 @@ fn silent(op: &mut Op) -> u32
 }
 
 #[inline(never)]
-fn input(port: &mut ServedPort, op: &mut Op, given: &[u8]) -> u32
+fn input(port: &mut Port, op: &mut Op, given: &[u8]) -> u32
     ensures { IsInput (place_in op.old.slot op.old.subslot) port.old given.now op.old result port.new op.new }
 {
     match place_of(op) {
@@ -199,7 +198,7 @@ fn input(port: &mut ServedPort, op: &mut Op, given: &[u8]) -> u32
 
 // The same of the submodule in this slot and subslot.
 #[inline(always)]
-fn get_input(port: &mut ServedPort, op: &mut Op, place: (u16, u16), given: &[u8]) -> u32
+fn get_input(port: &mut Port, op: &mut Op, place: (u16, u16), given: &[u8]) -> u32
     ensures { IsInput (Some place) port.old given.now op.old result port.new op.new }
 {
     match port.input(place.0, place.1, given) {
@@ -209,7 +208,7 @@ fn get_input(port: &mut ServedPort, op: &mut Op, place: (u16, u16), given: &[u8]
 }
 
 #[inline(never)]
-fn alarm(port: &mut ServedPort, op: &mut Op, given: &[u8]) -> u32
+fn alarm(port: &mut Port, op: &mut Op, given: &[u8]) -> u32
     ensures { IsAlarm (place_in op.old.slot op.old.subslot) port.old given.now op.old result port.new op.new }
 {
     match place_of(op) {
@@ -223,7 +222,7 @@ fn alarm(port: &mut ServedPort, op: &mut Op, given: &[u8]) -> u32
 
 // The status of the inputs of a submodule: `place` is 0 if they are bad.
 #[inline(never)]
-fn status(port: &mut ServedPort, op: &mut Op) -> u32
+fn status(port: &mut Port, op: &mut Op) -> u32
     ensures { IsStatus (place_in op.old.slot op.old.subslot) port.old op.old result port.new op.new }
 {
     match place_of(op) {
@@ -238,7 +237,7 @@ fn status(port: &mut ServedPort, op: &mut Op) -> u32
 
 // A diagnosis of a submodule: its channel is `units` and its error `sector`; it disappears if `place` is 0.
 #[inline(never)]
-fn diagnosis(port: &mut ServedPort, op: &mut Op) -> u32
+fn diagnosis(port: &mut Port, op: &mut Op) -> u32
     ensures { IsDiagnosis (place_in op.old.slot op.old.subslot) (place_in op.old.units op.old.sector) port.old op.old result port.new op.new }
 {
     match place_of(op) {
@@ -248,7 +247,7 @@ fn diagnosis(port: &mut ServedPort, op: &mut Op) -> u32
 }
 
 // The same, of the submodule in this slot and subslot.
-fn diagnose(port: &mut ServedPort, op: &mut Op, place: (u16, u16)) -> u32
+fn diagnose(port: &mut Port, op: &mut Op, place: (u16, u16)) -> u32
     ensures { IsDiagnosis (Some place) (place_in op.old.units op.old.sector) port.old op.old result port.new op.new }
 {
     match pair_of(op.units, op.sector) {
@@ -263,7 +262,7 @@ fn diagnose(port: &mut ServedPort, op: &mut Op, place: (u16, u16)) -> u32
 
 // The application is ready.
 #[inline(never)]
-fn ready(port: &mut ServedPort, op: &mut Op) -> u32
+fn ready(port: &mut Port, op: &mut Op) -> u32
     ensures { IsEvent port.old IsReady op.old result port.new op.new }
 {
     let outcome = port.ready();
@@ -272,7 +271,7 @@ fn ready(port: &mut ServedPort, op: &mut Op) -> u32
 
 // The outcome of an event and the kind of the first piece of its work, or why it was refused.
 #[inline(never)]
-fn noted(outcome: Result<Note, Refusal>, port: &ServedPort, op: &mut Op) -> u32
+fn noted(outcome: Result<Note, Refusal>, port: &Port, op: &mut Op) -> u32
     ensures answer { result ≡ answer_of outcome }
     ensures reported { op.new ≡ is_noted outcome port.now op.old }
 {
@@ -287,7 +286,7 @@ fn noted(outcome: Result<Note, Refusal>, port: &ServedPort, op: &mut Op) -> u32
 }
 
 #[inline(never)]
-fn tick(port: &mut ServedPort, op: &mut Op) -> u32
+fn tick(port: &mut Port, op: &mut Op) -> u32
     ensures { IsTick port.old op.old result port.new op.new }
 {
     match port.skip(op.units) {
@@ -298,7 +297,7 @@ fn tick(port: &mut ServedPort, op: &mut Op) -> u32
 
 // The same if the units may bring something.
 #[inline(never)]
-fn tick_more(port: &mut ServedPort, op: &mut Op) -> u32
+fn tick_more(port: &mut Port, op: &mut Op) -> u32
     ensures { IsTick port.old op.old result port.new op.new }
 {
     if op.units != 1 {
@@ -315,7 +314,7 @@ fn tick_more(port: &mut ServedPort, op: &mut Op) -> u32
 
 // The same of any units.
 #[inline(never)]
-fn tick_all(port: &mut ServedPort, op: &mut Op) -> u32
+fn tick_all(port: &mut Port, op: &mut Op) -> u32
     ensures { IsTick port.old op.old result port.new op.new }
 {
     match port.tick(op.units) {
@@ -342,7 +341,7 @@ fn tell_passed(op: &mut Op, due: u32, left: u32, work: u32) -> u32
 
 // Power is lost on the host's side.
 #[inline(never)]
-fn lose(port: &mut ServedPort) -> u32
+fn lose(port: &mut Port) -> u32
     ensures { IsLoss port.old result port.new }
 {
     done(port.lose())
@@ -352,11 +351,11 @@ fn lose(port: &mut ServedPort) -> u32
 
 /// Hands out the next piece of work, which is then fetched: its octets, and in the operation what belongs to it and the
 /// kind of the piece after it. `answer` is 0, or says why nothing was handed out.
-pub fn hand_out<'a>(port: &'a mut ServedPort, op: &mut Op, answer: &mut u32) -> &'a [u8]
+pub fn hand_out<'a>(port: &'a mut Port, op: &mut Op, answer: &mut u32) -> &'a [u8]
     ensures* { sem 𝓛 (follows_so Row Row port.entry.ghost_name none (λ _ _. ⊤)
         (λ new. HandsOut (closed port.old.port.stage) port.old op.old answer.new result.now new op.new)) }
 {
-    if let Some(refusal) = port.port().closed() {
+    if let Some(refusal) = port.closed() {
         *answer = refusal.number();
         return &[];
     }
@@ -376,7 +375,7 @@ pub fn hand_out<'a>(port: &'a mut ServedPort, op: &mut Op, answer: &mut u32) -> 
 
 // Hands out the next frame of the device, if the services have none.
 #[inline(always)]
-fn hand_out_only<'a>(port: &'a mut ServedPort, op: &mut Op) -> &'a [u8]
+fn hand_out_only<'a>(port: &'a mut Port, op: &mut Op) -> &'a [u8]
     requires calls { port.old.port.calls ≡ [] }
     requires own { port.old.frames ≡ [] }
     requires frames { has_some port.old.port.frames ≡ true }
@@ -391,7 +390,7 @@ fn hand_out_only<'a>(port: &'a mut ServedPort, op: &mut Op) -> &'a [u8]
 
 // Hands out the next frame of the device.
 #[inline(never)]
-fn hand_out_frame<'a>(port: &'a mut ServedPort, op: &mut Op) -> &'a [u8]
+fn hand_out_frame<'a>(port: &'a mut Port, op: &mut Op) -> &'a [u8]
     requires calls { port.old.port.calls ≡ [] }
     requires frames { has_some port.old.port.frames ≡ true }
     ensures* { sem 𝓛 (follows_so Row Row port.entry.ghost_name none (λ _ _. ⊤) (λ new. IsHanded port.old.port.calls (frames_of port.old)
@@ -405,7 +404,7 @@ fn hand_out_frame<'a>(port: &'a mut ServedPort, op: &mut Op) -> &'a [u8]
 
 // Hands out the next frame of the services, or nothing.
 #[inline(never)]
-fn hand_out_own<'a>(port: &'a mut ServedPort, op: &mut Op) -> &'a [u8]
+fn hand_out_own<'a>(port: &'a mut Port, op: &mut Op) -> &'a [u8]
     requires calls { port.old.port.calls ≡ [] }
     requires frames { port.old.port.frames ≡ [] }
     ensures* { sem 𝓛 (follows_so Row Row port.entry.ghost_name none (λ _ _. ⊤) (λ new. IsHanded port.old.port.calls (frames_of port.old)
@@ -430,7 +429,7 @@ fn tell_nothing<'a>(op: &mut Op) -> &'a [u8]
 // Hands out the next flash call. It has a function of its own, so that a frame, which is far more frequent, saves no
 // register that only a call needs.
 #[inline(never)]
-fn hand_out_call<'a>(port: &'a mut ServedPort, op: &mut Op) -> &'a [u8]
+fn hand_out_call<'a>(port: &'a mut Port, op: &mut Op) -> &'a [u8]
     requires { has_some port.old.port.calls ≡ true }
     ensures* { sem 𝓛 (follows_so Row Row port.entry.ghost_name none (λ _ _. ⊤) (λ new. IsHanded port.old.port.calls (frames_of port.old)
         (record op.old { more = waiting_both new }) result.now op.new × (new ≡ advanced_both port.old))) }
@@ -491,7 +490,7 @@ fn sector_number(sector: Sector) -> u32
 
 #[inline(never)]
 fn output(port: &Port, op: &mut Op) -> u32
-    ensures { IsOutput (place_in op.old.slot op.old.subslot) port.now op.old result op.new }
+    ensures { IsOutput (place_in op.old.slot op.old.subslot) port.now.port op.old result op.new }
 {
     match place_of(op) {
         Some(place) => tell_output(port, place.0, place.1, op),
@@ -501,7 +500,7 @@ fn output(port: &Port, op: &mut Op) -> u32
 
 // The output of a submodule, or why there is none.
 fn tell_output(port: &Port, slot: u16, subslot: u16, op: &mut Op) -> u32
-    ensures { IsValueOf (closed port.now.stage) (value_of port.now slot subslot) op.old result op.new }
+    ensures { IsValueOf (closed port.now.port.stage) (value_of port.now.port slot subslot) op.old result op.new }
 {
     match port.output(slot, subslot) {
         Ok(value) => {
@@ -514,7 +513,7 @@ fn tell_output(port: &Port, slot: u16, subslot: u16, op: &mut Op) -> u32
 
 #[inline(never)]
 fn state(port: &Port, op: &mut Op) -> u32
-    ensures { IsState (closed port.now.stage) port.now op.old result op.new }
+    ensures { IsState (closed port.now.port.stage) port.now.port op.old result op.new }
 {
     match port.phase() {
         Ok(phase) => tell_state(phase, port, op),
@@ -524,8 +523,8 @@ fn state(port: &Port, op: &mut Op) -> u32
 
 // The phase, and the number of units for which the lamp still flashes.
 fn tell_state(phase: Option<Phase>, port: &Port, op: &mut Op) -> u32
-    requires { phase ≡ phase_of port.now.device.live.rest.link }
-    ensures { IsState (closed port.now.stage) port.now op.old result op.new }
+    requires { phase ≡ phase_of port.now.port.device.live.rest.link }
+    ensures { IsState (closed port.now.port.stage) port.now.port op.old result op.new }
 {
     match port.lamp() {
         Ok(lamp) => {
@@ -591,10 +590,10 @@ fn tell_number(number: Result<u32, Refusal>, place: &mut u32) -> u32
 }
 
 // How many conflicts of the running IP address the services have counted, at most the maximum of 32 bits.
-fn conflicts(port: &ServedPort) -> Result<u32, Refusal>
+fn conflicts(port: &Port) -> Result<u32, Refusal>
     ensures { IsRead (closed port.now.port.stage) (λ held. held ≡ min (conflicts_of port.now.services) 4294967295) result }
 {
-    match port.port().closed() {
+    match port.closed() {
         Some(refusal) => Err(refusal),
         None => Ok(port.conflicts().min(0xFFFF_FFFF) as u32),
     }
@@ -602,7 +601,7 @@ fn conflicts(port: &ServedPort) -> Result<u32, Refusal>
 
 // What the host says of the link: `place` is 0 if it is down, and the given octets say which link it is, if any are given.
 #[inline(never)]
-fn link(port: &mut ServedPort, op: &Op, given: &[u8]) -> u32
+fn link(port: &mut Port, op: &Op, given: &[u8]) -> u32
     ensures { IsLink (link_of given.now) port.old op.now result port.new }
 {
     match link_in(given) {
@@ -629,7 +628,7 @@ fn link_in(given: &[u8]) -> Result<Option<Link>, Refusal>
 // What the controller says of the output of a submodule.
 #[inline(never)]
 fn provider(port: &Port, op: &mut Op) -> u32
-    ensures { IsProvider (place_in op.old.slot op.old.subslot) port.now op.old result op.new }
+    ensures { IsProvider (place_in op.old.slot op.old.subslot) port.now.port op.old result op.new }
 {
     match place_of(op) {
         Some(place) => tell_provider(port, place.0, place.1, op),
@@ -639,7 +638,7 @@ fn provider(port: &Port, op: &mut Op) -> u32
 
 // The same, or why nothing is known of it.
 fn tell_provider(port: &Port, slot: u16, subslot: u16, op: &mut Op) -> u32
-    ensures { IsProviderOf (closed port.now.stage) (provider_in slot subslot port.now.device.live.rest.link) op.old result op.new }
+    ensures { IsProviderOf (closed port.now.port.stage) (provider_in slot subslot port.now.port.device.live.rest.link) op.old result op.new }
 {
     match port.provider(slot, subslot) {
         Ok(status) => tell_statuses(status, op),
@@ -663,7 +662,7 @@ fn tell_statuses(status: Option<ProviderStatus>, op: &mut Op) -> u32
 // The output of a submodule in the last accepted frame, with what the controller says of it.
 #[inline(never)]
 fn received(port: &Port, op: &mut Op) -> u32
-    ensures { IsReceived (place_in op.old.slot op.old.subslot) port.now op.old result op.new }
+    ensures { IsReceived (place_in op.old.slot op.old.subslot) port.now.port op.old result op.new }
 {
     match place_of(op) {
         Some(place) => tell_received(port, place.0, place.1, op),
@@ -673,7 +672,7 @@ fn received(port: &Port, op: &mut Op) -> u32
 
 // The same, or why nothing is known of it.
 fn tell_received(port: &Port, slot: u16, subslot: u16, op: &mut Op) -> u32
-    ensures { IsReceivedOf (closed port.now.stage) (provider_in slot subslot port.now.device.live.rest.link) (value_of port.now slot subslot) op.old
+    ensures { IsReceivedOf (closed port.now.port.stage) (provider_in slot subslot port.now.port.device.live.rest.link) (value_of port.now.port slot subslot) op.old
         result op.new }
 {
     match port.received_value(slot, subslot) {
@@ -702,7 +701,7 @@ fn tell_found(found: Option<ReceivedValue<'_>>, op: &mut Op) -> u32
 // A parameter record that the relation accepted, by its number.
 #[inline(never)]
 fn tell_taken(port: &Port, op: &mut Op) -> u32
-    ensures { IsRecordOf (closed port.now.stage) (slice_get (taken_of port.now.device.live.rest.link) op.old.place) op.old result op.new }
+    ensures { IsRecordOf (closed port.now.port.stage) (slice_get (taken_of port.now.port.device.live.rest.link) op.old.place) op.old result op.new }
 {
     match port.taken() {
         Ok(records) => tell_record(records, op),
@@ -734,7 +733,7 @@ fn tell_one(entry: &TakenRecord, op: &mut Op) -> u32
 // A parameter record that the relation passed on, counted back from the last one.
 #[inline(never)]
 fn tell_passed_record(port: &Port, op: &mut Op) -> u32
-    ensures { IsRecordOf (closed port.now.stage) (back_at (passed_of port.now.device.live.rest.link).last op.old.place) op.old result op.new }
+    ensures { IsRecordOf (closed port.now.port.stage) (back_at (passed_of port.now.port.device.live.rest.link).last op.old.place) op.old result op.new }
 {
     match port.passed() {
         Ok(records) => tell_back(records, op),

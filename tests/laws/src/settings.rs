@@ -197,7 +197,7 @@ type Chip = MemoryFlash<4096>;
 
 /// A port that starts from a chip.
 fn booted(chip: &Chip) -> Port {
-    let mut port = Port::new(demo_identity(), as_planned(), DeviceOptions::default());
+    let mut port = Port::new(demo_identity(), as_planned(), DeviceOptions::default(), false);
     for sector in [Sector::First, Sector::Second] {
         port.fill(sector, &chip.sector(sector)[..]).ok().expect("a sector");
     }

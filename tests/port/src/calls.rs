@@ -19,7 +19,7 @@ pub(crate) fn boot(port: &mut Port) -> u32 {
 }
 
 pub(crate) fn frame(port: &mut Port, octets: &[u8]) -> u32 {
-    number(port.frame(octets))
+    port.frame(octets).map_or(0, number)
 }
 
 pub(crate) fn tick(port: &mut Port, units: u32) -> u32 {
@@ -27,7 +27,7 @@ pub(crate) fn tick(port: &mut Port, units: u32) -> u32 {
 }
 
 pub(crate) fn input(port: &mut Port, slot: u16, subslot: u16, octets: &[u8]) -> u32 {
-    number(port.input(slot, subslot, octets))
+    port.input(slot, subslot, octets).map_or(0, number)
 }
 
 pub(crate) fn alarm(port: &mut Port, slot: u16, subslot: u16, octets: &[u8]) -> u32 {

@@ -2,7 +2,7 @@
 use crate::served::{alone, booted, busy, lost, made};
 use c_layout::Op;
 use station_abi::{hand_out, serve};
-use station_port::ServedPort;
+use device_abi::Port;
 use test_stations::SET;
 
 /// An operation of this number, with nothing else in it.
@@ -25,7 +25,7 @@ pub(crate) fn asked(what: u32) -> Op {
 }
 
 /// What it is answered with.
-fn answer(port: &mut ServedPort, what: u32) -> u32 {
+fn answer(port: &mut Port, what: u32) -> u32 {
     let mut op = asked(what);
     serve(port, &mut op, &[])
 }
@@ -96,7 +96,7 @@ fn a_frame_is_handed_out_where_it_lies() {
     // The answer to the Set goes to its sender, from the device, and is padded to the shortest frame.
     assert_eq!((octets.len(), &octets[..6], &octets[12..18]), (60, &SET[6..12], &[0x88, 0x92, 0xFE, 0xFD, 0x04, 0x01][..]));
     let place = octets.as_ptr().addr();
-    assert!(begin < place && place + 60 <= begin + size_of::<ServedPort>());
+    assert!(begin < place && place + 60 <= begin + size_of::<Port>());
     assert_eq!(op.octets, [0; 1520]);
 }
 

@@ -6,7 +6,7 @@ use flash_model::Sector;
 use pn_values::{ParameterRecord, Real, demo_identity};
 use relations::DeviceOptions;
 use station_abi::{hand_out, serve};
-use station_port::ServedPort;
+use device_abi::Port;
 use test_stations::{WRITE, call};
 
 /// The name, the address, a Connect, PrmEnd, and the answer to ApplicationReady, of the demo station (a reference model).
@@ -27,7 +27,7 @@ fn modules() -> Real {
 }
 
 /// A frame comes, and all of its work is taken.
-fn hear(port: &mut ServedPort, frame: &[u8]) {
+fn hear(port: &mut Port, frame: &[u8]) {
     assert_eq!(serve(port, &mut asked(3), frame), 0);
     let (mut op, mut answer) = (asked(0), 0);
     loop {
@@ -39,9 +39,9 @@ fn hear(port: &mut ServedPort, frame: &[u8]) {
 }
 
 /// A port that exchanges data.
-fn exchanging(records_passed_on: bool) -> ServedPort {
+fn exchanging(records_passed_on: bool) -> Port {
     let options = DeviceOptions { records_passed_on, ..DeviceOptions::default() };
-    let mut port = ServedPort::new(demo_identity(), modules(), options, false);
+    let mut port = Port::new(demo_identity(), modules(), options, false);
     let _ = port.fill(Sector::First, &[0xFF; 4096]);
     let _ = port.fill(Sector::Second, &[0xFF; 4096]);
     assert!(port.boot().is_ok());
@@ -54,7 +54,7 @@ fn exchanging(records_passed_on: bool) -> ServedPort {
 }
 
 /// The record 7 of slot 1 is written.
-fn write(port: &mut ServedPort, sequence: u8, value: [u8; 2]) {
+fn write(port: &mut Port, sequence: u8, value: [u8; 2]) {
     let mut blocks = vec![0, 8, 0, 60, 1, 0, 0, sequence];
     blocks.extend(octets("11111111222233334444555555555555"));
     blocks.extend([0, 0, 0, 0, 0, 1, 0, 1, 0, 0, 0, 7, 0, 0, 0, 2]);
@@ -64,7 +64,7 @@ fn write(port: &mut ServedPort, sequence: u8, value: [u8; 2]) {
 }
 
 /// An operation with a number in its place: its answer, slot, subslot, index and octets.
-fn record(port: &mut ServedPort, what: u32, number: u32) -> Option<(u32, u32, u32, Vec<u8>)> {
+fn record(port: &mut Port, what: u32, number: u32) -> Option<(u32, u32, u32, Vec<u8>)> {
     let mut op = asked(what);
     op.place = number;
     match serve(port, &mut op, &[]) {
@@ -77,7 +77,7 @@ fn record(port: &mut ServedPort, what: u32, number: u32) -> Option<(u32, u32, u3
 }
 
 /// How many records were passed on.
-fn passed_on(port: &mut ServedPort) -> u32 {
+fn passed_on(port: &mut Port) -> u32 {
     let mut op = asked(23);
     assert_eq!(serve(port, &mut op, &[]), 0);
     op.units

@@ -2,13 +2,13 @@
 //! they are divided. The device and its services as `station` runs them, event by event, are what the port is compared with.
 use crate::operations::asked;
 use crate::stations::demo;
-use device_core::{Device, Event};
+use device_abi::{Operation, Port, play};
+use device_core::{Device, Event, Sink};
 use flash_model::{MemoryFlash, Sector};
 use pn_values::demo_identity;
 use relations::DeviceOptions;
 use station::{IoStation, StationOutbox};
 use station_abi::{hand_out, serve};
-use station_port::ServedPort;
 use test_stations::SET;
 
 /// A Set of the IP address 192.168.0.2, temporary.
@@ -42,11 +42,11 @@ fn holds(frame: &[u8], digits: &str) -> bool {
 }
 
 /// A port that did not start.
-pub(crate) fn made() -> ServedPort {
-    ServedPort::new(demo_identity(), demo(), DeviceOptions::default(), true)
+pub(crate) fn made() -> Port {
+    Port::new(demo_identity(), demo(), DeviceOptions::default(), true)
 }
 
-fn start(mut port: ServedPort) -> ServedPort {
+fn start(mut port: Port) -> Port {
     let _ = port.fill(Sector::First, &[0xFF; 4096]);
     let _ = port.fill(Sector::Second, &[0xFF; 4096]);
     assert!(port.boot().is_ok());
@@ -54,31 +54,31 @@ fn start(mut port: ServedPort) -> ServedPort {
 }
 
 /// One that started from a chip that was never written.
-pub(crate) fn booted() -> ServedPort {
+pub(crate) fn booted() -> Port {
     start(made())
 }
 
 /// The same of a device alone.
-pub(crate) fn alone() -> ServedPort {
-    start(ServedPort::new(demo_identity(), demo(), DeviceOptions::default(), false))
+pub(crate) fn alone() -> Port {
+    start(Port::new(demo_identity(), demo(), DeviceOptions::default(), false))
 }
 
 /// One that was given the name "pump-1", of which nothing is carried out yet.
-pub(crate) fn busy() -> ServedPort {
+pub(crate) fn busy() -> Port {
     let mut port = booted();
     assert_eq!(take(&mut port, &SET), 0);
     port
 }
 
 /// One of which a call failed as it was carried out.
-pub(crate) fn lost() -> ServedPort {
+pub(crate) fn lost() -> Port {
     let mut port = busy();
     let _ = port.lose();
     port
 }
 
 /// All frames of the last step, in order; its flash calls are carried out.
-fn sent(port: &mut ServedPort) -> Vec<Vec<u8>> {
+fn sent(port: &mut Port) -> Vec<Vec<u8>> {
     let mut frames = Vec::new();
     loop {
         let (mut op, mut answer) = (asked(0), 9);
@@ -93,7 +93,7 @@ fn sent(port: &mut ServedPort) -> Vec<Vec<u8>> {
 }
 
 /// A frame: 0, or why it is refused.
-fn take(port: &mut ServedPort, octets: &[u8]) -> u32 {
+fn take(port: &mut Port, octets: &[u8]) -> u32 {
     let mut op = asked(3);
     op.work = 9;
     let answer = serve(port, &mut op, octets);
@@ -101,13 +101,13 @@ fn take(port: &mut ServedPort, octets: &[u8]) -> u32 {
     answer
 }
 
-fn hear(port: &mut ServedPort, digits: &str) -> Vec<Vec<u8>> {
+fn hear(port: &mut Port, digits: &str) -> Vec<Vec<u8>> {
     assert_eq!(take(port, &octets(digits)), 0);
     sent(port)
 }
 
 /// The number of units that remain of these, what is due then, and what they sent.
-fn pass(port: &mut ServedPort, units: u32) -> (u32, u32, Vec<Vec<u8>>) {
+fn pass(port: &mut Port, units: u32) -> (u32, u32, Vec<Vec<u8>>) {
     let mut op = asked(4);
     (op.units, op.note, op.work) = (units, 9, 9);
     assert_eq!(serve(port, &mut op, &[]), 0);
@@ -116,7 +116,7 @@ fn pass(port: &mut ServedPort, units: u32) -> (u32, u32, Vec<Vec<u8>>) {
 }
 
 /// The same, unit by unit.
-fn pass_each(port: &mut ServedPort, units: u32) -> (u32, u32, Vec<Vec<u8>>) {
+fn pass_each(port: &mut Port, units: u32) -> (u32, u32, Vec<Vec<u8>>) {
     for passed in 1..=units {
         let (left, due, frames) = pass(port, 1);
         assert_eq!(left, 0);
@@ -127,7 +127,7 @@ fn pass_each(port: &mut ServedPort, units: u32) -> (u32, u32, Vec<Vec<u8>>) {
     pass(port, 0)
 }
 
-fn conflicts(port: &mut ServedPort) -> u32 {
+fn conflicts(port: &mut Port) -> u32 {
     let mut op = asked(20);
     assert_eq!(serve(port, &mut op, &[]), 0);
     op.units
@@ -193,9 +193,9 @@ fn no_event_is_accepted_before_an_answer_is_fetched() {
 #[test]
 fn the_host_says_what_the_link_is() {
     let mut port = booted();
-    let announced = |port: &mut ServedPort, digits: &str| holds(&pass(port, 160_000).2[0], digits);
+    let announced = |port: &mut Port, digits: &str| holds(&pass(port, 160_000).2[0], digits);
     assert!(!announced(&mut port, "00120f01"));
-    let said = |port: &mut ServedPort, place: u32, given: &[u8]| {
+    let said = |port: &mut Port, place: u32, given: &[u8]| {
         let mut op = asked(21);
         op.place = place;
         serve(port, &mut op, given)
@@ -283,4 +283,30 @@ fn a_port_is_the_station_event_by_event() {
         }
         assert_eq!(u64::from(conflicts(&mut port)), model.station.services().conflicts(), "{seed}");
     }
+}
+
+/// All frames that the reference host sends.
+struct Sent(Vec<Vec<u8>>);
+
+impl Sink for Sent {
+    fn take(&mut self, frame: &frame_codec::Frame) {
+        self.0.push(frame.as_slice().to_vec());
+    }
+}
+
+#[test]
+fn the_reference_host_drives_the_device_and_its_services() {
+    let event = |digits: &str| {
+        let mut bytes = frame_codec::Bytes::new();
+        bytes.try_extend_from_slice(&octets(digits)).expect("room");
+        Operation::Happens(Event::Frame(bytes))
+    };
+    let mut sent = Sent(Vec::new());
+    let operations = [event(SWITCH), event(ADDRESS), event(PING), Operation::Works, event(BY_ALIAS), Operation::Works];
+    let mut port = booted();
+    assert!(play(&mut port, &mut MemoryFlash::<4096>::blank(), &operations, &mut sent).is_ok());
+    // The services answer the ping, and the device answers by the name that it has of its neighbour.
+    assert_eq!(sent.0.len(), 3);
+    assert!(holds(&sent.0[1], PINGED));
+    assert!(!port.has_work());
 }

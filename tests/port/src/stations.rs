@@ -26,7 +26,7 @@ pub(crate) fn demo() -> Real {
 
 /// A port that did not start.
 pub(crate) fn made() -> Port {
-    Port::new(demo_identity(), demo(), DeviceOptions::default())
+    Port::new(demo_identity(), demo(), DeviceOptions::default(), false)
 }
 
 /// One that started from a chip that was never written.

@@ -13,11 +13,11 @@ fn takes(port: &mut Port, wanted: u32) {
 
 // What is noted of a frame, of an input and of an alarm of the module in slot 2.
 fn frame_noted(port: &mut Port, octets: &[u8]) -> Option<Note> {
-    port.frame(octets).ok()
+    port.frame(octets).unwrap_or(Ok(Note::Done)).ok()
 }
 
 fn input_noted(port: &mut Port, octets: &[u8]) -> Option<Note> {
-    port.input(2, 1, octets).ok()
+    port.input(2, 1, octets).unwrap_or(Ok(Note::Done)).ok()
 }
 
 fn alarm_noted(port: &mut Port, octets: &[u8]) -> Option<Note> {

@@ -1,5 +1,5 @@
 -- What a host sees of a port.
-use Rattle.std.specs.Prelude.{◌≡◌, ◌<◌, ◌≤◌, Bool, true, false, ℕ, List, [], ◌∷◌, drop, if◌then◌else◌, Option, Some, None}
+use Rattle.std.specs.Prelude.{◌≡◌, ◌<◌, ◌≤◌, Bool, true, false, ℕ, List, [], ◌∷◌, drop, if◌then◌else◌, Option, Some, None, Result, MatchResult}
 use Rattle.flash_model.specs.Calls.{Call, Programs, Erases, Arms}
 use Rattle.device_abi.specs.declared.recorded.flash.RecordedFlash.{RecordedFlash}
 use Rattle.device_abi.specs.recorded.Entry.{call_of}
@@ -119,6 +119,10 @@ FetchesFrame old frame more new = IsFirst old.frames frame × (new ≡ advanced 
 -- Power is lost, and the remaining work with it.
 abbrev pub lost : State → State
 lost port = record port { stage = Lost; calls = []; frames = [] }
+
+-- What a port returns of a value with this property: the value, or why it is closed.
+abbrev pub IsRead : {T : Type 0} → Option Refusal → (T → Type 0) → Result T Refusal → Type 0
+IsRead why holds read = MatchResult read (λ value. (why ≡ None) × holds value) (λ refusal. why ≡ Some refusal)
 
 -- Why no output is reported: the port is closed, or no submodule with an output is plugged there.
 abbrev pub IsUnreported : Option Refusal → Option (List ℕ) → Refusal → Type 0

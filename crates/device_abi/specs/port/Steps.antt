@@ -26,11 +26,6 @@ pub record Takes (old : State) (event : Event) (note : Note) (new : State) : Typ
   pub calls : new.calls ≡ records.calls
   pub stage : new.stage ≡ Booted
 
--- An event is handled, or refused, and then nothing changes.
-abbrev pub Answers : State → Event → Result Note Refusal → State → Type 0
-Answers old event (Ok note) new = (barred old ≡ None) × Takes old event note new
-Answers old event (Err refusal) new = (barred old ≡ Some refusal) × (new ≡ old)
-
 -- This many units of time passed, one step each, and all work was fetched before each.
 abbrev pub Ticks : ℕ → State → State → Type 0
 Ticks zero old new = new ≡ old

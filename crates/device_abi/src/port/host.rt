@@ -6,7 +6,7 @@ ghost use Rattle.device_abi.specs.recorded.Fits.{fits_in};
 ghost use Rattle.device_frames.specs.declared.event.Event.{Event};
 ghost use Rattle.device_abi.specs.port.Host.{Begun, Carries, EndsBy, GoesOn, HandsIn, IsFresh, Performs, Settles, Stands, begun_by, events_of};
 ghost use Rattle.device_abi.specs.port.Plays.{Plays, point, settled};
-ghost use Rattle.device_abi.specs.port.State.{advanced};
+ghost use Rattle.device_abi.specs.port.Served.{advanced_both, frames_of};
 
 use crate::Recorded;
 use crate::port::{Port, Stage, Work};
@@ -39,7 +39,7 @@ pub fn play<C: Flash<4096>, K: Sink>(
     // It fails only because a call of the chip failed.
     ensures cause { HasCause (C.failures chip.old) (C.failures chip.new) result }
     // Then the port is lost: it hands out nothing more.
-    ensures lost { OnErr result (port.new.stage ≡ Stage.Lost) }
+    ensures lost { OnErr result (port.new.port.stage ≡ Stage.Lost) }
     // Over a chip whose calls succeed it succeeds.
     ensures reliable { C.is_reliable chip.old → IsOk result × C.is_reliable chip.new }
 {
@@ -58,10 +58,10 @@ fn go_on<C: Flash<4096>, K: Sink>(
 ) -> Result<(), FlashFault>
     ensures ends { (begun : Begun) (events : List Event) → Stands begun events (K.taken sink.old) port.old (C.image chip.old) →
         GoesOn result begun events (events_of (operation.now ∷ [])) (K.taken sink.new) port.new (C.image chip.new) }
-    ensures plays { port.old.stage ≡ Stage.Booted → OnOk result (Plays (operation.now ∷ []) (point port.old (C.image chip.old) (K.taken sink.old))
-        (point port.new (C.image chip.new) (K.taken sink.new)) × (port.new.stage ≡ Stage.Booted)) }
+    ensures plays { port.old.port.stage ≡ Stage.Booted → OnOk result (Plays (operation.now ∷ []) (point port.old (C.image chip.old) (K.taken sink.old))
+        (point port.new (C.image chip.new) (K.taken sink.new)) × (port.new.port.stage ≡ Stage.Booted)) }
     ensures cause { HasCause (C.failures chip.old) (C.failures chip.new) result }
-    ensures lost { port.old.stage ≡ Stage.Booted → OnErr result (port.new.stage ≡ Stage.Lost) }
+    ensures lost { port.old.port.stage ≡ Stage.Booted → OnErr result (port.new.port.stage ≡ Stage.Lost) }
     ensures reliable { C.is_reliable chip.old → IsOk result × C.is_reliable chip.new }
 {
     match operation {
@@ -82,10 +82,10 @@ fn settle<C: Flash<4096>, K: Sink>(
 ) -> Result<(), FlashFault>
     ensures ends { (begun : Begun) (events : List Event) → Stands begun events (K.taken sink.old) port.old (C.image chip.old) →
         Settles result begun events (K.taken sink.new) port.new (C.image chip.new) }
-    ensures settled { port.old.stage ≡ Stage.Booted → OnOk result (point port.new (C.image chip.new) (K.taken sink.new)
+    ensures settled { port.old.port.stage ≡ Stage.Booted → OnOk result (point port.new (C.image chip.new) (K.taken sink.new)
         ≡ settled (point port.old (C.image chip.old) (K.taken sink.old))) }
     ensures cause { HasCause (C.failures chip.old) (C.failures chip.new) result }
-    ensures lost { port.old.stage ≡ Stage.Booted → OnErr result (port.new.stage ≡ Stage.Lost) }
+    ensures lost { port.old.port.stage ≡ Stage.Booted → OnErr result (port.new.port.stage ≡ Stage.Lost) }
     ensures reliable { C.is_reliable chip.old → IsOk result × C.is_reliable chip.new }
 {
     while port.has_work() {
@@ -98,7 +98,35 @@ fn settle<C: Flash<4096>, K: Sink>(
 fn hand_in(port: &mut Port, event: &Event)
     ensures { HandsIn port.old event.now port.new }
 {
-    let _ = port.offer(event);
+    match event {
+        Event::Frame(bytes) => {
+            let _ = port.frame(bytes.as_slice());
+        }
+        Event::Tick => {
+            let _ = port.tick(1);
+        }
+        Event::Input(slot, subslot, octets) => {
+            let _ = port.input(*slot, *subslot, octets.as_slice());
+        }
+        Event::Alarm(slot, subslot, octets) => {
+            let _ = port.alarm(*slot, *subslot, octets.as_slice());
+        }
+        Event::Status(slot, subslot, is_good) => {
+            let _ = port.status(*slot, *subslot, *is_good);
+        }
+        Event::Diagnosis(slot, subslot, channel, error, appears) => {
+            let _ = port.diagnosis(*slot, *subslot, *channel, *error, *appears);
+        }
+        Event::Ready => {
+            let _ = port.ready();
+        }
+        Event::Call(..) => {
+            let _ = port.apply(event);
+        }
+        Event::Neighbour(_) => {
+            let _ = port.apply(event);
+        }
+    }
 }
 
 // Fetches the next piece of work. A call that fails counts as lost power.
@@ -107,11 +135,11 @@ fn work<C: Flash<4096>, K: Sink>(
     chip: &mut C,
     sink: &mut K,
 ) -> Result<(), FlashFault>
-    ensures performs { port.old.stage ≡ Stage.Booted →
-        Performs port.old.calls port.old.frames (C.image chip.old) (K.taken sink.old) result (C.image chip.new) (K.taken sink.new) }
-    ensures advanced { OnOk result (port.new ≡ advanced port.old) }
+    ensures performs { port.old.port.stage ≡ Stage.Booted →
+        Performs port.old.port.calls (frames_of port.old) (C.image chip.old) (K.taken sink.old) result (C.image chip.new) (K.taken sink.new) }
+    ensures advanced { OnOk result (port.new ≡ advanced_both port.old) }
     ensures cause { HasCause (C.failures chip.old) (C.failures chip.new) result }
-    ensures lost { port.old.stage ≡ Stage.Booted → OnErr result (port.new.stage ≡ Stage.Lost) }
+    ensures lost { port.old.port.stage ≡ Stage.Booted → OnErr result (port.new.port.stage ≡ Stage.Lost) }
     ensures reliable { C.is_reliable chip.old → IsOk result × C.is_reliable chip.new }
 {
     match perform(port, chip, sink) {
@@ -132,8 +160,8 @@ fn perform<C: Flash<4096>, K: Sink>(
     chip: &mut C,
     sink: &mut K,
 ) -> Result<(), FlashFault>
-    ensures performs { port.now.stage ≡ Stage.Booted →
-        Performs port.now.calls port.now.frames (C.image chip.old) (K.taken sink.old) result (C.image chip.new) (K.taken sink.new) }
+    ensures performs { port.now.port.stage ≡ Stage.Booted →
+        Performs port.now.port.calls (frames_of port.now) (C.image chip.old) (K.taken sink.old) result (C.image chip.new) (K.taken sink.new) }
     ensures cause { HasCause (C.failures chip.old) (C.failures chip.new) result }
     ensures reliable { C.is_reliable chip.old → IsOk result × C.is_reliable chip.new }
 {

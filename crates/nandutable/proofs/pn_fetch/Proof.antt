@@ -35,10 +35,10 @@ use denote.Triple.Spec.{triple_of}
 use denote.Triple.Table.{framed}
 use denote.Triple.Walked.{Stays, walk_of, says, stay_dropped, stay_ref, gave_ref, Goes-dropped, Goes-gave_ref, Goes-ref, ends_at}
 use Rattle.device_abi.specs.port.State.{closed}
-use Rattle.station_port.specs.State.{Served}
+use Rattle.device_abi.specs.port.Served.{Served}
 use Rattle.station_abi.specs.Serves.{HandsOut}
 use Rattle.c_layout.specs.contracts.op.Op.{the_row as O}
-use Rattle.station_port.specs.contracts.served.ServedPort.{the_row as R}
+use Rattle.device_abi.specs.contracts.port.served.Port.{the_row as R}
 use Rattle.station_abi.specs.contracts.hand_out as g
 use Rattle.station_abi.proofs.hand_out.Met.{met}
 use Rattle.nandutable.specs.Handed.{lie_for, Lends}

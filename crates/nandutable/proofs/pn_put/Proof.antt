@@ -26,9 +26,9 @@ use denote.Triple.Spec.{triple_of}
 use denote.Triple.Table.{framed}
 use denote.Triple.Walked.{Stays, walk_of, says, stay_dropped, Goes-dropped, ends_at}
 use borrow.Table.OneValue.{part_in}
-use Rattle.station_port.specs.State.{Served}
-use Rattle.station_port.specs.contracts.served.ServedPort.{the_row as R}
-use Rattle.station_port.proofs.served.ServedPort.TheLaws.{the_row_laws as port_laws}
+use Rattle.device_abi.specs.port.Served.{Served}
+use Rattle.device_abi.specs.contracts.port.served.Port.{the_row as R}
+use Rattle.device_abi.proofs.port.served.Port.TheLaws.{the_row_laws as port_laws}
 use Rattle.station_abi.specs.Made.{IsMade}
 use Rattle.station_abi.specs.Stations.{is_station}
 use Rattle.station_abi.specs.contracts.c_station.Station.{the_row as S}

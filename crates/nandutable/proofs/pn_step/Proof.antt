@@ -31,10 +31,10 @@ use denote.Triple.Clauses.{lasts}
 use denote.Triple.Spec.{triple_of}
 use denote.Triple.Table.{framed}
 use denote.Triple.Walked.{Stays, walk_of, says, stay_dropped, gave_ref, Goes-dropped, Goes-gave_ref, ends_at}
-use Rattle.station_port.specs.State.{Served}
+use Rattle.device_abi.specs.port.Served.{Served}
 use Rattle.station_abi.specs.Serves.{Serves, operation_of}
 use Rattle.c_layout.specs.contracts.op.Op.{the_row as O}
-use Rattle.station_port.specs.contracts.served.ServedPort.{the_row as R}
+use Rattle.device_abi.specs.contracts.port.served.Port.{the_row as R}
 use Rattle.station_abi.specs.contracts.serve as g
 use Rattle.station_abi.proofs.serve.Met.{met}
 use Rattle.nandutable.specs.contracts.pn_step as f

@@ -4,7 +4,7 @@ use Rattle.std.specs.Prelude.{option_map}
 use Rattle.c_layout.specs.declared.op.Op.{Op}
 use Rattle.station_abi.specs.Serves.{with_frame}
 use Rattle.device_abi.specs.port.State.{IsFirst}
-use Rattle.station_port.specs.State.{frames_of, waiting_both}
+use Rattle.device_abi.specs.port.Served.{frames_of, waiting_both}
 use Rattle.station_abi.proofs.Reported.{handed_frame}
 use Rattle.station_abi.proofs.serving.hand_out_frame.Goals as goal
 

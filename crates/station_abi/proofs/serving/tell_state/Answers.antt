@@ -7,7 +7,7 @@ use Rattle.station_abi.proofs.serving.tell_state.Goals as goal
 pub returns-in-Ok : goal.returns-in-Ok
 returns-in-Ok c =
     let op = c.args.op.now in
-    let reached : ℕ = phase_number (phase_of c.args.port.now.device.live.rest.link) in
+    let reached : ℕ = phase_number (phase_of c.args.port.now.port.device.live.rest.link) in
     let phase = c.number_of_phase-op.ensures ∙ ap phase_number c.requires in
     rw c.in-Ok.ensures.0 (refl, ap (λ (n : ℕ). record op { phase = n; units = c.in-Ok.lamp }) phase ∙ ap (λ (n : ℕ). record op { phase = reached; units = n }) c.in-Ok.ensures.1)
 

@@ -1,6 +1,6 @@
 -- Units pass that bring nothing, or others.
 use Rattle.std.proofs.Common.{sym, subst}
-use Rattle.station_port.specs.State.{Served}
+use Rattle.device_abi.specs.port.Served.{Served}
 use Rattle.station_abi.specs.Serves.{IsTick}
 use Rattle.station_abi.proofs.Reported.{passed_all}
 use Rattle.station_abi.proofs.serving.tick.Goals as goal

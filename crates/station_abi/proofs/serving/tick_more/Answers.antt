@@ -1,7 +1,7 @@
 -- One unit passes, or others.
 use Rattle.std.proofs.Common.{◌≡◌, ◌∙◌, ℕ, Bool, if◌then◌else◌, sym, ap, subst}
-use Rattle.station_port.specs.State.{Served, waiting_both}
-use Rattle.station_port.specs.Steps.{PassesBoth}
+use Rattle.device_abi.specs.port.Served.{Served, waiting_both}
+use Rattle.device_abi.specs.port.ServedSteps.{PassesBoth}
 use Rattle.station_abi.specs.Serves.{IsTick}
 use Rattle.station_abi.proofs.Reported.{passed_all, waiting_only}
 use Rattle.station_abi.proofs.serving.tick_more.Goals.{then-has_frames, else-has_frames}

@@ -1,5 +1,5 @@
 -- A call on the chip.
-use Rattle.device_abi.proofs.PortHosted.{erased_by}
+use Rattle.device_abi.proofs.HostDevice.{erased_by}
 use Rattle.device_abi.proofs.port.host.carry.Goals as goal
 
 pub returns-in-Erase-clause-carries : goal.returns-in-Erase-clause-carries

@@ -10,7 +10,7 @@ invariant-loop-operation g l = record {
   stands : Stands (begun_by l.initial.port (g.K.Sink.taken l.initial.sink)) (events_of (take l.operation-index l.operations)) (g.K.Sink.taken l.sink) l.port (g.C.Flash.image l.chip);
   plays : Plays (take l.operation-index l.operations) (point l.initial.port (g.C.Flash.image l.initial.chip) (g.K.Sink.taken l.initial.sink))
       (point l.port (g.C.Flash.image l.chip) (g.K.Sink.taken l.sink));
-  stage : l.port.stage ≡ Booted;
+  stage : l.port.port.stage ≡ Booted;
   failures : g.C.Flash.failures l.chip ≡ g.C.Flash.failures l.initial.chip;
   reliable : g.C.Flash.is_reliable l.initial.chip → g.C.Flash.is_reliable l.chip;
 }

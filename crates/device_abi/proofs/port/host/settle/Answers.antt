@@ -35,9 +35,9 @@ returns-in_err-work-clause-ends g c =
 
 pub returns-clause-ends : goal.returns-clause-ends
 returns-clause-ends g c = λ begun events s.
-    (c.loop-port.invariant.ends begun events s, idle_of c.loop-port.port.calls c.loop-port.port.frames (sym c.has_work.ensures ∙ c.loop-port-test.false))
+    (c.loop-port.invariant.ends begun events s, idle_of c.loop-port.port (sym c.has_work.ensures ∙ c.loop-port-test.false))
 
 pub returns-clause-settled : goal.returns-clause-settled
 returns-clause-settled g c = λ booted.
-    settled_idle (point c.loop-port.port (g.C.Flash.image c.loop-port.chip) (g.K.Sink.taken c.loop-port.sink)) (idle_of c.loop-port.port.calls c.loop-port.port.frames (sym c.has_work.ensures ∙ c.loop-port-test.false))
+    settled_idle (point c.loop-port.port (g.C.Flash.image c.loop-port.chip) (g.K.Sink.taken c.loop-port.sink)) (idle_of c.loop-port.port (sym c.has_work.ensures ∙ c.loop-port-test.false))
     ∙ (c.loop-port.invariant.settled booted).1

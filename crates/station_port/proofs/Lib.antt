@@ -1,9 +1,0 @@
-pub mod Barring
-pub mod Composed
-pub mod Fetching
-pub mod Hearing
-pub mod Left
-pub mod Pacing
-pub mod Silent
-pub mod Telling
-pub mod Ticking

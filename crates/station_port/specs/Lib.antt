@@ -1,3 +1,0 @@
-pub mod State
-pub mod Pace
-pub mod Steps
