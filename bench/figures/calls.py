@@ -7,10 +7,12 @@ DEVICE_IP, TOOL_IP = bytes((192, 168, 0, 2)), bytes((192, 168, 0, 1))
 RPC_PORT = 34964
 OBJECT = bytes.fromhex("dea000006c9711d18271000104560123")
 DEVICE_INTERFACE = bytes.fromhex("dea000016c9711d1827100a02442df7d")
+MAPPER = bytes.fromhex("e1af83085d1f11c991a408002b14a0fa")
 ACTIVITY = bytes(16 * (7,))
 
-# A permanent Set of the suite 192.168.0.2 255.255.255.0, and an ARP request for that address.
+# A permanent Set of the suite 192.168.0.2 255.255.255.0, an Identify of all, and an ARP request for that address.
 SET_SUITE = "frame 0200000000010200000000028892fefd040000000002000000120102000e0001c0a80002ffffff0000000000\n"
+IDENTIFY = "frame 010ecf0000000200000000028892fefe05000000000100010004ffff0000\n"
 ARP = "frame ffffffffffff02000000000208060001080006040001020000000002c0a80001000000000000c0a80002\n"
 
 
@@ -30,6 +32,22 @@ def datagram(port, body):
     segment = struct.pack(">HHHH", RPC_PORT, port, length, checksum(sum_of) or 0xFFFF) + body
     front, behind = struct.pack(">HHHHBB", 0x4500, 20 + length, 0, 0x4000, 64, 17), TOOL_IP + DEVICE_IP
     return DEVICE + TOOL + b"\x08\0" + front + struct.pack(">H", checksum(front + behind)) + behind + segment
+
+
+def echo(data):
+    """A line with an echo request (RFC 792)."""
+    message = struct.pack(">HHH", 0, 1, 1) + data
+    message = b"\x08\0" + struct.pack(">H", checksum(b"\x08\0" + message)) + message[2:]
+    front, behind = struct.pack(">HHHHBB", 0x4500, 20 + len(message), 0, 0, 64, 1), TOOL_IP + DEVICE_IP
+    frame = DEVICE + TOOL + b"\x08\0" + front + struct.pack(">H", checksum(front + behind)) + behind + message
+    return f"frame {frame.hex()}\n"
+
+
+def lookup():
+    """A line with a lookup of all entries at the endpoint mapper (C706, appendix O)."""
+    body = struct.pack(">III", 0, 0, 0) + struct.pack(">I20sI", 1, bytes(20), 1)
+    header = struct.pack(">BBBB4x16s16s16sIIIHHHHHBB", 4, 0, 0x20, 0, bytes(16), MAPPER, ACTIVITY, 0, 3, 1, 2, 0xFFFF, 0xFFFF, len(body), 0, 0, 0)
+    return f"frame {datagram(RPC_PORT, header + body).hex()}\n"
 
 
 def pdu(kind, activity, sequence, operation, first, blocks, port):

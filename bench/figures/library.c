@@ -1,7 +1,9 @@
 /* Figures of the library through its header, for bench/figures/library.py: what is to be counted by callgrind in an exchange that the lines
  * on standard input set up: N times a unit of time (`unit`; without a relation `alone`, and `addressed` in the first two seconds of an address),
- * 32 units (`leap`), a second without a relation (`second`), a unit with the frame that it sends (`sent`), a cyclic frame (`cyclic`), or the
- * millisecond of an exchange (`cycle`). Callgrind counts what is executed within pn_step and pn_fetch, and not what this program does. */
+ * 32 units (`leap`), a second without a relation (`second`), a unit with the frame that it sends (`sent`), a cyclic frame (`cyclic`), the
+ * millisecond of an exchange (`cycle`), or the frame of the line `turn` at a device without a relation: the same each time (`again`), or a call
+ * with the next sequence number each time (`call`). Callgrind counts what is executed within pn_step and pn_fetch, and not what this program
+ * does. */
 #include "nandutable.h"
 #include <stdio.h>
 #include <stdlib.h>
@@ -25,8 +27,8 @@ struct line {
     size_t length;
 };
 
-/* The last cyclic frame of the lines. */
-static struct line cyclic;
+/* The last cyclic frame of the lines, and the frame of the line `turn`. */
+static struct line cyclic, turn;
 
 static int is_cyclic(const struct line *line)
 {
@@ -107,6 +109,26 @@ static void next_cyclic(unsigned units)
     carry_out();
 }
 
+/* The frame of the line `turn` comes again. */
+static void same_again(void)
+{
+    must(pn_frame(&device, &op, turn.octets, turn.length) == PN_OK, 13);
+    carry_out();
+}
+
+/* The call of the line `turn` comes again with the next sequence number: one more, and its checksum one less (RFC 1624). */
+static void next_call(void)
+{
+    uint8_t *sequence = turn.octets + 108, *sum = turn.octets + 40;
+    unsigned number = sequence[0] * 256u + sequence[1] + 1, total = (~(sum[0] * 256u + sum[1]) & 0xFFFF) + 1;
+    unsigned checksum = ~((total & 0xFFFF) + (total >> 16)) & 0xFFFF;
+    sequence[0] = (uint8_t)(number >> 8);
+    sequence[1] = (uint8_t)number;
+    sum[0] = (uint8_t)(checksum >> 8);
+    sum[1] = (uint8_t)checksum;
+    same_again();
+}
+
 /* The lines of bench/figures/exchange.py up to the exchange: frames, and the input of slot 1. */
 static void lines(void)
 {
@@ -118,6 +140,9 @@ static void lines(void)
             must(pn_frame(&device, &op, line.octets, line.length) == PN_OK, 6);
             if (is_cyclic(&line))
                 cyclic = line;
+        } else if (strncmp(text, "turn ", 5) == 0) {
+            turn.length = read_hex(text + 5, turn.octets, sizeof turn.octets);
+            continue;
         } else if (strncmp(text, "input 1 ", 8) == 0) {
             line.length = read_hex(text + 8, line.octets, sizeof line.octets);
             must(pn_input(&device, &op, 1, 1, line.octets, line.length) == PN_OK && op.note == PN_DONE, 7);
@@ -167,6 +192,10 @@ static void count(const char *what, unsigned long turns)
             units_pass(32000);
         } else if (strcmp(what, "cyclic") == 0) {
             next_cyclic(32);
+        } else if (strcmp(what, "again") == 0) {
+            same_again();
+        } else if (strcmp(what, "call") == 0) {
+            next_call();
         } else {
             next_cyclic(32);
             units_pass(32);
@@ -183,8 +212,10 @@ int main(int words, char **word)
     station.modules[1].submodules[0].input = station.modules[2].submodules[0].output = (uint16_t)(strtoul(word[4], NULL, 10) - 3);
     memcpy(station.order_id, &interval, sizeof interval); /* for library_plain.c */
     start();
-    if (strcmp(word[1], "alone") == 0 || strcmp(word[1], "addressed") == 0 || strcmp(word[1], "second") == 0) {
-        alone(word[1][1] != 'd');
+    int is_frame = strcmp(word[1], "again") == 0 || strcmp(word[1], "call") == 0;
+    if (is_frame || strcmp(word[1], "alone") == 0 || strcmp(word[1], "addressed") == 0 || strcmp(word[1], "second") == 0) {
+        alone(strcmp(word[1], "addressed") != 0);
+        must(!is_frame || turn.length != 0, 14);
     } else {
         exchange();
         announce();

@@ -1,7 +1,7 @@
 #!/usr/bin/env python3
 """Measures the library for C through its header: its size, the symbols that it wants, and the instructions of each turn of an exchange of 40
 octets, beside those of the same work in plain C behind the same calls (bench/figures/library_plain.c), which does it unit by unit. Then the
-instructions of the turns of a controller (bench/figures/library_controller.c). Its status is 1 where a turn takes more instructions than its
+instructions of frames to a device without a relation, and of the turns of a controller (bench/figures/library_controller.c). Its status is 1 where a turn takes more instructions than its
 bound, or where both do not send as many frames, and 2 where one takes more than it did. bench/figures/chip measures the stack.
 
 Needs cc and valgrind. Use: bench/figures/library.py [ARCHIVE [CONTROLLER]]   (those of the plain Rust edition if left out, which
@@ -41,6 +41,21 @@ KINDS = {
 # Above these a turn takes more than it did. A body that always answers that something may be due (`Port::is_quiet`, `skip`, `is_calm`,
 # `is_counted`), or that lets units pass one by one, keeps each clause and costs only time. Each of these passes one of these numbers.
 MOST_TODAY = {"unit": 95, "alone": 65, "addressed": 65, "leap": 95, "second": 400, "cyclic": 195, "sent": 233}
+# Services that read a dropped frame more than once pass one of these, and so do those that read what the device answered.
+MOST_TODAY |= {"foreign": 1_500, "foreign_long": 3_700, "foreign_mac": 2_100, "echo": 1_500, "lookup": 4_200, "identify": 1_230, "read": 3_700}
+
+# Frames to a device without a relation, which has an address: the title, whether it is the same again or a call with the next sequence
+# number, the line, and how many instructions a turn may take. The device drops the first five; of these the services beside it answer the
+# echo request and the lookup.
+FRAMES = {
+    "foreign": ("a pn_frame of a datagram of 172 octets for another port", "again", calls.read_implicit(1, 161), 1_800),
+    "foreign_long": ("the same of 1,442 octets", "again", f"frame {calls.datagram(161, bytes(range(239)) * 6).hex()}\n", 11_000),
+    "foreign_mac": ("the same to another MAC address", "again", f"frame 020000000009{calls.datagram(161, bytes(range(239)) * 6).hex()[12:]}\n", 6_000),
+    "echo": ("a pn_frame of an echo request with 32 octets, and its pn_next", "again", calls.echo(bytes(range(32))), 3_000),
+    "lookup": ("a pn_frame of a lookup at the endpoint mapper, and its pn_next", "again", calls.lookup(), 6_000),
+    "identify": ("a pn_frame of an Identify, and its pn_next", "again", calls.IDENTIFY, 6_000),
+    "read": ("a pn_frame of a Read Implicit of I&M0, and its pn_next", "call", calls.read_implicit(1), 12_000),
+}
 
 # The frames of a kind without a relation: LLDP each five seconds.
 SENT_ALONE = {"second": 2 * TURNS // 5}
@@ -110,6 +125,20 @@ def counted(program, plain, folder):
     return is_kept, is_slower
 
 
+def counted_frames(program, folder):
+    """The same of frames to a device without a relation. Each is answered each time, or never."""
+    is_kept, is_slower = True, False
+    for kind, (title, words, line, bound) in FRAMES.items():
+        ours, sent = each([program, words, "1", str(OCTETS)], (calls.SET_SUITE + line.replace("frame", "turn")).encode(), folder, ("pn_step", "pn_fetch"))
+        print(f"{title}: {ours:.0f} instructions (at most {bound})")
+        if sent != (0 if kind.startswith("foreign") else 2 * TURNS):
+            print(f"NOT THE WORK: {title}: {sent} frames")
+            is_kept = False
+        is_kept = keeps(title, ours, bound) and is_kept
+        is_slower = slower(kind, title, ours) or is_slower
+    return is_kept, is_slower
+
+
 def counted_controller(program, folder):
     """The same of a controller, which the program in plain C has not. A quiet turn sends nothing."""
     is_kept = True
@@ -144,7 +173,8 @@ def main(words):
         run([*cc, os.path.join(here, "library.c"), archive, "-o", program])
         run([*cc, os.path.join(here, "library.c"), os.path.join(here, "library_plain.c"), "-o", plain])
         run([*cc, os.path.join(here, "library_controller.c"), controller, archive, "-o", of_controller])
-        is_kept, is_slower = counted(program, plain, folder)
+        counts = [counted(program, plain, folder), counted_frames(program, folder)]
+        is_kept, is_slower = all(kept for kept, _ in counts), any(slow for _, slow in counts)
         is_kept = counted_controller(of_controller, folder) and is_kept
     return 2 if is_slower else 0 if is_kept else 1
 

@@ -8,7 +8,7 @@ mod lookup;
 mod mapper;
 mod writing;
 
-pub use frames::mapped_frame;
+pub use frames::mapped_call;
 pub use law::lookups_end;
 pub use lookup::Lookup;
 pub use mapper::{MapperAnswer, mapped};

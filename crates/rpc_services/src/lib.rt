@@ -4,7 +4,7 @@
 mod endpoint_mapper;
 mod pieces;
 
-pub use endpoint_mapper::{Lookup, MapperAnswer, lookups_end, mapped, mapped_frame};
+pub use endpoint_mapper::{Lookup, MapperAnswer, lookups_end, mapped, mapped_call};
 pub use pieces::{
     Acknowledgement, Heard, Joiner, Kind, LONGEST, WholeCall, calls_are_kept_until_due,
     finished_calls_make_room, fragments_are_read, headers_are_sound,

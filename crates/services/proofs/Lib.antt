@@ -5,3 +5,4 @@ pub mod Replies
 pub mod Facts
 pub mod Runs
 pub mod Leaping
+pub mod Concerns

@@ -5,3 +5,4 @@ pub mod Views
 pub mod Answer
 pub mod Run
 pub mod Leaps
+pub mod Concern

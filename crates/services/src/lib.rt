@@ -10,6 +10,7 @@
 mod address;
 mod announcement;
 mod called;
+mod concern;
 mod echo;
 mod header;
 mod law;
@@ -21,6 +22,8 @@ mod reply;
 
 pub use announcement::{Announcement, Role};
 pub use called::Called;
+pub use concern::Concern;
+pub use echo::{Echo, EchoRequest};
 pub use law::{
     addresses_are_announced_twice, defences_are_rare, echo_formats_are_sound,
     only_conflicts_are_counted,

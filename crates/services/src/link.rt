@@ -1,8 +1,10 @@
 //! The Ethernet header and its VLAN tag.
 ghost use Rattle.std.specs.Prelude.{◌≡◌, ◌+◌, ◌≤◌, [], ◌++◌, None};
+ghost use Rattle.std.specs.Option.{option_map};
 ghost use Rattle.arrayvec.specs.ArrayVec.{array_vec_len};
 ghost use Rattle.wire.specs.Codec.{Gives};
 ghost use Rattle.frame_codec.specs.Frame.{mac, tag_and_type, longest};
+ghost use Rattle.services.specs.Concern.{opened};
 ghost use Rattle.services.specs.Echo.{internet_link, link};
 
 use arrayvec::ArrayVec;
@@ -16,6 +18,12 @@ const VLAN: u16 = 0x8100;
 /// The EtherType of IPv4.
 pub(crate) const INTERNET: u16 = 0x0800;
 
+/// The EtherType of ARP.
+pub(crate) const ADDRESS_RESOLUTION: u16 = 0x0806;
+
+/// The EtherType of PROFINET.
+pub(crate) const PROFINET: u16 = 0x8892;
+
 /// The addresses, the word of the tag if there is one, and the EtherType.
 #[derive(Clone, Copy)]
 pub(crate) struct LinkHeader {
@@ -26,7 +34,7 @@ pub(crate) struct LinkHeader {
 }
 
 /// The maximum length of a frame, in octets.
-pub(crate) fn longest_of(tag: Option<u16>) -> usize
+fn longest_of(tag: Option<u16>) -> usize
     ensures { result ≡ longest tag }
 {
     match tag {
@@ -60,7 +68,7 @@ fn tag_and_type_at(bytes: &[u8]) -> Result<(Option<u16>, u16, &[u8]), FrameFault
 
 /// The Ethernet header and the octets after it.
 #[tactic(auto, unfolding(crate::specs::Echo::link))]
-pub(crate) fn link_at(bytes: &[u8]) -> Result<(LinkHeader, &[u8]), FrameFault>
+fn link_at(bytes: &[u8]) -> Result<(LinkHeader, &[u8]), FrameFault>
     ensures { Gives (λ x. (x.0, x.1.now)) result (link.read bytes.now) }
 {
     let (destination, rest) = mac_at(bytes)?;
@@ -75,6 +83,20 @@ pub(crate) fn link_at(bytes: &[u8]) -> Result<(LinkHeader, &[u8]), FrameFault>
         },
         rest,
     ))
+}
+
+/// The Ethernet header of a frame and the octets after it, unless the header is incomplete or the frame too long.
+#[tactic(auto, unfolding(crate::specs::Concern::opened))]
+pub(crate) fn open(bytes: &[u8]) -> Option<(LinkHeader, &[u8])>
+    ensures { option_map (λ x. (x.0, x.1.now)) result ≡ opened bytes.now }
+{
+    let Ok((link, content)) = link_at(bytes) else {
+        return None;
+    };
+    if bytes.len() > longest_of(link.tag) {
+        return None;
+    }
+    Some((link, content))
 }
 
 /// Appends the Ethernet header of a packet of IPv4, without a tag.

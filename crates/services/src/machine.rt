@@ -1,24 +1,26 @@
 //! The machine of the services.
-ghost use Rattle.std.specs.Prelude.{◌≡◌, ◌<◌, ◌≤◌, ◌+◌, ◌++◌, ℕ, List, length, true, false};
-ghost use Rattle.std.specs.Option.{option_map};
+ghost use Rattle.std.specs.Prelude.{◌≡◌, ◌<◌, ◌≤◌, ◌+◌, ◌++◌, ◌==◌, ◌&&◌, ℕ, List, length, true, false};
 ghost use Rattle.arrayvec.specs.ArrayVec.{array_vec_len};
 ghost use Rattle.frame_codec.specs.Outbox.{boxed};
 ghost use Rattle.frame_codec.specs.declared.arp.Arp.{Arp};
 ghost use Rattle.frame_codec.specs.declared.udp.Endpoint.{Endpoint};
 ghost use Rattle.frame_codec.specs.declared.fault.FrameFault.{FrameFault};
-ghost use Rattle.frame_codec.specs.Frame.{frame_bytes, frame_of};
-ghost use Rattle.frame_codec.specs.Meaning.{ArpPacket, Meaning, UdpDatagram, meaning_of};
+ghost use Rattle.frame_codec.specs.Frame.{address_resolution, arp, frame_bytes, frame_of};
+ghost use Rattle.frame_codec.specs.Meaning.{ArpPacket, Meaning, UdpDatagram};
 ghost use Rattle.services.specs.State.{announcement_for as announced, disputed, observed, sent_by_tick, started, ticked, is_running as runs, is_own as owns, is_defended as defends_by, announces as announces_by, frames_in};
-ghost use Rattle.services.specs.Answer.{IsOtherFrame, after_content, after_packet, answer_to, arp_answer, arp_reply_of, call_by, call_in, call_reply_of, content_answer, content_disputes, disputes as disputes_by, echo_answer, frame_in, heard, answers_calls as answers_calls_by, datagram_answer, is_asked as asks, is_called as calls_by, is_conflict as conflicts_with, is_group as is_group_by, is_peer as peers, is_request as requests, is_sought as seeks, resolves as resolves_by};
+ghost use Rattle.services.specs.Answer.{IsOtherFrame, after_packet, answer_to, arp_answer, arp_reply_of, call_in, call_reply_of, disputes as disputes_by, frame_in, heard, answers_calls as answers_calls_by, datagram_answer, is_asked as asks, is_called as calls_by, is_conflict as conflicts_with, is_group as is_group_by, is_peer as peers, is_request as requests, is_sought as seeks, resolves as resolves_by};
 ghost use Rattle.services.specs.Echo.{Request, reply_frame, request_of};
+ghost use Rattle.services.specs.Concern.{IsShort, arp_under, concern_after, concern_answer, concern_as, concern_by, concern_call, concern_disputes, concern_in, concern_under, content_concern, datagram_under, echo_concern, echo_under, has_other_type, is_other_type, packet_disputes, refused_by};
+ghost use Rattle.services.specs.State.{State};
 ghost use Rattle.services.specs.Views.{asked_by, call_as};
 
 use crate::address::{BROADCAST, is_group, is_host, is_same, is_zero};
-use crate::echo::{EchoRequest, request_at};
+use crate::echo::echo_at;
+use crate::link::{ADDRESS_RESOLUTION, INTERNET, LinkHeader, PROFINET, open};
 use crate::reply::{arp_reply, call_reply, echo_reply, put_announcement};
-use crate::{Announcement, Called, Role};
+use crate::{Announcement, Called, Concern, EchoRequest, Role};
 use frame_codec::{
-    Arp, ArpOperation, Endpoint, Frame, Holder, Layered, Outbox, Payload, RPC_PORT, Udp, read,
+    Arp, ArpOperation, Endpoint, Frame, Holder, Outbox, RPC_PORT, Udp, datagram_at, packet_at,
 };
 use pn_values::Mac;
 use rpc_core::unserved_answer;
@@ -93,6 +95,20 @@ fn answers_calls(role: Role) -> bool
     match role {
         Role::Device => true,
         Role::Controller => false,
+    }
+}
+
+/// What concerns the services of a packet of ARP.
+fn packet_concern<'a>(link: &LinkHeader, content: &[u8]) -> Concern<'a>
+    ensures { (state : State) → concern_as result ≡ concern_by state (arp_under link.now content.now) (Err FrameFault.EtherType) }
+{
+    match packet_at(content) {
+        Ok(packet) => Concern::Packet {
+            destination: link.destination,
+            source: link.source,
+            packet,
+        },
+        Err(_) => Concern::Nothing,
     }
 }
 
@@ -200,26 +216,81 @@ impl Services {
         self.handle(bytes)
     }
 
-    /// Whether a frame is a packet of ARP whose sender is another station with the running address.
-    #[tactic(auto, unfolding(crate::specs::Answer::disputes))]
-    pub fn disputes(&self, bytes: &[u8]) -> bool
-        ensures { result ≡ disputes_by self.now bytes.now }
+    /// What of a frame concerns the services. The frame is read once. A packet of IPv4 to another MAC address is not read.
+    pub fn concern<'a>(&self, bytes: &'a [u8]) -> Concern<'a>
+        ensures value { concern_as result ≡ concern_in self.now bytes.now }
+        // What the services answer to the frame, and what they are after it, follows from it.
+        ensures answer { answer_to self.now bytes.now ≡ concern_answer self.now (concern_as result) }
+        ensures state { heard self.now bytes.now ≡ concern_after self.now (concern_as result) }
+        // So does the call that it brings to the station, and whether it is a conflict.
+        ensures call { call_in self.now bytes.now ≡ concern_call (concern_as result) }
+        ensures disputes { disputes_by self.now bytes.now ≡ concern_disputes self.now (concern_as result) }
+        // It says whether the frame has another EtherType.
+        ensures other { has_other_type bytes.now ≡ is_other_type (concern_as result) }
+        // The data of an echo request fits a reply.
+        ensures short { IsShort (concern_as result) }
     {
-        match read(bytes) {
-            Ok(layered) => self.disputes_in(&layered),
-            Err(_) => false,
+        self.find(bytes)
+    }
+
+    /// What of a frame concerns the services.
+    #[tactic(auto, using(crate::proofs::Concerns::concern_opened, crate::proofs::Concerns::concern_closed))]
+    fn find<'a>(&self, bytes: &'a [u8]) -> Concern<'a>
+        ensures { concern_as result ≡ concern_in self.now bytes.now }
+    {
+        match open(bytes) {
+            Some((link, content)) => self.concern_of(&link, content),
+            None => Concern::Nothing,
         }
     }
 
-    /// The call that a frame brings to this station, if it brings one to its MAC address, its running IP address and the
-    /// port of calls, from the IP address of another station.
-    #[tactic(auto, unfolding(crate::specs::Answer::call_in))]
-    pub fn call_in<'a>(&self, bytes: &'a [u8]) -> Option<Called<'a>>
-        ensures { option_map call_as result ≡ call_in self.now bytes.now }
+    /// Handles what concerns the services of a frame that the station dropped, or of any frame of ARP. Returns the answer.
+    pub fn answer(&mut self, concern: &Concern<'_>) -> Option<Frame>
+        requires short { IsShort (concern_as concern.now) }
+        ensures state { self.new ≡ concern_after self.old (concern_as concern.now) }
+        ensures answer { frame_in result ≡ concern_answer self.old (concern_as concern.now) }
     {
-        match read(bytes) {
-            Ok(layered) => self.call_of(&layered),
-            Err(_) => None,
+        match *concern {
+            Concern::Nothing | Concern::OtherType => None,
+            Concern::Packet {
+                destination,
+                source,
+                ref packet,
+            } => self.hear_packet(destination, source, packet),
+            Concern::Call(ref called) => self.refuse(called, called.body),
+            Concern::Echo(ref request) => Some(echo_reply(self.mac, request)),
+        }
+    }
+
+    /// Whether a frame is a packet of ARP whose sender is another station with the running address. No other frame is read further
+    /// than its Ethernet header.
+    #[tactic(auto, using(crate::proofs::Concerns::disputes_opened, crate::proofs::Concerns::disputes_closed))]
+    pub fn disputes(&self, bytes: &[u8]) -> bool
+        ensures { result ≡ disputes_by self.now bytes.now }
+    {
+        match open(bytes) {
+            Some((link, content)) => self.disputes_in(&link, content),
+            None => false,
+        }
+    }
+
+    /// Whether what concerns the services is a conflict.
+    pub fn is_disputed(&self, concern: &Concern<'_>) -> bool
+        ensures { result ≡ concern_disputes self.now (concern_as concern.now) }
+    {
+        match *concern {
+            Concern::Packet { ref packet, .. } => self.is_conflict(&packet.sender),
+            Concern::Nothing | Concern::OtherType | Concern::Call(_) | Concern::Echo(_) => false,
+        }
+    }
+
+    /// The frame that refuses a whole call, if nobody serves it.
+    pub fn refuse(&self, called: &Called<'_>, octets: &[u8]) -> Option<Frame>
+        ensures { frame_in result ≡ refused_by self.now (call_as called.now) octets.now }
+    {
+        match unserved_answer(octets) {
+            Some(answer) => Some(self.reply(called, answer.as_slice())),
+            None => None,
         }
     }
 
@@ -256,59 +327,85 @@ impl Services {
     }
 
     /// Handles a frame.
-    #[tactic(auto, unfolding(crate::specs::Answer::answer_to, crate::specs::Answer::heard))]
     fn handle(&mut self, bytes: &[u8]) -> Option<Frame>
         ensures state { self.new ≡ heard self.old bytes.now }
         ensures answer { frame_in result ≡ answer_to self.old bytes.now }
     {
-        match read(bytes) {
-            Ok(layered) => self.hear_layers(&layered),
-            Err(_) => self.echo(bytes),
+        let concern = self.concern(bytes);
+        self.answer(&concern)
+    }
+
+    /// What concerns the services of a frame with this Ethernet header.
+    #[tactic(auto, using(crate::proofs::Concerns::concern_timely))]
+    fn concern_of<'a>(&self, link: &LinkHeader, content: &'a [u8]) -> Concern<'a>
+        ensures { concern_as result ≡ concern_under self.now link.now content.now }
+    {
+        match link.ether_type {
+            PROFINET => Concern::Nothing,
+            ADDRESS_RESOLUTION => packet_concern(link, content),
+            INTERNET => self.internet_concern(link, content),
+            _ => Concern::OtherType,
         }
     }
 
-    /// Handles a frame that was read.
-    fn hear_layers(&mut self, layered: &Layered<'_>) -> Option<Frame>
-        ensures state { self.new ≡ after_content self.old (meaning_of layered.now).content }
-        ensures answer { frame_in result ≡ content_answer self.old layered.now.destination layered.now.source (meaning_of layered.now).content }
+    /// What concerns the services of a packet of IPv4.
+    #[tactic(auto, using(crate::proofs::Concerns::concern_elsewhere))]
+    fn internet_concern<'a>(&self, link: &LinkHeader, content: &'a [u8]) -> Concern<'a>
+        ensures { concern_as result ≡ concern_by self.now (datagram_under link.now content.now) (echo_under link.now content.now) }
     {
-        match layered.payload {
-            Payload::Arp(ref packet) => {
-                self.hear_packet(layered.destination, layered.source, packet)
-            }
-            Payload::RealTime { .. } => None,
-            Payload::Udp(ref datagram) => {
-                self.hear_datagram(layered.destination, layered.source, datagram)
-            }
+        if !self.is_own(link.destination) {
+            return Concern::Nothing;
+        }
+        match datagram_at(content) {
+            Ok(datagram) => self.call_concern(link, &datagram),
+            Err(_) => self.echo_concern(link, content),
         }
     }
 
-    /// The call that was read of a frame, if it is one to this station.
-    fn call_of<'a>(&self, layered: &Layered<'a>) -> Option<Called<'a>>
-        ensures { option_map call_as result ≡ call_by self.now layered.now.destination layered.now.source (meaning_of layered.now).content }
+    /// The call that a datagram brings to the station, if it is one.
+    fn call_concern<'a>(&self, link: &LinkHeader, datagram: &Udp<'a>) -> Concern<'a>
+        ensures { concern_as result ≡ content_concern self.now link.now.destination link.now.source
+            (UdpDatagram datagram.now.source datagram.now.destination datagram.now.body.now) }
     {
-        match layered.payload {
-            Payload::Udp(ref datagram) => {
-                if !self.is_called(layered.destination, &datagram.source, &datagram.destination) {
-                    return None;
-                }
-                Some(Called {
-                    source: layered.source,
-                    caller: datagram.source,
-                    body: datagram.body,
-                })
-            }
-            Payload::RealTime { .. } | Payload::Arp(_) => None,
+        if !self.is_called(link.destination, &datagram.source, &datagram.destination) {
+            return Concern::Nothing;
+        }
+        Concern::Call(Called {
+            source: link.source,
+            caller: datagram.source,
+            body: datagram.body,
+        })
+    }
+
+    /// The echo request of a packet of IPv4 that is no datagram, if it has one that is answered.
+    fn echo_concern<'a>(&self, link: &LinkHeader, content: &'a [u8]) -> Concern<'a>
+        ensures { concern_as result ≡ echo_concern self.now (echo_under link.now content.now) }
+    {
+        let Ok(echo) = echo_at(content) else {
+            return Concern::Nothing;
+        };
+        let request = EchoRequest {
+            destination: link.destination,
+            source: link.source,
+            echo,
+        };
+        if self.is_asked(&request) {
+            Concern::Echo(request)
+        } else {
+            Concern::Nothing
         }
     }
 
-    /// Whether a frame that was read is a conflict.
-    fn disputes_in(&self, layered: &Layered<'_>) -> bool
-        ensures { result ≡ content_disputes self.now (meaning_of layered.now).content }
+    /// Whether a frame with this Ethernet header is a conflict.
+    fn disputes_in(&self, link: &LinkHeader, content: &[u8]) -> bool
+        ensures { result ≡ (link.now.ether_type == address_resolution && packet_disputes self.now (arp.read content.now)) }
     {
-        match layered.payload {
-            Payload::Arp(ref packet) => self.is_conflict(&packet.sender),
-            Payload::RealTime { .. } | Payload::Udp(_) => false,
+        if link.ether_type != ADDRESS_RESOLUTION {
+            return false;
+        }
+        match packet_at(content) {
+            Ok(packet) => self.is_conflict(&packet.sender),
+            Err(_) => false,
         }
     }
 
@@ -323,25 +420,6 @@ impl Services {
             Some(arp_reply(self.mac, self.address, source, packet.sender))
         } else {
             None
-        }
-    }
-
-    /// Handles a datagram.
-    fn hear_datagram(&self, destination: Mac, source: Mac, datagram: &Udp<'_>) -> Option<Frame>
-        ensures { frame_in result ≡ datagram_answer self.now destination source datagram.now.source datagram.now.destination datagram.now.body.now }
-    {
-        if !self.is_called(destination, &datagram.source, &datagram.destination) {
-            return None;
-        }
-        match unserved_answer(datagram.body) {
-            Some(answer) => Some(call_reply(
-                self.mac,
-                self.address,
-                source,
-                datagram.source,
-                answer.as_slice(),
-            )),
-            None => None,
         }
     }
 
@@ -364,19 +442,6 @@ impl Services {
             self.defends = true;
             self.conflicts = self.conflicts.saturating_add(1);
         }
-    }
-
-    /// The answer to a frame that is neither real-time data nor ARP nor UDP.
-    fn echo(&self, bytes: &[u8]) -> Option<Frame>
-        ensures { frame_in result ≡ echo_answer self.now (request_of bytes.now) }
-    {
-        let Ok(request) = request_at(bytes) else {
-            return None;
-        };
-        if !self.is_asked(&request) {
-            return None;
-        }
-        Some(echo_reply(self.mac, &request))
     }
 
     /// Whether an echo request is answered.

@@ -6,3 +6,4 @@ pub mod Cycles
 pub mod Running
 pub mod Stepping
 pub mod Telling
+pub mod Concerned

@@ -1,5 +1,5 @@
 -- The services beside one step of the device.
-use Rattle.std.specs.Prelude.{◌≡◌, ◌||◌, ◌&&◌, ⊤, ℕ, Bool, true, false, List, [], ◌∷◌, Option, None, is_some, if◌then◌else◌}
+use Rattle.std.specs.Prelude.{◌≡◌, ◌||◌, ◌&&◌, ⊤, ℕ, Bool, true, false, List, [], ◌∷◌, Option, Some, None, is_some, if◌then◌else◌}
 use Rattle.pn_values.specs.declared.identity.Identity.{Identity}
 use Rattle.settings_journal.specs.settings_store.State.{Values}
 use Rattle.settings_journal.specs.settings_store.Machine.{Outcome}
@@ -10,8 +10,10 @@ use Rattle.device_frames.specs.declared.event.Event.TheVariants.{Frame, Call, Ti
 use Rattle.device_frames.specs.declared.note.Note.{Note}
 use Rattle.device_frames.specs.declared.note.Note.TheVariants.{Done, NotMine, Fault, Filter, OldCall, NoRelation, StaleCycle, Refused}
 use Rattle.pn_values.specs.declared.settings.Settings.{Settings}
+use Rattle.services.specs.Answer as ip_answer
+use Rattle.services.specs.Concern as concern
 use Rattle.services.specs.State.{frames_in}
-use Rattle.station.specs.Serving.{Serving, answered, completed, disputes, heard, observed, overheard, piece_in, sent_by_tick, takes, ticked}
+use Rattle.station.specs.Serving.{Serving, after_piece, answered, called_answer, completed, disputes, heard, is_piece, meets, met, observed, overheard, piece_in, piece_of, sent_by_tick, takes, ticked}
 
 -- What the services are after a step of the device, the frames that they send, and the note of the station.
 pub record Beside : Type 0 where
@@ -51,6 +53,45 @@ heard_beside identity state note bytes = record {
   sent = frames_in (answer_beside identity state note bytes);
   note = if is_accepted identity state note bytes then Done else note;
 }
+
+-- ---- a frame that the device dropped, by what of it concerns the services
+
+-- The services of the IP address alone handle it.
+abbrev pub by_address : Serving → Note → concern.Concern → Beside
+by_address state note of = record {
+  services = record state { ip = concern.concern_after state.ip of };
+  sent = frames_in (concern.concern_answer state.ip of);
+  note = if is_some (concern.concern_answer state.ip of) || concern.concern_disputes state.ip of then Done else note;
+}
+
+-- It brings a call.
+abbrev pub by_call : Identity → Serving → Note → ip_answer.Call → Beside
+by_call identity state note call = record {
+  services = after_piece state (Some call);
+  sent = frames_in (called_answer identity state call);
+  note = if is_some (called_answer identity state call) || is_piece (piece_of state (Some call)) then Done else note;
+}
+
+-- It may carry a message of a neighbour.
+abbrev pub by_neighbour : Serving → Note → List ℕ → Beside
+by_neighbour state note bytes = record { services = met state bytes; sent = []; note = if meets state bytes then Done else note }
+
+abbrev pub by_concern : Identity → Serving → Note → List ℕ → concern.Concern → Beside
+by_concern identity state note bytes concern.Nothing = by_address state note concern.Nothing
+by_concern identity state note bytes concern.OtherType = by_neighbour state note bytes
+by_concern identity state note bytes (concern.Packet destination source packet) = by_address state note (concern.Packet destination source packet)
+by_concern identity state note bytes (concern.Calls call) = by_call identity state note call
+by_concern identity state note bytes (concern.Asks request) = by_address state note (concern.Asks request)
+
+-- the event of the call that it completes
+abbrev pub joined_by_concern : Serving → concern.Concern → Option Event
+joined_by_concern state concern.Nothing = None
+joined_by_concern state concern.OtherType = None
+joined_by_concern state (concern.Packet destination source packet) = None
+joined_by_concern state (concern.Calls call) = completed (piece_of state (Some call))
+joined_by_concern state (concern.Asks request) = None
+
+-- ---- an event
 
 -- An event, with the note that the device gave it. Events of the application do not concern the services.
 abbrev pub event_beside : Identity → Serving → Note → Event → Beside

@@ -133,6 +133,10 @@ pieced serving bytes = after_piece serving (ip_answer.call_in serving.ip bytes)
 abbrev pub replied : Identity → Serving → List ℕ → Option (List ℕ)
 replied identity serving bytes = or_else (ip_answer.answer_to serving.ip bytes) (mapper.mapped_frame serving.ip identity bytes)
 
+-- what they answer to a call
+abbrev pub called_reply : Identity → Serving → ip_answer.Call → Option (List ℕ)
+called_reply identity serving call = or_else (refused_by serving call call.body) (mapper.mapped_call serving.ip identity (Some call))
+
 -- A fragment that is accepted has the answer of its own.
 abbrev pub answer_by : Piece → Option (List ℕ) → Option (List ℕ)
 answer_by Other reply = reply
@@ -143,6 +147,10 @@ answer_by (Completes call) reply = None
 -- or else that of the endpoint mapper.
 abbrev pub answered : Identity → Serving → List ℕ → Option (List ℕ)
 answered identity serving bytes = answer_by (piece_in serving bytes) (replied identity serving bytes)
+
+-- the answer to a call
+abbrev pub called_answer : Identity → Serving → ip_answer.Call → Option (List ℕ)
+called_answer identity serving call = answer_by (piece_of serving (Some call)) (called_reply identity serving call)
 
 -- Whether a frame concerns what is beside the device also if the device answered it: a conflict of the IP address.
 abbrev pub disputes : Serving → List ℕ → Bool

@@ -3,10 +3,11 @@ ghost use Rattle.std.specs.Prelude.{◌≡◌, ◌<◌, ◌≤◌, ◌+◌, ◌+
 ghost use Rattle.arrayvec.specs.ArrayVec.{array_vec_len};
 ghost use Rattle.frame_codec.specs.Outbox.{boxed};
 ghost use Rattle.services.specs.Answer.{frame_in};
-ghost use Rattle.station.specs.Beside.{Beside, IsUndisputed, event_beside, heard_beside, is_dropped as is_dropped_by, joined_from, joined_of};
+ghost use Rattle.station.specs.Beside.{Beside, IsUndisputed, by_address, by_call, by_concern, event_beside, joined_by_concern, heard_beside, is_dropped as is_dropped_by, joined_from, joined_of};
 ghost use Rattle.station.specs.Views.{joined_in, note_in, piece_as};
+ghost use Rattle.services.specs.Concern.{IsShort, concern_as};
 ghost use Rattle.services.specs.Views.{call_as};
-ghost use Rattle.station.specs.Serving.{meets, piece_in, pieced, refused_by, replied};
+ghost use Rattle.station.specs.Serving.{after_piece, called_reply, completed, meets, piece_of};
 ghost use Rattle.services.specs.State.{frames_in};
 ghost use Rattle.std.specs.Prelude.{is_some};
 ghost use Rattle.station.specs.Serving.{NoNews, NoneSends, announces, disputes, due_in, heard, knows, news_in, observed};
@@ -20,9 +21,8 @@ use device_core::{Caller, Event, Note};
 use frame_codec::{Frame, Outbox};
 use lldp::{Heard, Link, Neighbours, announcement};
 use pn_values::{Identity, Settings, StationName};
-use rpc_core::unserved_answer;
-use rpc_services::{Heard as Pieced, Joiner, Kind, mapped_frame};
-use services::{Called, Role, Services, only_conflicts_are_counted};
+use rpc_services::{Heard as Pieced, Joiner, Kind, mapped_call};
+use services::{Called, Concern, Role, Services, only_conflicts_are_counted};
 use std::marker::Model;
 
 /// What the services beside a device made of an event.
@@ -261,12 +261,68 @@ impl DeviceServices {
         ensures note { note_in result ≡ (heard_beside identity.now self.old note bytes.now).note }
         ensures call { joined_in result call.new ≡ joined_from self.old note bytes.now }
     {
-        let disputed = self.ip.disputes(bytes);
-        let met = self.meet(bytes);
-        let piece = self.join(bytes, call);
-        let reply = self.replied(identity, bytes);
-        match piece {
-            Piece::Other => Attended::Noted(put_reply(&reply, disputed || met, note, outbox)),
+        let concern = self.ip.concern(bytes);
+        self.handle(identity, bytes, &concern, note, outbox, call)
+    }
+
+    /// It handles a frame that the device dropped, by what of it concerns the services.
+    fn handle(
+        &mut self,
+        identity: &Identity,
+        bytes: &[u8],
+        concern: &Concern<'_>,
+        note: Note,
+        outbox: &mut Outbox,
+        call: &mut JoinedCall,
+    ) -> Attended
+        requires empty { outbox.old.items ≡ [] }
+        requires short { IsShort (concern_as concern.now) }
+        ensures state { self.new ≡ (by_concern identity.now self.old note bytes.now (concern_as concern.now)).services }
+        ensures frames { boxed outbox.new ≡ (by_concern identity.now self.old note bytes.now (concern_as concern.now)).sent }
+        ensures note { note_in result ≡ (by_concern identity.now self.old note bytes.now (concern_as concern.now)).note }
+        ensures call { joined_in result call.new ≡ joined_by_concern self.old (concern_as concern.now) }
+    {
+        match *concern {
+            Concern::Call(ref called) => self.answer_call(identity, called, note, outbox, call),
+            Concern::OtherType => Attended::Noted(note_of(self.meet(bytes), note)),
+            Concern::Nothing | Concern::Packet { .. } | Concern::Echo(_) => {
+                Attended::Noted(self.answer_alone(concern, note, outbox))
+            }
+        }
+    }
+
+    /// The services of the IP address answer a frame that is no call. Returns the note for it.
+    fn answer_alone(&mut self, concern: &Concern<'_>, note: Note, outbox: &mut Outbox) -> Note
+        requires empty { outbox.old.items ≡ [] }
+        requires short { IsShort (concern_as concern.now) }
+        ensures state { self.new ≡ (by_address self.old note (concern_as concern.now)).services }
+        ensures frames { boxed outbox.new ≡ (by_address self.old note (concern_as concern.now)).sent }
+        ensures note { result ≡ (by_address self.old note (concern_as concern.now)).note }
+    {
+        let disputed = self.ip.is_disputed(concern);
+        let reply = self.ip.answer(concern);
+        put_reply(&reply, disputed, note, outbox)
+    }
+
+    /// It answers a call that the device dropped. A fragment of one is acknowledged, or completes its call.
+    fn answer_call(
+        &mut self,
+        identity: &Identity,
+        called: &Called<'_>,
+        note: Note,
+        outbox: &mut Outbox,
+        call: &mut JoinedCall,
+    ) -> Attended
+        requires empty { outbox.old.items ≡ [] }
+        ensures state { self.new ≡ (by_call identity.now self.old note (call_as called.now)).services }
+        ensures frames { boxed outbox.new ≡ (by_call identity.now self.old note (call_as called.now)).sent }
+        ensures note { note_in result ≡ (by_call identity.now self.old note (call_as called.now)).note }
+        ensures call { joined_in result call.new ≡ completed (piece_of self.old (Some (call_as called.now))) }
+    {
+        match self.join(called, call) {
+            Piece::Other => {
+                Attended::Noted(put_reply(&self.replied(identity, called), false, note, outbox))
+            }
             Piece::Taken(own) => Attended::Noted(put_reply(&own, true, note, outbox)),
             Piece::Completes => Attended::Joined,
         }
@@ -288,23 +344,20 @@ impl DeviceServices {
     }
 
     /// It hears a fragment of a call. A call of the device that is complete with it is written into `call`.
-    fn join(&mut self, bytes: &[u8], call: &mut JoinedCall) -> Piece
-        ensures state { self.new ≡ pieced self.old bytes.now }
-        ensures piece { piece_as result call.new ≡ piece_in self.old bytes.now }
+    fn join(&mut self, called: &Called<'_>, call: &mut JoinedCall) -> Piece
+        ensures state { self.new ≡ after_piece self.old (Some (call_as called.now)) }
+        ensures piece { piece_as result call.new ≡ piece_of self.old (Some (call_as called.now)) }
     {
-        let Some(called) = self.ip.call_in(bytes) else {
-            return Piece::Other;
-        };
         match self.pieces.hear(called.body, &mut call.octets) {
             Pieced::Nothing | Pieced::Dropped(None) => Piece::Other,
             Pieced::Dropped(Some(fack)) => Piece::Taken(Some(
-                self.ip.reply(&called, fack.as_slice()),
+                self.ip.reply(called, fack.as_slice()),
             )),
             Pieced::Waits(Some(fack)) => Piece::Taken(Some(
-                self.ip.reply(&called, fack.as_slice()),
+                self.ip.reply(called, fack.as_slice()),
             )),
             Pieced::Waits(None) => Piece::Taken(None),
-            Pieced::Joined => match self.refused(&called, call.octets.as_slice()) {
+            Pieced::Joined => match self.ip.refuse(called, call.octets.as_slice()) {
                 Some(frame) => Piece::Taken(Some(frame)),
                 None => {
                     call.caller = Caller {
@@ -318,27 +371,15 @@ impl DeviceServices {
         }
     }
 
-    /// The frame that refuses a whole call, if nobody serves it.
+    /// The answer to a call that the device dropped and that is no fragment: the refusal of one that nobody serves, or else the answer
+    /// of the endpoint mapper.
     #[inline(never)]
-    fn refused(&self, called: &Called<'_>, octets: &[u8]) -> Option<Frame>
-        ensures { frame_in result ≡ refused_by self.now (call_as called.now) octets.now }
+    fn replied(&self, identity: &Identity, called: &Called<'_>) -> Option<Frame>
+        ensures { frame_in result ≡ called_reply identity.now self.now (call_as called.now) }
     {
-        match unserved_answer(octets) {
-            Some(answer) => Some(self.ip.reply(called, answer.as_slice())),
-            None => None,
-        }
-    }
-
-    /// It hears a frame that the device dropped. Returns the answer of the services of the IP address, or else that of the
-    /// endpoint mapper.
-    fn replied(&mut self, identity: &Identity, bytes: &[u8]) -> Option<Frame>
-        ensures state { self.new ≡ overheard self.old bytes.now }
-        ensures answer { frame_in result ≡ replied identity.now self.old bytes.now }
-    {
-        let mapped = mapped_frame(&self.ip, identity, bytes);
-        match self.ip.hear(bytes) {
+        match self.ip.refuse(called, called.body) {
             Some(frame) => Some(frame),
-            None => mapped,
+            None => mapped_call(&self.ip, identity, called),
         }
     }
 

@@ -1,12 +1,13 @@
 //! Pings, and calls that nobody serves. The octets are those of a reference model that shares no line with the product;
 //! tshark reads each answer.
 
+use super::concerns::{Kind, kind_of};
 use super::{
     OTHERS, Role, STATION, STRANGERS, Services, answer_of, controller, device, octets, sent_from,
 };
 
 /// What is called, the call, and its answer.
-const CALLS: [(&str, &str, &str); 6] = [
+pub const CALLS: [(&str, &str, &str); 6] = [
     (
         "a request of the controller's interface",
         "020000000001020000000002080045000080000040004011b919c0a80001c0a80002c0028894006ce1d60400200000000000dea000006c9711d18271000104560123dea000026c9711d1827100a02442df7d66666666777788889999aaaaaaaaaaaa0000000000000001000000030004ffffffff0014000000000000000000000000000000000000000000000000",
@@ -69,7 +70,7 @@ fn other_packets_are_dropped() {
     }
 }
 
-/// Neither the rejections nor what stands on `call_in` (the endpoint mapper, and calls in fragments) hear such a call.
+/// Neither the rejections nor what depends on `concern` (the endpoint mapper, and calls in fragments) hear such a call.
 #[test]
 fn a_call_is_heard_only_if_another_station_may_have_sent_it() {
     for (what, call, _) in CALLS {
@@ -80,13 +81,13 @@ fn a_call_is_heard_only_if_another_station_may_have_sent_it() {
                 None,
                 "{what} of {address:?}"
             );
-            assert!(device().call_in(&call).is_none(), "{what} of {address:?}");
+            assert_eq!(kind_of(&device(), &call), Kind::Nothing, "{what} of {address:?}");
         }
         for address in OTHERS {
             let call = sent_from(octets(call), address);
             let answer = answer_of(&mut device(), &call).expect("an answer");
             assert_eq!(answer[30..34], address, "{what}");
-            assert!(device().call_in(&call).is_some(), "{what} of {address:?}");
+            assert_eq!(kind_of(&device(), &call), Kind::Call, "{what} of {address:?}");
         }
     }
 }

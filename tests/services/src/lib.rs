@@ -8,6 +8,7 @@ use services::{Role, Services};
 
 mod arp;
 mod calls;
+mod concerns;
 mod echo;
 mod mapper;
 mod readme;

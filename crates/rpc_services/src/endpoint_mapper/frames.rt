@@ -1,20 +1,20 @@
-//! The answers of the endpoint mapper to frames.
-ghost use Rattle.std.specs.Prelude.{◌≡◌};
+//! The answers of the endpoint mapper as frames.
+ghost use Rattle.std.specs.Prelude.{◌≡◌, Some};
 ghost use Rattle.services.specs.Answer.{frame_in};
-ghost use Rattle.rpc_services.specs.endpoint_mapper.Mapper.{mapped_frame};
+ghost use Rattle.services.specs.Views.{call_as};
+ghost use Rattle.rpc_services.specs.endpoint_mapper.Mapper.{mapped_call};
 
 use crate::endpoint_mapper::mapper::mapped;
 use frame_codec::Frame;
 use pn_values::Identity;
-use services::Services;
+use services::{Called, Services};
 
-/// The answer to a frame, if it brings a request for the endpoint mapper to the device beside these services.
-pub fn mapped_frame(services: &Services, identity: &Identity, bytes: &[u8]) -> Option<Frame>
-    ensures { frame_in result ≡ mapped_frame services.now identity.now bytes.now }
+/// The answer to a call to the device beside these services, if it is a request for the endpoint mapper.
+pub fn mapped_call(services: &Services, identity: &Identity, called: &Called<'_>) -> Option<Frame>
+    ensures { frame_in result ≡ mapped_call services.now identity.now (Some (call_as called.now)) }
 {
-    let called = services.call_in(bytes)?;
     match mapped(identity, services.address(), called.body) {
-        Some(answer) => Some(services.reply(&called, answer.as_slice())),
+        Some(answer) => Some(services.reply(called, answer.as_slice())),
         None => None,
     }
 }
