@@ -42,12 +42,18 @@ module _ (own : Mac) (bytes : List ℕ) (to from : Mac) (tag : Option ℕ) (kind
   untold_by : (long : Bool) → nat_lt (longest tag) (length bytes) ≡ long → has_other_type bytes ≡ false → told_in own bytes ≡ None
   unfolding has_other_type opened ip_link near_link told_in
   untold_by true long other =
-      rw (e, too_long (nat_le (length bytes) (longest tag)) (pointwise nat_eq to.octets nearest) (kind == lldp_type) (not (pointwise nat_eq from.octets own.octets))
-      (no_longer (longest tag) (length bytes) long)) refl
+      rw (
+        e,
+        too_long (nat_le (length bytes) (longest tag)) (pointwise nat_eq to.octets nearest) (kind == lldp_type) (not (pointwise nat_eq from.octets own.octets))
+            (no_longer (longest tag) (length bytes) long),
+      ) refl
   untold_by false short other =
       let is : has_other_type bytes ≡ is_other kind = rw (e, short) refl in
-      rw (e, unlike (nat_le (length bytes) (longest tag)) (pointwise nat_eq to.octets nearest) (kind == lldp_type) (not (pointwise nat_eq from.octets own.octets))
-      (other_lldp kind (kind == lldp_type) refl (sym is ∙ other))) refl
+      rw (
+        e,
+        unlike (nat_le (length bytes) (longest tag)) (pointwise nat_eq to.octets nearest) (kind == lldp_type) (not (pointwise nat_eq from.octets own.octets))
+            (other_lldp kind (kind == lldp_type) refl (sym is ∙ other)),
+      ) refl
 
 untold_from : (own : Mac) (bytes : List ℕ) (read : Result ((Mac × (Mac × (Option ℕ × ℕ))) × List ℕ) FrameFault) → (mac ⨾ mac ⨾ tag_and_type).read bytes ≡ read
     → has_other_type bytes ≡ false → told_in own bytes ≡ None

@@ -353,9 +353,7 @@ impl DeviceServices {
             Pieced::Dropped(Some(fack)) => Piece::Taken(Some(
                 self.ip.reply(called, fack.as_slice()),
             )),
-            Pieced::Waits(Some(fack)) => Piece::Taken(Some(
-                self.ip.reply(called, fack.as_slice()),
-            )),
+            Pieced::Waits(Some(fack)) => Piece::Taken(Some(self.ip.reply(called, fack.as_slice()))),
             Pieced::Waits(None) => Piece::Taken(None),
             Pieced::Joined => match self.ip.refuse(called, call.octets.as_slice()) {
                 Some(frame) => Piece::Taken(Some(frame)),
