@@ -1,6 +1,6 @@
 -- A frame that the device dropped is handled by what of it concerns the services.
-use Rattle.std.proofs.Common.{◌≡◌, ◌==◌, ◌&&◌, ◌||◌, ℕ, Bool, true, false, List, [], length, Option, Some, None, Result, Ok, Err, refl, sym, ap, ◌∙◌, arith}
-use Rattle.std.specs.Prelude.{not, nat_eq, nat_le, nat_lt, is_some, if◌then◌else◌}
+use Rattle.std.proofs.Common.{◌≡◌, ◌==◌, ◌&&◌, ◌||◌, ℕ, Bool, true, false, List, length, Option, Some, None, Result, Ok, Err, refl, sym, ◌∙◌, arith}
+use Rattle.std.specs.Prelude.{not, nat_eq, nat_le, nat_lt}
 use Rattle.std.specs.Cmp.Lexicographic.{pointwise}
 use Rattle.std.proofs.lemmas.Bool.{eqb-true}
 use Rattle.std.proofs.lemmas.Bool.Decides.{nat_tests}
@@ -8,17 +8,16 @@ use Rattle.wire.specs.Formats.{◌⨾◌}
 use Rattle.pn_values.specs.declared.mac.Mac.{Mac}
 use Rattle.pn_values.specs.declared.identity.Identity.{Identity}
 use Rattle.frame_codec.specs.declared.fault.FrameFault.{FrameFault}
-use Rattle.frame_codec.specs.Frame.{address_resolution, internet, longest, mac, profinet, tag_and_type}
+use Rattle.frame_codec.specs.Frame.{longest, mac, tag_and_type}
 use Rattle.device_frames.specs.declared.note.Note.{Note}
-use Rattle.device_frames.specs.declared.note.Note.TheVariants.{Done}
 use Rattle.lldp.specs.Frame.{link as near_link, lldp_type, nearest, told_in}
 use Rattle.lldp.specs.State as near
 use Rattle.lldp.specs.State.{heard as near_heard}
 use Rattle.services.specs.Echo.{link as ip_link}
-use Rattle.services.specs.Answer.{Call, answer_to, call_in, disputes, heard}
+use Rattle.services.specs.Answer.{answer_to, call_in, disputes, heard}
 use Rattle.services.specs.Concern.{Concern, Nothing, OtherType, Packet, Calls, Asks, concern_after, concern_answer, concern_call, concern_disputes, has_other_type, is_other, is_other_type, opened}
 use Rattle.station.specs.Serving.{Serving, meets, or_else}
-use Rattle.station.specs.Beside.{Beside, by_concern, heard_beside, is_dropped}
+use Rattle.station.specs.Beside.{by_concern, heard_beside, is_dropped}
 
 -- ---- a frame of PROFINET, ARP or IPv4 has no message of a neighbour
 

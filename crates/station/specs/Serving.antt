@@ -13,7 +13,6 @@ use Rattle.rpc_core.specs.call_headers.Unserved.{unserved_answer}
 use Rattle.rpc_services.specs.endpoint_mapper.Mapper as mapper
 use Rattle.device_frames.specs.declared.event.Event.{Event}
 use Rattle.device_frames.specs.declared.event.Event.TheVariants.{Call as Joined, Neighbour as Met}
-use Rattle.frame_codec.specs.declared.udp.Caller.{Caller}
 use Rattle.frame_codec.specs.Frame.{frame_bytes}
 use Rattle.rpc_services.specs.declared.pieces.piece.Kind.TheVariants.{Calls}
 use Rattle.rpc_services.specs.pieces.State as calls

@@ -1,5 +1,5 @@
 -- What of the frame concerns the services says all that they do.
-use Rattle.std.proofs.Common.{◌≡◌, ◌∙◌, ap, subst, sym}
+use Rattle.std.proofs.Common.{◌∙◌, ap, subst, sym}
 use Rattle.services.specs.Concern.{concern_as}
 use Rattle.station.specs.Serving.{Serving}
 use Rattle.station.specs.Beside.{Beside}
