@@ -42,7 +42,7 @@ KINDS = {
 # `is_counted`), or that lets units pass one by one, keeps each clause and costs only time. Each of these passes one of these numbers.
 MOST_TODAY = {"unit": 95, "alone": 65, "addressed": 65, "leap": 95, "second": 400, "cyclic": 195, "sent": 233}
 # Services that read a dropped frame more than once pass one of these, and so do those that read what the device answered.
-MOST_TODAY |= {"foreign": 1_500, "foreign_long": 3_700, "foreign_mac": 2_100, "echo": 1_500, "lookup": 4_200, "identify": 1_230, "read": 3_700}
+MOST_TODAY |= {"foreign": 1_450, "foreign_long": 3_600, "foreign_mac": 2_050, "echo": 1_450, "lookup": 4_100, "identify": 1_180, "read": 3_600}
 
 # Frames to a device without a relation, which has an address: the title, whether it is the same again or a call with the next sequence
 # number, the line, and how many instructions a turn may take. The device drops the first five; of these the services beside it answer the
