@@ -1,8 +1,8 @@
 #!/usr/bin/env python3
 """Measures the library for C through its header: its size, the symbols that it wants, and the instructions of each turn of an exchange of 40
 octets, beside those of the same work in plain C behind the same calls (bench/figures/library_plain.c), which does it unit by unit. Then the
-instructions of frames to a device without a relation, and of the turns of a controller (bench/figures/library_controller.c). Its status is 1 where a turn takes more instructions than its
-bound, or where both do not send as many frames, and 2 where one takes more than it did. bench/figures/chip measures the stack.
+instructions of frames to a device without a relation, and of the turns of a controller (bench/figures/library_controller.c). Its status is 1
+where a turn takes more instructions than its bound, or where both do not send as many frames, and 2 where one takes more than it did. bench/figures/chip measures the stack.
 
 Needs cc and valgrind. Use: bench/figures/library.py [ARCHIVE [CONTROLLER]]   (those of the plain Rust edition if left out, which
 bench/release/library-check builds)
