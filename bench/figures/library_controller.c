@@ -1,7 +1,8 @@
 /* Figures of the controller's library through its header, for bench/figures/library.py: what callgrind counts, N times. A unit of time in
- * an exchange (`unit`) and while the controller looks for its station (`looking`), 32 units (`leap`), a cyclic frame (`cyclic`), or a unit
- * with the frame that it sends (`sent`). The other end is the device of the library. Callgrind counts what is executed within
- * pn_controller_step, and not what this program does. */
+ * an exchange (`unit`) and while the controller looks for its station (`looking`), 32 units (`leap`), a cyclic frame (`cyclic`), a unit
+ * with the frame that it sends (`sent`), the millisecond of an exchange (`cycle`), or the same with a value that is read and one that is
+ * given (`values`). The other end is the device of the library. Callgrind counts what is executed within pn_controller_step, and not what
+ * this program does. */
 #include "nandutable_controller.h"
 #include <stdio.h>
 #include <stdlib.h>
@@ -196,8 +197,8 @@ static void exchange(uint32_t step)
     for (uint32_t i = 0; i < 128000 && cyclic_length == 0; i += step)
         units_pass(step);
     must(cyclic_length != 0, 21);
-    if (step != 1)
-        units_pass(66000); /* the announcements are over */
+    for (uint32_t i = 0; i < 66 && step != 1; i++)
+        units_pass(1000); /* until the announcements are over */
 }
 
 /* --- What is counted --- */
@@ -212,11 +213,32 @@ static void next_cyclic(unsigned units)
     must(pn_controller_frame(&controller, &op, cyclic, cyclic_length) == PN_OK, 18);
 }
 
+/* A millisecond as a host has it: a cyclic frame in, values between, and 32 units with a cyclic frame out. After the frame and after the units
+ * all frames are fetched. */
+static void cycle(int has_values, uint8_t number)
+{
+    next_cyclic(32);
+    frames();
+    if (has_values) {
+        must(pn_controller_value(&controller, &op, 1, 1) == PN_OK && op.length == OCTETS, 22);
+        memset(octets, number, OCTETS);
+        must(pn_controller_give(&controller, &op, 2, 1, octets, OCTETS) == PN_OK, 23);
+    }
+    for (uint32_t left = 32, rest; left != 0; left = rest) { /* in two parts only if LLDP is due in it */
+        must(pn_controller_tick(&controller, &op, left) == PN_OK, 24);
+        rest = op.units;
+        frames();
+    }
+    to_device.count = 0;
+}
+
 static void count(const char *what, unsigned long turns)
 {
     for (unsigned long i = 0; i < turns; i++) {
         if (strcmp(what, "cyclic") == 0) {
             next_cyclic(1);
+        } else if (strcmp(what, "cycle") == 0 || strcmp(what, "values") == 0) {
+            cycle(what[0] == 'v', (uint8_t)i);
         } else {
             must(pn_controller_tick(&controller, &op, strcmp(what, "leap") == 0 ? 32 : 1) == PN_OK && op.units == 0, 19);
             if (strcmp(what, "sent") == 0) {
@@ -230,13 +252,18 @@ static void count(const char *what, unsigned long turns)
 int main(int words, char **word)
 {
     must(words == 3, 2);
-    int each_unit = strcmp(word[1], "sent") == 0;
-    describe(each_unit ? 1 : 128, each_unit ? 1 : 512);
+    int each_unit = strcmp(word[1], "sent") == 0, each_cycle = strcmp(word[1], "cycle") == 0 || strcmp(word[1], "values") == 0;
+    describe(each_unit ? 1 : each_cycle ? 32 : 128, each_unit || each_cycle ? 1 : 512);
     start();
     if (strcmp(word[1], "looking") == 0)
         units_pass(5 * 32000 + 1000); /* after its announcements, LLDP and an Identify */
     else
         exchange(each_unit ? 1 : 32);
+    if (each_cycle) {
+        /* Up to a unit that sends: each millisecond then ends with one. */
+        must(pn_controller_tick(&controller, &op, 32) == PN_OK, 25);
+        frames();
+    }
     sent = 0;
     count(word[1], strtoul(word[2], NULL, 10));
     printf("%llu\n", (unsigned long long)sent);

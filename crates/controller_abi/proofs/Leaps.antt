@@ -1,6 +1,7 @@
 -- Units of time that pass at once: those before the last one send nothing and end nothing.
 use Rattle.std.proofs.Common.{◌≡◌, ◌+◌, ◌≤◌, ◌<◌, ◌++◌, ℕ, zero, suc, Bool, true, false, List, [], ◌∷◌, drop, refl, sym, ap, subst, ◌∙◌, arith, inl, inr}
 use Rattle.std.specs.Prelude.{◌||◌, ◌&&◌, not}
+use Rattle.controller_core.specs.declared.stored.event.Event.{Event}
 use Rattle.controller_core.specs.declared.stored.event.Event.TheVariants.{Tick}
 use Rattle.controller_core.specs.declared.stored.state.State as phase
 use Rattle.controller_core.specs.Leaps.{NoneEnds, OnlyTheLastEnds, ticks_of}
@@ -8,8 +9,10 @@ use Rattle.controller_core.specs.Machine.{step_of}
 use Rattle.controller_core.specs.stored.State.{Controlling}
 use Rattle.controller_station.specs.Beside as services
 use Rattle.controller_station.specs.Beside.{Beside, sent_by_tick, ticked}
+use Rattle.controller_station.specs.Runs.{IsSilent}
 use Rattle.controller_station.specs.Served.{Frames, Served, in_order}
 use Rattle.controller_station.specs.Leaps.{NoneSends, OnlyTheLastSends, sent_beside}
+use Rattle.controller_abi.specs.State.{after as after_event}
 use Rattle.controller_abi.specs.State.{IsKnown, State, advanced, has_frames, is_over, is_stopped, port_due_in}
 use Rattle.controller_abi.specs.Steps.{Ticks}
 
@@ -38,7 +41,7 @@ at units port = record {
 abbrev both : State → Served
 both port = record { controller = port.controller; services = port.services }
 
-abbrev with_frames : Bool → Controlling → Beside → List (List ℕ) → State
+abbrev pub with_frames : Bool → Controlling → Beside → List (List ℕ) → State
 with_frames is_started controller services frames = record { controller = controller; services = services; frames = frames; is_started = is_started }
 
 abbrev stopped_by : Bool → List (List ℕ) → phase.State → Bool
@@ -90,6 +93,13 @@ over_since false = refl
 pub free_of : (port : State) → has_frames port.frames ≡ false → is_stopped (is_over port.controller.live.phase) port ≡ false
 free_of port idle = ap (λ (b : Bool). b || (not (is_over port.controller.live.phase) && is_over port.controller.live.phase)) idle ∙ over_since (is_over port.controller.live.phase)
 
+-- An event that sends nothing: the frames stay fetched.
+pub silent_after : (port : State) (event : Event) (new : Served) → has_frames port.frames ≡ false → IsSilent (both port) event new
+    → with_frames port.is_started new.controller new.services port.frames ≡ after_event port event
+silent_after port event new idle silent =
+    ap (λ (served : Served). with_frames port.is_started served.controller served.services port.frames) (sym silent.0)
+    ∙ ap (with_frames port.is_started (after_event port event).controller (after_event port event).services) (none_of port.frames idle ∙ sym (ap in_order silent.1))
+
 -- ---- what is remembered of what is due
 
 -- If something is, it is no more than what is due.
@@ -101,6 +111,14 @@ known_of units due port few (inr known) = known.0
 pub known_on : (due : ℕ) (port : State) → IsKnown due port → IsKnown due (advanced port)
 known_on due port (inl none) = inl none
 known_on due port (inr known) = inr (known.0, ap (drop 1) known.1)
+
+-- It stays if what is due is put off at most, and the frames stay fetched.
+pub known_later : (due : ℕ) (old new : State) → port_due_in old ≤ port_due_in new → new.frames ≡ old.frames → IsKnown due old → IsKnown due new
+known_later due old new later same (inl none) = inl none
+known_later due old new later same (inr known) = inr (omega (arith, known.0, later), same ∙ known.1)
+
+pub no_sooner : (due later : ℕ) → later ≡ due → due ≤ later
+no_sooner due later same = omega (arith, same)
 
 -- Units that passed after others.
 pub ticks_on : (was_over : Bool) (units more : ℕ) (old between new : State) → Ticks was_over units old between → Ticks was_over more between new → Ticks was_over (more + units) old new

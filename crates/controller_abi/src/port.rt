@@ -1,7 +1,8 @@
 //! A controller and what is beside it, and the frames of their last step that the host has not fetched yet.
-ghost use Rattle.std.specs.Prelude.{◌≡◌, ◌<◌, ◌≤◌, Bool, false, option_map};
+ghost use Rattle.std.specs.Prelude.{◌≡◌, ◌<◌, ◌≤◌, Bool, false, option_map, true};
 ghost use Rattle.lldp.specs.State.{Known};
 ghost use Rattle.lldp.specs.Views.{peer_as};
+ghost use Rattle.controller_core.specs.declared.stored.event.Event.TheVariants.{Frame as Framed, Give as Given};
 ghost use Rattle.controller_station.specs.Served.{begun};
 ghost use Rattle.controller_abi.specs.Outputs.{output_at as output_in, output_of as output_in_module};
 ghost use Rattle.controller_abi.specs.State.{IsNext, IsUnstarted, advanced, after, has_frames, is_over as over, is_stopped as stops, opened, port_due_in};
@@ -154,6 +155,26 @@ impl Port {
         self.due = 0;
     }
 
+    /// Takes a cyclic frame to the controller, which is only read and not kept. All frames of the step before are fetched, and none is
+    /// sent. What is due stays remembered. Returns whether the octets are such a frame; if not, nothing changes.
+    #[inline(always)]
+    pub fn take_cyclic(&mut self, octets: &[u8]) -> bool
+        requires { has_frames self.old.frames ≡ false }
+        ensures taken { result ≡ true → self.new ≡ after self.old (Framed (record { items = octets.now })) }
+        ensures left { result ≡ false → self.new ≡ self.old }
+    {
+        self.served.take_cyclic(octets)
+    }
+
+    /// Sets the output of a submodule. All frames of the step before are fetched, and none is sent. What is due stays remembered.
+    #[inline(always)]
+    pub fn take_output(&mut self, slot: u16, subslot: u16, value: &[u8])
+        requires { has_frames self.old.frames ≡ false }
+        ensures { self.new ≡ after self.old (Given slot subslot (record { items = value.now })) }
+    {
+        self.served.take_output(slot, subslot, value);
+    }
+
     /// Lets units of time pass, up to the first that sends something or ends the controller. Returns how many remain.
     #[inline(always)]
     pub fn pass(&mut self, units: u32) -> u32
@@ -177,15 +198,20 @@ impl Port {
         let was_over = is_over(self.controller().state());
         let mut left = units;
         while left > 0 {
+            left -= self.leap_on(left);
+            // Most units pass in one leap.
+            if left == 0 {
+                return 0;
+            }
             if self.is_stopped(was_over) {
                 return left;
             }
-            left -= self.leap_on(left);
         }
         0
     }
 
     // Lets units of time pass at once, at most these, up to the next one with which something is due. Returns how many passed.
+    #[inline(always)]
     fn leap_on(&mut self, most: u32) -> u32
         requires idle { has_frames self.old.frames ≡ false }
         requires some { 0 < most }
@@ -193,13 +219,24 @@ impl Port {
         ensures few { result ≤ most }
         ensures ticks { (was_over : Bool) → stops was_over self.old ≡ false → Ticks was_over result self.old self.new }
     {
-        let due = self.due();
+        let due = self.known_due();
         if most < due {
             self.rest(most, due);
             return most;
         }
         self.leap(due);
         due
+    }
+
+    // At most what is due: it is counted only if it is not remembered.
+    #[inline(always)]
+    fn known_due(&mut self) -> u32
+        ensures same { self.new ≡ self.old }
+        ensures few { result ≤ port_due_in self.old }
+        ensures some { 0 < result }
+    {
+        let due = self.due;
+        if due == 0 { self.served.count() } else { due }
     }
 
     // Lets several units of time pass at once, at most as many as are due. All frames of the step before are fetched.

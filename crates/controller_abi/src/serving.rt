@@ -8,7 +8,7 @@ ghost use Rattle.controller_messages.specs.Access.{record_of};
 ghost use Rattle.controller_core.specs.Machine.{can_request, end_of, provider_of, report_in};
 ghost use Rattle.c_layout.specs.Places.{place_in};
 ghost use Rattle.controller_abi.specs.Outputs.{why_not_fit, why_not_rated, why_not_read, why_not_set, why_not_written};
-ghost use Rattle.controller_abi.specs.State.{has_frames, port_due_in};
+ghost use Rattle.controller_abi.specs.State.{after, has_frames, port_due_in};
 ghost use Rattle.controller_abi.specs.Serves.{IsAlarm, IsAnswered, IsDiagnosis, IsEvent, IsGift, IsHandOut, IsInput, IsNeighbour, IsProvider, IsProviderAt, IsRead, IsRefusal, IsRefusedRecord, IsReported, IsSet, IsStatus, IsTick, IsValue, IsWrite, Performs, Serves};
 ghost use Rattle.controller_abi.specs.Serves.{index_in, priority_in, status_number as status_number_in, structure_number as structure_number_in};
 ghost use Rattle.controller_abi.specs.Serves.{cause_number, operation_of as operation_in, phase_number, planned_output, why_no_place};
@@ -48,6 +48,37 @@ pub fn serve(port: &mut Port, op: &mut Op, given: &[u8]) -> u32
     if !port.is_started() {
         return NOT_MADE;
     }
+    serve_started(port, op, given)
+}
+
+// The same of a controller that was started. What happens in each millisecond of an exchange makes few comparisons.
+#[inline(always)]
+fn serve_started(port: &mut Port, op: &mut Op, given: &[u8]) -> u32
+    ensures { Performs (operation_in op.old.what) port.old op.old given.now result port.new op.new }
+{
+    if op.what == 7 {
+        return next(port, op);
+    }
+    if op.what == 4 {
+        return tick(port, op);
+    }
+    if op.what == 3 {
+        return frame(port, given);
+    }
+    if op.what == 5 {
+        return give(port, op, given);
+    }
+    if op.what == 8 {
+        return value(port, op);
+    }
+    serve_other(port, op, given)
+}
+
+// The same of any operation.
+#[inline(never)]
+fn serve_other(port: &mut Port, op: &mut Op, given: &[u8]) -> u32
+    ensures { Performs (operation_in op.old.what) port.old op.old given.now result port.new op.new }
+{
     match operation_of(op.what) {
         Some(operation) => perform(operation, port, op, given),
         None => UNKNOWN,
@@ -100,9 +131,27 @@ fn offer(port: &mut Port, event: &Event) -> u32
 fn frame(port: &mut Port, given: &[u8]) -> u32
     ensures { IsEvent (has_frames port.old.frames) port.old (Framed (record { items = take 1519 given.now })) result port.new }
 {
-    offer(port, &Event::Frame(first_of(given)))
+    if port.has_work() {
+        return HAS_WORK;
+    }
+    // Most frames are cyclic data, which needs no event.
+    if port.take_cyclic(at_most(given, 1519)) {
+        return 0;
+    }
+    take_frame(port, given)
 }
 
+// The same of any frame.
+#[inline(never)]
+fn take_frame(port: &mut Port, given: &[u8]) -> u32
+    ensures answer { result ≡ 0 }
+    ensures state { port.new ≡ after port.old (Framed (record { items = take 1519 given.now })) }
+{
+    port.take(&Event::Frame(first_of(given)));
+    0
+}
+
+#[inline(never)]
 fn give(port: &mut Port, op: &Op, given: &[u8]) -> u32
     ensures { IsGift (place_in op.now.slot op.now.subslot) port.old given.now result port.new }
 {
@@ -113,14 +162,14 @@ fn give(port: &mut Port, op: &Op, given: &[u8]) -> u32
 }
 
 // Sets the output of a submodule, or returns why not.
-#[inline(never)]
+#[inline(always)]
 fn set(port: &mut Port, slot: u16, subslot: u16, given: &[u8]) -> u32
     ensures { IsSet (why_not_set (has_frames port.old.frames) (planned_output port.old slot subslot) (length given.now)) port.old (Given slot subslot (record { items = take 1519 given.now })) result port.new }
 {
     match why_not(port, slot, subslot, given.len()) {
         Some(why) => why,
         None => {
-            port.take(&Event::Give(slot, subslot, first_of(given)));
+            port.take_output(slot, subslot, at_most(given, 1519));
             0
         }
     }
@@ -282,6 +331,7 @@ fn no_place(port: &Port) -> u32
     if port.has_work() { HAS_WORK } else { NO_SLOT }
 }
 
+#[inline(never)]
 fn tick(port: &mut Port, op: &mut Op) -> u32
     ensures { IsTick (has_frames port.old.frames) port.old op.old result port.new op.new }
 {
@@ -304,7 +354,21 @@ fn first_of(octets: &[u8]) -> Bytes
 // ---- frames
 
 // The next frame, which is marked as fetched.
+#[inline(never)]
 fn next(port: &mut Port, op: &mut Op) -> u32
+    ensures { IsHandOut port.old op.old result port.new op.new }
+{
+    if !port.has_work() {
+        op.work = 0;
+        op.length = 0;
+        return 0;
+    }
+    next_frame(port, op)
+}
+
+// The same if a frame remains.
+#[inline(never)]
+fn next_frame(port: &mut Port, op: &mut Op) -> u32
     ensures { IsHandOut port.old op.old result port.new op.new }
 {
     hand_out(port, op);
@@ -330,6 +394,7 @@ fn hand_out(port: &Port, op: &mut Op)
 
 // ---- values that are reported
 
+#[inline(never)]
 fn value(port: &Port, op: &mut Op) -> u32
     ensures { IsInput (place_in op.old.slot op.old.subslot) port.now op.old result op.new }
 {

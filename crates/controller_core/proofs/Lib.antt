@@ -2,5 +2,6 @@ pub mod Leaping
 pub mod Quiet
 pub mod OutputsGiven
 pub mod Nearer
+pub mod Taking
 pub mod StartUpAnswering
 pub mod ExchangeBegins

@@ -9,6 +9,7 @@
 mod alarms;
 mod controller;
 mod leaps;
+mod silent;
 mod start_up;
 mod step;
 mod stored;

@@ -143,7 +143,7 @@ impl Controller {
     // The application sets an output. Its IOPS is changed only by the first value: in each cycle there may be many outputs
     // to set.
     #[inline(never)]
-    fn give(&mut self, slot: u16, subslot: u16, value: &[u8])
+    pub(crate) fn give(&mut self, slot: u16, subslot: u16, value: &[u8])
         ensures { self.new ≡ with_live self.old (given self.old.live slot subslot value.now) }
     {
         if self.exchange.give(slot, subslot, value)
@@ -161,7 +161,9 @@ impl Controller {
         self.remark(slot, subslot, Some(is_good));
     }
 
-    // Changes the marks of the output of a submodule: a value was given, or this status. The IOPS follows.
+    // Changes the marks of the output of a submodule: a value was given, or this status. The IOPS follows. Most values change no mark, so it
+    // is a function of its own.
+    #[inline(never)]
     fn remark(&mut self, slot: u16, subslot: u16, status: Option<bool>)
         ensures { self.new ≡ with_live self.old (remarked self.old.live slot subslot status) }
     {
@@ -734,7 +736,8 @@ impl Controller {
     }
 
     // A cyclic frame.
-    fn hear_cyclic(&mut self, source: Mac, frame_id: u16, body: &[u8])
+    #[inline(always)]
+    pub(crate) fn hear_cyclic(&mut self, source: Mac, frame_id: u16, body: &[u8])
         ensures { self.new ≡ with_live self.old (come self.old.live source frame_id body.now) }
     {
         if self.stands {

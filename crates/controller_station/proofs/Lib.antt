@@ -4,4 +4,5 @@ pub mod Besides
 pub mod Leaping
 pub mod Order
 pub mod Running
+pub mod Silent
 pub mod Nearer

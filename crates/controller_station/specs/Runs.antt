@@ -1,9 +1,9 @@
 -- A controller and what is beside it over any list of events.
-use Rattle.std.specs.Prelude.{ℕ, List, [], ◌∷◌}
+use Rattle.std.specs.Prelude.{◌≡◌, ℕ, List, [], ◌∷◌}
 use Rattle.controller_core.specs.declared.stored.event.Event.{Event}
 use Rattle.controller_core.specs.Machine.{step_of}
 use Rattle.controller_core.specs.stored.State.{Controlling}
-use Rattle.controller_station.specs.Served.{Frames, Served, beside, services_after}
+use Rattle.controller_station.specs.Served.{Frames, Served, beside, no_frames, services_after}
 
 -- The controller alone after these events.
 abbrev pub alone : Controlling → List Event → Controlling
@@ -37,3 +37,7 @@ sent_at served event = record {
 abbrev pub sent : Served → List Event → List Frames
 sent served [] = []
 sent served (event ∷ events) = sent_at served event ∷ sent (after_event served event) events
+
+-- This event ends in this state of both, and sends nothing.
+abbrev pub IsSilent : Served → Event → Served → Type 0
+IsSilent old event new = (after_event old event ≡ new) × (sent_at old event ≡ no_frames)

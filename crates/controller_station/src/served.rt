@@ -12,9 +12,10 @@ ghost use Rattle.controller_messages.specs.Options.{default_options};
 ghost use Rattle.controller_core.specs.Leaps.{NoneEnds, OnlyTheLastEnds};
 ghost use Rattle.controller_core.specs.Machine.{before_start, opening_of, step_of};
 ghost use Rattle.controller_core.specs.stored.Opening.{IsClosed};
-ghost use Rattle.controller_core.specs.declared.stored.event.Event.TheVariants.{Frame as Framed};
+ghost use Rattle.controller_core.specs.declared.stored.event.Event.TheVariants.{Frame as Framed, Give as Given};
 ghost use Rattle.controller_station.specs.Beside.{beside_at, due_in, ticks_of};
 ghost use Rattle.controller_station.specs.Served.{after_frame, begun, beside, beside_frame, by_services, is_sought, no_frames, only, services_after};
+ghost use Rattle.controller_station.specs.Runs.{IsSilent};
 ghost use Rattle.controller_station.specs.Leaps.{NoneSends, OnlyTheLastSends, sent_beside, sent_by, served_due_in, ticked_by};
 
 use crate::{ControllerServices, ServedOutbox};
@@ -30,11 +31,14 @@ use std::marker::Model;
 pub struct ServedController {
     controller: Controller,
     services: ControllerServices,
+    /// At most what is due of what is beside; 0 if that is not counted.
+    calm: u32,
 }
 
 impl Model for ServedController {
-    ghost use Rattle.std.specs.Prelude.{◌≡◌};
+    ghost use Rattle.std.specs.Prelude.{◌≡◌, ◌≤◌};
     ghost use Rattle.services.specs.declared.announcement.Role.TheVariants.{Controller};
+    ghost use Rattle.controller_station.specs.Beside.{due_in};
     ghost use Rattle.controller_station.specs.Served.{Served};
 
     ghost Value = { Served };
@@ -44,7 +48,8 @@ impl Model for ServedController {
     ghost invariant = { λ served.
         (served.services.ip.role ≡ Controller)
         × (served.services.ip.mac ≡ served.controller.setup.plan.controller.mac)
-        × (served.services.ip.address ≡ served.controller.setup.plan.controller.address) };
+        × (served.services.ip.address ≡ served.controller.setup.plan.controller.address)
+        × (served.calm ≤ due_in served.services) };
 }
 
 impl ServedController {
@@ -56,6 +61,7 @@ impl ServedController {
         ServedController {
             services: services_of(&plan),
             controller: Controller::new(plan, ar, activity),
+            calm: 0,
         }
     }
 
@@ -71,6 +77,7 @@ impl ServedController {
         ServedController {
             services: services_of(&plan),
             controller: Controller::new_with(plan, ar, activity, options),
+            calm: 0,
         }
     }
 
@@ -94,6 +101,7 @@ impl ServedController {
         ServedController {
             services: services_of(&plan),
             controller: Controller::unstarted(plan, ar, activity, options),
+            calm: 0,
         }
     }
 
@@ -104,6 +112,7 @@ impl ServedController {
     {
         self.controller.start();
         restart(&mut self.services, self.controller.plan());
+        self.calm = 0;
     }
 
     /// Replaces the content of the outbox by the Identify frame with which it begins.
@@ -180,6 +189,29 @@ impl ServedController {
             &mut outbox.controller,
             &mut outbox.services,
         );
+        self.calm = 0;
+    }
+
+    /// Takes a cyclic frame to the controller, which is only read and not kept: it does what `step` does with the event of these octets, and
+    /// sends nothing. Returns whether the octets are such a frame; if not, nothing changes.
+    #[inline(always)]
+    pub fn take_cyclic(&mut self, octets: &[u8]) -> bool
+        ensures taken { result ≡ true → IsSilent self.old (Framed (record { items = octets.now })) self.new }
+        ensures left { result ≡ false → self.new ≡ self.old }
+        // It only puts off what is due.
+        ensures due { served_due_in self.old ≤ served_due_in self.new }
+    {
+        self.controller.take_cyclic(octets)
+    }
+
+    /// Sets the output of a submodule, as `step` does with that event, and sends nothing.
+    #[inline(always)]
+    pub fn take_output(&mut self, slot: u16, subslot: u16, value: &[u8])
+        ensures given { IsSilent self.old (Given slot subslot (record { items = value.now })) self.new }
+        // It changes nothing that is due.
+        ensures due { served_due_in self.new ≡ served_due_in self.old }
+    {
+        self.controller.take_output(slot, subslot, value);
     }
 
     /// The number of units up to and with the next one with which either of both sends something, the neighbour is forgotten,
@@ -189,6 +221,19 @@ impl ServedController {
         ensures some { 0 < result }
     {
         self.controller.due().min(self.services.due_in())
+    }
+
+    /// At most what is due, as `due` counts it. What is due of what is beside stays known until it concerns a frame or sends something, and
+    /// is not counted again before.
+    pub fn count(&mut self) -> u32
+        ensures same { self.new ≡ self.old }
+        ensures few { result ≤ served_due_in self.old }
+        ensures some { 0 < result }
+    {
+        if self.calm == 0 {
+            self.calm = self.services.due_in();
+        }
+        self.controller.due().min(self.calm)
     }
 
     /// Lets units of 31.25 microseconds pass at once, fewer than `due` returns: with none of them is anything sent, and the
@@ -204,6 +249,7 @@ impl ServedController {
     {
         self.controller.leap(units);
         self.services.pass(units);
+        self.calm = self.calm.saturating_sub(units);
     }
 
     /// Lets `units` units of 31.25 microseconds pass at once, at most as many as `due` returns, and replaces the content of
@@ -218,7 +264,7 @@ impl ServedController {
         ensures ends { OnlyTheLastEnds units self.old.controller }
     {
         self.controller.elapse(units, &mut outbox.controller);
-        pass_beside(&mut self.services, units, &mut outbox.services);
+        self.calm = pass_beside(&mut self.services, units, self.calm, &mut outbox.services);
     }
 }
 
@@ -263,14 +309,35 @@ fn advance(
     }
 }
 
-/// Units of time beside the controller, at most as many as are due there: only the last may send.
-fn pass_beside(services: &mut ControllerServices, units: u32, outbox: &mut Outbox)
-    requires { units ≤ due_in services.old }
+/// Units of time beside the controller, at most as many as are due there: only the last may send. `calm` is at most what is due there, and so
+/// is the result, after them.
+fn pass_beside(services: &mut ControllerServices, units: u32, calm: u32, outbox: &mut Outbox) -> u32
+    requires few { units ≤ due_in services.old }
+    requires calm { calm ≤ due_in services.old }
+    ensures state { services.new ≡ ticks_of units services.old }
+    ensures frames { boxed outbox.new ≡ sent_beside units services.old }
+    ensures last { (before : ℕ) → before < units → sent_beside before services.old ≡ [] }
+    ensures calm { result ≤ due_in services.new }
+{
+    outbox.clear();
+    // With most units nothing is due there.
+    if units < calm {
+        services.pass(units);
+        return calm - units;
+    }
+    tick_beside(services, units, outbox);
+    0
+}
+
+/// The same, if something may be due there with the last of them.
+#[inline(never)]
+fn tick_beside(services: &mut ControllerServices, units: u32, outbox: &mut Outbox)
+    requires few { units ≤ due_in services.old }
+    requires empty { outbox.old.items ≡ [] }
     ensures state { services.new ≡ ticks_of units services.old }
     ensures frames { boxed outbox.new ≡ sent_beside units services.old }
     ensures last { (before : ℕ) → before < units → sent_beside before services.old ≡ [] }
 {
-    outbox.clear();
     if units == 0 {
         return;
     }

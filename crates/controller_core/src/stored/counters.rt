@@ -18,5 +18,9 @@ pub fn waited_later(waited: u32, units: u32) -> u32
     ensures value { result ≡ (waited + units) % 32000 }
     ensures few { result < 32000 }
 {
+    // Few units, as in most leaps, need no division.
+    if units < SECOND - waited {
+        return waited + units;
+    }
     (waited + units % SECOND) % SECOND
 }

@@ -1,22 +1,16 @@
--- Units beside the controller: those that send nothing, and then one more.
-use Rattle.std.proofs.Common.{◌≡◌, ◌-◌, ◌++◌, ℕ, suc, List, map, ap, ◌∙◌, arith}
+-- Units beside the controller: with most of them nothing is due there.
+use Rattle.std.proofs.Common.{◌≡◌, List, ℕ, map, sym, ap, ◌∙◌, arith}
 use Rattle.arrayvec.specs.ArrayVec.{ArrayVec as Items}
-use Rattle.controller_station.specs.Beside.{sent_by_tick}
-use Rattle.controller_station.proofs.Leaping.{one_more, one_sends, only_last}
+use Rattle.controller_station.proofs.Leaping.{none_beside}
 use Rattle.controller_station.proofs.served.pass_beside.Goals as goal
 
-pub returns-clause-state : goal.returns-clause-state
-returns-clause-state c =
-    let count : c.args.units ≡ suc (c.args.units - 1) = omega arith in
-    one_more c.args.units (c.args.units - 1) c.args.services.now c.pass.new.self count c.pass.ensures.state c.pass.ensures.none c.tick.new.self c.tick.ensures.state
+pub returns-then-units-calm-clause-frames : goal.returns-then-units-calm-clause-frames
+returns-then-units-calm-clause-frames c =
+    ap (λ (items : List (Items ℕ)). map (λ frame. frame.items) items) c.clear.ensures ∙ sym (none_beside c.args.units c.args.services.now c.pass.ensures.none)
 
-pub returns-clause-frames : goal.returns-clause-frames
-returns-clause-frames c =
-    let count : c.args.units ≡ suc (c.args.units - 1) = omega arith in
-    one_sends c.args.units (c.args.units - 1) c.args.services.now c.pass.new.self count c.pass.ensures.state c.pass.ensures.none _
-    (c.tick.ensures.frames ∙ ap (λ (items : List (Items ℕ)). map (λ frame. frame.items) items ++ sent_by_tick c.pass.new.self) c.clear.ensures)
+pub returns-then-units-calm-clause-last : goal.returns-then-units-calm-clause-last
+returns-then-units-calm-clause-last c before earlier =
+    none_beside before c.args.services.now (λ first sooner. c.pass.ensures.none first (omega (arith, earlier, sooner)))
 
-pub returns-clause-last : goal.returns-clause-last
-returns-clause-last c =
-    let count : c.args.units ≡ suc (c.args.units - 1) = omega arith in
-    only_last c.args.units (c.args.units - 1) c.args.services.now c.pass.new.self count c.pass.ensures.state c.pass.ensures.none
+pub returns-then-units-calm-clause-calm : goal.returns-then-units-calm-clause-calm
+returns-then-units-calm-clause-calm c = omega (arith, c.requires.calm, c.pass.ensures.due)

@@ -1,5 +1,5 @@
 -- Units with which nothing is due, at both.
-use Rattle.std.proofs.Common.{sym, ap, ◌∙◌}
+use Rattle.std.proofs.Common.{sym, ap, ◌∙◌, arith}
 use Rattle.plans.specs.declared.parts.Controller.{Controller}
 use Rattle.controller_messages.specs.declared.setup.Setup.{Setup}
 use Rattle.controller_core.specs.stored.State.{Controlling}
@@ -19,6 +19,7 @@ invariant_of-self c =
       ap (λ (state : Beside). state.ip.role) services ∙ kept.0 ∙ c.self.invariant.0,
       ap (λ (state : Beside). state.ip.mac) services ∙ kept.1 ∙ c.self.invariant.1 ∙ sym (ap (λ (controller : Controller). controller.mac) plan),
       ap (λ (state : Beside). state.ip.address) services ∙ kept.2 ∙ c.self.invariant.2 ∙ sym (ap (λ (controller : Controller). controller.address) plan),
+      omega (arith, c.self.invariant.3, c.saturating_sub-self-inside.ensures, c.pass.ensures.due),
     )
 
 pub returns-clause-none : goal.returns-clause-none

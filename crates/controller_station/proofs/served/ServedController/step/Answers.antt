@@ -1,5 +1,5 @@
 -- The plan's addresses stay those of the services, and the services answer what the controller drops.
-use Rattle.std.proofs.Common.{sym, ap, ◌∙◌}
+use Rattle.std.proofs.Common.{sym, ap, ◌∙◌, arith}
 use Rattle.plans.specs.declared.parts.Controller.{Controller}
 use Rattle.controller_messages.specs.declared.setup.Setup.{Setup}
 use Rattle.controller_core.specs.Machine.{step_of}
@@ -20,6 +20,7 @@ invariant_of-self c =
       ap (λ (state : Beside). state.ip.role) services ∙ kept.0 ∙ c.self.invariant.0,
       ap (λ (state : Beside). state.ip.mac) services ∙ kept.1 ∙ c.self.invariant.1 ∙ sym (ap (λ (controller : Controller). controller.mac) plan),
       ap (λ (state : Beside). state.ip.address) services ∙ kept.2 ∙ c.self.invariant.2 ∙ sym (ap (λ (controller : Controller). controller.address) plan),
+      omega arith,
     )
 
 pub returns-clause-arp : goal.returns-clause-arp

@@ -1,0 +1,22 @@
+-- Events that send nothing.
+use Rattle.std.specs.Prelude.{◌≡◌, ℕ, List, [], Ok}
+use Rattle.frame_codec.specs.Frame.{frame_of}
+use Rattle.frame_codec.specs.Meaning.{Meaning, RealTime}
+use Rattle.controller_core.specs.declared.stored.event.Event.{Event}
+use Rattle.controller_core.specs.Machine.{Stepped, step_of}
+use Rattle.controller_core.specs.stored.State.{Controlling}
+
+-- The step of this event ends in this controller, and sends nothing.
+abbrev pub silently : Controlling → Stepped
+silently controller = record { controller = controller; frames = [] }
+
+abbrev pub IsSilentStep : Controlling → Event → Controlling → Type 0
+IsSilentStep old event new = step_of old event ≡ silently new
+
+-- These octets are a frame of EtherType 0x8892.
+pub record IsRealTime (octets : List ℕ) : Type 0 where
+  pub meaning : Meaning
+  pub frame_id : ℕ
+  pub body : List ℕ
+  pub read : frame_of octets ≡ Ok meaning
+  pub content : meaning.content ≡ RealTime frame_id body
