@@ -6,10 +6,11 @@ use Rattle.controller_core.specs.declared.stored.event.Event.{Event}
 use Rattle.controller_core.specs.Machine.{Stepped, step_of}
 use Rattle.controller_core.specs.stored.State.{Controlling}
 
--- The step of this event ends in this controller, and sends nothing.
+-- A step that ends in this controller, and sends nothing.
 abbrev pub silently : Controlling → Stepped
 silently controller = record { controller = controller; frames = [] }
 
+-- The step of this event is one.
 abbrev pub IsSilentStep : Controlling → Event → Controlling → Type 0
 IsSilentStep old event new = step_of old event ≡ silently new
 
