@@ -1,6 +1,6 @@
 #!/usr/bin/env python3
 """Measures the library for C through its header: its size, the symbols that it wants, and the instructions of each turn of an exchange of 40
-octets, beside those of the same work in plain C behind the same calls (bench/figures/library_plain.c), which does it unit by unit. Then the
+octets, beside those of the same work in plain C behind the same calls (bench/figures/library_plain.c), which remembers what is due and takes quiet units at once. Then the
 instructions of frames to a device without a relation, and of the turns of a controller (bench/figures/library_controller.c). Its status is 1
 where a turn takes more instructions than its bound, or where both do not send as many frames, and 2 where one takes more than it did, or the
 millisecond of a controller more than its bound. bench/figures/chip measures the stack.
@@ -43,7 +43,7 @@ KINDS = {
 # `is_counted`), or that lets units pass one by one, keeps each clause and costs only time. Each of these passes one of these numbers.
 MOST_TODAY = {"unit": 95, "alone": 65, "addressed": 65, "leap": 95, "second": 400, "cyclic": 195, "sent": 233}
 # Services that read a dropped frame more than once pass one of these, and so do those that read what the device answered.
-MOST_TODAY |= {"foreign": 1_450, "foreign_long": 3_600, "foreign_mac": 2_050, "echo": 1_450, "lookup": 4_100, "identify": 1_180, "read": 3_600}
+MOST_TODAY |= {"foreign": 1_450, "foreign_long": 3_600, "foreign_mac": 2_050, "echo": 1_450, "lookup": 4_100, "identify": 780, "read": 3_450}
 
 # Frames to a device without a relation, which has an address: the title, whether it is the same again or a call with the next sequence
 # number, the line, and how many instructions a turn may take. The device drops the first five; of these the services beside it answer the
@@ -54,8 +54,8 @@ FRAMES = {
     "foreign_mac": ("the same to another MAC address", "again", f"frame 020000000009{calls.datagram(161, bytes(range(239)) * 6).hex()[12:]}\n", 6_000),
     "echo": ("a pn_frame of an echo request with 32 octets, and its pn_next", "again", calls.echo(bytes(range(32))), 3_000),
     "lookup": ("a pn_frame of a lookup at the endpoint mapper, and its pn_next", "again", calls.lookup(), 6_000),
-    "identify": ("a pn_frame of an Identify, and its pn_next", "again", calls.IDENTIFY, 6_000),
-    "read": ("a pn_frame of a Read Implicit of I&M0, and its pn_next", "call", calls.read_implicit(1), 12_000),
+    "identify": ("a pn_frame of an Identify, and its pn_next", "again", calls.IDENTIFY, 700),
+    "read": ("a pn_frame of a Read Implicit of I&M0, and its pn_next", "call", calls.read_implicit(1), 3_500),
 }
 
 # The frames of a kind without a relation: LLDP each five seconds.
@@ -124,7 +124,7 @@ def counted(program, plain, folder):
     for kind, (title, interval, bound) in KINDS.items():
         ours, sent = of_device(program, folder, kind)
         theirs, plain_sent = of_device(plain, folder, kind) if interval else (None, SENT_ALONE.get(kind, 0))
-        print(f"{title}: {ours:.0f} instructions (at most {bound}){f'; in plain C, unit by unit, {theirs:.0f}' if interval else ''}")
+        print(f"{title}: {ours:.0f} instructions (at most {bound}){f'; in plain C {theirs:.0f}' if interval else ''}")
         if sent != plain_sent:
             print(f"NOT THE SAME WORK: {title}: {sent} frames, in plain C {plain_sent}")
         is_kept = keeps(title, ours, bound) and is_kept and sent == plain_sent

@@ -1,10 +1,11 @@
 /* The exchange of a device in plain C with the same four calls as the library, for bench/figures/library.py: what the counts of the
- * library are compared with. It does what the library does of an exchange, unit by unit: it judges a cyclic frame, keeps its data, counts
- * the timers of the relation and of an alarm, and writes the frame that is due. It has a relation from the start, with the octets of data
- * of its station, and no flash, no DCP and no calls; of other frames it says that they are not its own. */
+ * library are compared with. It does what the library does of an exchange: it judges a cyclic frame, keeps its data, counts the timers of
+ * the relation and of an alarm, and writes the frame that is due. As the library, it remembers for how many units nothing is due, and takes
+ * these at once. It has a relation from the start, with the octets of data of its station, and no flash, no DCP and no calls; of other
+ * frames it says that they are not its own. */
 #include "nandutable.h"
 
-enum { DATA = 1440, FRAMES = 4, TAG = 0xC000, INPUT_ID = 0xC001, OUTPUT_ID = 0xC000 };
+enum { DATA = 1440, FRAMES = 4, TAG = 0xC000, INPUT_ID = 0xC001, OUTPUT_ID = 0xC000, ALARM_UNITS = 3200 };
 
 struct frame {
     uint32_t length;
@@ -26,6 +27,7 @@ struct device {
     uint16_t counter;
     int is_alarm_sent;
     uint32_t alarm_since;
+    uint32_t quiet; /* units with which nothing is due */
     uint8_t inputs[DATA];
     uint8_t outputs[DATA];
     struct frame frames[FRAMES];
@@ -139,7 +141,7 @@ static void tick(struct device *device)
         device->phase = PN_NONE;
         return;
     }
-    if (device->is_alarm_sent && ++device->alarm_since == 3200)
+    if (device->is_alarm_sent && ++device->alarm_since == ALARM_UNITS)
         device->alarm_since = 0;
     if (--device->until_sent == 0) {
         device->until_sent = device->interval;
@@ -147,10 +149,46 @@ static void tick(struct device *device)
     }
 }
 
+/* Units until something is due, that one included. */
+static uint32_t due(const struct device *device)
+{
+    uint32_t least = UINT32_MAX;
+    if (device->phase == PN_NONE)
+        return least;
+    least = device->until_sent < device->until_held ? device->until_sent : device->until_held;
+    if (device->is_alarm_sent && ALARM_UNITS - device->alarm_since < least)
+        least = ALARM_UNITS - device->alarm_since;
+    return least;
+}
+
+/* Units with which nothing is due, at once. */
+static void leap(struct device *device, uint32_t units)
+{
+    device->units = (uint16_t)(device->units + units);
+    device->lamp -= device->lamp < units ? device->lamp : units;
+    device->quiet -= units;
+    if (device->phase == PN_NONE)
+        return;
+    device->until_held -= units;
+    device->until_sent -= units;
+    if (device->is_alarm_sent)
+        device->alarm_since += units;
+}
+
+/* What is due is counted again after the units with which something was due; a frame only puts it off. */
 static uint32_t pass(struct device *device, uint32_t units)
 {
-    for (; units != 0 && device->frames_past == device->frames_used; units--)
-        tick(device);
+    while (units != 0 && device->frames_past == device->frames_used) {
+        uint32_t quiet = units < device->quiet ? units : device->quiet;
+        if (quiet != 0)
+            leap(device, quiet);
+        units -= quiet;
+        if (units != 0) {
+            tick(device);
+            units--;
+            device->quiet = due(device) - 1;
+        }
+    }
     return units;
 }
 
@@ -181,11 +219,6 @@ static uint32_t input(struct device *device, const uint8_t *given, size_t length
         return PN_REFUSED;
     memcpy(device->inputs + 1, given, length);
     return PN_DONE;
-}
-
-static uint32_t due(const struct device *device)
-{
-    return device->until_sent < device->until_held ? device->until_sent : device->until_held;
 }
 
 uint32_t pn_step(void *room, pn_op *op, const uint8_t *given, size_t length)

@@ -1,4 +1,5 @@
 pub mod Lists
+pub mod One
 pub mod Pairs
 pub mod Sound
 pub mod Every

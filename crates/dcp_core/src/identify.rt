@@ -1,12 +1,12 @@
 // Identify: whether a station responds, and with what.
-ghost use Rattle.std.specs.Prelude.{◌≡◌, ◌+◌, ◌≤◌, ◌++◌, None, length, is_some, option_map};
+ghost use Rattle.std.specs.Prelude.{◌≡◌, ◌+◌, ◌≤◌, ◌%◌, [], ◌∷◌, ◌++◌, None, length, is_some, option_map};
 ghost use Rattle.dcp_core.specs.Request.{asked};
 ghost use Rattle.arrayvec.specs.ArrayVec.{array_vec_len};
-ghost use Rattle.dcp_core.specs.Identify.{matches, is_value, kind_matches, value_of, valued, most_of, named_block, identify_bytes, suite_bytes, suite_info};
+ghost use Rattle.dcp_core.specs.Identify.{matches, is_value, kind_matches, value_of, valued, most_of, named_block, identify_bytes, suite_bytes, suite_info, known_options};
 ghost use Rattle.dcp_core.specs.Bytes.{block_bytes};
 ghost use Rattle.std.specs.Int.{w16, to_be_bytes};
 
-use crate::bytes::{Answer, Blocks, put_answer, put_block};
+use crate::bytes::{Answer, Blocks, put_block, put_header};
 use crate::{Block, Kind, Request};
 use arrayvec::ArrayVec;
 use pn_values::{Identity, IpSuite, Settings};
@@ -45,7 +45,26 @@ pub fn identify_matches(
 }
 
 /// Whether one block matches.
+#[inline(always)]
 fn matches_block(
+    identity: &Identity,
+    settings: &Settings,
+    alias: Option<&AliasName>,
+    block: &Block<'_>,
+) -> bool
+    ensures { result ≡ kind_matches identity.now settings.now (option_map (λ alias. alias.now.items) alias.entry)
+        block.now.kind block.now.contents.now }
+{
+    // Most requests ask for all stations. The values of this one are looked at for the others alone.
+    match block.kind {
+        Kind::All => block.contents.is_empty(),
+        _ => matches_value(identity, settings, alias, block),
+    }
+}
+
+/// The same of a block of any kind.
+#[inline(never)]
+fn matches_value(
     identity: &Identity,
     settings: &Settings,
     alias: Option<&AliasName>,
@@ -110,6 +129,7 @@ fn octets_of(suite: &IpSuite) -> ArrayVec<u8, 12>
 }
 
 /// The response to an Identify request.
+#[inline(always)]
 #[tactic(auto, unfolding(crate::specs::Identify::identify_bytes))]
 pub fn identify_answer(identity: &Identity, settings: &Settings, xid: u32) -> Answer
     // The response has exactly the octets of the definition.
@@ -117,17 +137,90 @@ pub fn identify_answer(identity: &Identity, settings: &Settings, xid: u32) -> An
     // The response has at most 1223 octets.
     ensures length { length result.items ≤ 1223 }
 {
-    let mut blocks = Blocks::new();
-    put_value(&mut blocks, identity, settings, None, Kind::StationType);
-    put_value(&mut blocks, identity, settings, None, Kind::NameOfStation);
-    put_value(&mut blocks, identity, settings, None, Kind::DeviceId);
-    put_value(&mut blocks, identity, settings, None, Kind::DeviceRole);
-    put_value(&mut blocks, identity, settings, None, Kind::DeviceOptions);
-    put_value(&mut blocks, identity, settings, None, Kind::DeviceInstance);
-    put_value(&mut blocks, identity, settings, None, Kind::IpSuite);
     let mut answer = Answer::new();
-    put_answer(&mut answer, 5, xid, &blocks);
+    put_identify(&mut answer, identity, settings, xid);
     answer
+}
+
+/// Puts the response to an Identify request into an empty list, in which it stays: the caller of `identify_answer` has it
+/// without a copy. So its length is computed before its blocks.
+#[inline(never)]
+#[tactic(auto, unfolding(crate::specs::Identify::identify_bytes))]
+fn put_identify(answer: &mut Answer, identity: &Identity, settings: &Settings, xid: u32)
+    requires { answer.old.items ≡ [] }
+    ensures items { answer.new.items ≡ identify_bytes identity.now settings.now xid }
+    ensures length { array_vec_len answer.new ≤ 1223 }
+{
+    let size = size_of(identity, settings);
+    put_header(answer, 5, xid, size);
+    put_blocks(answer, identity, settings);
+}
+
+/// The octets that the blocks of the response to an Identify request take.
+#[inline(always)]
+fn size_of(identity: &Identity, settings: &Settings) -> u16
+    ensures value { result ≡ length identity.now.station_type.items + length identity.now.station_type.items % 2
+        + length settings.now.name + length settings.now.name % 2 + 86 }
+    ensures most { result ≤ 400 }
+{
+    let station_type = identity.station_type.len();
+    let name = settings.name.as_bytes().len();
+    (station_type + station_type % 2 + name + name % 2 + 86) as u16
+}
+
+/// Appends the blocks of the response to an Identify request. There must be room.
+#[inline(always)]
+fn put_blocks(answer: &mut Answer, identity: &Identity, settings: &Settings)
+    requires { array_vec_len answer.old ≤ 10 }
+    ensures items { answer.new.items ≡ answer.old.items
+        ++ (valued identity.now settings.now None Kind.StationType ++ valued identity.now settings.now None Kind.NameOfStation
+        ++ valued identity.now settings.now None Kind.DeviceId ++ valued identity.now settings.now None Kind.DeviceRole
+        ++ valued identity.now settings.now None Kind.DeviceOptions ++ valued identity.now settings.now None Kind.DeviceInstance
+        ++ valued identity.now settings.now None Kind.IpSuite) }
+    ensures len { array_vec_len answer.new ≡ array_vec_len answer.old + length identity.now.station_type.items
+        + length identity.now.station_type.items % 2 + length settings.now.name + length settings.now.name % 2 + 86 }
+{
+    let station_type = identity.station_type.as_slice();
+    let name = settings.name.as_bytes();
+    put_block(answer, Kind::StationType, NO_INFO, station_type);
+    put_block(answer, Kind::NameOfStation, NO_INFO, name);
+    put_numbers(answer, identity);
+    put_suite(answer, &settings.suite);
+}
+
+/// Appends the blocks that have the same length at every station but the IP suite, as one piece: DeviceId, DeviceRole,
+/// DeviceOptions and DeviceInstance. There must be room.
+#[inline(always)]
+fn put_numbers(answer: &mut Answer, identity: &Identity)
+    requires { array_vec_len answer.old ≤ 1000 }
+    ensures items { answer.new.items ≡ answer.old.items
+        ++ (block_bytes Kind.DeviceId (0 ∷ 0 ∷ (to_be_bytes w16 identity.now.vendor_id ++ to_be_bytes w16 identity.now.device_id))
+        ++ block_bytes Kind.DeviceRole (0 ∷ 0 ∷ 1 ∷ 0 ∷ [])
+        ++ block_bytes Kind.DeviceOptions (0 ∷ 0 ∷ known_options)
+        ++ block_bytes Kind.DeviceInstance (0 ∷ 0 ∷ to_be_bytes w16 identity.now.instance)) }
+    ensures len { array_vec_len answer.new ≡ array_vec_len answer.old + 56 }
+{
+    let _ = answer.try_extend_from_slice(&numbers_of(identity));
+}
+
+/// The octets of these blocks.
+#[inline(always)]
+fn numbers_of(identity: &Identity) -> [u8; 56]
+    ensures { result ≡ block_bytes Kind.DeviceId (0 ∷ 0 ∷ (to_be_bytes w16 identity.now.vendor_id ++ to_be_bytes w16 identity.now.device_id))
+        ++ block_bytes Kind.DeviceRole (0 ∷ 0 ∷ 1 ∷ 0 ∷ [])
+        ++ block_bytes Kind.DeviceOptions (0 ∷ 0 ∷ known_options)
+        ++ block_bytes Kind.DeviceInstance (0 ∷ 0 ∷ to_be_bytes w16 identity.now.instance) }
+{
+    let [vendor, vendor_low] = identity.vendor_id.to_be_bytes();
+    let [device, device_low] = identity.device_id.to_be_bytes();
+    let [instance, instance_low] = identity.instance.to_be_bytes();
+    [
+        2, 3, 0, 6, 0, 0, vendor, vendor_low, device, device_low, // DeviceId
+        2, 4, 0, 4, 0, 0, 1, 0, // DeviceRole: ROLE
+        2, 5, 0, 26, 0, 0, // DeviceOptions: KNOWN_OPTIONS
+        1, 1, 1, 2, 2, 1, 2, 2, 2, 3, 2, 4, 2, 5, 2, 7, 5, 3, 5, 4, 5, 5, 5, 6, //
+        2, 7, 0, 4, 0, 0, instance, instance_low, // DeviceInstance
+    ]
 }
 
 /// Appends the block of a kind's value, and returns whether the station has one. There must be room.
@@ -180,11 +273,14 @@ fn put_alias(blocks: &mut Blocks, alias: Option<&AliasName>) -> bool
 }
 
 /// Appends the block of the IP suite. There must be room.
-fn put_suite(blocks: &mut Blocks, suite: &IpSuite)
-    requires { array_vec_len blocks.old + 19 ≤ 1213 }
+#[inline(always)]
+fn put_suite<const N: usize>(blocks: &mut ArrayVec<u8, N>, suite: &IpSuite)
+    requires room { array_vec_len blocks.old + 19 ≤ N }
+    requires most { N ≤ 1223 }
     ensures items { blocks.new.items ≡ blocks.old.items
         ++ block_bytes Kind.IpSuite (suite_info (suite_bytes suite.now) ++ suite_bytes suite.now) }
     ensures most { array_vec_len blocks.new ≤ array_vec_len blocks.old + 19 }
+    ensures len { array_vec_len blocks.new ≡ array_vec_len blocks.old + 18 }
 {
     let octets = octets_of(suite);
     put_block(
@@ -196,6 +292,7 @@ fn put_suite(blocks: &mut Blocks, suite: &IpSuite)
 }
 
 /// BlockInfo of an IP suite: whether an address is set.
+#[inline(always)]
 fn info_of(octets: &[u8]) -> [u8; 2]
     ensures { result ≡ suite_info octets.now }
 {

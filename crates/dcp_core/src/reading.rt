@@ -1,5 +1,5 @@
 // Reading requests.
-ghost use Rattle.std.specs.Prelude.{◌≡◌, ◌++◌, ℕ, List, [], IfOk, Ok, map};
+ghost use Rattle.std.specs.Prelude.{◌≡◌, ◌∷◌, ◌++◌, ℕ, List, [], IfOk, IfSome, Ok, map};
 ghost use Rattle.dcp_core.specs.Request.{Asked, asked, asked_block};
 ghost use Rattle.dcp_core.specs.Format.{kind, block, block_of, blocks_of, service_of};
 ghost use Rattle.dcp_core.specs.Reading.{Gives, IsRequest, request_of};
@@ -36,6 +36,16 @@ fn request_at<'a>(frame_id: u16, bytes: &'a [u8]) -> Result<Request<'a>, DcpFaul
     let (length, rest) = u16_at(rest, DcpFault::Length)?;
     let (data, _behind) = split(rest, length as usize, DcpFault::Length)?;
     let service = service_at(frame_id, id, service_type)?;
+    // Most requests have one block. Its request is made where it stays; a longer list is made and then moved.
+    if let Some(block) = only_block(service, data) {
+        let mut blocks = ArrayVec::new();
+        blocks.push(block);
+        return Ok(Request {
+            service,
+            xid,
+            blocks,
+        });
+    }
     let mut blocks = ArrayVec::new();
     read_blocks(service, data, &mut blocks)?;
     Ok(Request {
@@ -43,6 +53,21 @@ fn request_at<'a>(frame_id: u16, bytes: &'a [u8]) -> Result<Request<'a>, DcpFaul
         xid,
         blocks,
     })
+}
+
+/// The block or pair that these bytes are, if they are one and nothing else.
+#[inline(always)]
+#[tactic(auto, using(crate::proofs::One::one_block))]
+fn only_block(service: Service, bytes: &[u8]) -> Option<Block<'_>>
+    ensures { IfSome result (λ block. (blocks_of service).read bytes.now ≡ Ok (asked_block block ∷ [])) }
+{
+    if bytes.is_empty() {
+        return None;
+    }
+    let Ok((block, rest)) = block_at(service, bytes) else {
+        return None;
+    };
+    if rest.is_empty() { Some(block) } else { None }
 }
 
 /// The service that FrameID, ServiceID and ServiceType name.
@@ -79,6 +104,7 @@ fn read_blocks<'a>(
 }
 
 /// One block or pair, and the bytes after it.
+#[inline(always)]
 #[tactic(auto, unfolding(crate::specs::Format::block_of, crate::specs::Format::pair, crate::specs::Format::block))]
 fn block_at(service: Service, bytes: &[u8]) -> Result<(Block<'_>, &[u8]), DcpFault>
     ensures { Gives (λ x. (asked_block x.0, x.1.now)) result ((block_of service).read bytes.now) }
@@ -98,6 +124,7 @@ fn block_at(service: Service, bytes: &[u8]) -> Result<(Block<'_>, &[u8]), DcpFau
 }
 
 /// A kind, and the bytes after it.
+#[inline(always)]
 #[tactic(auto, unfolding(crate::specs::Format::kind))]
 pub(crate) fn kind_at(bytes: &[u8]) -> Result<(Kind, &[u8]), DcpFault>
     ensures { Gives (λ x. (x.0, x.1.now)) result (kind.read bytes.now) }

@@ -9,13 +9,14 @@ ghost use Rattle.frame_codec.specs.Sendable.{CanBeSent, carrying};
 ghost use Rattle.frame_codec.specs.Outbox.{boxed};
 
 use crate::Caller;
-use crate::sizes::{can_be_answered, can_be_sent};
+use crate::sizes::{can_be_answered, can_be_sent, can_be_sent_in};
 use dcp_core::Answer;
-use frame_codec::{Arp, ArpOperation, Endpoint, Holder, Layered, Outbox, Payload, Udp};
+use frame_codec::{Arp, ArpOperation, Endpoint, Holder, Layered, Outbox, Payload, Pieces, Udp};
 use pn_values::{Identity, Mac};
 use rpc_core::{Datagram, Response, write_response};
 
 /// Appends a DCP answer, addressed to the station that asked, to the outbox.
+#[inline(never)]
 pub fn send_dcp_answer(
     identity: &Identity,
     asker: Mac,
@@ -27,17 +28,16 @@ pub fn send_dcp_answer(
     ensures frames { boxed outbox.new ≡ boxed outbox.old ++ answer_frame identity.now asker frame_id answer.now.items ∷ [] }
     ensures sendable { CanBeSent (carrying asker identity.now.mac None (RealTime frame_id answer.now.items)) }
 {
-    let layered = Layered {
+    let pieces = Pieces {
         destination: asker,
         source: identity.mac,
         tag: None,
-        payload: Payload::RealTime {
-            frame_id,
-            body: answer.as_slice(),
-        },
+        frame_id,
+        front: &[],
+        behind: answer.as_slice(),
     };
-    can_be_sent(&layered);
-    outbox.put(&layered);
+    can_be_sent_in(&pieces);
+    outbox.put_pieces(&pieces);
 }
 
 /// Appends an ARP reply, which says that the device holds this address, to the outbox.

@@ -184,6 +184,26 @@ eight_on (a ∷ b ∷ c ∷ d ∷ e1 ∷ f ∷ g ∷ h ∷ rest) total next long
     sym (carried_on next words) ∙ ap (λ (n : ℕ). carried (n + words)) e ∙ carried_on (total + number) words
     ∙ carried_same times (total + number + words) sum is (λ z. omega (arith, z))
 
+-- the octets after the first four, as a slice up to the end
+pub behind_four : (bytes : List ℕ) → take (length bytes - 4) (drop 4 bytes) ≡ drop 4 bytes
+behind_four bytes = take_all (length bytes - 4) (drop 4 bytes) (let e = length-drop 4 bytes in omega (arith, e))
+
+-- four octets are their two words
+pub four_on : (bytes : List ℕ) (total next : ℕ) → 4 ≤ length bytes → carried next ≡ carried (total + big_number 4 bytes)
+    → carried (next + words_total (drop 4 bytes)) ≡ carried (total + words_total bytes)
+four_on [] total next long e = absurd (omega (arith, long))
+four_on (a ∷ []) total next long e = absurd (omega (arith, long))
+four_on (a ∷ b ∷ []) total next long e = absurd (omega (arith, long))
+four_on (a ∷ b ∷ c ∷ []) total next long e = absurd (omega (arith, long))
+four_on (a ∷ b ∷ c ∷ d ∷ rest) total next long e =
+    let number : ℕ = big_number 4 (a ∷ b ∷ c ∷ d ∷ rest) in
+    let words : ℕ = words_total rest in
+    let times : ℕ = 256 * a + b in
+    let sum : ℕ = total + (256 * a + b + (256 * c + d + words)) in
+    let is : total + number + words ≡ 65535 * times + sum = omega arith in
+    sym (carried_on next words) ∙ ap (λ (n : ℕ). carried (n + words)) e ∙ carried_on (total + number) words
+    ∙ carried_same times (total + number + words) sum is (λ z. omega (arith, z))
+
 -- a sum that is continued after an even number of bytes
 pub sum_parts : (front body : List ℕ) (first sum pairs : ℕ) → length front ≡ 2 * pairs → first ≡ ones_sum_of front
     → sum ≡ carried (first + words_total body) → sum ≡ ones_sum_of (front ++ body)

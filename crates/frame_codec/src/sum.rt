@@ -1,5 +1,5 @@
 //! The ones' complement sum of the Internet checksums (RFC 1071).
-ghost use Rattle.std.specs.Prelude.{◌≡◌, ◌≤◌, ◌+◌, ◌*◌, ◌%◌, All};
+ghost use Rattle.std.specs.Prelude.{◌≡◌, ◌≤◌, ◌+◌, ◌*◌, ◌%◌, All, length};
 ghost use Rattle.frame_codec.specs.Sum.{words_total, carried, ones_sum_of};
 
 use byteorder::{BigEndian, ByteOrder};
@@ -54,6 +54,24 @@ fn folded(total: u64) -> u16
     plus((twice % 0x1_0000) as u16, (twice / 0x1_0000) as u16)
 }
 
+/// The total in 16 bits, with the words of the last octets added.
+#[inline(always)]
+fn sum_end(total: u64, rest: &[u8]) -> u16
+    ensures { result ≡ carried (total + words_total rest.now) }
+{
+    sum_words(folded(total), rest)
+}
+
+/// The same, the first four octets as one number: it equals the sum of its two words modulo 65,535.
+#[inline(always)]
+fn sum_four(total: u64, rest: &[u8]) -> u16
+    requires { 4 ≤ length rest.now }
+    ensures { result ≡ carried (total + words_total rest.now) }
+{
+    let next = plus_eight(total, BigEndian::read_u32(rest) as u64);
+    sum_end(next, &rest[4..])
+}
+
 /// The sum with the words of these octets added.
 pub(crate) fn sum_on(sum: u16, bytes: &[u8]) -> u16
     ensures { result ≡ carried (sum + words_total bytes.now) }
@@ -65,7 +83,11 @@ pub(crate) fn sum_on(sum: u16, bytes: &[u8]) -> u16
         total = plus_eight(total, BigEndian::read_u64(rest));
         rest = &rest[8..];
     }
-    sum_words(folded(total), rest)
+    if rest.len() >= 4 {
+        sum_four(total, rest)
+    } else {
+        sum_end(total, rest)
+    }
 }
 
 /// The ones' complement sum of the 16-bit words, the high octet first. An odd last octet is followed by 0.
