@@ -11,7 +11,7 @@ use Rattle.flash_model.specs.Torn.{Torn}
 use Rattle.flash_model.specs.declared.flash.Sector.{Sector}
 use Rattle.flash_model.specs.declared.flash.Sector.TheVariants.{First, Second}
 use Rattle.settings_journal.specs.Cut.{CutOff, IsCutShort, all_carried_out}
-use Rattle.settings_journal.specs.Image.{BootsTo, LeftByDevice, StartsWith}
+use Rattle.settings_journal.specs.Image.{BootsTo, LeftByDevice}
 use Rattle.settings_journal.specs.settings_store.Legal.{made_of}
 use Rattle.settings_journal.specs.settings_store.Machine.{Accepted, Carried, Pass, carried_one, carried}
 use Rattle.settings_journal.specs.settings_store.State.{Values}

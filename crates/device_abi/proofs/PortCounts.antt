@@ -1,6 +1,6 @@
 -- How many calls a record has counted, and which of them are new.
 use Rattle.std.proofs.Common.{◌≡◌, ◌+◌, ◌-◌, ◌≤◌, ◌<◌, ◌%◌, ◌^◌, ℕ, List, [], ◌∷◌, ◌++◌, length, drop, sym, ap, ◌∙◌, arith}
-use Rattle.std.proofs.Math.Nat.{mod-add-mod, mod-eq_of_lt, mod-lt, add-mod_left}
+use Rattle.std.proofs.Math.Nat.{mod-add-mod, mod-eq_of_lt, mod-lt}
 use Rattle.std.proofs.Math.Seq.{drop-append_seam}
 use Rattle.std.proofs.lemmas.List.{length-append}
 use Rattle.flash_model.specs.Calls.{Call}
@@ -12,11 +12,6 @@ count_after before [] small = sym (ap (λ n. n % 2 ^ 32) (omega arith) ∙ mod-e
 count_after before (call ∷ calls) small =
     count_after (after_one before call) calls (mod-lt (before.count + 1) {m = 2 ^ 32} (omega arith))
     ∙ mod-add-mod (before.count + 1) (2 ^ 32) (length calls) ∙ ap (λ n. n % 2 ^ 32) (omega arith)
-
--- The number that was counted since then.
-pub counted_since : (before n : ℕ) → before < 2 ^ 32 → n < 2 ^ 32 → ((before + n) % 2 ^ 32 + (2 ^ 32 - before)) % 2 ^ 32 ≡ n
-counted_since before n small few =
-    mod-add-mod (before + n) (2 ^ 32) (2 ^ 32 - before) ∙ ap (λ k. k % 2 ^ 32) (omega (arith, small)) ∙ add-mod_left (2 ^ 32) n ∙ mod-eq_of_lt {n = n} {m = 2 ^ 32} few
 
 -- The last of some calls, as many as there are, are those calls.
 pub last_of : (front calls : List Call) → drop (length (front ++ calls) - length calls) (front ++ calls) ≡ calls

@@ -8,28 +8,26 @@ use Rattle.flash_model.specs.Calls.{Call}
 use Rattle.flash_model.specs.Image.{Image, IsImage}
 use Rattle.settings_journal.specs.Cut.{CutOff, all_carried_out, carried_out}
 use Rattle.settings_journal.specs.Image.{LeftByDevice, StartsWith}
-use Rattle.settings_journal.specs.settings_store.State.{Values}
 use Rattle.device_abi.specs.recorded.Record.{image_of}
 use Rattle.device_frames.specs.declared.event.Event.{Event}
 use Rattle.device_frames.specs.declared.note.Note.{Note}
 use Rattle.device_core.specs.Cycle.{started}
-use Rattle.device_core.specs.Machine.{Stepped, run_of, step_of}
+use Rattle.device_core.specs.Machine.{run_of, step_of}
 use Rattle.device_core.specs.State.{Live, Station}
 use Rattle.station.specs.Beside.{joined_beside}
 use Rattle.station.specs.Leaps.{Leapt, told_if}
 use Rattle.station.specs.Runs.{call_of}
 use Rattle.station.specs.Serving.{Serving, news_in}
-use Rattle.station.specs.State.{Frames, in_order, of_device}
-use Rattle.device_abi.specs.port.Host.{Begun, Ends, GoesOn, HandsIn, Hosted, IsFresh, IsOpen, Keeps, Performs, Stands, Stores, Turn, UnderWay, after, begun_by, events_of, frames_by, heard, hosted, hosted_from, then_hosted, turn_by, turn_of}
+use Rattle.station.specs.State.{in_order, of_device}
+use Rattle.device_abi.specs.port.Host.{Begun, Ends, GoesOn, HandsIn, Hosted, IsFresh, IsOpen, Keeps, Performs, Stands, Stores, Turn, UnderWay, after, begun_by, events_of, frames_by, heard, hosted, hosted_from, then_hosted, turn_of}
 use Rattle.device_abi.specs.port.Served.{Served, IsFetched, advanced_both, advanced_from, barred_both, frames_of}
-use Rattle.device_abi.specs.port.ServedSteps.{AnswersBoth, GivesAny, GivesPort, IsBeside, StepsBoth, TakesBoth, TellsIf, TellsOf}
+use Rattle.device_abi.specs.port.ServedSteps.{GivesAny, GivesPort, IsBeside, StepsBoth, TakesBoth, TellsIf, TellsOf}
 use Rattle.device_abi.specs.port.State.{State, advanced_by, barred_by, has_work}
-use Rattle.device_abi.specs.declared.port.refusal.Refusal.{Refusal}
 use Rattle.device_abi.specs.port.Steps.{Takes}
 use Rattle.device_abi.specs.declared.port.host.Operation.{Operation}
 use Rattle.device_abi.specs.declared.port.host.Operation.TheVariants as operation
 use Rattle.device_abi.specs.declared.port.stage.Stage.TheVariants.{Booted}
-use Rattle.device_abi.proofs.HostDevice.{Goes, goes_none, goes_on, live_of, not_begun, run_append, then_ran, whole}
+use Rattle.device_abi.proofs.HostDevice.{Goes, goes_none, goes_on, live_of, not_begun, run_append, whole}
 use Rattle.device_abi.proofs.HostDevice.{frames_of as frames_ran}
 use Rattle.device_abi.proofs.ServedBarring.{free_parts, port_parts}
 

@@ -11,9 +11,6 @@ use Rattle.device_abi.specs.declared.port.stage.Stage.TheVariants.{Made, Booted,
 use Rattle.device_core.specs.State.{Live}
 use Rattle.device_abi.specs.port.State.{State, IsCounted, IsSteady, has_some, has_work, advanced_by}
 
-pub call_left : (n : ℕ) (calls : List Call) (frames : List (List ℕ)) → n < length calls → has_work (drop n calls) frames ≡ true
-call_left n calls frames some = ap (λ c. has_work c frames) (drop_more calls n (Erases First) some)
-
 pub frame_left : (n m : ℕ) (calls : List Call) (frames : List (List ℕ)) → length calls ≤ n → m < length frames → has_work (drop n calls) (drop m frames) ≡ true
 frame_left n m calls frames none some =
     ap (λ c. has_work c (drop m frames)) (drop_all n calls none) ∙ ap (λ f. has_work [] f) (drop_more frames m [] some)
@@ -46,13 +43,6 @@ only_frames [] [] none = refl
 only_frames [] (frame ∷ frames) none = refl
 only_frames (call ∷ calls) frames none = cc none
 
--- If no call remains, whether a frame does.
-pub frames_left : (n m : ℕ) (calls : List Call) (frames : List (List ℕ)) → length calls ≤ n → has_work (drop n calls) (drop m frames) ≡ nat_lt m (length frames)
-frames_left n m calls frames none = elim (cases_Bool (nat_lt m (length frames))) [
-  | inl there ↦ frame_left n m calls frames none (ltb-true m (length frames) there) ∙ sym there
-  | inr gone ↦ none_left n m calls frames none (ltb-false m (length frames) gone) ∙ sym gone
-]
-
 -- ---- a piece of work is fetched
 
 pub call_taken : (port : State) (n : ℕ) (calls : List Call) → n < length calls → advanced_by port (drop n calls) ≡ record port { calls = drop (n + 1) calls }
@@ -67,10 +57,6 @@ pub frame_drawn : (port : State) (m : ℕ) (frames : List (List ℕ)) → port.c
     → advanced_by port port.calls ≡ record port { frames = drop (m + 1) frames }
 frame_drawn port m frames none is =
     ap (advanced_by port) none ∙ ap (λ f. record port { frames = f }) (ap (drop 1) is ∙ drop-drop 1 m frames)
-
-pub none_taken : (port : State) (n : ℕ) (calls : List Call) → length calls ≤ n → port.frames ≡ [] → advanced_by port (drop n calls) ≡ port
-none_taken port n calls none is =
-    ap (advanced_by port) (drop_all n calls none) ∙ ap (λ f. record port { frames = drop 1 f }) is ∙ sym (ap (λ f. record port { frames = f }) is)
 
 -- ---- the next one
 

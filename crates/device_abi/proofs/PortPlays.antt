@@ -4,7 +4,6 @@ use Rattle.std.specs.Prelude.{OnOk}
 use Rattle.std.proofs.lemmas.List.{append-nil, take_more}
 use Rattle.flash_model.specs.Calls.{Call}
 use Rattle.flash_model.specs.Image.{Image}
-use Rattle.flash_model.specs.Torn.{HasCause}
 use Rattle.flash_model.specs.declared.flash.FlashFault.{FlashFault}
 use Rattle.settings_journal.specs.Cut.{all_carried_out, carried_out}
 use Rattle.settings_journal.specs.settings_store.State.{Values}
@@ -149,9 +148,3 @@ pub plays_more : (so_far : ℕ) (operations : List Operation) (operation : Opera
 plays_more so_far operations operation first between last low is plays more =
     subst (λ o. Plays o first last) (sym (take_more operations so_far operation low ∙ ap (λ o. take so_far operations ++ o ∷ []) (sym is)))
     (plays_append (take so_far operations) (operation ∷ []) first between last plays more)
-
--- ---- failed calls
-
--- No call failed before.
-pub cause_after : {T : Type 0} (first before now : ℕ) (result : Result T FlashFault) → before ≡ first → HasCause before now result → HasCause first now result
-cause_after first before now result same cause = subst (λ n. HasCause n now result) same cause

@@ -1,5 +1,5 @@
 -- What the functions of a port with services do, put together from their parts.
-use Rattle.std.proofs.Common.{◌≡◌, ◌-◌, ◌<◌, ◌≤◌, ℕ, zero, suc, Bool, true, false, List, [], Option, Some, None, Result, Ok, Err, refl, sym, ap, subst, ◌∙◌, arith, inr}
+use Rattle.std.proofs.Common.{◌≡◌, ◌-◌, ◌<◌, ◌≤◌, ℕ, zero, suc, Bool, true, false, List, [], Option, Some, None, Ok, refl, sym, ap, subst, ◌∙◌, arith, inr}
 use Rattle.arrayvec.specs.ArrayVec.{ArrayVec}
 use Rattle.settings_journal.specs.settings_store.Machine.{Accepted}
 use Rattle.settings_journal.specs.settings_store.State.{Values}
@@ -15,17 +15,16 @@ use Rattle.station.specs.Serving.{Serving, knows, serving_ticks}
 use Rattle.pn_values.specs.declared.settings.Settings.{Settings}
 use Rattle.std.specs.Cmp.Lexicographic.{pointwise}
 use Rattle.std.specs.Prelude.{◌≢◌, ◌&&◌, nat_eq}
-use Rattle.device_abi.specs.declared.port.refusal.Refusal.{Refusal}
 use Rattle.device_abi.specs.declared.port.refusal.Refusal.TheVariants.{HasWork}
 use Rattle.device_abi.specs.recorded.Record.{image_of}
 use Rattle.device_abi.specs.recording.Calls.{CallsOf}
 use Rattle.device_abi.specs.declared.port.stage.Stage.TheVariants.{Booted}
-use Rattle.device_abi.specs.port.State.{State, barred, barred_by, has_some, has_work}
+use Rattle.device_abi.specs.port.State.{State, barred, barred_by, has_work}
 use Rattle.device_abi.specs.port.Steps.{Passes, Takes, Ticks}
 use Rattle.device_abi.specs.port.Pace.{AreCalm, HasNoNews, IsPaced, TicksBesideAny, caught_up, soonest}
 use Rattle.device_abi.specs.port.Served.{Served, barred_both, due_with}
 use Rattle.device_abi.specs.port.ServedSteps.{AnswersBoth, GivesAny, IsBeside, IsNoticed, PassesBoth, StepsBoth, TellsBoth, TellsPortAny, TicksBoth}
-use Rattle.device_abi.proofs.ServedBarring.{barred_alone, free_by, free_parts}
+use Rattle.device_abi.proofs.ServedBarring.{barred_alone, free_parts}
 use Rattle.device_abi.proofs.ServedHearing.{KnowsOf, OnlyConflicts, app_steps, seen_same, silent_values, steps_silent}
 use Rattle.device_abi.proofs.ServedLeft.{same_address}
 use Rattle.device_abi.proofs.ServedPacing.{calm_both, calm_news, caught_zero, due_soonest, resting_of}
@@ -82,11 +81,6 @@ pub passes_on : (units left : ℕ) (old now new : Served) → left ≤ units →
 passes_on units left old now new few ticks same stops =
     let passes : PassesBoth old units left now = record { few = few; ticks = ticks; stops = stops } in
     subst (λ (s : Served). PassesBoth old units left s) (sym same) passes
-
--- The port accepts events after them if it has sent nothing.
-pub ticks_free : (units : ℕ) (old new : State) → barred old ≡ None → Ticks units old new → new.calls ≡ [] → has_some new.frames ≡ false → barred new ≡ None
-ticks_free zero old new free same quiet none = ap barred same ∙ free
-ticks_free (suc units) old new free ticks quiet none = free_by new ticks.4.stage quiet none
 
 -- What is due of both then.
 pub due_calm : QuietUnitsCount → QuietUnitsCountDown → QuietUnitsBringNoNews → (said due rest limit : ℕ) (port : State) (services : Option Serving) (frames : List (List ℕ)) → said ≡ soonest due rest services

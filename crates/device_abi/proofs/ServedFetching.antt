@@ -8,9 +8,6 @@ use Rattle.device_abi.specs.port.Served.{Served, advanced_both, advanced_from, f
 abbrev pub with_port : Served → State → Served
 with_port served port = record served { port = port }
 
-pub after_call : (served : Served) (call : Call) (rest : List Call) → served.port.calls ≡ call ∷ rest → with_port served (advanced served.port) ≡ advanced_both served
-after_call served call rest some = sym (ap (λ (c : List Call). advanced_from served c served.port.frames) some)
-
 frame_first : (served : Served) (frames : List (List ℕ)) → has_some frames ≡ true → with_port served (advanced served.port) ≡ advanced_from served [] frames
 frame_first served [] some = cc some
 frame_first served (frame ∷ frames) some = refl

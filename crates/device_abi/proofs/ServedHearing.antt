@@ -1,5 +1,5 @@
 -- What the services do beside an event.
-use Rattle.std.proofs.Common.{◌≡◌, ℕ, Bool, true, false, List, [], Option, Some, None, Ok, refl, sym, ap, subst, ◌∙◌}
+use Rattle.std.proofs.Common.{◌≡◌, ℕ, Bool, true, false, List, [], Option, Some, None, refl, sym, ap, subst, ◌∙◌}
 use Rattle.std.specs.Prelude.{◌&&◌, nat_eq, if◌then◌else◌}
 use Rattle.std.specs.Cmp.Lexicographic.{pointwise, same_text}
 use Rattle.arrayvec.specs.ArrayVec.{ArrayVec}
@@ -13,7 +13,7 @@ use Rattle.device_frames.specs.declared.event.Event.TheVariants.{Frame, Call, Ti
 use Rattle.device_frames.specs.declared.note.Note.{Note}
 use Rattle.device_frames.specs.declared.note.Note.TheVariants.{Done}
 use Rattle.device_core.specs.Machine.{step_of}
-use Rattle.device_core.specs.State.{Live, Station}
+use Rattle.device_core.specs.State.{Live}
 use Rattle.station.specs.Beside.{Beside, ConflictsAreNoticed, beside, event_beside, has_any, heard_beside, idle, is_accepted, is_dropped, observing}
 use Rattle.station.specs.Serving.{Serving, disputes, knows, observed, overheard}
 use Rattle.device_abi.specs.port.State.{State}

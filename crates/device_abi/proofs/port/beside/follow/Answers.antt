@@ -1,5 +1,5 @@
 -- What the services do beside the step of the port, which is given the call that they joined.
-use Rattle.std.proofs.Common.{◌≡◌, ◌∙◌, Option, Some, ap, subst, sym}
+use Rattle.std.proofs.Common.{◌≡◌, ◌∙◌, Option, Some, ap, subst}
 use Rattle.device_frames.specs.declared.event.Event.{Event}
 use Rattle.device_frames.specs.declared.event.Event.TheVariants.{Frame}
 use Rattle.station.specs.Beside.{Beside, is_dropped, joined_beside}

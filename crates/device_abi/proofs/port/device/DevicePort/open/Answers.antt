@@ -1,5 +1,5 @@
 -- No commit of a port that started fails.
-use Rattle.std.proofs.Common.{◌≡◌, sym, ap, refl, ◌∙◌, None}
+use Rattle.std.proofs.Common.{◌≡◌, sym, refl, ◌∙◌, None}
 use Rattle.device_abi.specs.port.State.{closed}
 use Rattle.device_abi.proofs.PortStages.{going_of, open_of}
 use Rattle.device_abi.proofs.port.device.DevicePort.open.Goals as goal

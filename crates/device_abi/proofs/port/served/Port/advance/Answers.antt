@@ -1,10 +1,9 @@
 -- A piece of work is fetched.
-use Rattle.std.proofs.Common.{◌≡◌, ◌+◌, ◌-◌, ◌∙◌, ℕ, List, true, length, map, drop, refl, subst, sym, ap, arith}
+use Rattle.std.proofs.Common.{◌+◌, ◌-◌, ◌∙◌, ℕ, List, map, drop, refl, subst, sym, ap, arith}
 use Rattle.std.proofs.lemmas.List.{drop_all, length-map}
 use Rattle.settings_journal.specs.settings_store.State.{Values}
 use Rattle.device_abi.specs.port.Pace.{IsPaced, caught_up}
-use Rattle.device_abi.specs.port.Served.{Served, advanced_both}
-use Rattle.device_abi.specs.port.State.{State}
+use Rattle.device_abi.specs.port.Served.{advanced_both}
 use Rattle.device_abi.proofs.ServedBarring.{idle_port}
 use Rattle.device_abi.proofs.ServedFetching.{after_none, after_own, after_work, same_device, with_port}
 use Rattle.device_abi.proofs.ServedLeft.{some_left}

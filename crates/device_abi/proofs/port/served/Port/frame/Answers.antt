@@ -1,5 +1,5 @@
 -- It is cyclic data, or any other frame.
-use Rattle.std.proofs.Common.{Some, subst, take}
+use Rattle.std.proofs.Common.{subst, take}
 use Rattle.device_frames.specs.declared.event.Event.TheVariants.{Frame}
 use Rattle.device_abi.specs.port.Served.{Served}
 use Rattle.device_abi.specs.port.ServedSteps.{AnswersBoth}

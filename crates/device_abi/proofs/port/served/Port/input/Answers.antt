@@ -1,5 +1,5 @@
 -- The device takes the input, in which services that rest have no part.
-use Rattle.std.proofs.Common.{◌≡◌, ◌-◌, ◌∙◌, List, ℕ, None, Ok, ap, drop, take, subst, sym, arith}
+use Rattle.std.proofs.Common.{◌-◌, List, ℕ, Ok, drop, take, subst, arith}
 use Rattle.arrayvec.specs.ArrayVec.{ArrayVec}
 use Rattle.frame_codec.specs.Outbox.{boxed}
 use Rattle.device_frames.specs.declared.event.Event.TheVariants.{Input}

@@ -1,5 +1,5 @@
 -- The next piece of work of the device, or else a frame of the services.
-use Rattle.std.proofs.Common.{◌++◌, drop, sym, ap, subst, ◌∙◌}
+use Rattle.std.proofs.Common.{◌++◌, drop, ap, subst}
 use Rattle.frame_codec.specs.Outbox.{boxed}
 use Rattle.device_abi.specs.port.Served.{Served}
 use Rattle.device_abi.specs.port.State.{IsIdle, IsNext}

@@ -1,5 +1,5 @@
 -- The device handles the event, and the services see the settings.
-use Rattle.std.proofs.Common.{◌≡◌, ◌-◌, ◌∙◌, None, Some, ap, drop, refl, subst, sym}
+use Rattle.std.proofs.Common.{◌≡◌, ◌-◌, ◌∙◌, None, ap, drop, refl, subst, sym}
 use Rattle.frame_codec.specs.Outbox.{boxed}
 use Rattle.device_abi.specs.port.Pace.{caught_up}
 use Rattle.device_abi.specs.port.Served.{Served, barred_both}

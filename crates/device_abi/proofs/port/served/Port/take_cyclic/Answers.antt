@@ -1,5 +1,5 @@
 -- Cyclic data is accepted in silence, or nothing changes.
-use Rattle.std.proofs.Common.{◌≡◌, ◌-◌, ℕ, List, true, ap, drop, subst, take, arith}
+use Rattle.std.proofs.Common.{◌-◌, ℕ, List, ap, drop, subst, take, arith}
 use Rattle.arrayvec.specs.ArrayVec.{ArrayVec}
 use Rattle.frame_codec.specs.Outbox.{boxed}
 use Rattle.device_frames.specs.declared.event.Event.TheVariants.{Frame}

@@ -1,12 +1,12 @@
 -- What the services do beside the step of the device.
-use Rattle.std.proofs.Common.{◌≡◌, ◌-◌, ◌∙◌, List, ℕ, Option, None, drop, subst, sym}
+use Rattle.std.proofs.Common.{◌≡◌, ◌-◌, Option, None, drop, subst, sym}
 use Rattle.frame_codec.specs.Outbox.{boxed}
 use Rattle.device_frames.specs.declared.event.Event.{Event}
 use Rattle.device_frames.specs.declared.event.Event.TheVariants.{Frame}
 use Rattle.station.specs.Serving.{Serving}
 use Rattle.device_abi.specs.port.Pace.{caught_up}
 use Rattle.device_abi.specs.port.Served.{Served, barred_both}
-use Rattle.device_abi.specs.port.ServedSteps.{GivesAny, IsBeside, IsNoticed}
+use Rattle.device_abi.specs.port.ServedSteps.{GivesAny, IsBeside}
 use Rattle.device_abi.proofs.ServedBarring.{free_port}
 use Rattle.device_abi.proofs.ServedComposed.{dropped_free, frame_steps, noticed_of}
 use Rattle.device_abi.proofs.ServedTicking.{at}
