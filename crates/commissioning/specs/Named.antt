@@ -22,7 +22,7 @@ why_unnamed (One mac None) = Some why.Untold
 why_unnamed (One mac (Some [])) = None
 why_unnamed (One mac (Some (letter ∷ letters))) = Some why.Named
 
--- A Set with this number of this name is sent from this tool, to the only station that answered, which told that it has no name; or why none
+-- A Set with this number of this name is sent from this tool, to the only station that answered, whose answer has an empty name; or why none
 -- is sent.
 abbrev pub IsNaming : Place → Mac → ℕ → List ℕ → Result (Items ℕ) Unnamed → Type 0
 IsNaming (One mac (Some [])) source xid name (Ok frame) = IsHeardAs frame.items source (record { octets = mac }) (name_asked xid name)

@@ -10,7 +10,7 @@ use Rattle.cyclic_data.specs.exchange.Cyclic.{Cyclic}
 abbrev pub block_of : ℕ → List ℕ → List ℕ
 block_of type fields = big_bytes 2 type ++ big_bytes 2 (2 + length fields) ++ 1 ∷ 0 ∷ fields
 
--- The IOCS of a submodule in an image, 0 if there is none.
+-- The IOCS of a submodule in an image, 0 if the image has none.
 abbrev pub iocs_in : Shown → ℕ → ℕ → ℕ
 iocs_in shown slot subslot = unwrap_or (option_map (λ cell. cell.status) (cell_at Iocs slot subslot shown.cells)) 0
 

@@ -45,7 +45,7 @@ input_by place (move.Input slot subslot value) last =
     if ((place.slot == slot) && (place.subslot == subslot)) && (place.size == length value.items + 1) then Some value.items else last
 input_by place one last = last
 
--- a value that is given belongs to the relation of the device; without a relation there is none
+-- a value that is given belongs to the relation of the device; without a relation no value counts as given
 abbrev pub in_relation : Option RelationState → Option (List ℕ) → Option (List ℕ)
 in_relation None value = None
 in_relation (Some link) value = value

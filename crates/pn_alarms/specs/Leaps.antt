@@ -15,7 +15,7 @@ after step (suc units) state = step (after step units state)
 abbrev pub never : ℕ
 never = 4294967295
 
--- The number of units up to and with the next one with which data is sent again or given up.
+-- The number of units up to and including the next one with which data is sent again or given up.
 abbrev pub waiting_due_in : Sending → Option ℕ → ℕ
 waiting_due_in s None = never
 waiting_due_in s (Some units) = min (s.limit - units) (s.interval - units % s.interval)

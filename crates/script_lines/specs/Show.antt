@@ -53,7 +53,7 @@ phase_line phase = printed (codes "phase " ++ phase_word phase)
 unfoldable pub lamp_line : ℕ → List ℕ
 lamp_line units = printed (codes "lamp " ++ decimal units)
 
--- The number of units up to and with the next one with which something happens at the device.
+-- The number of units up to and including the next one with which something happens at the device.
 unfoldable pub due_line : ℕ → List ℕ
 due_line units = printed (codes "due " ++ decimal units)
 

@@ -80,7 +80,7 @@ turned_for outcomes (Some state) device event step =
 abbrev pub turned : Option Serving → Device → Event → Stepped → Turned
 turned had device event step = turned_for [] had device event step
 
--- The number of units up to and with the next one that brings something to the station.
+-- The number of units up to and including the next one that brings something to the station.
 abbrev pub due_with : Option Serving → Live → ℕ
 due_with None live = live_due_in live
 due_with (Some state) live = due_beside live state
@@ -88,7 +88,7 @@ due_with (Some state) live = due_beside live state
 abbrev pub due_of : Station → ℕ
 due_of station = due_with station.services station.live
 
--- Before an event the device is told of its neighbour, if that changed.
+-- Before an event the neighbour is reported to the device, if that changed.
 abbrev pub ready_with : Option Serving → Device → Live → Station
 ready_with None device live = record { device = device; live = live; services = None }
 ready_with (Some state) device live =
@@ -265,7 +265,7 @@ serving other = record other { serves = true }
 abbrev pub cleared : Other → Other
 cleared other = record other { to_device = []; to_controller = [] }
 
--- The alarms that these frames brought to a controller were told to its application.
+-- The alarms that these frames brought to a controller were reported to its application.
 abbrev pub with_told : Other → List Report → Other
 with_told other alarms = record other { told = other.told ++ flat_map told_line alarms }
 

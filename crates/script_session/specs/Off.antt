@@ -95,7 +95,7 @@ abbrev pub LeavesBy : Line → Other → Other → Type 0
 LeavesBy (Asks command) old new = Leaves command old new
 LeavesBy line old new = ⊤
 
--- If there was power before and there is none now, only this loss was printed and the other end was left like this,
+-- If there was power before and there is no power now, only this loss was printed and the other end was left like this,
 -- unless memory was refused.
 abbrev pub TellsLoss : {T E : Type 0} → Type 0 → Power → Power → List ℕ → List ℕ → Result T E → Type 0
 TellsLoss is_left old new before now result = is_off old ≡ false → is_off new ≡ true → OnOk result ((now ≡ before ++ lost_line) × is_left)

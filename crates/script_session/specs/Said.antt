@@ -84,7 +84,7 @@ show_answer network =
           ++ (outputs_shown network.station.device.real live.rest.link ++ controller_shown network.other.controller);
     }
 
--- The number of units up to and with the next one with which something happens at the station.
+-- The number of units up to and including the next one with which something happens at the station.
 abbrev pub due_answer : Network → Answer
 due_answer network = record { network = network; text = due_line (due_of network.station) }
 

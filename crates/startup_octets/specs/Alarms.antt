@@ -1,5 +1,5 @@
 -- The process alarms of a device and its controller, read from the octets of frames (IEC 61158-6-10, 4.8 and 5.2.5). Each frame
--- is read at fixed places, with its VLAN tag taken out.
+-- is read at fixed places, without its VLAN tag.
 use Rattle.std.specs.Prelude.{◌≡◌, ◌≤◌, ◌+◌, ◌-◌, ◌==◌, ◌&&◌, ◌++◌, ℕ, Bool, List, [], ◌∷◌, length, map, flat_map, if◌then◌else◌, Option, Some, None}
 use Rattle.std.specs.List.{list_any}
 use Rattle.record_blocks.specs.declared.alarm_notification.AlarmNotification.{AlarmNotification}

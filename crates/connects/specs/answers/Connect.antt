@@ -87,7 +87,7 @@ abbrev pub behind_block : Option (Found × List ℕ) → (Found → List ℕ →
 behind_block (Some x) next = next x.0 x.1
 behind_block None next = None
 
--- What was found in octets that are a sequence of blocks, in any order, at most the given number. There is none if one
+-- What was found in octets that are a sequence of blocks, in any order, at most the given number. Nothing was found if one
 -- of them cannot be read.
 unfoldable pub found_in : ℕ → List ℕ → Found → Option Found
 found_in zero bytes found = None

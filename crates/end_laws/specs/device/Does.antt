@@ -183,7 +183,7 @@ IsEffect station caller blocks (Ok octets) operation.Release before after = Rele
 IsEffect station caller blocks (Ok octets) operation.Read before after = IsRestarted before after
 IsEffect station caller blocks (Ok octets) operation.ReadImplicit before after = ⊥
 
--- ApplicationReady behind a response, if there is one
+-- ApplicationReady after a response, if there is one
 abbrev pub AreReadied : Live → Option RelationState → Option Ready → Type 0
 AreReadied live after None = Unit {0}
 AreReadied live after (Some ready) = IsReadied live after ready

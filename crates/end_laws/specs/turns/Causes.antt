@@ -1,4 +1,4 @@
--- Why a controller ends: each cause has its event, and each end is told to the device as its cause says.
+-- Why a controller ends: each cause has its event, and each end is reported to the device as its cause says.
 use Rattle.std.specs.Prelude.{◌≡◌, ◌≢◌, ◌⊎◌, ◌++◌, ◌∷◌, [], ℕ, Bool, true, false, List, Option, Some}
 use Rattle.pn_values.specs.declared.mac.Mac.{Mac}
 use Rattle.dcp_core.specs.declared.kind.Kind.TheVariants.{NameOfStation, DeviceId}
@@ -158,7 +158,7 @@ IsToldAs setup live why.NoProgress frames = IsReleaseFromConnect setup live live
 
 -- ---- the law
 
--- An event after which a controller has ended, and before which it had not, is that of its cause, and the device is told as the
+-- An event after which a controller has ended, and before which it had not, is that of its cause, and it is reported to the device as the
 -- cause says.
 pub record EndsBy (controller : Controlling) (event : Event) (cause : Cause) : Type 0 where
   pub cause_is : HasCause controller.setup controller.live (came_by controller.setup event) cause

@@ -13,7 +13,7 @@ is_for slot subslot status = status.slot == slot && status.subslot == subslot
 abbrev pub is_bad : ℕ → ℕ → List InputStatus → Bool
 is_bad slot subslot statuses = list_any (λ status. is_for slot subslot status && not status.is_good) statuses
 
--- The statuses with one more: in the place of the one that was given before for the same submodule, or behind all, if
+-- The statuses with one more: in the place of the one that was given before for the same submodule, or after all others, if
 -- there is room. There is room for 64, as many as submodules can be plugged.
 abbrev pub replaced : InputStatus → List InputStatus → List InputStatus
 replaced status statuses = map (λ other. if is_for status.slot status.subslot other then status else other) statuses
