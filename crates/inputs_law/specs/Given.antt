@@ -106,6 +106,7 @@ module _ {F : Type 0} where
   abbrev pub iops_at : Setup → World F → List (Move × World F) → Place → ℕ
   iops_at setup first run place = iops_by (mark_for setup first.device.station (statuses_after first run) place (last_input place None run))
 
+  -- The IOPS that the device sends for the input of a submodule after these moves, if the plan has one.
   abbrev pub iops_for : Setup → World F → List (Move × World F) → ℕ → ℕ → Option ℕ
   iops_for setup first run slot subslot = option_map (iops_at setup first run) (place_at Data slot subslot (places_for setup))
 
@@ -113,6 +114,8 @@ module _ {F : Type 0} where
   abbrev pub value_given : Setup → World F → List (Move × World F) → Place → List ℕ
   value_given setup first run place = if iops_at setup first run place == good then value_or_zeros place (last_input place None run) else zeros_at place
 
+  -- The value that the application of the device gave last in this relation for the input of a submodule, if the plan has
+  -- one.
   abbrev pub given_for : Setup → World F → List (Move × World F) → ℕ → ℕ → Option (List ℕ)
   given_for setup first run slot subslot = option_map (value_given setup first run) (place_at Data slot subslot (places_for setup))
 

@@ -35,6 +35,7 @@ blocks_in (suc most) (first ∷ behind) =
     let octets = first ∷ behind in
     (number 0 2 octets, part 4 (number 2 2 octets) octets) ∷ blocks_in most (drop (4 + (number 2 2 octets + 1) / 2 * 2) octets)
 
+-- The blocks of a DCP frame, by its DCPDataLength.
 abbrev pub dcp_blocks : List ℕ → List (ℕ × List ℕ)
 dcp_blocks frame = blocks_in 16 (part 26 (number 24 2 frame) frame)
 
@@ -152,12 +153,16 @@ pub data Asking : Type 0 where
   Call : (call : List ℕ) → Asking
   Nothing : Asking
 
+-- A frame without its VLAN tag.
 abbrev pub untagged : List ℕ → List ℕ
 untagged frame = if number 12 2 frame == 0x8100 then take 12 frame ++ drop 16 frame else frame
 
+-- What octets ask of a device that are the body of a datagram: a call, if they are a request of DCE/RPC (version 4, packet
+-- type 0).
 abbrev pub calling : List ℕ → Asking
 calling call = if number 0 2 call == 0x0400 then Call call else Nothing
 
+-- What a frame without a tag asks of the device with this MAC address: a Set of DCP, a call, or nothing.
 abbrev pub asking_in : Mac → List ℕ → Asking
 asking_in mac frame =
     if not (pointwise nat_eq (take 6 frame) mac.octets) then Nothing

@@ -21,6 +21,7 @@ ready_in phase waited = if is_awaiting phase then 32000 - waited else never
 abbrev pub inactive_by : Phase → ℕ → ℕ → ℕ
 inactive_by phase units inactive = if is_timed phase then inactive + units else inactive
 
+-- How long the device has waited for the answer to ApplicationReady, this many units later.
 abbrev pub waited_by : Phase → ℕ → ℕ → ℕ
 waited_by phase units waited = if is_awaiting phase then waited + units else waited
 

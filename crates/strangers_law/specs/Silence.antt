@@ -39,6 +39,7 @@ is_event_of station marks event = false
 abbrev pub IsSilent : Station → RelationState → Event → Type 0
 IsSilent station link event = is_event_of station.identity.mac.octets (marks_of link) event ≡ false
 
+-- None of these events is heard from the controller of this relation.
 abbrev pub AreSilent : Station → RelationState → List Event → Type 0
 AreSilent station link events = AllByRecursion (IsSilent station link) events
 
@@ -48,6 +49,7 @@ is_received (Frame frame) = true
 is_received (Joined caller address call) = true
 is_received event = false
 
+-- None of these events is a frame or a call.
 abbrev pub AreUnplugged : List Event → Type 0
 AreUnplugged events = AllByRecursion (λ event. is_received event ≡ false) events
 
@@ -66,6 +68,7 @@ silence_limit link = max 1 (if is_timed link.phase then limit_of link else hold_
 abbrev pub left_of : ℕ → ℕ → ℕ
 left_of limit passed = max 1 (limit - passed)
 
+-- The units after which the relation of a silent controller ends: the rest of its activity time, or of the data hold time.
 abbrev pub remaining : RelationState → ℕ
 remaining link = if is_timed link.phase then left_of (limit_of link) link.inactive else left_of (hold_of link.request) link.flow.cyclic.hearing.held
 

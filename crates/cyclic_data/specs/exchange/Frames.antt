@@ -12,6 +12,7 @@ use Rattle.cyclic_data.specs.declared.exchange.route.Route.{Route}
 abbrev pub plain_frame : Mac → Mac → Content → List ℕ
 plain_frame source destination content = frame_bytes (record { destination = destination; source = source; tag = None; content = content })
 
+-- The octets of a frame with a VLAN tag.
 abbrev pub tagged_frame : Mac → Mac → ℕ → Content → List ℕ
 tagged_frame source destination tag content =
     frame_bytes (record { destination = destination; source = source; tag = Some tag; content = content })
@@ -25,6 +26,7 @@ tail_at has_problem counter = record {
   transfer_status = 0;
 }
 
+-- The tail of a cyclic frame with this CycleCounter, with DataStatus 0x35: run, valid, primary, no problem.
 abbrev pub running_at : ℕ → CyclicTail
 running_at counter = tail_at false counter
 
@@ -41,5 +43,6 @@ frame_at source route has_problem shown counter =
 abbrev pub cyclic_body : Shown → ℕ → List ℕ
 cyclic_body shown counter = body_at false shown counter
 
+-- The octets of a cyclic frame of an end without a problem.
 abbrev pub cyclic_frame : Mac → Route → Shown → ℕ → List ℕ
 cyclic_frame source route shown counter = frame_at source route false shown counter

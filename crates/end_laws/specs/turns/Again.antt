@@ -21,6 +21,7 @@ abbrev pub is_request : Sent → Bool
 is_request (Requests device request) = true
 is_request message = false
 
+-- Whether one of these messages is a request.
 abbrev pub sends_request : List Sent → Bool
 sends_request sent = list_any is_request sent
 

@@ -23,6 +23,7 @@ raised_by flow slot subslot octets (Some ident) (Some part) =
 raised_by flow slot subslot octets (Some ident) None = None
 raised_by flow slot subslot octets None part = None
 
+-- The exchange after a process alarm of a submodule is raised, with the ident numbers of what is plugged there.
 abbrev pub raised_at : Flow → List RealModule → ℕ → ℕ → List ℕ → Option Flow
 raised_at flow real slot subslot octets = raised_by flow slot subslot octets (module_ident real slot) (submodule_ident real slot subslot)
 

@@ -18,6 +18,7 @@ is_bad slot subslot statuses = list_any (λ status. is_for slot subslot status &
 abbrev pub replaced : InputStatus → List InputStatus → List InputStatus
 replaced status statuses = map (λ other. if is_for status.slot status.subslot other then status else other) statuses
 
+-- The statuses of inputs with one more, if there is room for 64.
 abbrev pub statuses_with : InputStatus → List InputStatus → Option (List InputStatus)
 statuses_with status statuses =
     if list_any (is_for status.slot status.subslot) statuses then Some (replaced status statuses)
