@@ -31,6 +31,7 @@ IsNaming place source xid name (Err why) = why_unnamed place ≡ Some why
 
 -- ---- its answer
 
+-- Whether a DCP answer is to a Set.
 abbrev pub is_set : Service → Bool
 is_set Get = false
 is_set Set = true
@@ -65,9 +66,11 @@ told_by xid (One mac name) source answer = if pointwise nat_eq mac source && is_
 told_by xid Nobody source answer = None
 told_by xid (Several first other) source answer = None
 
+-- The BlockError that a message reports of the Set of a name, if it is the answer to it.
 abbrev pub named_heard : ℕ → Place → Heard → Option ℕ
 named_heard xid place (Answers source answer) = told_by xid place source.octets answer
 named_heard xid place heard = None
 
+-- The BlockError that a frame reports of the Set of a name, if it is the answer to it.
 abbrev pub named_by : Controller → ℕ → Place → List ℕ → Option ℕ
 named_by tool xid place octets = named_heard xid place (heard_of tool octets)

@@ -23,6 +23,7 @@ pub data Place : Type 0 where
 abbrev pub name_of : Search → Option (List ℕ)
 name_of search = if search.is_told == 1 then Some (take search.length search.name) else None
 
+-- Who answered a search: nobody, one station, or several.
 abbrev pub place_of : Search → Place
 place_of search =
     if search.stations == 0 then Nobody
@@ -43,6 +44,7 @@ met Nobody mac name = One mac (option_map (take 240) name)
 met (One first before) mac name = if pointwise nat_eq first mac then One mac (option_map (take 240) name) else Several first mac
 met (Several first other) mac name = Several first other
 
+-- Whether a DCP answer is to Identify.
 abbrev pub is_identify : Service → Bool
 is_identify Get = false
 is_identify Set = false
@@ -61,6 +63,7 @@ abbrev pub after_heard : ℕ → Place → Heard → Place
 after_heard xid place (Answers source answer) = if is_found xid answer then met place source.octets (told_name answer) else place
 after_heard xid place heard = place
 
+-- Who answered a search after one more frame.
 abbrev pub after_frame : Controller → ℕ → Place → List ℕ → Place
 after_frame tool xid place octets = after_heard xid place (heard_of tool octets)
 

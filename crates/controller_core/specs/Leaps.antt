@@ -10,7 +10,7 @@ use Rattle.controller_core.specs.Machine.{Stepped, step_of}
 abbrev pub request_due_in : Live → ℕ
 request_due_in live = if is_some live.asked then 32000 - live.waited else never
 
--- The same of the request of the application.
+-- The number of units up to and including the next one with which the request of the application is sent again.
 abbrev pub access_due_in : Live → ℕ
 access_due_in live = if is_some live.access.waiting then 32000 - live.waited else never
 
@@ -31,6 +31,7 @@ live_due_in live = min (patience_due_in live) (min (request_due_in live) (exchan
 abbrev pub and_then : Stepped → Stepped → Stepped
 and_then before step = record { controller = step.controller; frames = before.frames ++ step.frames }
 
+-- What this number of Tick events does, one by one.
 abbrev pub ticks_of : ℕ → Controlling → Stepped
 ticks_of zero controlling = record { controller = controlling; frames = [] }
 ticks_of (suc units) controlling = and_then (ticks_of units controlling) (step_of (ticks_of units controlling).controller Tick)

@@ -35,6 +35,7 @@ abbrev pub input_of : Cyclic → ℕ → ℕ → Option (List ℕ)
 input_of cyclic slot subslot = option_map (λ cell. input_element (iocs_in cyclic.taken slot subslot) cell.value cell.status)
     (cell_at Data slot subslot cyclic.shown.cells)
 
+-- RecordOutputDataObjectElement of a submodule, if it has an output.
 abbrev pub output_of : Cyclic → ℕ → ℕ → Option (List ℕ)
 output_of cyclic slot subslot = option_map (λ cell. output_element (iocs_in cyclic.shown slot subslot) cell.value cell.status)
     (cell_at Data slot subslot cyclic.taken.cells)

@@ -23,7 +23,7 @@ abbrev pub begin_one : List RealModule → List Diagnosis → Option RelationSta
 begin_one real diagnoses None = false
 begin_one real diagnoses (Some link) = begins_with_one real diagnoses link.flow
 
--- The same of a change, after which these exist.
+-- What a change of diagnosis does to the relation, after which these exist.
 abbrev pub diagnosing : List RealModule → Change → List Diagnosis → Option RelationState → Handled
 diagnosing real change diagnoses None = Unmoved
 diagnosing real change diagnoses (Some link) = Exchanged (diagnosed real change diagnoses link.flow)

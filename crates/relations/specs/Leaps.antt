@@ -30,7 +30,7 @@ waited_by phase units waited = if is_awaiting phase then waited + units else wai
 abbrev pub link_due_in : RelationState → ℕ
 link_due_in link = min (flow_due_in link.flow) (min (inactive_in link.phase (limit_of link) link.inactive) (ready_in link.phase link.waited))
 
--- The same if there is a relation. Otherwise no unit ever brings anything.
+-- The number of units up to and including the next one that brings something to the relation; without one no unit does.
 abbrev pub due_within : Option RelationState → ℕ
 due_within None = never
 due_within (Some link) = link_due_in link

@@ -119,7 +119,7 @@ abbrev pub HasBegunIn : Option Phase → Flow → Type 0
 HasBegunIn None flow = Unit {0}
 HasBegunIn (Some phase) flow = flow.cyclic.begun ≡ is_exchanging phase
 
--- The same for the state of the relation.
+-- The exchange of the relation has begun exactly if data is exchanged in its phase.
 abbrev pub IsInStep : Option RelationState → Type 0
 IsInStep None = Unit {0}
 IsInStep (Some link) = HasBegunIn (Some link.phase) link.flow

@@ -117,7 +117,7 @@ EndsBehind units reason link =
 abbrev pub IsPatientFor : ℕ → Sending → Type 0
 IsPatientFor units sending = (waited : ℕ) → sending.waiting ≡ Some waited → waited + units < sending.limit
 
--- The same of an alarm of each priority.
+-- No alarm of either priority is given up within this many units.
 abbrev pub ArePatientFor : ℕ → Flow → Type 0
 ArePatientFor units flow = IsPatientFor units flow.alarms.sender.sending × IsPatientFor units flow.low.alarms.sender.sending
 

@@ -87,10 +87,12 @@ is_handed Unknown = false
 abbrev pub Delivers : Other → Other → Type 0
 Delivers old new = (new.options ≡ old.options) × (new.plan ≡ old.plan) × (new.controller ≡ old.controller) × (new.to_device ≡ [])
 
+-- What a line does to the other end while there is no power: nothing, unless it delivers frames.
 abbrev pub Leaves : Command → Other → Other → Type 0
 Leaves Deliver old new = Delivers old new
 Leaves command old new = new ≡ old
 
+-- That of each form of line.
 abbrev pub LeavesBy : Line → Other → Other → Type 0
 LeavesBy (Asks command) old new = Leaves command old new
 LeavesBy line old new = ⊤

@@ -35,7 +35,7 @@ pub record IsNumbered (station : Station) (made : ℕ) (link : RelationState) : 
   pub frame_id : link.flow.cyclic.route.taken_id ≡ output_id (number_of station.options.numbers_from before) link.request.output
   pub cyclic : is_cyclic link.flow.cyclic.route.taken_id ≡ true
 
--- The same, if there is a relation.
+-- The relation of the device, if it has one, has the number of the count before it, and the device has counted it.
 abbrev pub IsNumberedIn : Station → ℕ → Option RelationState → Type 0
 IsNumberedIn station made None = Unit {0}
 IsNumberedIn station made (Some link) = IsNumbered station made link

@@ -27,8 +27,8 @@ is_frame_of station marks frame =
     same (take 6 frame) station
     && (is_cyclic_of marks frame || is_alarm_of marks frame || (is_datagram frame && is_said_of marks (drop 42 frame)))
 
--- The same of an event at a device: a frame, or a call that was joined of fragments. A unit of time, and what its application says,
--- comes from no controller.
+-- Whether an event at a device is a frame, or a call that was joined of fragments, of this relation. A unit of time, and what
+-- its application says, comes from no controller.
 abbrev pub is_event_of : List ℕ → Marks → Event → Bool
 is_event_of station marks (Frame frame) = is_frame_of station marks (untagged frame.items)
 is_event_of station marks (Joined caller address call) = is_said_of marks call.items
@@ -77,7 +77,7 @@ pub record IsTimed (link : RelationState) : Type 0 where
   pub runs : is_timed link.phase ≡ false → link.flow.cyclic.begun ≡ true
   pub limit : link.flow.cyclic.hearing.limit ≡ hold_of link.request
 
--- The same, if there is a relation.
+-- The clocks of the relation of the device, if it has one, are those of its request.
 abbrev pub AreTimed : Option RelationState → Type 0
 AreTimed None = Unit {0}
 AreTimed (Some link) = IsTimed link

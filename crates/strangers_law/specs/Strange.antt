@@ -60,8 +60,8 @@ belongs station marks frame =
     same (take 6 frame) station
     && (is_cyclic_of marks frame || is_alarm_of marks frame || is_reset frame || (is_datagram frame && is_said_of marks (drop 42 frame)))
 
--- The same of an event at a device: a frame, or a call that was joined of fragments. What its application says, and a unit of time, comes
--- from no stranger.
+-- Whether an event at a device comes from no stranger: a frame, or a call that was joined of fragments, of this relation; what
+-- its application says; or a unit of time.
 abbrev pub is_own : List ℕ → Marks → Event → Bool
 is_own station marks (Frame frame) = belongs station marks (untagged frame.items)
 is_own station marks (Joined caller address call) = is_said_of marks call.items

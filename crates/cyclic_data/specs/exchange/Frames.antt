@@ -39,7 +39,7 @@ abbrev pub frame_at : Mac → Route → Bool → Shown → ℕ → List ℕ
 frame_at source route has_problem shown counter =
     tagged_frame source route.partner route.sent_tag (RealTime route.sent_id (body_at has_problem shown counter))
 
--- The same of a station without a problem.
+-- The octets after the FrameID of a cyclic frame of a station without a problem.
 abbrev pub cyclic_body : Shown → ℕ → List ℕ
 cyclic_body shown counter = body_at false shown counter
 

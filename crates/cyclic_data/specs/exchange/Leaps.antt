@@ -19,6 +19,6 @@ cyclic_due_in cyclic = min (frame_due_in cyclic.sending) (silent_in cyclic)
 abbrev pub IsQuiet : Cyclic → Type 0
 IsQuiet cyclic = (is_silent cyclic ≡ false) × (is_due cyclic.sending ≡ false)
 
--- The same of each of the next units.
+-- With each of the next units no frame is due, and the data hold time is not over.
 abbrev pub IsQuietFor : ℕ → Cyclic → Type 0
 IsQuietFor units cyclic = (before : ℕ) → before < units → IsQuiet (after cyclic_later before cyclic)

@@ -18,7 +18,7 @@ changed_at change cyclic slot subslot value =
 abbrev pub given_at : Cyclic → ℕ → ℕ → List ℕ → Option Cyclic
 given_at cyclic slot subslot value = changed_at (with_value value) cyclic slot subslot value
 
--- The same, and its IOPS is good from now on.
+-- A cell with this value, whose IOPS is good from now on.
 abbrev pub with_good : List ℕ → Cell → Cell
 with_good value cell = record { place = cell.place; value = value; status = good }
 

@@ -10,7 +10,7 @@ use Rattle.controller_core.specs.Machine.{step_of, turn_of}
 use Rattle.end_laws.specs.turns.Patience.{units_in}
 use Rattle.end_laws.specs.turns.Runs.{IsReached, behind_all}
 
--- The same request of the start-up, or the Release, is active after each of these events.
+-- One request of the start-up, or the Release, is active after each of these events.
 abbrev pub StaysAsked : Request → List Event → Controlling → Type 0
 StaysAsked request [] controller = Unit {0}
 StaysAsked request (event ∷ events) controller =

@@ -22,7 +22,7 @@ diagnoses_begun real diagnoses flow = with_low flow (after_next real (begun diag
 abbrev pub begins_with_one : List RealModule → List Diagnosis → Flow → Bool
 begins_with_one real diagnoses flow = is_next real (begun diagnoses flow.low)
 
--- The same of a change, after which these exist.
+-- The exchange after a change of diagnosis, after which these exist.
 abbrev pub diagnosed : List RealModule → Change → List Diagnosis → Flow → Flow
 diagnosed real change diagnoses flow = with_low flow (changed real flow.cyclic.begun change diagnoses flow.low)
 

@@ -38,7 +38,7 @@ alarm_frame flow = option_map (Notifies (header_of flow Data)) flow.alarms.sende
 abbrev pub reply_frame : Flow → Taken → Frame
 reply_frame flow taken = Replies (header_of flow (answer_to taken))
 
--- The same of low priority.
+-- The alarm of low priority that is sent, or sent again, if one is not acknowledged.
 abbrev pub low_alarm_frame : Flow → Option Frame
 low_alarm_frame flow = option_map (Reports flow.low.tag (low_header_of flow Data)) flow.low.alarms.sender.standing
 
@@ -70,7 +70,7 @@ body_of (Replies header) = pdu_bytes (record { header = header; body = [] })
 body_of (Reports tag header alarm) = pdu_bytes (diagnosis_pdu header alarm)
 body_of (RepliesLow tag header) = pdu_bytes (record { header = header; body = [] })
 
--- The same for an optional frame.
+-- The octets of a frame after its FrameID, none without a frame.
 abbrev pub body_in : Option Frame → List ℕ
 body_in (Some frame) = body_of frame
 body_in None = []

@@ -5,7 +5,7 @@ use Rattle.cyclic_data.specs.exchange.Cyclic.{Cyclic}
 use Rattle.relations.specs.exchange.Flow.{Flow}
 use Rattle.relations.specs.exchange.Marks.{awaits, change_by, iops_of, mark_at, marked}
 
--- The same exchange with another end of cyclic data.
+-- The exchange with other cyclic data.
 abbrev pub with_cyclic : Flow → Cyclic → Flow
 with_cyclic flow cyclic = record flow { cyclic = cyclic }
 

@@ -25,7 +25,7 @@ statuses_with status statuses =
     else if nat_lt (length statuses) 64 then Some (statuses ++ status ∷ [])
     else None
 
--- The same, if a submodule is plugged there.
+-- The statuses of inputs with one more, if a submodule is plugged there and there is room.
 abbrev pub statuses_at : List RealModule → InputStatus → List InputStatus → Option (List InputStatus)
 statuses_at real status statuses =
     if is_some (submodule_ident real status.slot status.subslot) then statuses_with status statuses else None
