@@ -31,7 +31,7 @@ IsNaming place source xid name (Err why) = why_unnamed place ≡ Some why
 
 -- ---- its answer
 
--- Whether a DCP answer is to a Set.
+-- Whether a DCP answer belongs to a Set.
 abbrev pub is_set : Service → Bool
 is_set Get = false
 is_set Set = true

@@ -44,7 +44,7 @@ met Nobody mac name = One mac (option_map (take 240) name)
 met (One first before) mac name = if pointwise nat_eq first mac then One mac (option_map (take 240) name) else Several first mac
 met (Several first other) mac name = Several first other
 
--- Whether a DCP answer is to Identify.
+-- Whether a DCP answer belongs to an Identify.
 abbrev pub is_identify : Service → Bool
 is_identify Get = false
 is_identify Set = false

@@ -49,7 +49,7 @@ first_notice diagnosis = record {
   is_any_in_relation = true;
 }
 
--- What is to report when data exchange begins: each diagnosis that exists at a submodule of the relation, as one that
+-- What must be reported when data exchange begins: each diagnosis that exists at a submodule of the relation, as one that
 -- appears.
 abbrev pub first_notices : (ℕ → ℕ → Bool) → List Diagnosis → List Notice
 first_notices has diagnoses = map first_notice (filter (λ diagnosis. has diagnosis.slot diagnosis.subslot) diagnoses)

@@ -62,8 +62,6 @@ Gives view (Err fault) read = read ≡ Err fault
 
 -- One reading step after another: the first fault is the fault of both.
 infixl 10 ◌>>=◌
-
--- A result and what follows it, or the first fault.
 abbrev pub ◌>>=◌ : {F A B : Type 0} → Result A F → (A → Result B F) → Result B F
 (Ok value) >>= next = next value
 (Err fault) >>= next = Err fault

@@ -50,8 +50,6 @@ then_by first second = record {
 
 -- a format, and after it another
 infixr 30 ◌⨾◌
-
--- Two formats, one after the other.
 abbrev pub ◌⨾◌ : {F A B : Type 0} → Codec F A → Codec F B → Codec F (A × B)
 first ⨾ second = then_by first (λ _. second)
 

@@ -81,7 +81,6 @@ abbrev pub reported_by : Option RelationState → Option RelationState → List 
 reported_by before after = if is_same_number (number_in after) (number_in before) then [] else active_in after
 
 module _ {F : Type 0} where
-
   -- The alarms of low priority that the device reports between two worlds.
   abbrev pub reported_with : World F → World F → List AlarmNotification
   reported_with before after = reported_by before.device.live.rest.link after.device.live.rest.link

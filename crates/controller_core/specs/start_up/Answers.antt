@@ -25,13 +25,13 @@ use Rattle.block_codec.specs.Block.{block_of, in_application_ready}
 
 -- ---- DCP answers
 
--- Whether a DCP answer is to Identify.
+-- Whether a DCP answer belongs to an Identify.
 abbrev pub is_identify : Service → Bool
 is_identify Identify = true
 is_identify Get = false
 is_identify Set = false
 
--- Whether a DCP answer is to a Set.
+-- Whether a DCP answer belongs to a Set.
 abbrev pub is_set : Service → Bool
 is_set Set = true
 is_set Get = false
