@@ -132,6 +132,7 @@ joined_by is_lost state note (Neighbour neighbour) = None
 joined_by is_lost state note (Diagnosis slot subslot channel error appears) = None
 joined_by is_lost state note Ready = None
 
+-- The call that a frame completed, if it did.
 abbrev pub joined_of : Serving → Note → Event → Option Event
 joined_of state note event = joined_by false state note event
 

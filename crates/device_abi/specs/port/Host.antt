@@ -189,6 +189,7 @@ pub record UnderWay (begun : Begun) (events : List Event) (now : List (List ℕ)
   pub sent : now ≡ begun.sent ++ frames_by begun earlier
   pub cut : (torn : Image) → IsImage 4096 torn → CutOff chip calls torn → Stores begun (heard begun earlier) (heard begun events) torn
 
+-- The calls that remain are under way on the chip, if any remain.
 abbrev pub IsOpen : Begun → List Event → List (List ℕ) → List Call → Image → Type 0
 IsOpen begun events now [] chip = Unit {0}
 IsOpen begun events now (call ∷ calls) chip = UnderWay begun events now (call ∷ calls) chip

@@ -25,6 +25,7 @@ worked_by rest at (call ∷ calls) frames = point rest (carried_out at.chip call
 worked_by rest at [] (frame ∷ frames) = point rest at.chip (at.sent ++ frame ∷ [])
 worked_by rest at [] [] = point rest at.chip at.sent
 
+-- After one piece of work.
 abbrev pub worked : Point → Point
 worked at = worked_by (advanced_both at.port) at at.port.port.calls (frames_of at.port)
 
