@@ -28,7 +28,7 @@ IsImage-of flash = flash.memory.sized
 pub IsSectorSize-of : {S : ℕ} (flash : RecordedFlash S) → IsSectorSize S
 IsSectorSize-of flash = flash.memory.sector_size
 
--- A recorded flash has power.
+-- A recorded flash is never without power.
 pub has_power-of : {S : ℕ} (flash : RecordedFlash S) → IsAlways flash → has_power flash ≡ false
 has_power-of flash reliable = refl
 
