@@ -140,7 +140,7 @@ answered setup live source answer phase = stays live
 
 -- ---- responses
 
--- The next request after a record: a Write, or PrmEnd.
+-- This Write, or PrmEnd, is sent, and its state begins.
 abbrev pub writing : Setup → Request → Live → Turn
 writing setup request live = asking setup (phase_for request) request live
 
