@@ -15,6 +15,7 @@ pub record Point : Type 0 where
   pub chip : Image
   pub sent : List (List ℕ)
 
+-- A port, its chip, and what was sent.
 abbrev pub point : Served → Image → List (List ℕ) → Point
 point port chip sent = record { port = port; chip = chip; sent = sent }
 

@@ -183,7 +183,7 @@ pub(crate) fn soonest(due: u32, rest: u32, services: &Option<DeviceServices>) ->
 
 // ---- the neighbour
 
-// The device is told of its neighbour, if that changed.
+// The neighbour is reported to the device, if that changed.
 pub(crate) fn tell_neighbour(port: &mut DevicePort, services: &mut Option<DeviceServices>)
     requires free { barred port.old ≡ None }
     ensures tells { TellsPortAny services.old port.old port.new services.new }

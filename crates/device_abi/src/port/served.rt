@@ -212,7 +212,7 @@ impl Port {
         }
     }
 
-    // The same once the device was told of its neighbour.
+    // The same once the device knows its neighbour.
     fn take_frame(&mut self, octets: &[u8]) -> Note
         requires { barred_both self.old ≡ None }
         ensures { StepsBoth self.old (Framed (record { items = octets.now })) result self.new }
@@ -332,7 +332,7 @@ impl Port {
         }
     }
 
-    // The same once the device was told of its neighbour.
+    // The same once the device knows its neighbour.
     fn take(&mut self, event: &Event) -> Note
         requires free { barred_both self.old ≡ None }
         requires kind { IsOfApplication event.now }
@@ -718,7 +718,7 @@ impl Port {
         self.frames_past < self.outbox.len()
     }
 
-    // The device is told of its neighbour, if that changed.
+    // The neighbour is reported to the device, if that changed.
     #[inline(never)]
     fn tell(&mut self)
         requires free { barred_both self.old ≡ None }
