@@ -76,6 +76,7 @@ by_call identity state note call = record {
 abbrev pub by_neighbour : Serving → Note → List ℕ → Beside
 by_neighbour state note bytes = record { services = met state bytes; sent = []; note = if meets state bytes then Done else note }
 
+-- What the services beside a device do with a frame, by what of it concerns them.
 abbrev pub by_concern : Identity → Serving → Note → List ℕ → concern.Concern → Beside
 by_concern identity state note bytes concern.Nothing = by_address state note concern.Nothing
 by_concern identity state note bytes concern.OtherType = by_neighbour state note bytes
