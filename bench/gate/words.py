@@ -1,7 +1,8 @@
 #!/usr/bin/env python3
 """Words that pages, comments and help texts do not use, because there is a plainer one, and where they are all the same.
 
-Looked at are the pages, the headers of include/, and the comments and printed texts of host/, boards/, examples/, planning/ and pnscript. What is in backticks is a name and does not count. bench/gate/documents calls this; by itself it lists what it finds.
+Looked at are the pages, the headers of include/, the comments of crates/, and the comments and
+printed texts of host/, boards/, examples/, planning/ and pnscript. What is in backticks is a name and does not count. bench/gate/documents calls this; by itself it lists what it finds.
 Use: bench/gate/words.py [--count]
 """
 
@@ -36,7 +37,7 @@ ODD = re.compile(rf"\b(?:{'|'.join(PLAINER)})\b|(?<![\w-])None\.(?=\s|$)", re.IG
 # A value in Python, and the end of a sentence that says of what there are none.
 NOT_MEANT = re.compile(r"none\.$|is None$")
 # The folders whose comments and texts are looked at.
-TOPS = ("boards", "examples", "host", "include", "planning", "pnscript")
+TOPS = ("boards", "crates", "examples", "host", "include", "planning", "pnscript")
 # A line that contains one of these may have its word: it is a name of code in a string.
 NAMES = ("told = io.StringIO()", "told.getvalue()", "behind(element)", "behind = (element)", "behind(icon)")
 QUOTED = re.compile(r"`[^`]*`|\]\([^)]*\)")

@@ -82,110 +82,137 @@ kind_of (is.AlarmAck value) = kind.AlarmAck
 
 -- ---- the fields of a block of a kind
 
+-- The ARBlockReq that a block is, if it is one.
 abbrev pub in_ar_block_req : Block → Option ArBlockReq
 in_ar_block_req (is.ArBlockReq value) = Some value
 in_ar_block_req _ = None
 
+-- The ARBlockRes that a block is, if it is one.
 abbrev pub in_ar_block_res : Block → Option ArBlockRes
 in_ar_block_res (is.ArBlockRes value) = Some value
 in_ar_block_res _ = None
 
+-- The IOCRBlockReq that a block is, if it is one.
 abbrev pub in_iocr_block_req : Block → Option IocrBlockReq
 in_iocr_block_req (is.IocrBlockReq value) = Some value
 in_iocr_block_req _ = None
 
+-- The IOCRBlockRes that a block is, if it is one.
 abbrev pub in_iocr_block_res : Block → Option IocrBlockRes
 in_iocr_block_res (is.IocrBlockRes value) = Some value
 in_iocr_block_res _ = None
 
+-- The AlarmCRBlockReq that a block is, if it is one.
 abbrev pub in_alarm_cr_block_req : Block → Option AlarmCrBlockReq
 in_alarm_cr_block_req (is.AlarmCrBlockReq value) = Some value
 in_alarm_cr_block_req _ = None
 
+-- The AlarmCRBlockRes that a block is, if it is one.
 abbrev pub in_alarm_cr_block_res : Block → Option AlarmCrBlockRes
 in_alarm_cr_block_res (is.AlarmCrBlockRes value) = Some value
 in_alarm_cr_block_res _ = None
 
+-- The ExpectedSubmoduleBlockReq that a block is, if it is one.
 abbrev pub in_expected_submodule_block_req : Block → Option ExpectedSubmoduleBlockReq
 in_expected_submodule_block_req (is.ExpectedSubmoduleBlockReq value) = Some value
 in_expected_submodule_block_req _ = None
 
+-- The ModuleDiffBlock that a block is, if it is one.
 abbrev pub in_module_diff_block : Block → Option ModuleDiffBlock
 in_module_diff_block (is.ModuleDiffBlock value) = Some value
 in_module_diff_block _ = None
 
+-- The ControlBlockConnect of PrmEnd that a block is, if it is one.
 abbrev pub in_prm_end : Block → Option ControlBlock
 in_prm_end (is.PrmEnd value) = Some value
 in_prm_end _ = None
 
+-- The response to PrmEnd that a block is, if it is one.
 abbrev pub in_prm_end_res : Block → Option ControlBlock
 in_prm_end_res (is.PrmEndRes value) = Some value
 in_prm_end_res _ = None
 
+-- The ControlBlockConnect of ApplicationReady that a block is, if it is one.
 abbrev pub in_application_ready : Block → Option ControlBlock
 in_application_ready (is.ApplicationReady value) = Some value
 in_application_ready _ = None
 
+-- The response to ApplicationReady that a block is, if it is one.
 abbrev pub in_application_ready_res : Block → Option ControlBlock
 in_application_ready_res (is.ApplicationReadyRes value) = Some value
 in_application_ready_res _ = None
 
+-- The ReleaseBlock that a block is, if it is one.
 abbrev pub in_release : Block → Option ControlBlock
 in_release (is.Release value) = Some value
 in_release _ = None
 
+-- The response to Release that a block is, if it is one.
 abbrev pub in_release_res : Block → Option ControlBlock
 in_release_res (is.ReleaseRes value) = Some value
 in_release_res _ = None
 
+-- The IODReadReqHeader that a block is, if it is one.
 abbrev pub in_iod_read_req : Block → Option IodReadReq
 in_iod_read_req (is.IodReadReq value) = Some value
 in_iod_read_req _ = None
 
+-- The IODReadResHeader that a block is, if it is one.
 abbrev pub in_iod_read_res : Block → Option IodReadRes
 in_iod_read_res (is.IodReadRes value) = Some value
 in_iod_read_res _ = None
 
+-- The IODWriteReqHeader that a block is, if it is one.
 abbrev pub in_iod_write_req : Block → Option IodWriteReq
 in_iod_write_req (is.IodWriteReq value) = Some value
 in_iod_write_req _ = None
 
+-- The IODWriteResHeader that a block is, if it is one.
 abbrev pub in_iod_write_res : Block → Option IodWriteRes
 in_iod_write_res (is.IodWriteRes value) = Some value
 in_iod_write_res _ = None
 
+-- The I&M0 that a block is, if it is one.
 abbrev pub in_im0 : Block → Option Im0
 in_im0 (is.Im0 value) = Some value
 in_im0 _ = None
 
+-- The I&M1 that a block is, if it is one.
 abbrev pub in_im1 : Block → Option Im1
 in_im1 (is.Im1 value) = Some value
 in_im1 _ = None
 
+-- The I&M2 that a block is, if it is one.
 abbrev pub in_im2 : Block → Option Im2
 in_im2 (is.Im2 value) = Some value
 in_im2 _ = None
 
+-- The I&M3 that a block is, if it is one.
 abbrev pub in_im3 : Block → Option Im3
 in_im3 (is.Im3 value) = Some value
 in_im3 _ = None
 
+-- The I&M4 that a block is, if it is one.
 abbrev pub in_im4 : Block → Option Im4
 in_im4 (is.Im4 value) = Some value
 in_im4 _ = None
 
+-- The I&M0FilterDataSubmodule that a block is, if it is one.
 abbrev pub in_im_filter_data_submodule : Block → Option ImFilterData
 in_im_filter_data_submodule (is.ImFilterDataSubmodule value) = Some value
 in_im_filter_data_submodule _ = None
 
+-- The I&M0FilterDataDevice that a block is, if it is one.
 abbrev pub in_im_filter_data_device : Block → Option ImFilterData
 in_im_filter_data_device (is.ImFilterDataDevice value) = Some value
 in_im_filter_data_device _ = None
 
+-- The AlarmNotification of high priority that a block is, if it is one.
 abbrev pub in_alarm_notification : Block → Option AlarmNotification
 in_alarm_notification (is.AlarmNotification value) = Some value
 in_alarm_notification _ = None
 
+-- The AlarmAck of high priority that a block is, if it is one.
 abbrev pub in_alarm_ack : Block → Option AlarmAck
 in_alarm_ack (is.AlarmAck value) = Some value
 in_alarm_ack _ = None

@@ -205,7 +205,7 @@ module _ (read : (block_is : Block) (rest : List ℕ) → CanBeWritten block_is 
   both true b e f = f
   both false b e f = absurd cc
 
-  -- a status that is read as no error is none
+  -- a status that is read as no error is not an error
   done_status : (status : Status) → IsStatus status → is_done (status_in (number_of status)) ≡ true → is_done status ≡ true
   done_status status is e =
       let n = number_of status in

@@ -10,17 +10,21 @@ use Rattle.c_layout.specs.declared.plugged.Submodule.{Submodule}
 
 -- ---- lists in which only the counted items are valid
 
+-- The parameter records of a submodule in C that are used.
 abbrev pub parameters_in : Submodule → List Parameter
 parameters_in submodule = take submodule.parameter_count submodule.parameters
 
+-- The submodules of a module in C that are used.
 abbrev pub submodules_in : Module → List Submodule
 submodules_in plugged = take plugged.submodule_count plugged.submodules
 
 -- ---- no count is greater than its list can hold
 
+-- Whether its counts fit.
 abbrev pub is_submodule : Submodule → Bool
 is_submodule submodule = nat_le submodule.parameter_count 2
 
+-- Whether its counts fit, and those of its submodules.
 abbrev pub is_module : Module → Bool
 is_module plugged = nat_le plugged.submodule_count 4 && list_all is_submodule (submodules_in plugged)
 
@@ -41,9 +45,11 @@ are_parameters (item ∷ items) = (is_parameter item && not (has_index item.inde
 
 -- ---- the values
 
+-- A parameter record that C describes.
 abbrev pub parameter_of : Parameter → ParameterRecord
 parameter_of parameter = record { index = parameter.index; length = parameter.length }
 
+-- A submodule that C describes.
 abbrev pub submodule_of : Submodule → RealSubmodule
 submodule_of submodule = record {
   subslot = submodule.subslot;
@@ -53,5 +59,6 @@ submodule_of submodule = record {
   parameters = record { items = map parameter_of (parameters_in submodule) };
 }
 
+-- A module that C describes.
 abbrev pub module_of : Module → RealModule
 module_of plugged = record { slot = plugged.slot; ident = plugged.ident; submodules = record { items = map submodule_of (submodules_in plugged) } }

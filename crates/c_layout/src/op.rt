@@ -16,7 +16,7 @@ pub struct Op {
     pub units: u32,
     /// The outcome of an event.
     pub note: u32,
-    /// The phase of the application relation, 0 if there is none.
+    /// The phase of the application relation, 0 without a relation.
     pub phase: u32,
     /// The kind of a piece of work: after an event the next one, otherwise the one that was handed out.
     pub work: u32,
@@ -28,7 +28,7 @@ pub struct Op {
     pub place: u32,
     /// The number of octets of what is handed out.
     pub length: u32,
-    /// Units of time up to and with the next one with which anything is due: a number that a tick reports.
+    /// Units of time up to and including the next one with which anything is due: a number that a tick reports.
     pub due: u32,
     pub octets: [u8; 1520],
 }

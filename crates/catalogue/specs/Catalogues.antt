@@ -31,9 +31,11 @@ identity tree =
 unfoldable pub identity_in : Reader DeviceIdentity
 identity_in tree = member key.DeviceIdentity tree >>= λ entry. behind (At key.DeviceIdentity) (identity entry)
 
+-- The device access point of a catalogue, or the fault.
 unfoldable pub access_point_in : Reader AccessPoint
 access_point_in tree = member key.DeviceAccessPointItem tree >>= λ entry. behind (At key.DeviceAccessPointItem) (access_point entry)
 
+-- The project of a catalogue, or the fault.
 unfoldable pub project_in : ℕ → List Module → Reader Project
 project_in least_interval modules tree = member key.Project tree >>= λ entry. behind (At key.Project) (project least_interval modules entry)
 

@@ -67,6 +67,7 @@ octets_at key tree = items_of key tree >>= λ trees. behind (At key) (octets_in 
 unfoldable pub io_in : Reader (ℕ × ℕ)
 io_in tree = octets_at key.Input tree >>= λ input. octets_at key.Output tree >>= λ output. Ok (input, output)
 
+-- The octets of input and output of IOData; none without it.
 abbrev pub io_within : Option Data → Result (ℕ × ℕ) PlacedFault
 io_within None = Ok (0, 0)
 io_within (Some io) = behind (At key.IoData) (io_in io)

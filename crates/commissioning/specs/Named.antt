@@ -22,7 +22,7 @@ why_unnamed (One mac None) = Some why.Untold
 why_unnamed (One mac (Some [])) = None
 why_unnamed (One mac (Some (letter ∷ letters))) = Some why.Named
 
--- A Set with this number of this name is sent from this tool, to the only station that answered, which told that it has no name; or why none
+-- A Set with this number of this name is sent from this tool, to the only station that answered, whose answer has an empty name; or why none
 -- is sent.
 abbrev pub IsNaming : Place → Mac → ℕ → List ℕ → Result (Items ℕ) Unnamed → Type 0
 IsNaming (One mac (Some [])) source xid name (Ok frame) = IsHeardAs frame.items source (record { octets = mac }) (name_asked xid name)
@@ -31,6 +31,7 @@ IsNaming place source xid name (Err why) = why_unnamed place ≡ Some why
 
 -- ---- its answer
 
+-- Whether a DCP answer belongs to a Set.
 abbrev pub is_set : Service → Bool
 is_set Get = false
 is_set Set = true
@@ -65,9 +66,11 @@ told_by xid (One mac name) source answer = if pointwise nat_eq mac source && is_
 told_by xid Nobody source answer = None
 told_by xid (Several first other) source answer = None
 
+-- The BlockError that a message reports of the Set of a name, if it is the answer to it.
 abbrev pub named_heard : ℕ → Place → Heard → Option ℕ
 named_heard xid place (Answers source answer) = told_by xid place source.octets answer
 named_heard xid place heard = None
 
+-- The BlockError that a frame reports of the Set of a name, if it is the answer to it.
 abbrev pub named_by : Controller → ℕ → Place → List ℕ → Option ℕ
 named_by tool xid place octets = named_heard xid place (heard_of tool octets)

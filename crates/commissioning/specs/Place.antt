@@ -12,7 +12,7 @@ use Rattle.plans.specs.declared.parts.Controller.{Controller}
 use Rattle.controller_messages.specs.Heard.{Heard, Answers, heard_of}
 use Rattle.commissioning.specs.declared.search.Search.{Search}
 
--- Nobody answered; one station, with the name that it told last, if it told one (it is empty if the station has none); or more
+-- Nobody answered; one station, with the name in its last answer that has one (it is empty if the station has none); or more
 -- than one.
 pub data Place : Type 0 where
   Nobody : Place
@@ -23,12 +23,13 @@ pub data Place : Type 0 where
 abbrev pub name_of : Search → Option (List ℕ)
 name_of search = if search.is_told == 1 then Some (take search.length search.name) else None
 
+-- Who answered a search: nobody, one station, or several.
 abbrev pub place_of : Search → Place
 place_of search =
     if search.stations == 0 then Nobody
     else (if search.stations == 1 then One search.first (name_of search) else Several search.first search.other)
 
--- What a host finds in a search: it counts to 2, and the name lies in its room. Of a station that told no name, and of nobody, it finds
+-- What a host finds in a search: it counts to 2, and the name lies in its room. Of a station whose answers have no name, and of nobody, it finds
 -- none.
 pub record IsTidy (search : Search) : Type 0 where
   pub counted : search.stations ≤ 2
@@ -37,12 +38,13 @@ pub record IsTidy (search : Search) : Type 0 where
   pub untold : search.is_told ≡ 0 → search.length ≡ 0
   pub nobody : search.stations ≡ 0 → search.is_told ≡ 0
 
--- After the answer of a station that told this name.
+-- After the answer of a station with this name in it.
 abbrev pub met : Place → List ℕ → Option (List ℕ) → Place
 met Nobody mac name = One mac (option_map (take 240) name)
 met (One first before) mac name = if pointwise nat_eq first mac then One mac (option_map (take 240) name) else Several first mac
 met (Several first other) mac name = Several first other
 
+-- Whether a DCP answer belongs to an Identify.
 abbrev pub is_identify : Service → Bool
 is_identify Get = false
 is_identify Set = false
@@ -61,6 +63,7 @@ abbrev pub after_heard : ℕ → Place → Heard → Place
 after_heard xid place (Answers source answer) = if is_found xid answer then met place source.octets (told_name answer) else place
 after_heard xid place heard = place
 
+-- Who answered a search after one more frame.
 abbrev pub after_frame : Controller → ℕ → Place → List ℕ → Place
 after_frame tool xid place octets = after_heard xid place (heard_of tool octets)
 
@@ -75,7 +78,7 @@ after_all place (answer ∷ answers) = after_all (met place answer.0 answer.1) a
 abbrev pub AreFrom : List ℕ → List (List ℕ × Option (List ℕ)) → Type 0
 AreFrom mac answers = AllByRecursion (λ answer. answer.0 ≡ mac) answers
 
--- the name that the last answer told, after one that told this one
+-- the name in the last answer, after one with this name
 abbrev pub last_told : Option (List ℕ) → List (List ℕ × Option (List ℕ)) → Option (List ℕ)
 last_told name [] = name
 last_told name (answer ∷ answers) = last_told (option_map (take 240) answer.1) answers

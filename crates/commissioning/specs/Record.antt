@@ -76,6 +76,7 @@ abbrev pub told_as : RecordTold → Result (List ℕ) Status
 told_as (Record octets) = Ok octets.now
 told_as (Refused status) = Err status
 
+-- A record has at most 1,308 octets.
 abbrev pub IsShort : RecordTold → Type 0
 IsShort (Record octets) = length octets.now ≤ 1308
 IsShort (Refused status) = ⊤
@@ -84,6 +85,7 @@ IsShort (Refused status) = ⊤
 abbrev pub is_of : List ℕ → Answered → Bool
 is_of activity response = pointwise nat_eq response.header.activity activity
 
+-- A record that was read.
 abbrev pub some_record : Option (List ℕ) → Option (Result (List ℕ) Status)
 some_record None = None
 some_record (Some octets) = Some (Ok octets)
@@ -92,6 +94,7 @@ some_record (Some octets) = Some (Ok octets)
 abbrev pub record_by : Answered → Option (Result (List ℕ) Status)
 record_by response = if is_done response.status then some_record (record_in (block_of response.blocks)) else Some (Err response.status)
 
+-- The record that a message brings, or the status with which it is refused, if it is the answer to this Read.
 abbrev pub told_by : List ℕ → Heard → Option (Result (List ℕ) Status)
 told_by activity (Responds response) = if is_of activity response then record_by response else None
 told_by activity (Refuses refusal) = if pointwise nat_eq refusal.activity activity then Some (Err refusal.status) else None

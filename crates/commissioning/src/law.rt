@@ -5,7 +5,7 @@ ghost use Rattle.commissioning.specs.Place.{AnsweredIn, AreFrom, Asks, Doing, He
 
 /// Whatever the answers are, and in whatever order they come.
 pub fn a_nameless_station_is_alone()
-    // Only one station is found nameless: one that answered, and no other station did. The last thing that it told of its name
+    // Only one station is found nameless: one that answered, and no other station did. What it reported last of its name
     // is that it has none.
     ensures { (answers : List (List ℕ × Option (List ℕ))) (mac : List ℕ) → after_all Nobody answers ≡ One mac (Some []) →
         (answers ≢ []) × AreFrom mac answers × (last_told None answers ≡ Some []) }

@@ -31,7 +31,7 @@ impl Search {
     /// The frame by which the station at the place gets this name, or why none gets it. `xid` is the number of the Set: another one than that
     /// of the search, and of each request before.
     pub fn name(&self, tool: &Controller, xid: u32, name: &StationName) -> Result<Frame, Unnamed>
-        // The Set goes to the only station that answered, which told that it has no name.
+        // The Set goes to the only station that answered, whose answer has an empty name.
         ensures { IsNaming (place_of self.now) tool.now.mac xid name.now result }
     {
         match self.unnamed() {
@@ -113,7 +113,7 @@ fn error_of(answer: &Response<'_>) -> u8
     }
 }
 
-/// The first BlockError of a supported answer; 1, as for an option that is not supported, if it tells none.
+/// The first BlockError of a supported answer; 1, as for an option that is not supported, if it has none.
 fn error_in(answer: &Response<'_>) -> u8
     ensures { result ≡ error_by (blocks_left answer.now.blocks) }
 {
@@ -125,7 +125,7 @@ fn error_in(answer: &Response<'_>) -> u8
     1
 }
 
-/// The BlockError that a block tells; a block with a value tells none.
+/// The BlockError of a block; a block with a value has none.
 fn error_of_block(block: &ResponseBlock<'_>) -> Option<u8>
     ensures { result ≡ error_told_by (answered_block block.now) }
 {

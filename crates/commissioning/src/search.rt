@@ -21,9 +21,9 @@ pub(crate) const MOST_NAME: usize = 240;
 pub struct Search {
     /// How many stations answered: 0, 1, or 2 for more than one.
     pub stations: u32,
-    /// 1 if the first one told its name, else 0.
+    /// 1 if the answer of the first one has its name, else 0.
     pub is_told: u32,
-    /// The octets of that name, at most 240: none if the station has no name, or told none.
+    /// The octets of that name, at most 240: none if the station has no name, or its answer has none.
     pub length: u32,
     /// The number of the Identify by which this search asks (Xid).
     pub xid: u32,
@@ -40,7 +40,7 @@ impl Search {
         ensures place { place_of result ≡ Nobody }
         // Only answers with this number will count.
         ensures number { result.xid ≡ xid }
-        // A host finds no more than is told.
+        // A host finds no more than was reported.
         ensures tidy { IsTidy result }
     {
         Search {
@@ -64,7 +64,7 @@ impl Search {
         ensures place { place_of self.new ≡ Nobody }
         // From now on only answers with the number of this Identify count.
         ensures number { self.new.xid ≡ xid }
-        // A host finds no more than is told.
+        // A host finds no more than was reported.
         ensures tidy { IsTidy self.new }
     {
         *self = Search::new(xid);
@@ -76,7 +76,7 @@ impl Search {
         ensures place { place_of self.new ≡ after_frame tool.now self.old.xid (place_of self.old) bytes.now.items }
         // It goes on to ask by this number.
         ensures number { self.new.xid ≡ self.old.xid }
-        // A host finds no more than is told.
+        // A host finds no more than was reported.
         ensures tidy { IsTidy self.old → IsTidy self.new }
         // After the answer of a second station the name is still that of the first one.
         ensures kept { self.old.stations ≢ 0 → self.new.stations ≢ 1 → name_of self.new ≡ name_of self.old }
@@ -98,7 +98,7 @@ impl Search {
         }
     }
 
-    /// A station answered, and told this name.
+    /// A station answered with this name.
     fn meet(&mut self, source: Mac, name: Option<&[u8]>)
         ensures place { place_of self.new ≡ met (place_of self.old) source.octets (option_map (λ name. name.now) name.entry) }
         ensures number { self.new.xid ≡ self.old.xid }
@@ -129,7 +129,7 @@ impl Search {
         }
     }
 
-    /// The only station so far told this name.
+    /// The only station so far answered with this name.
     fn meet_first(&mut self, source: Mac, name: Option<&[u8]>)
         ensures place { place_of self.new ≡ One source.octets (option_map (λ name. take 240 name.now) name.entry) }
         ensures number { self.new.xid ≡ self.old.xid }
@@ -160,7 +160,7 @@ impl Search {
         self.name[..name.len()].copy_from_slice(name);
     }
 
-    /// Keeps that no name is told.
+    /// Keeps that no name was reported.
     fn forget(&mut self)
         requires { self.old.stations ≡ 1 }
         ensures told { name_of self.new ≡ None }

@@ -23,6 +23,7 @@ is_parted text =
     && slice_index text 11 == 45
     && slice_index text 14 == 45
 
+-- The twelve hex digits of a MAC address that is written in six pairs.
 abbrev pub digits_of : List ℕ → List ℕ
 digits_of text =
     slice_index text 0 ∷ slice_index text 1 ∷ slice_index text 3 ∷ slice_index text 4 ∷ slice_index text 6 ∷ slice_index text 7

@@ -23,6 +23,7 @@ pub record AreNumbers (modules : List Module) (number : List ℕ → Option ℕ)
 abbrev pub fixes : (List ℕ → Option ℕ) → ℕ → Reference → Option ℕ
 fixes number slot entry = if is_in slot entry.fixed_in then number entry.target else None
 
+-- The module that is fixed in a slot, if one is.
 abbrev pub fixer : (List ℕ → Option ℕ) → ℕ → List Reference → Option ℕ
 fixer number slot [] = None
 fixer number slot (entry ∷ entries) = option_or (fixes number slot entry) (fixer number slot entries)
@@ -50,6 +51,7 @@ abbrev pub are_open : (ℕ → Bool) → (ℕ → Option ℕ) → Option ℕ →
 are_open physical fixed None slots = length slots == 0
 are_open physical fixed (Some n) slots = list_all (is_open physical fixed n) slots
 
+-- Whether the slots in which a module is fixed exist and are not fixed for another one.
 abbrev pub is_fixed_open : (ℕ → Bool) → (ℕ → Option ℕ) → (List ℕ → Option ℕ) → Reference → Bool
 is_fixed_open physical fixed number entry = are_open physical fixed (number entry.target) entry.fixed_in
 
@@ -58,6 +60,7 @@ abbrev pub does_stand : (ℕ → Bool) → (ℕ → Option ℕ) → (ℕ → ℕ
 does_stand physical fixed taken slot None = false
 does_stand physical fixed taken slot (Some n) = is_open physical fixed n slot && taken slot n
 
+-- Whether the module of a slot of the project may be plugged there.
 abbrev pub stands_well : (ℕ → Bool) → (ℕ → Option ℕ) → (ℕ → ℕ → Bool) → (List ℕ → Option ℕ) → Slot → Bool
 stands_well physical fixed taken number entry = does_stand physical fixed taken entry.slot (number entry.target)
 
@@ -67,15 +70,19 @@ stands_well physical fixed taken number entry = does_stand physical fixed taken 
 abbrev pub place_cmp : ℕ × ℕ → ℕ × ℕ → Ordering
 place_cmp one other = ordering_then (nat_cmp one.0 other.0) (nat_cmp one.1 other.1)
 
+-- The place of a module in the catalogue, by its ID.
 abbrev pub number_in : Known → List ℕ → Option ℕ
 number_in known = get_by_text known.numbers
 
+-- Whether a slot exists.
 abbrev pub physical_in : Known → ℕ → Bool
 physical_in known slot = contains nat_cmp known.physical slot
 
+-- The module that is fixed in a slot.
 abbrev pub fixed_by : Known → ℕ → Option ℕ
 fixed_by known slot = get nat_cmp known.fixed slot
 
+-- Whether a module is allowed in a slot.
 abbrev pub taken_by : Known → ℕ → ℕ → Bool
 taken_by known slot n = contains place_cmp known.taken (slot, n)
 

@@ -65,6 +65,7 @@ data_size (Some input) (Some output) = 14
 unfoldable pub new_slot : List ExpectedModule → Codec BlockFault ℕ
 new_slot before = checked (λ number. not (list_any (λ entry. entry.slot_number == number) before)) (Field 6) two
 
+-- A SubslotNumber that none of the submodules before it has.
 unfoldable pub new_subslot : List ExpectedSubmodule → Codec BlockFault ℕ
 new_subslot before = checked (λ number. not (list_any (λ entry. entry.subslot_number == number) before)) (Field 10) two
 
@@ -91,6 +92,7 @@ pub expected_module_alike : WritesAlike expected_module
 unfolding expected_module new_slot
 expected_module_alike = record { write = λ before entry rest. refl; size = λ before entry. refl }
 
+-- Writing does not depend on the submodules before.
 pub expected_submodule_alike : WritesAlike expected_submodule
 unfolding expected_submodule new_subslot
 expected_submodule_alike = record { write = λ before entry rest. refl; size = λ before entry. refl }
@@ -101,6 +103,7 @@ expected_submodule_alike = record { write = λ before entry rest. refl; size = �
 unfoldable pub expected_modules : Codec BlockFault (Listed ExpectedModule ExpectedSubmodule)
 expected_modules = listed_modules expected_module own_of expected_submodule
 
+-- The format of ExpectedSubmoduleBlockReq.
 unfoldable pub expected : Codec BlockFault ExpectedSubmoduleBlockReq
 expected = seen (λ x. record { modules = x }) (λ block. block.modules) expected_modules
 

@@ -24,10 +24,12 @@ use Rattle.connect_blocks.specs.Objects.{io_objects}
 abbrev pub iocr_type_of : ℕ → Option IocrType
 iocr_type_of number = if number == 1 then Some Input else (if number == 2 then Some Output else None)
 
+-- IOCRType: 1 of inputs, 2 of outputs.
 abbrev pub number_of_iocr : IocrType → ℕ
 number_of_iocr Input = 1
 number_of_iocr Output = 2
 
+-- The format of IOCRType.
 unfoldable pub iocr_type : Codec BlockFault IocrType
 iocr_type = named iocr_type_of number_of_iocr (Field 4) two
 
@@ -35,10 +37,12 @@ iocr_type = named iocr_type_of number_of_iocr (Field 4) two
 abbrev pub rt_class_of : ℕ → Option RtClass
 rt_class_of number = if number % 16 == 1 then Some Class1 else (if number % 16 == 2 then Some Class2 else None)
 
+-- RTClass: 1 or 2.
 abbrev pub number_of_class : RtClass → ℕ
 number_of_class Class1 = 1
 number_of_class Class2 = 2
 
+-- The format of RTClass.
 unfoldable pub rt_class : Codec BlockFault RtClass
 rt_class = named rt_class_of number_of_class (Field 7) four
 

@@ -145,7 +145,7 @@ shown_all law before entry more old new plays started =
     subst (λ (b : Bool). ServesIf b (operation_in entry) port entry.asked entry.given entry.answer next entry.reported) is_started apart.2.1 in
     subst (λ (c : Controlling). Shows (operation_in entry) c entry) (alone_all law before old port apart.1) (shown (operation_in entry) port entry next performs)
 
--- ---- what the host was told
+-- ---- what the host learned
 
 -- The entries are those that were played.
 pub plays_told : (operations : List (Op × List ℕ)) (before now : List Entry) (are_all : Bool) (old new : State) → IsPlayed operations before now are_all old new

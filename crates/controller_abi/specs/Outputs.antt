@@ -8,7 +8,7 @@ abbrev pub output_of : ℕ → List RealSubmodule → Option ℕ
 output_of subslot [] = None
 output_of subslot (part ∷ others) = if part.subslot == subslot then Some part.output else output_of subslot others
 
--- The same of a submodule of these modules.
+-- The number of octets of the output of a submodule of these modules.
 abbrev pub output_at : ℕ → ℕ → List RealModule → Option ℕ
 output_at slot subslot [] = None
 output_at slot subslot (plugged ∷ others) =
@@ -39,7 +39,7 @@ why_not_read true can = Some 7
 why_not_read false true = None
 why_not_read false false = Some 26
 
--- The same of a record of this size that is written: 8 if it is longer than a call can carry.
+-- Why no record of this size is written, if it is not: as for a read; 8 if it is longer than a call can carry.
 abbrev pub why_not_written : Bool → Bool → ℕ → Option ℕ
 why_not_written true can size = Some 7
 why_not_written false can size = if nat_le size 1308 then why_not_read false can else Some 8

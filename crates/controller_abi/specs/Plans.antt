@@ -19,20 +19,25 @@ use Rattle.controller_abi.specs.declared.plan.WrittenRecord.{WrittenRecord}
 
 -- ---- lists in which only the counted items are valid
 
+-- The name of the station in a plan that C wrote.
 abbrev pub name_in : WrittenPlan → List ℕ
 name_in written = take written.name_length written.name
 
+-- The name of the controller.
 abbrev pub controller_name_in : WrittenPlan → List ℕ
 controller_name_in written = take written.controller_name_length written.controller_name
 
+-- The modules that are used.
 abbrev pub modules_in : WrittenPlan → List Module
 modules_in written = take written.module_count written.modules
 
+-- The records that are used.
 abbrev pub records_in : WrittenPlan → List WrittenRecord
 records_in written = take written.record_count written.records
 
 -- ---- whether each part is in its range
 
+-- The IP suite of the station.
 abbrev pub suite_in : WrittenPlan → Suite
 suite_in written = record { address = written.address; mask = written.mask; gateway = written.gateway }
 
@@ -41,6 +46,7 @@ abbrev pub has_room : WrittenPlan → Bool
 has_room written =
     nat_le written.module_count 16 && (list_all is_module (modules_in written) && nat_le written.record_count 32)
 
+-- Whether SendClockFactor, ReductionRatio and DataHoldFactor are in their ranges.
 abbrev pub are_times : WrittenPlan → Bool
 are_times written =
     (nat_le 1 written.send_clock_factor && nat_le written.send_clock_factor 128)
@@ -66,6 +72,7 @@ is_sound plugged =
 abbrev pub is_item : WrittenRecord → Parameter → Bool
 is_item entry item = item.index == entry.index && item.length == entry.length
 
+-- Whether a submodule has a parameter record with the index and the length of this one.
 abbrev pub does_part_take : WrittenRecord → Submodule → Bool
 does_part_take entry part = part.subslot == entry.subslot && list_any (is_item entry) (parameters_in part)
 
@@ -82,9 +89,11 @@ abbrev pub are_numbers : WrittenPlan → Bool
 are_numbers written =
     are_times written && (list_all is_sound (modules_in written) && list_all (is_record (modules_in written)) (records_in written))
 
+-- Whether octets of this length are a station name.
 abbrev pub is_name : ℕ → List ℕ → Bool
 is_name length octets = nat_le length 240 && is_station_name (take length octets)
 
+-- Whether both names are station names.
 abbrev pub are_named : WrittenPlan → Bool
 are_named written =
     is_name written.name_length written.name && is_name written.controller_name_length written.controller_name
@@ -116,6 +125,7 @@ is_written written =
 
 -- ---- the plan
 
+-- A record of the plan.
 abbrev pub record_of : WrittenRecord → PlanRecord
 record_of entry = record { slot = entry.slot; subslot = entry.subslot; index = entry.index; «data» = record { items = take entry.length entry.octets } }
 
@@ -123,6 +133,7 @@ record_of entry = record { slot = entry.slot; subslot = entry.subslot; index = e
 abbrev pub options_in : WrittenPlan → ControllerOptions
 options_in written = record { patience = written.patience; waiting_patience = written.waiting_patience }
 
+-- The plan that C wrote.
 abbrev pub parts_of : WrittenPlan → Parts
 parts_of written = record {
   station = record { name = name_in written; suite = suite_in written; vendor_id = written.vendor_id; device_id = written.device_id };
@@ -141,9 +152,11 @@ parts_of written = record {
 
 -- ---- the same, in the form in which it is used
 
+-- A record has at most 64 octets.
 abbrev pub IsShort : WrittenRecord → Type 0
 IsShort entry = entry.length ≤ 64
 
+-- What a plan must be that C writes: names, counts, times, modules and records are in their ranges.
 pub record IsWritten (written : WrittenPlan) : Type 0 where
   pub few_octets : written.name_length ≤ 240
   pub named : is_station_name (name_in written) ≡ true
@@ -163,7 +176,7 @@ fault_of_length (Ok plan) = 0
 fault_of_length (Err Frame) = 39
 fault_of_length (Err Connect) = 40
 
--- The same of what is too long, if anything is.
+-- The number of what is too long, if anything is.
 abbrev pub length_number : Option TooLong → ℕ
 length_number None = 0
 length_number (Some Frame) = 39
@@ -180,6 +193,7 @@ fault_of written =
     (if not (are_placed written) then 37 else
     (if not (are_low written) then 38 else fault_of_length (plan_of (parts_of written)))))))
 
+-- Whether a plan that C wrote has no fault.
 abbrev pub is_plan : WrittenPlan → Bool
 is_plan written = fault_of written == 0
 

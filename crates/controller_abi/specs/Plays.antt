@@ -9,6 +9,7 @@ use Rattle.controller_abi.specs.State.{State}
 abbrev pub IsTurn : State → Entry → State → Type 0
 IsTurn old entry new = Serves (operation_in entry) old entry.asked entry.given entry.answer new entry.reported
 
+-- These operations lead from one state of the port to another, one after the other.
 abbrev pub Plays : State → List Entry → State → Type 0
 Plays old [] new = new ≡ old
 Plays old (entry ∷ more) new = (between : State) × IsTurn old entry between × Plays between more new

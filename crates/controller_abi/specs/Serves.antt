@@ -104,6 +104,7 @@ IsRead (Some place) (Some index) old answer new =
 IsRead (Some place) None old answer new = (answer ≡ why_no_place (has_frames old.frames)) × (new ≡ old)
 IsRead None index old answer new = (answer ≡ why_no_place (has_frames old.frames)) × (new ≡ old)
 
+-- What the operation Write does, with its place and index if they are numbers of 16 bits.
 abbrev pub IsWrite : Option (ℕ × ℕ) → Option ℕ → State → List ℕ → ℕ → State → Type 0
 IsWrite (Some place) (Some index) old given answer new =
     IsSet (why_not_written (has_frames old.frames) (can_request old.controller.live) (length given)) old
@@ -118,6 +119,7 @@ pub record IsPast (old : State) (asked : Op) (answer : ℕ) (new : State) (repor
   pub passes : Passes old asked.units left new
   pub units : reported ≡ record asked { units = left }
 
+-- What the operation Tick does: nothing while frames wait.
 abbrev pub IsTick : Bool → State → Op → ℕ → State → Op → Type 0
 IsTick true old asked answer new reported = (answer ≡ 7) × (new ≡ old) × (reported ≡ asked)
 IsTick false old asked answer new reported = IsPast old asked answer new reported
@@ -142,6 +144,7 @@ abbrev pub IsValue : Option (List ℕ) → Op → ℕ → Op → Type 0
 IsValue (Some value) asked answer reported = (answer ≡ 0) × (reported ≡ with_octets value asked)
 IsValue None asked answer reported = (answer ≡ 9) × (reported ≡ asked)
 
+-- What the operation Input returns.
 abbrev pub IsInput : Option (ℕ × ℕ) → State → Op → ℕ → Op → Type 0
 IsInput (Some place) port asked answer reported = IsValue (value_at port.controller.live.cyclic place.0 place.1) asked answer reported
 IsInput None port asked answer reported = (answer ≡ 9) × (reported ≡ asked)
@@ -150,14 +153,17 @@ IsInput None port asked answer reported = (answer ≡ 9) × (reported ≡ asked)
 abbrev pub with_statuses : ProviderStatus → Op → Op
 with_statuses status asked = with_octets (status.iops ∷ status.data_status.0 ∷ []) asked
 
+-- What the operation Provider returns of a status, if there is one.
 abbrev pub IsProviderAt : Option ProviderStatus → Op → ℕ → Op → Type 0
 IsProviderAt (Some status) asked answer reported = (answer ≡ 0) × (reported ≡ with_statuses status asked)
 IsProviderAt None asked answer reported = (answer ≡ 24) × (reported ≡ asked)
 
+-- What the operation Provider returns.
 abbrev pub IsProvider : Option (ℕ × ℕ) → State → Op → ℕ → Op → Type 0
 IsProvider (Some place) port asked answer reported = IsProviderAt (provider_of port.controller.live place.0 place.1) asked answer reported
 IsProvider None port asked answer reported = (answer ≡ 24) × (reported ≡ asked)
 
+-- The number of each state, as a host sees it.
 abbrev pub phase_number : phase.State → ℕ
 phase_number Looking = 1
 phase_number Addressing = 2
@@ -233,6 +239,7 @@ abbrev pub with_report : Report → ℕ → Op → Op
 with_report report number asked =
     with_alarm report.notification (record asked { more = structure_number report.user_structure; sector = number })
 
+-- What the operation Alarm returns of the last alarm, if one was accepted.
 abbrev pub IsReported : Option Report → Option ℕ → Op → ℕ → Op → Type 0
 IsReported (Some report) (Some number) asked answer reported = (answer ≡ 0) × (reported ≡ with_report report number asked)
 IsReported (Some report) None asked answer reported = (answer ≡ 9) × (reported ≡ asked)
@@ -247,6 +254,7 @@ abbrev pub with_diagnosis : Diagnosis → Op → Op
 with_diagnosis diagnosis asked =
     record asked { slot = diagnosis.slot; subslot = diagnosis.subslot; more = diagnosis.channel; note = diagnosis.error }
 
+-- What the operation Diagnosis returns, if there is a diagnosis at its place.
 abbrev pub IsDiagnosis : Option Diagnosis → Op → ℕ → Op → Type 0
 IsDiagnosis (Some diagnosis) asked answer reported = (answer ≡ 0) × (reported ≡ with_diagnosis diagnosis asked)
 IsDiagnosis None asked answer reported = (answer ≡ 9) × (reported ≡ asked)
@@ -257,6 +265,7 @@ abbrev pub with_neighbour : Peer → Op → Op
 with_neighbour peer asked =
     with_octets (peer.mac.octets ++ peer.port ++ peer.chassis) (record asked { units = length peer.port; more = length peer.chassis })
 
+-- What the operation Neighbour returns, if one is known.
 abbrev pub IsNeighbour : Option Peer → Op → ℕ → Op → Type 0
 IsNeighbour (Some peer) asked answer reported = (answer ≡ 0) × (reported ≡ with_neighbour peer asked)
 IsNeighbour None asked answer reported = (answer ≡ 9) × (reported ≡ asked)
@@ -312,5 +321,6 @@ abbrev pub ServesIf : Bool → Option Operation → State → Op → List ℕ �
 ServesIf true what old asked given answer new reported = Performs what old asked given answer new reported
 ServesIf false what old asked given answer new reported = (answer ≡ 17) × (new ≡ old) × (reported ≡ asked)
 
+-- What each operation does.
 abbrev pub Serves : Option Operation → State → Op → List ℕ → ℕ → State → Op → Type 0
 Serves what old asked given answer new reported = ServesIf old.is_started what old asked given answer new reported

@@ -48,7 +48,7 @@ after old event = record {
   is_started = old.is_started;
 }
 
--- The number of units up to and with the next one with which anything is sent, the neighbour is
+-- The number of units up to and including the next one with which anything is sent, the neighbour is
 -- forgotten, or the controller ends.
 abbrev pub port_due_in : State → ℕ
 port_due_in port = served_due_in (record { controller = port.controller; services = port.services })

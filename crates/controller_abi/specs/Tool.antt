@@ -22,6 +22,7 @@ use Rattle.controller_abi.specs.declared.tool.WrittenTool.{WrittenTool}
 abbrev pub tool_in : WrittenTool → Controller
 tool_in written = record { name = []; mac = record { octets = written.mac }; address = written.address }
 
+-- The station that a tool reads from, as C wrote it.
 abbrev pub target_in : WrittenTarget → Target
 target_in written = record { mac = record { octets = written.mac }; address = written.address; vendor_id = written.vendor_id; device_id = written.device_id }
 
@@ -52,6 +53,7 @@ pub record IsFound (written : WrittenTool) (alias : List ℕ) (asked : Op) (answ
   pub place : place_of search ≡ Nobody
   pub tidy : IsTidy search
 
+-- What a search begins with, or that its name is no name by a place.
 abbrev pub IsFindIf : Bool → WrittenTool → Search → List ℕ → Op → ℕ → WrittenTool → Search → Op → Type 0
 IsFindIf true written search alias asked answer next begun reported = (answer ≡ 8) × (next ≡ written) × (begun ≡ search) × (reported ≡ asked)
 IsFindIf false written search alias asked answer next begun reported = IsFound written alias asked answer next begun reported
@@ -80,10 +82,12 @@ pub record IsGiven (written : WrittenTool) (place : Place) (text : List ℕ) (as
   pub handed : reported ≡ with_octets frame asked
   pub sets : IsHeardAs frame (record { octets = written.mac }) (record { octets = station }) (name_asked next.xid text)
 
+-- What the Set of a name does, if a search found one nameless station; else why not.
 abbrev pub IsNamed : Option Unnamed → WrittenTool → Place → List ℕ → Op → ℕ → WrittenTool → Op → Type 0
 IsNamed None written place text asked answer next reported = IsGiven written place text asked answer next reported
 IsNamed (Some why) written place text asked answer next reported = (answer ≡ why_number why) × (next ≡ written) × (reported ≡ asked)
 
+-- What the Set of a name does if the text is a station name.
 abbrev pub IsNameIf : Bool → WrittenTool → Place → List ℕ → Op → ℕ → WrittenTool → Op → Type 0
 IsNameIf true written place text asked answer next reported = IsNamed (why_unnamed place) written place text asked answer next reported
 IsNameIf false written place text asked answer next reported = (answer ≡ 41) × (next ≡ written) × (reported ≡ asked)

@@ -99,7 +99,7 @@ impl Port {
         self.served.neighbour()
     }
 
-    /// The number of units up to and with the next one with which anything is due.
+    /// The number of units up to and including the next one with which anything is due.
     pub fn due(&self) -> u32
         ensures value { result ≡ port_due_in self.now }
         ensures some { 0 < result }

@@ -451,7 +451,7 @@ fn number_of_cause(reached: State) -> u32
     }
 }
 
-// The number of units up to and with the next one with which anything is due.
+// The number of units up to and including the next one with which anything is due.
 fn due(port: &Port, op: &mut Op) -> u32
     ensures answer { result ≡ 0 }
     ensures reported { op.new ≡ record op.old { units = port_due_in port.now } }

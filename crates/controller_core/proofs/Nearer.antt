@@ -17,7 +17,7 @@ use Rattle.controller_core.specs.Leaps.{access_due_in, live_due_in, patience_due
 use Rattle.controller_core.proofs.Leaping.{off_later, on_later}
 use Rattle.controller_core.specs.stored.State.{Live}
 
--- So it comes nearer by at most so many with several.
+-- So it comes nearer by at most that many with several.
 counts : {A : Type 0} (due : A → ℕ) (step : A → A) → ((state : A) → due state ≤ 1 + due (step state)) → (units : ℕ) (state : A) → due state ≤ units + due (after step units state)
 counts due step one zero state = omega arith
 counts due step one (suc units) state = omega (arith, counts due step one units state, one (after step units state))

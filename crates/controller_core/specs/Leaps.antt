@@ -6,24 +6,24 @@ use Rattle.controller_core.specs.declared.stored.event.Event.TheVariants.{Tick}
 use Rattle.controller_core.specs.stored.State.{Controlling, Live}
 use Rattle.controller_core.specs.Machine.{Stepped, step_of}
 
--- The number of units up to and with the next one with which the request is sent again.
+-- The number of units up to and including the next one with which the request is sent again.
 abbrev pub request_due_in : Live → ℕ
 request_due_in live = if is_some live.asked then 32000 - live.waited else never
 
--- The same of the request of the application.
+-- The number of units up to and including the next one with which the request of the application is sent again.
 abbrev pub access_due_in : Live → ℕ
 access_due_in live = if is_some live.access.waiting then 32000 - live.waited else never
 
--- The number of units up to and with the next one with which the relation sends a frame or ends.
+-- The number of units up to and including the next one with which the relation sends a frame or ends.
 abbrev pub exchange_due_in : Live → ℕ
 exchange_due_in live =
     if live.stands then min (access_due_in live) (min (min (cyclic_due_in live.cyclic) (data_due_in live.alarms.sending)) (data_due_in live.low_alarms.sending)) else never
 
--- The number of units up to and with the next one with which the patience of its phase ends.
+-- The number of units up to and including the next one with which the patience of its phase ends.
 abbrev pub patience_due_in : Live → ℕ
 patience_due_in live = if live.left == 0 then never else live.left
 
--- The number of units up to and with the next one with which something is sent, or the controller ends.
+-- The number of units up to and including the next one with which something is sent, or the controller ends.
 abbrev pub live_due_in : Live → ℕ
 live_due_in live = min (patience_due_in live) (min (request_due_in live) (exchange_due_in live))
 
@@ -31,6 +31,7 @@ live_due_in live = min (patience_due_in live) (min (request_due_in live) (exchan
 abbrev pub and_then : Stepped → Stepped → Stepped
 and_then before step = record { controller = step.controller; frames = before.frames ++ step.frames }
 
+-- What this number of Tick events does, one by one.
 abbrev pub ticks_of : ℕ → Controlling → Stepped
 ticks_of zero controlling = record { controller = controlling; frames = [] }
 ticks_of (suc units) controlling = and_then (ticks_of units controlling) (step_of (ticks_of units controlling).controller Tick)

@@ -132,6 +132,7 @@ found setup live source answer =
 abbrev pub addressed : Setup → Live → Answered → Turn
 addressed setup live answer = if is_agreed answer then asking setup Connecting asks.Connect live else stays (over cause.Refused live)
 
+-- What an answer of DCP does, by the state: to Identify while it looks for its station, to the Set while it sets the address.
 abbrev pub answered : Setup → Live → Mac → Answered → State → Turn
 answered setup live source answer Looking = if is_found setup.plan answer then found setup live source answer else stays live
 answered setup live source answer Addressing = if is_set_answer answer then addressed setup live answer else stays live
@@ -139,6 +140,7 @@ answered setup live source answer phase = stays live
 
 -- ---- responses
 
+-- This Write, or PrmEnd, is sent, and its state begins.
 abbrev pub writing : Setup → Request → Live → Turn
 writing setup request live = asking setup (phase_for request) request live
 
@@ -156,12 +158,14 @@ abbrev pub related_by : Setup → Live → Option Chosen → Turn
 related_by setup live (Some chosen) = writing setup (writing_from setup.plan 0) (standing setup live chosen)
 related_by setup live None = stays live
 
+-- After the response to the Connect: the relation is established, or ended by a Release if a wrong module is listed.
 abbrev pub connected_by : Setup → Live → Found → Turn
 connected_by setup live found =
     if is_whole found
     then (if found.differs then released setup cause.ModuleDiff live else related_by setup live (chosen_of found))
     else stays live
 
+-- What a response to the Connect does: nothing if its blocks cannot be read.
 abbrev pub connected : Setup → Live → Option Found → Turn
 connected setup live (Some found) = connected_by setup live found
 connected setup live None = stays live
@@ -174,6 +178,7 @@ noted status number live = record live { refusal = Some status; refused_record =
 abbrev pub refused_record : Setup → Live → Turn
 refused_record setup live = if setup.plan.release_on_refused_record then released setup cause.Refused live else stays (over cause.Refused live)
 
+-- After a record was refused: the next Write if the plan goes on, else the end.
 abbrev pub past_record : Setup → ℕ → Live → Turn
 past_record setup number live =
     if setup.plan.continue_on_refused_record then writing setup (writing_from setup.plan (number + 1)) live else refused_record setup live
@@ -204,6 +209,7 @@ abbrev pub handled : Setup → Live → Response → Request → Turn
 handled setup live response request =
     if is_done response.status then done setup live response.blocks request else undone setup live response.status request
 
+-- What the response to a request does; that to a Release ends its repeats.
 abbrev pub decided : Setup → Live → Response → Request → Turn
 decided setup live response (asks.Release sequence) = stays (record live { asked = None })
 decided setup live response request = handled setup live response request
@@ -213,18 +219,22 @@ decided setup live response request = handled setup live response request
 abbrev pub failed : Status → RecordRequest → Live → Live
 failed status request live = record live { refusal = Some status; access = answered_with request status [] live.access }
 
+-- The answer to a Read of the application, with the record that it brought.
 abbrev pub brings : RecordRequest → Option (List ℕ) → Live → Live
 brings request (Some octets) live = record live { access = answered_with request no_error octets live.access }
 brings request None live = live
 
+-- The answer to a request of the application that was done.
 abbrev pub granted : RecordRequest → List ℕ → RecordService → Live → Live
 granted request blocks service.Read live = brings request (record_in (block_of blocks)) live
 granted request blocks service.Write live = record live { access = answered_with request no_error [] live.access }
 
+-- What the response to a request of the application does: it is done, or refused with its status.
 abbrev pub replied_by : Live → Response → RecordRequest → Live
 replied_by live response request =
     if is_done response.status then granted request response.blocks request.service live else failed response.status request live
 
+-- What a response does to the request of the application, if one waits and the response belongs to it.
 abbrev pub replied : Setup → Live → Response → Option RecordRequest → Live
 replied setup live response (Some request) = if is_reply setup request response.header then replied_by live response request else live
 replied setup live response None = live
@@ -247,6 +257,7 @@ abbrev pub rejected : Setup → Live → Refusal → Option RecordRequest → Li
 rejected setup live refusal (Some request) = if is_rejected setup request refusal then failed refusal.status request live else live
 rejected setup live refusal None = live
 
+-- What a reject or a fault does: to the request of the start-up, or to that of the application.
 abbrev pub refused : Setup → Live → Refusal → Option Request → Turn
 refused setup live refusal (Some request) = if is_refused setup request refusal then refused_by live refusal request else stays live
 refused setup live refusal None = stays (rejected setup live refusal live.access.waiting)
@@ -266,6 +277,7 @@ readied live caller call block Waiting = record {
 readied live caller call block Exchanging = record { live = live; sent = Agrees caller (ready_answer call block) ∷ [] }
 readied live caller call block phase = stays live
 
+-- What a call does: an ApplicationReady of this relation is answered, any other is dropped.
 abbrev pub called : Setup → Live → Caller → Call → Option ControlBlock → Turn
 called setup live caller call (Some block) = if is_ready setup block then readied live caller call block live.phase else stays live
 called setup live caller call None = stays live
@@ -277,6 +289,7 @@ abbrev pub end_of : Live → Priority → ControllerEnd
 end_of live High = live.alarms
 end_of live Low = live.low_alarms
 
+-- The controller with another state of its alarms of a priority.
 abbrev pub with_end : Live → Priority → ControllerEnd → Live
 with_end live High end = record live { alarms = end }
 with_end live Low end = record live { low_alarms = end }
@@ -290,6 +303,7 @@ keeping live Low alarm user_structure = record live { low_alarm = Some alarm; lo
 abbrev pub behind_data : Live → Priority → ℕ → Live
 behind_data live priority number = with_end live priority (with_data (end_of live priority) number)
 
+-- The state once an AlarmAck waits for its ACK.
 abbrev pub acking : Live → Priority → AlarmAck → Live
 acking live priority ack = with_end live priority (confirmed (end_of live priority) ack)
 
@@ -297,17 +311,21 @@ acking live priority ack = with_end live priority (confirmed (end_of live priori
 abbrev pub diagnosing : Report → Live → Live
 diagnosing report live = record live { diagnosis = after_report report live.diagnosis }
 
+-- The state once an alarm is accepted: its AlarmAck is sent, it is shown, and what it reports of diagnosis is listed.
 abbrev pub confirming : Live → Report → Live
 confirming live report =
     diagnosing report
     (keeping (acking live report.priority (ack_of report.notification)) report.priority (kept_alarm report.notification) report.user_structure)
 
+-- The ACK or NACK of data of a priority.
 abbrev pub reply_of : Live → Priority → PduType → Sent
 reply_of live priority kind = Replies live.cyclic.route priority (header_of (end_of live priority) live.cyclic.route kind)
 
+-- The AlarmAck, as it is sent first and repeated.
 abbrev pub ack_now : Live → Priority → AlarmAck → Sent
 ack_now live priority ack = Confirms live.cyclic.route priority (header_of (end_of live priority) live.cyclic.route pdu.Data) ack
 
+-- What an alarm does: a new one is accepted with ACK and AlarmAck, a repeated one gets an ACK, another a NACK.
 abbrev pub taken : Live → Report → Taken → Turn
 taken live report New = record {
   live = confirming live report;
@@ -322,6 +340,7 @@ abbrev pub acked_under : Live → Priority → Priority
 acked_under live High = High
 acked_under live Low = if is_some live.low_alarms.sending.last then Low else High
 
+-- The state after an ACK with this number.
 abbrev pub behind_ack : Live → Priority → ℕ → Live
 behind_ack live priority number = with_end live priority (with_ack (end_of live priority) number)
 
@@ -343,6 +362,7 @@ abbrev pub reported_as : Priority → Option ℕ → Option AlarmNotification �
 reported_as priority user_structure alarm =
     option_map (λ a. record { priority = priority; notification = a; user_structure = user_structure }) alarm
 
+-- The last alarm of a priority that was accepted, if there is one.
 abbrev pub report_in : Live → Priority → Option Report
 report_in live High = reported_as High live.user_structure live.alarm
 report_in live Low = reported_as Low live.low_user_structure live.low_alarm
@@ -353,6 +373,7 @@ report_in live Low = reported_as Low live.low_user_structure live.low_alarm
 abbrev pub come : Live → Mac → ℕ → List ℕ → Live
 come live source frame_id body = if live.stands then record live { cyclic = behind_frame live.cyclic source frame_id body } else live
 
+-- What a message does, by its kind.
 abbrev pub turned : Setup → Live → Heard → Turn
 turned setup live Nothing = stays live
 turned setup live (Answers source answer) = answered setup live source answer live.phase
@@ -380,14 +401,17 @@ is_spent live = is_limited live.phase && live.left == 1
 abbrev pub where_due : Bool → List Sent → List Sent
 where_due is_due sent = if is_due then sent else []
 
+-- The active request of the start-up, as it is sent again.
 abbrev pub requests_of : Mac → Option Request → List Sent
 requests_of device (Some request) = Requests device request ∷ []
 requests_of device None = []
 
+-- A request of the application, as it is sent.
 abbrev pub accesses_by : Mac → List ℕ → Option RecordRequest → List Sent
 accesses_by device octets (Some request) = Accesses device request octets ∷ []
 accesses_by device octets None = []
 
+-- The request of the application that waits, as it is sent again.
 abbrev pub accesses_of : Live → List Sent
 accesses_of live = accesses_by live.device live.access.octets live.access.waiting
 
@@ -396,16 +420,20 @@ abbrev pub pending_by : Live → Option Request → List Sent
 pending_by live (Some request) = Requests live.device request ∷ []
 pending_by live None = accesses_of live
 
+-- The requests that wait for an answer.
 abbrev pub pending_of : Live → List Sent
 pending_of live = pending_by live live.asked
 
+-- An AlarmAck that waits for its ACK, as it is repeated.
 abbrev pub acks_in : Live → Priority → Option AlarmAck → List Sent
 acks_in live priority (Some ack) = ack_now live priority ack ∷ []
 acks_in live priority None = []
 
+-- That of a priority.
 abbrev pub acks_of : Live → Priority → List Sent
 acks_of live priority = acks_in live priority (end_of live priority).confirming
 
+-- The cyclic frame of outputs.
 abbrev pub outputs_of : Live → List Sent
 outputs_of live = Cycles live.cyclic.route live.cyclic.shown live.units ∷ []
 
@@ -465,9 +493,11 @@ ticked setup live = if is_spent live then quit setup cause.NoProgress (later liv
 abbrev pub marks_with : Live → ℕ → ℕ → Option Bool → List OutputMark
 marks_with live slot subslot status = marked slot subslot (change_by status) live.outputs
 
+-- The IOPS of an output after a value or a status is given.
 abbrev pub iops_with : Live → ℕ → ℕ → Option Bool → ℕ
 iops_with live slot subslot status = iops_of (mark_at slot subslot (marks_with live slot subslot status))
 
+-- The controller after the status of an output changes.
 abbrev pub remarked : Live → ℕ → ℕ → Option Bool → Live
 remarked live slot subslot status = record live {
   cyclic = stated_at live.cyclic slot subslot (iops_with live slot subslot status);
@@ -494,6 +524,7 @@ cells_given live slot subslot value =
     then map (changed_in at_data slot subslot (with_output (awaits slot subslot live.outputs) (iops_with live slot subslot None) value)) live.cyclic.shown.cells
     else live.cyclic.shown.cells
 
+-- The controller after a value is given for an output.
 abbrev pub given : Live → ℕ → ℕ → List ℕ → Live
 given live slot subslot value = record live {
   cyclic = record live.cyclic { shown = record live.cyclic.shown { cells = cells_given live slot subslot value } };
@@ -509,6 +540,7 @@ abbrev pub is_exchanging : State → Bool
 is_exchanging Exchanging = true
 is_exchanging phase = false
 
+-- Whether the application may read or write a record: data is exchanged, and no other request waits.
 abbrev pub can_request : Live → Bool
 can_request live = is_exchanging live.phase && not (is_some live.access.waiting)
 
@@ -519,10 +551,12 @@ accessing request octets live = record {
   sent = Accesses live.device request octets ∷ [];
 }
 
+-- The next request of the application, with its sequence number.
 abbrev pub request_for : Setup → Live → RecordService → ℕ → ℕ → ℕ → RecordRequest
 request_for setup live kind slot subslot index =
     record { sequence = call_number setup.plan live.access.calls; service = kind; slot = slot; subslot = subslot; index = index }
 
+-- What a Read or Write of the application does: it is sent if it may be, else nothing changes.
 abbrev pub requested : Setup → Live → RecordService → ℕ → ℕ → ℕ → List ℕ → Turn
 requested setup live kind slot subslot index octets =
     if can_request live then accessing (request_for setup live kind slot subslot index) octets live else stays live
@@ -532,6 +566,7 @@ abbrev pub written : Setup → Live → ℕ → ℕ → ℕ → List ℕ → Tur
 written setup live slot subslot index octets =
     if nat_lt most_record_octets (length octets) then stays live else requested setup live service.Write slot subslot index octets
 
+-- What each event does to a controller: the cases of its machine.
 abbrev pub turn_of : Setup → Live → Event → Turn
 turn_of setup live (Frame bytes) = turned setup live (heard_of setup.plan.controller bytes.items)
 turn_of setup live Ticks = ticked setup live
@@ -598,6 +633,7 @@ before_start cyclic = record {
 abbrev pub fresh_with : Parts → List ℕ → List ℕ → ControllerOptions → Controlling
 fresh_with plan ar activity options = record { setup = record { plan = plan; ar = ar; activity = activity; options = options }; live = first plan }
 
+-- A new controller of this plan with the default options.
 abbrev pub fresh : Parts → List ℕ → List ℕ → Controlling
 fresh plan ar activity = fresh_with plan ar activity default_options
 

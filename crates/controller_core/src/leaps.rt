@@ -10,7 +10,7 @@ use frame_codec::Outbox;
 use pn_alarms::NEVER;
 
 impl Controller {
-    /// The number of units up to and with the next one with which something is sent, or the controller ends.
+    /// The number of units up to and including the next one with which something is sent, or the controller ends.
     /// 4,294,967,295 if no unit ever does any of these.
     pub fn due(&self) -> u32
         ensures value { result ≡ live_due_in self.now.live }
@@ -20,7 +20,7 @@ impl Controller {
             .min(self.request_due_in().min(self.exchange_due_in()))
     }
 
-    // The number of units up to and with the next one with which the patience of its phase ends.
+    // The number of units up to and including the next one with which the patience of its phase ends.
     fn patience_due_in(&self) -> u32
         ensures value { result ≡ patience_due_in self.now.live }
         ensures some { 0 < result }
@@ -28,7 +28,7 @@ impl Controller {
         if self.left == 0 { NEVER } else { self.left }
     }
 
-    // The number of units up to and with the next one with which the request is sent again.
+    // The number of units up to and including the next one with which the request is sent again.
     fn request_due_in(&self) -> u32
         ensures value { result ≡ request_due_in self.now.live }
         ensures some { 0 < result }
@@ -52,7 +52,7 @@ impl Controller {
         }
     }
 
-    // The number of units up to and with the next one with which the relation sends a frame or ends.
+    // The number of units up to and including the next one with which the relation sends a frame or ends.
     fn exchange_due_in(&self) -> u32
         ensures value { result ≡ exchange_due_in self.now.live }
         ensures some { 0 < result }
@@ -70,7 +70,7 @@ impl Controller {
     }
 
     /// Lets `units` units of 31.25 microseconds pass at once, at most as many as `due` returns: clears the outbox, and
-    /// appends the frames to be sent. It does what as many Tick events do, one by one.
+    /// appends the frames to be sent. It has the same effect as that many Tick events, one by one.
     pub fn elapse(&mut self, units: u32, outbox: &mut Outbox)
         requires { units ≤ live_due_in self.old.live }
         // The controller and the frames are those after that many Tick events. Only the last of them may send, or end the
@@ -91,7 +91,7 @@ impl Controller {
     }
 
     /// Lets units of 31.25 microseconds pass at once, fewer than `due` returns: with none of them is anything sent, and the
-    /// controller does not end. It does what as many Tick events do, one by one.
+    /// controller does not end. It has the same effect as that many Tick events, one by one.
     #[inline(always)]
     pub fn leap(&mut self, units: u32)
         requires { units < live_due_in self.old.live }

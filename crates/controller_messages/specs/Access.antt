@@ -49,6 +49,7 @@ abbrev pub record_by : Option Answer → List ℕ → List ℕ
 record_by (Some answer) octets = octets
 record_by None octets = []
 
+-- The record that the last answer brought; empty if it brought none.
 abbrev pub record_of : Accessing → List ℕ
 record_of access = record_by access.answer access.octets
 
@@ -58,6 +59,7 @@ record_of access = record_by access.answer access.octets
 abbrev pub is_reply : Setup → RecordRequest → CallHeader → Bool
 is_reply setup request header = pointwise nat_eq header.activity setup.activity && header.sequence == request.sequence
 
+-- Whether a reject or a fault refuses this request, by activity and sequence number.
 abbrev pub is_rejected : Setup → RecordRequest → Refusal → Bool
 is_rejected setup request refusal = pointwise nat_eq refusal.activity setup.activity && refusal.sequence == request.sequence
 
@@ -66,6 +68,7 @@ abbrev pub record_behind : Option IodReadRes → List ℕ → Option (List ℕ)
 record_behind (Some block) rest = Some (take most_record_octets (take block.header.record_data_length rest))
 record_behind None rest = None
 
+-- The record in the response to a Read.
 abbrev pub record_in : Result (Block × List ℕ) BlockFault → Option (List ℕ)
 record_in (Ok x) = record_behind (in_iod_read_res x.0) x.1
 record_in (Err fault) = None

@@ -42,6 +42,7 @@ abbrev pub heard_answer : Mac → Result Answered DcpFault → Heard
 heard_answer source (Ok answer) = Answers source answer
 heard_answer source (Err fault) = Nothing
 
+-- An alarm PDU, if it can be read.
 abbrev pub heard_alarm : Mac → ℕ → Result (Header × ToController) AlarmFault → Heard
 heard_alarm source frame_id (Ok x) = Alarms source (priority_of frame_id) x.0 x.1
 heard_alarm source frame_id (Err fault) = Nothing
@@ -56,6 +57,7 @@ abbrev pub heard_refusal : Result Refusal RpcFault → Heard
 heard_refusal (Ok refusal) = Refuses refusal
 heard_refusal (Err fault) = Nothing
 
+-- The response to a call, else a reject or a fault.
 abbrev pub heard_response : Result Response RpcFault → Result Refusal RpcFault → Heard
 heard_response (Ok response) refusal = Responds response
 heard_response (Err fault) refusal = heard_refusal refusal
@@ -65,6 +67,7 @@ abbrev pub heard_first : Caller → Result Call RpcFault → Result Response Rpc
 heard_first caller (Ok call) response refusal = heard_call caller call call.blocks
 heard_first caller (Err fault) response refusal = heard_response response refusal
 
+-- What the body of a datagram is to a controller.
 unfoldable pub heard_body : Caller → List ℕ → Heard
 heard_body caller body = heard_first caller (call_of controllers body) (response_of body) (refusal_of body)
 
@@ -103,6 +106,7 @@ abbrev pub IsNoRealTimeTo : Controller → Result Meaning FrameFault → Type 0
 IsNoRealTimeTo controller (Ok meaning) = pointwise nat_eq meaning.destination.octets controller.mac.octets ≡ true → IsOther meaning.content
 IsNoRealTimeTo controller (Err fault) = ⊤
 
+-- What a frame is to a controller, if it can be read.
 abbrev pub heard_read : Controller → Result Meaning FrameFault → Heard
 heard_read controller (Ok meaning) = heard_frame controller meaning
 heard_read controller (Err fault) = Nothing

@@ -22,6 +22,7 @@ unfoldable pub in_order : Bool → ℕ → Codec RpcFault ℕ
 in_order true size = little size
 in_order false size = number Short size
 
+-- The format of a UUID in a byte order.
 unfoldable pub uuid_in : Bool → Codec RpcFault (List ℕ)
 uuid_in true = seen turned turned (raw Short 16)
 uuid_in false = raw Short 16

@@ -6,6 +6,7 @@ use Rattle.controller_messages.specs.declared.hearing.Hearing.{Hearing}
 use Rattle.controller_messages.specs.declared.hearing.Hearing.TheVariants as found
 use Rattle.controller_messages.specs.Heard.{Heard, Nothing, Answers, Responds, Refuses, Calls, Cyclic, Alarms}
 
+-- What the functions return is what was heard.
 abbrev pub reported : Hearing → Heard
 reported found.Nothing = Nothing
 reported (found.Answers source answer) = Answers source (answered_as answer)

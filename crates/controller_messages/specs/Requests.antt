@@ -38,6 +38,7 @@ write_count plan = if plan.multiple_write then (length plan.records.items + 9) /
 abbrev pub first_of : Parts → ℕ → ℕ
 first_of plan number = if plan.multiple_write then number * 10 else number
 
+-- The records of the plan that the Write with this number carries.
 abbrev pub group_of : Parts → ℕ → List PlanRecord
 group_of plan number = take (per_call plan) (drop (first_of plan number) plan.records.items)
 
@@ -124,6 +125,7 @@ padding_of size = take ((size + 3) / 4 * 4 - size) (replicate 3 0)
 abbrev pub entry_bytes : Setup → ℕ → PlanRecord → List ℕ
 entry_bytes setup number entry = write_blocks setup number (Some entry) ++ padding_of (length entry.data.items)
 
+-- These records as the entries of a list.
 abbrev pub entries_bytes : Setup → ℕ → List PlanRecord → List ℕ
 entries_bytes setup number [] = []
 entries_bytes setup number (entry ∷ entries) = entry_bytes setup number entry ++ entries_bytes setup number entries
@@ -157,6 +159,7 @@ writing_blocks setup number =
 
 -- ---- the blocks of a call
 
+-- The blocks of each call.
 abbrev pub blocks_of : Setup → Request → List ℕ
 blocks_of setup Identify = []
 blocks_of setup Address = []

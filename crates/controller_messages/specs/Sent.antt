@@ -58,6 +58,7 @@ call_frame setup device call =
     plain_frame setup.plan.controller.mac device
     (UdpDatagram (calls_at setup.plan.controller.address) (calls_at setup.plan.station.suite.address) (call_bytes Device call))
 
+-- The octets of each request of a start-up, and of Release.
 abbrev pub request_frame : Setup → Mac → Request → List ℕ
 request_frame setup device asks.Identify =
     plain_frame setup.plan.controller.mac identify_multicast (RealTime 0xFEFE (request_bytes (identify_asked setup.plan)))
@@ -94,6 +95,7 @@ answer_frame setup caller answer =
 abbrev pub ack_pdu : Priority → Header → AlarmAck → Said
 ack_pdu priority header ack = record { header = header; body = ack_bytes priority ack }
 
+-- An ACK or NACK: a PDU without data.
 abbrev pub reply_pdu : Header → Said
 reply_pdu header = record { header = header; body = [] }
 

@@ -59,10 +59,11 @@ sent_by_tick beside = ip.frames_in (ip.sent_by_tick beside.ip) ++ near.sent_by_t
 abbrev pub aged : Beside → Beside
 aged beside = record beside { near = near.ticked beside.near }
 
+-- What is beside the controller after a unit of time.
 abbrev pub ticked : Beside → Beside
 ticked beside = record (aged beside) { ip = ip.ticked beside.ip }
 
--- The number of ticks up to and with the next one that sends a frame or forgets the neighbour.
+-- The number of ticks up to and including the next one that sends a frame or forgets the neighbour.
 abbrev pub due_in : Beside → ℕ
 due_in beside = min (ip_leaps.due_in beside.ip) (near_leaps.due_in beside.near)
 

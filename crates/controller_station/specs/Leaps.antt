@@ -5,7 +5,7 @@ use Rattle.controller_station.specs.Beside as beside
 use Rattle.controller_station.specs.Beside.{Beside, sent_by_tick}
 use Rattle.controller_station.specs.Served.{Frames, Served, no_frames}
 
--- The number of units up to and with the next one with which either of both sends something, the neighbour is forgotten, or
+-- The number of units up to and including the next one with which either of both sends something, the neighbour is forgotten, or
 -- the controller ends.
 abbrev pub served_due_in : Served → ℕ
 served_due_in served = min (live_due_in served.controller.live) (beside.due_in served.services)

@@ -34,6 +34,7 @@ sent_at served event = record {
   services = beside served.services event (step_of served.controller event).frames;
 }
 
+-- The frames that a station sends at each of these events.
 abbrev pub sent : Served → List Event → List Frames
 sent served [] = []
 sent served (event ∷ events) = sent_at served event ∷ sent (after_event served event) events

@@ -146,7 +146,7 @@ impl ControllerServices {
         outbox.put_copy(&frame);
     }
 
-    /// The number of ticks up to and with the next one that sends a frame or forgets the neighbour, unless something is heard.
+    /// The number of ticks up to and including the next one that sends a frame or forgets the neighbour, unless something is heard.
     pub fn due_in(&self) -> u32
         ensures value { result ≡ due_in self.now }
         ensures some { 0 < result }
@@ -157,7 +157,7 @@ impl ControllerServices {
     /// Lets ticks pass that send nothing and forget no neighbour: fewer than `due_in` returns.
     pub fn pass(&mut self, ticks: u32)
         requires { ticks < due_in self.old }
-        // It does what as many ticks do, one by one, and none of them sends a frame.
+        // It has the same effect as that many ticks, one by one, and none of them sends a frame.
         ensures state { self.new ≡ ticks_of ticks self.old }
         ensures none { NoneSends ticks self.old }
         // What is due comes nearer by at most these ticks.

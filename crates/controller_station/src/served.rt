@@ -214,7 +214,7 @@ impl ServedController {
         self.controller.take_output(slot, subslot, value);
     }
 
-    /// The number of units up to and with the next one with which either of both sends something, the neighbour is forgotten,
+    /// The number of units up to and including the next one with which either of both sends something, the neighbour is forgotten,
     /// or the controller ends.
     pub fn due(&self) -> u32
         ensures value { result ≡ served_due_in self.now }
@@ -237,7 +237,7 @@ impl ServedController {
     }
 
     /// Lets units of 31.25 microseconds pass at once, fewer than `due` returns: with none of them is anything sent, and the
-    /// controller does not end. It does what as many Tick events do, one by one.
+    /// controller does not end. It has the same effect as that many Tick events, one by one.
     #[inline(always)]
     pub fn skip(&mut self, units: u32)
         requires { units < served_due_in self.old }
@@ -253,7 +253,7 @@ impl ServedController {
     }
 
     /// Lets `units` units of 31.25 microseconds pass at once, at most as many as `due` returns, and replaces the content of
-    /// the outbox by the frames to be sent. It does what as many Tick events do, one by one.
+    /// the outbox by the frames to be sent. It has the same effect as that many Tick events, one by one.
     pub fn elapse(&mut self, units: u32, outbox: &mut ServedOutbox)
         requires { units ≤ served_due_in self.old }
         // Both, and what they send, are those after that many Tick events. Only the last of them may send.

@@ -20,9 +20,11 @@ pub record Shown : Type 0 where
 abbrev pub value_in : List ℕ → Place → List ℕ
 value_in octets place = take (place.size - 1) (drop place.offset octets)
 
+-- The status octet of a place in the data of a cyclic frame; 0 if the data is too short.
 abbrev pub status_in : List ℕ → Place → ℕ
 status_in octets place = get_or octets (place.offset + (place.size - 1)) 0
 
+-- The value and the status of a place in the data of a cyclic frame.
 abbrev pub cell_of : List ℕ → Place → Cell
 cell_of octets place = record { place = place; value = value_in octets place; status = status_in octets place }
 
@@ -44,6 +46,7 @@ cell_at kind slot subslot (cell ∷ cells) = if is_of kind slot subslot cell.pla
 abbrev pub changed_in : PlaceKind → ℕ → ℕ → (Cell → Cell) → Cell → Cell
 changed_in kind slot subslot change cell = if is_of kind slot subslot cell.place then change cell else cell
 
+-- The data to be sent with the cell of one submodule changed.
 abbrev pub changed : PlaceKind → ℕ → ℕ → (Cell → Cell) → Shown → Shown
 changed kind slot subslot change shown = record {
   data_length = shown.data_length;
@@ -54,6 +57,7 @@ changed kind slot subslot change shown = record {
 abbrev pub with_value : List ℕ → Cell → Cell
 with_value value cell = record { place = cell.place; value = value; status = cell.status }
 
+-- A cell with another status.
 abbrev pub with_status : ℕ → Cell → Cell
 with_status status cell = record { place = cell.place; value = cell.value; status = status }
 
@@ -97,6 +101,7 @@ AreHeld octets cells = AllByRecursion (λ cell. cell_of octets cell.place ≡ ce
 abbrev pub IsOff : List Cell → ℕ → Type 0
 IsOff cells k = AllByRecursion (λ cell. Covers cell.place k → ⊥) cells
 
+-- These octets are the data of a frame: its length, each cell at its place, and zeros between them.
 pub record IsFrame (shown : Shown) (octets : List ℕ) : Type 0 where
   pub size : length octets ≡ shown.data_length
   pub held : AreHeld octets shown.cells

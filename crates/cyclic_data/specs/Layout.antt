@@ -26,6 +26,7 @@ Meet one other = (k : ℕ) × Covers one k × Covers other k
 abbrev pub IsInside : ℕ → Place → Type 0
 IsInside data_length place = place.offset + place.size ≤ data_length
 
+-- A place does not fit into the data of this length.
 abbrev pub IsOutside : ℕ → Place → Type 0
 IsOutside data_length place = data_length < place.offset + place.size
 
@@ -51,6 +52,7 @@ is_same_kind Data Iocs = false
 is_same_kind Iocs Data = false
 is_same_kind Iocs Iocs = true
 
+-- Whether a place is the data, or the IOCS, of this submodule.
 abbrev pub is_of : PlaceKind → ℕ → ℕ → Place → Bool
 is_of kind slot subslot place = is_same_kind kind place.kind && ((place.slot == slot) && (place.subslot == subslot))
 

@@ -2,7 +2,7 @@
 use Rattle.std.specs.Prelude.{◌+◌, ◌-◌, ℕ, max}
 use Rattle.cyclic_data.specs.Timing.{Hearing, Sending}
 
--- The number of units up to and with the next one with which a frame is due.
+-- The number of units up to and including the next one with which a frame is due.
 abbrev pub frame_due_in : Sending → ℕ
 frame_due_in sending = sending.interval - sending.elapsed
 
@@ -10,7 +10,7 @@ frame_due_in sending = sending.interval - sending.elapsed
 abbrev pub units_later : ℕ → Sending → Sending
 units_later units sending = record { interval = sending.interval; elapsed = sending.elapsed + units }
 
--- The number of units up to and with the next one with which the time of a consumer is over.
+-- The number of units up to and including the next one with which the time of a consumer is over.
 abbrev pub over_in : Hearing → ℕ
 over_in hearing = max 1 (hearing.limit - hearing.held)
 

@@ -11,6 +11,7 @@ abbrev pub rises_from : ExpectedData → List ExpectedData → Bool
 rises_from last [] = true
 rises_from last (sub ∷ subs) = is_before last sub && rises_from sub subs
 
+-- Whether the submodules of a list are in rising order of slot and subslot.
 abbrev pub rises : List ExpectedData → Bool
 rises [] = true
 rises (sub ∷ subs) = rises_from sub subs

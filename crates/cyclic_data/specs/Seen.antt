@@ -22,6 +22,7 @@ abbrev pub is_new : List Bool → Option ℕ → Bool
 is_new seen None = false
 is_new seen (Some mark) = not (get_or seen mark false)
 
+-- The marks of submodules that have a place, with one more.
 abbrev pub seen_with : List Bool → Option ℕ → List Bool
 seen_with seen None = seen
 seen_with seen (Some mark) = set seen mark true

@@ -29,6 +29,7 @@ pub record Hearing : Type 0 where
 abbrev pub is_ahead : ℕ → Bool
 is_ahead gap = nat_le 1 gap && nat_le gap 61440
 
+-- Whether a CycleCounter is newer than the last accepted one: 1 to 61,440 ahead, modulo 65,536. The first one always is.
 abbrev pub is_newer : Option ℕ → ℕ → Bool
 is_newer None counter = true
 is_newer (Some last) counter = is_ahead ((counter + 65536 - last) % 65536)

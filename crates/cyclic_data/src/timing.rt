@@ -60,7 +60,7 @@ impl Provider {
         }
     }
 
-    /// The number of units up to and with the next one with which a frame is due.
+    /// The number of units up to and including the next one with which a frame is due.
     pub fn due_in(&self) -> u32
         ensures value { result ≡ frame_due_in self.now }
         ensures some { 0 < result }
@@ -186,7 +186,7 @@ impl Consumer {
         true
     }
 
-    /// The number of units up to and with the next one with which the time is over. It is 1 if the time is over
+    /// The number of units up to and including the next one with which the time is over. It is 1 if the time is over
     /// already: then it is over with each further unit.
     pub fn over_in(&self) -> u32
         ensures value { result ≡ over_in self.now }

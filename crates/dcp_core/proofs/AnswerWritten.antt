@@ -128,7 +128,7 @@ suite_spelled true value rest short = plain named_kind.IpSuite value rest refl r
 suite_spelled false value rest short =
     let long = block_long named_kind.IpSuite (0 ∷ 1 ∷ value) in value_spelled named_kind.IpSuite 0 1 value rest refl refl (omega arith)
 
--- the name by the place, or the error that says why there is none
+-- the name by the place, or the error that says why it has none
 alias_spelled : (identity : Identity) (settings : Settings) (alias : Option (List ℕ)) (rest : List ℕ) → length (got identity settings alias named_kind.AliasName) ≤ 1498
     → answer_block.Spells (got identity settings alias named_kind.AliasName ++ rest) (reported_of identity settings alias named_kind.AliasName) rest
 alias_spelled identity settings (Some alias) rest short = plain named_kind.AliasName alias rest refl refl short

@@ -104,7 +104,7 @@ for_names-most kinds =
 
 -- the facts about the bytes written for the blocks before an index
 pub record IsSoFar (got : Kind → List ℕ) (written : List ℕ) (blocks : List Block) (i : ℕ) : Type 0 where
-  -- with what is to come they make the whole response
+  -- with what follows they make the whole response
   pub all : Gets got written (kinds_in (take i blocks)) (kinds_in (drop i blocks)) (flat_map got (firsts_of [] (kinds_in blocks)))
   -- they take 32 bytes for each block, and more for the names
   pub room : length written ≤ 32 * i + for_names (kinds_in (take i blocks))

@@ -15,7 +15,7 @@ firsts_of before [] = []
 firsts_of before (kind ∷ kinds) =
     if list_any (is_same kind) before then firsts_of (before ++ kind ∷ []) kinds else kind ∷ firsts_of (before ++ kind ∷ []) kinds
 
--- the value asked for, or the error that says why there is none: the option or the suboption is unknown
+-- the value asked for, or the error that says why it has no value: the option or the suboption is unknown
 abbrev pub got : Identity → Settings → Option (List ℕ) → Kind → List ℕ
 got identity settings alias kind = elim (value_of identity settings alias kind) [
   | Some value ↦ valued identity settings alias kind

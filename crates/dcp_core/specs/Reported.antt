@@ -24,7 +24,7 @@ abbrev pub info_number : Settings → Kind → ℕ
 info_number settings IpSuite = if list_all (λ octet. octet == 0) (suite_bytes settings.suite) then 0 else 1
 info_number settings kind = 0
 
--- what a station reports of a kind: its value, or the error that says why there is none
+-- what a station reports of a kind: its value, or the error that says why it has none
 abbrev pub reported_of : Identity → Settings → Option (List ℕ) → Kind → AnsweredBlock
 reported_of identity settings alias kind = elim (value_of identity settings alias kind) [
   | Some value ↦ reported kind (info_number settings kind) value

@@ -13,14 +13,14 @@ use crate::{Block, Kind, Request};
 use pn_values::{Identity, Settings};
 
 /// The response to a Get of a station with this name by its place, if it has one: for each pair, in order, its value or why
-/// there is none. A repeated pair is answered at its first position only.
+/// it has none. A repeated pair is answered at its first position only.
 pub fn get_answer(
     identity: &Identity,
     settings: &Settings,
     alias: Option<&AliasName>,
     request: &Request<'_>,
 ) -> Answer
-    // The response has exactly the octets of the definition: for each pair, in order, its value or why there is none.
+    // The response has exactly the octets of the definition: for each pair, in order, its value or why it has none.
     ensures items { result.items ≡ get_bytes identity.now settings.now (option_map (λ alias. alias.now.items) alias.entry) (asked request.now) }
     // The response has at most 1223 octets.
     ensures length { length result.items ≤ 1223 }
@@ -45,7 +45,7 @@ fn is_among(earlier: &[Block<'_>], kind: Kind) -> bool
     earlier.iter().any(|block| kind.is_same(block.kind))
 }
 
-/// Appends the value of a kind, or the error that says why there is none. There must be room.
+/// Appends the value of a kind, or the error that says why it has none. There must be room.
 fn put_pair(
     blocks: &mut Blocks,
     identity: &Identity,

@@ -185,7 +185,7 @@ module _ (begun : Begun) (told : List Event) (port : State) (chip : Image) (s : 
 
 -- ---- the steps of one event
 
--- The device heard more after what it was told. Its remaining frames are all those of these steps, and wherever the remaining calls are cut
+-- The device heard more after what was reported to it. Its remaining frames are all those of these steps, and wherever the remaining calls are cut
 -- off, the chip stores what it stored before and a prefix of the commands of these steps.
 pub record Goes (begun : Begun) (told more : List Event) (new : State) (chip : Image) : Type 0 where
   pub keeps : Keeps begun (told ++ more) new chip

@@ -269,7 +269,7 @@ pub record Turned (begun : Begun) (told : List Event) (turn : Turn) (new : Serve
   pub own : new.frames ≡ turn.sent.services
 
 module _ (begun : Begun) (told : List Event) (port : Served) (chip : Image) (k : Keeps begun told port.port chip) (idle : IsFetched port) where
-  -- The device is told of its neighbour, or not.
+  -- The neighbour is reported to the device, or not.
   told_goes : (b : Bool) (state : Serving) (between : Served) → port.services ≡ Some state → TellsIf b port state between
       → Goes begun told (if b then news_in state ∷ [] else []) between.port chip
       × (between.services ≡ Some (told_if b begun.station (after begun told).live state).services)

@@ -65,7 +65,7 @@ stepped_at old event said now stage calls frames booted none idle alone = record
   stage = booted;
 }
 
--- Nothing is due before so many units: if what is due is only put off, and some units later.
+-- Nothing is due before that many units: if what is due is only put off, and some units later.
 pub counted_later : (due : Option ℕ) (old new : Live) (stage : Stage) (calls left : List Call) → live_due_in old ≤ live_due_in new → left ≡ []
     → IsCounted due old stage calls → IsCounted due new stage left
 counted_later None old new stage calls left later none counted = tt

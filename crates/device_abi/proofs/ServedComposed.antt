@@ -89,7 +89,7 @@ due_calm counts down news said due rest limit port services frames says is some 
     let resting = resting_of rest limit port.device.live.values services frames some paced in
     says ∙ due_soonest counts down news due rest limit port.device.live services is some resting.inside resting.calm
 
--- ---- the device is told of its neighbour
+-- ---- the neighbour is reported to the device
 
 pub tells_calm : QuietUnitsCount → QuietUnitsBringNoNews → (rest limit : ℕ) (serves : Bool) (port : State) (services : Option Serving) (frames : List (List ℕ)) → 0 < rest
     → IsPaced rest limit port.device.live.values services frames

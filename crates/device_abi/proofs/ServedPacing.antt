@@ -39,7 +39,7 @@ calm_later counts news limit behind values state calm inside =
       news behind state (omega (arith, calm.due, inside)) ∙ calm.told,
     )
 
--- They may be told of units that are counted.
+-- They may learn of units that are counted.
 pub calm_behind : (rest limit : ℕ) (values : Values) (services : Option Serving) → 0 < rest → rest ≤ limit → AreCalm limit values services → IsBehind (limit - rest) services
 calm_behind rest limit values None some inside calm = tt
 calm_behind rest limit values (Some state) some inside calm = inr (omega (arith, some, inside, calm.due))
@@ -129,7 +129,7 @@ pub few_soonest : (units due rest : ℕ) (services : Option Serving) → units <
 few_soonest units due rest None few inside = few
 few_soonest units due rest (Some state) few inside = omega (arith, few, inside)
 
--- ---- services that are told of units
+-- ---- services that learn of units
 
 pub caught_zero : (behind : ℕ) (services : Option Serving) → behind ≡ 0 → services ≡ caught_up behind services
 caught_zero behind None none = refl

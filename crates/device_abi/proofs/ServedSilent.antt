@@ -64,7 +64,7 @@ unfolding heard_step heard_of
 input_step station live slot subslot value =
     no_items station live (handled station live (heard_of station.identity (Input slot subslot value))) (input_items live (given_to slot subslot value.items live.rest.link))
 
--- ---- the event by which a device is told of its neighbour
+-- ---- the event that reports its neighbour to a device
 
 pub met_frames : (station : Station) (live : Live) (peer : Option Peer) → (step_of [] station live (Neighbour peer)).frames ≡ []
 unfolding heard_of heard_step handled_step

@@ -1,4 +1,4 @@
--- The device is told of its neighbour before an event.
+-- The neighbour is reported to the device before an event.
 use Rattle.std.proofs.Common.{◌≡◌, ℕ, zero, suc, Bool, true, false, List, [], Option, Some, None, refl, sym, ap, subst, ◌∙◌}
 use Rattle.std.specs.Prelude.{if◌then◌else◌}
 use Rattle.std.specs.Option.{option_map}
@@ -87,7 +87,7 @@ tells_whole old new after tells = whole_of old.services old new after refl tells
 
 -- ---- before units of time
 
--- The device is told before the first of them.
+-- It is reported before the first of them.
 pub tells_first : (units : ℕ) (old now new : Served) → TellsBoth old now → barred_both old ≡ None → HasNoNews now.services → TicksBoth (suc units) now new → TicksBoth (suc units) old new
 tells_first zero old now new tells free none ticks =
     let takes : TakesBoth now Tick ticks.1 new = subst (λ (s : Served). TakesBoth s Tick ticks.1 new) ticks.2 ticks.4 in
@@ -105,7 +105,7 @@ tells_first zero old now new tells free none ticks =
     )
 tells_first (suc units) old now new tells free none ticks = (ticks.0, ticks.1, tells_first units old now ticks.0 tells free none ticks.2, ticks.3, ticks.4)
 
--- ---- what is told
+-- ---- what is reported
 
 unwrapped : Event → Option Event → Event
 unwrapped other (Some event) = event

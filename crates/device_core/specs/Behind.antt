@@ -54,6 +54,7 @@ is_ack (message.Data number ack) = false
 is_ack message.Nack = false
 is_ack (message.Abort status) = false
 
+-- Whether a PDU of low priority is an ACK.
 abbrev pub is_low_reply : Priority → ToDevice → Bool
 is_low_reply High told = false
 is_low_reply Low told = is_ack told

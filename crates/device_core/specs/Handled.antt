@@ -104,6 +104,7 @@ handled_request station live asker service.Set request = Sets asker request (is_
 abbrev pub is_running : Settings → List ℕ → Bool
 is_running running address = pointwise nat_eq address running.suite.address && not (is_zero address)
 
+-- Whether a packet of ARP is a request.
 abbrev pub is_request : ArpOperation → Bool
 is_request arp.Request = true
 is_request arp.Reply = false
@@ -154,6 +155,7 @@ abbrev pub ready_behind : Bool → List ℕ → Option RelationState → Result 
 ready_behind by_application address link (Ok block) = if by_application then [] else ready_calls address link
 ready_behind by_application address link (Err fault) = []
 
+-- The station that sent a call.
 abbrev pub partner_of : Caller → Partner
 partner_of caller = record { mac = caller.mac; address = caller.endpoint.address }
 
@@ -166,6 +168,7 @@ abbrev pub kept_answer : IodWriteReq → Result Records CallFault → Result (Li
 kept_answer header (Ok records) = Ok (answer_of header)
 kept_answer header (Err fault) = Err fault
 
+-- What a Write of one record does: a text is stored, a parameter record is kept.
 abbrev pub handled_effect : Station → Live → Caller → Call → IodWriteReq → Effect → Handled
 handled_effect station live caller call header (Stores value) = Writes caller live.values.running.suite.address call header value
 handled_effect station live caller call header (Keeps parameter) =
@@ -173,6 +176,7 @@ handled_effect station live caller call header (Keeps parameter) =
     served station live caller call Write (kept_answer header kept)
     (updated (answered (Named (partner_of caller)) kept) (updated (taking kept) live.rest.link)) []
 
+-- What a Write does: one record, each record of a list, or why it is refused.
 abbrev pub handled_write : Station → Live → Caller → Call → Result Writing CallFault → Handled
 handled_write station live caller call (Ok (One write)) = handled_effect station live caller call write.request write.effect
 handled_write station live caller call (Ok (Each header entries)) =
@@ -188,6 +192,7 @@ abbrev pub count_after : {A : Type 0} → Result A CallFault → ℕ → ℕ
 count_after (Ok answer) made = made_after made
 count_after (Err fault) made = made
 
+-- The count of relations after a Connect: one more if it is accepted.
 abbrev pub counted_by : {A : Type 0} → Result A CallFault → Rest → Rest
 counted_by answer rest = record rest { made = count_after answer rest.made }
 
@@ -269,6 +274,7 @@ handled_answer station live (to_ready.Refused farewell) =
     Moves (with_log (err_log (Some farewell)) (record live.rest { link = updated (handled_by (to_ready.Refused farewell)) live.rest.link }))
     (Ends farewell ∷ [])
 
+-- What a datagram does: a call, a response to ApplicationReady, or octets that are neither.
 abbrev pub handled_said : Station → Live → Caller → Said → Handled
 handled_said station live caller (Calls call) = handled_call station live caller call (operation_of call.header.operation)
 handled_said station live caller (Responds response) = handled_answer station live (ready_answer response live.rest.link)
@@ -292,6 +298,7 @@ handled_received live received.Short link = Refuses note.Fault
 handled_received live received.Stale link = Refuses note.StaleCycle
 handled_received live received.Taken link = goes_on_with live link []
 
+-- What a cyclic frame does.
 abbrev pub handled_cyclic : Live → Mac → ℕ → List ℕ → Handled
 handled_cyclic live source frame_id body =
     handled_received live (received_by source frame_id body live.rest.link) (updated (receiving source frame_id body live.rest.link) live.rest.link)
@@ -301,6 +308,7 @@ abbrev pub handled_input : Live → Option Flow → Handled
 handled_input live (Some flow) = goes_on_with live (updated (Exchanged flow) live.rest.link) []
 handled_input live None = Refuses note.Refused
 
+-- What a value that the application gives does.
 abbrev pub handled_given : Live → ℕ → ℕ → List ℕ → Handled
 handled_given live slot subslot value = handled_input live (given_to slot subslot value live.rest.link)
 
@@ -311,6 +319,7 @@ kept_status live slot subslot is_good (Some statuses) =
     Moves (record live.rest { link = updated (rating slot subslot is_good live.rest.link) live.rest.link; statuses = statuses }) []
 kept_status live slot subslot is_good None = Refuses note.Refused
 
+-- What a status that the application gives does.
 abbrev pub handled_rated : Station → Live → ℕ → ℕ → Bool → Handled
 handled_rated station live slot subslot is_good =
     kept_status live slot subslot is_good
@@ -335,6 +344,7 @@ abbrev pub may_be_diagnosed : Station → Live → Change → Bool
 may_be_diagnosed station live change =
     is_some (submodule_ident station.real.modules.items change.diagnosis.slot change.diagnosis.subslot) && not (is_full_in live.rest.link)
 
+-- What a change of diagnosis does.
 abbrev pub handled_diagnosed : Station → Live → Change → Handled
 handled_diagnosed station live change =
     if may_be_diagnosed station live change
@@ -348,6 +358,7 @@ handled_notice live (Some flow) =
     goes_on_with live link (alarms_of (flow_of link))
 handled_notice live None = Refuses note.Refused
 
+-- What a process alarm does that the application raises.
 abbrev pub handled_raised : Station → Live → ℕ → ℕ → List ℕ → Handled
 handled_raised station live slot subslot octets = handled_notice live (raised_to station.real.modules.items slot subslot octets live.rest.link)
 
@@ -367,9 +378,11 @@ handled_pdu live fate.Ignored link = Refuses note.Filter
 handled_pdu live (fate.Aborted status) link =
     Moves (with_log (end_log (uuid_of live.rest.link) status) (record live.rest { link = link })) []
 
+-- What an alarm PDU of high priority does.
 abbrev pub handled_message : Live → ToDevice → Handled
 handled_message live message = handled_pdu live (heard_by message live.rest.link) (updated (hearing message live.rest.link) live.rest.link)
 
+-- What an alarm PDU of high priority does if it is of the relation; else it is refused.
 abbrev pub handled_alarm : Live → Mac → Header → ToDevice → Handled
 handled_alarm live source header message =
     if is_alarm_of source header.destination header.source live.rest.link then handled_message live message else Refuses note.NoRelation
@@ -385,10 +398,12 @@ handled_low_pdu station live fate.Done link = goes_on_with live link []
 handled_low_pdu station live fate.Ignored link = Refuses note.Filter
 handled_low_pdu station live (fate.Aborted status) link = Refuses note.Filter
 
+-- What an alarm PDU of low priority does.
 abbrev pub handled_low_message : Station → Live → ToDevice → Handled
 handled_low_message station live message =
     handled_low_pdu station live (heard_low message live.rest.link) (updated (hearing_low message live.rest.link) live.rest.link)
 
+-- What an alarm PDU of low priority does if it is of the relation; else it is refused.
 abbrev pub handled_low : Station → Live → Mac → Header → ToDevice → Handled
 handled_low station live source header message =
     if is_alarm_of source header.destination header.source live.rest.link then handled_low_message station live message else Refuses note.NoRelation
@@ -399,6 +414,7 @@ abbrev pub handled_low_reply : Station → Live → Mac → Header → ToDevice 
 handled_low_reply station live source header message =
     if has_sent_low live.rest.link then handled_low station live source header message else handled_alarm live source header message
 
+-- What an AlarmAck of low priority does: it is a fault before the device has sent data of low priority.
 abbrev pub handled_low_confirm : Station → Live → Mac → Header → ToDevice → Handled
 handled_low_confirm station live source header message =
     if has_sent_low live.rest.link then handled_low station live source header message else Refuses note.Fault
@@ -414,6 +430,7 @@ ticked live =
     Moves (with_log (err_log due.farewell) (record live.rest { lamp = live.rest.lamp - 1; link = link; units = units }))
     (due_frames live.values.running.suite.address (counter_of units) due link)
 
+-- What each event does to a device: the cases of its machine.
 abbrev pub handled : Station → Live → Heard → Handled
 handled station live (Asks asker request) = handled_request station live asker request.service request
 handled station live (Resolves asker packet) = handled_arp live asker packet

@@ -6,11 +6,11 @@ use Rattle.device_frames.specs.declared.event.Event.TheVariants.{Tick}
 use Rattle.device_core.specs.State.{Live, Station}
 use Rattle.device_core.specs.Machine.{Stepped, step_of}
 
--- The number of units up to and with the next one with which the lamp goes off.
+-- The number of units up to and including the next one with which the lamp goes off.
 abbrev pub lamp_off_in : ℕ → ℕ
 lamp_off_in lamp = if lamp == 0 then never else lamp
 
--- The number of units up to and with the next one with which something is sent, an alarm is given up, the relation ends,
+-- The number of units up to and including the next one with which something is sent, an alarm is given up, the relation ends,
 -- or the lamp goes off.
 abbrev pub live_due_in : Live → ℕ
 live_due_in live = min (lamp_off_in live.rest.lamp) (due_within live.rest.link)
@@ -33,6 +33,7 @@ ticks_of (suc units) station live = and_then (ticks_of units station live) (step
 abbrev pub NoneSends : ℕ → Station → Live → Type 0
 NoneSends units station live = (before : ℕ) → before ≤ units → (ticks_of before station live).frames ≡ []
 
+-- Nothing is sent before the last of these units.
 abbrev pub OnlyTheLastSends : ℕ → Station → Live → Type 0
 OnlyTheLastSends units station live = (before : ℕ) → before < units → (ticks_of before station live).frames ≡ []
 
@@ -40,6 +41,7 @@ OnlyTheLastSends units station live = (before : ℕ) → before < units → (tic
 abbrev pub then_leap : Leapt → Leapt → Leapt
 then_leap first more = record { live = more.live; frames = first.frames ++ more.frames }
 
+-- What these leaps do, one after another.
 abbrev pub leaps_of : List ℕ → Station → Live → Leapt
 leaps_of [] station live = record { live = live; frames = [] }
 leaps_of (units ∷ leaps) station live = then_leap (ticks_of units station live) (leaps_of leaps station (ticks_of units station live).live)

@@ -72,6 +72,6 @@ arguments_log operation.ReadImplicit time log = log
 abbrev pub with_log : (ℕ → List LogEntry → List LogEntry) → Rest → Rest
 with_log log rest = record rest { log = log rest.units rest.log }
 
--- The same state with another rest.
+-- A state with another rest.
 abbrev pub but_rest : Live → Rest → Live
 but_rest live rest = record { values = live.values; rest = rest }

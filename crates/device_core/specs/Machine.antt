@@ -43,6 +43,7 @@ items_in (Writes caller address call header value) = Ask (SetIm value) ∷ []
 items_in (WritesEach caller address call header judged) = texts_in judged
 items_in (Moves rest sent) = []
 
+-- What an event asks of the settings.
 abbrev pub items_of : Station → Live → Heard → List SetItem
 items_of station live heard = items_in (handled station live heard)
 
@@ -58,6 +59,7 @@ lamp_after lamp items = if list_any is_signal items then 96000 else lamp
 
 -- ---- a reset that ends the relation
 
+-- Whether an item is a reset.
 abbrev pub is_reset : SetItem → Bool
 is_reset (Ask ResetApplication) = true
 is_reset (Ask ResetCommunication) = true
@@ -68,6 +70,7 @@ is_reset (Ask (SetIm value)) = false
 is_reset Signal = false
 is_reset (Answer answer) = false
 
+-- Whether a BlockError is 'done'.
 abbrev pub is_done : BlockError → Bool
 is_done error.Done = true
 is_done error.Option = false
@@ -81,6 +84,7 @@ is_done error.InOperation = false
 abbrev pub is_reset_done : SetItem × BlockError → Bool
 is_reset_done pair = is_reset pair.0 && is_done pair.1
 
+-- Whether a reset among these items was done.
 abbrev pub resets : List SetItem → List BlockError → Bool
 resets items answers = list_any is_reset_done (zip items answers)
 
@@ -89,10 +93,12 @@ abbrev pub link_after : Bool → Option RelationState → Option RelationState
 link_after true link = updated Ended link
 link_after false link = link
 
+-- The ERR with which a relation ends by a reset.
 abbrev pub farewell_at : Bool → Option RelationState → Option Farewell
 farewell_at true link = option_map (farewell_of Other) link
 farewell_at false link = None
 
+-- The frames of it.
 abbrev pub farewells_at : Bool → Option RelationState → List Sent
 farewells_at ends link = farewells_in (farewell_at ends link)
 
@@ -121,6 +127,7 @@ abbrev pub effect_outcome : IodWriteReq → Effect → List BlockError → Optio
 effect_outcome header (Stores value) answers link = written_as header (first_answer answers)
 effect_outcome header (Keeps parameter) answers link = kept_answer header (keeping parameter link)
 
+-- The outcome of one record of a Write.
 abbrev pub one_outcome : IodWriteReq → Result Asking CallFault → List BlockError → Option RelationState → Result (List ℕ) CallFault
 one_outcome header (Ok write) answers link = effect_outcome header write.effect answers link
 one_outcome header (Err fault) answers link = Err fault
@@ -130,14 +137,17 @@ abbrev pub effect_answers : Effect → List BlockError → List BlockError
 effect_answers (Stores value) answers = drop 1 answers
 effect_answers (Keeps parameter) answers = answers
 
+-- The answers to the items after those of one record.
 abbrev pub one_answers : Result Asking CallFault → List BlockError → List BlockError
 one_answers (Ok write) answers = effect_answers write.effect answers
 one_answers (Err fault) answers = answers
 
+-- The relation after one record.
 abbrev pub effect_link : Effect → Option RelationState → Option RelationState
 effect_link (Stores value) link = link
 effect_link (Keeps parameter) link = updated (taking (keeping parameter link)) link
 
+-- The relation after one record, unchanged if it is refused.
 abbrev pub one_link : Result Asking CallFault → Option RelationState → Option RelationState
 one_link (Ok write) link = effect_link write.effect link
 one_link (Err fault) link = link
@@ -148,6 +158,7 @@ statuses_of [] answers link = []
 statuses_of (one ∷ others) answers link =
     (one.0, (outcome_of Write (one_outcome one.0 one.1 answers link)).0) ∷ statuses_of others (one_answers one.1 answers) (one_link one.1 link)
 
+-- The relation after these records.
 abbrev pub link_behind : List Judged → Option RelationState → Option RelationState
 link_behind [] link = link
 link_behind (one ∷ others) link = link_behind others (one_link one.1 link)
@@ -184,7 +195,7 @@ finished identity rest (WritesEach caller address call header judged) answers =
     record { rest = kept_behind identity rest call answer (updated (Named (partner_of caller)) (link_behind judged rest.link)); sent = answer ∷ []; note = note.Done }
 finished identity rest (Moves later sent) answers = record { rest = later; sent = sent; note = note.Done }
 
--- The same if nothing is asked of the settings.
+-- The result of an event with this outcome that asks nothing of the settings.
 abbrev pub end_of : Station → Live → Handled → Finished
 end_of station live what = finished station.identity live.rest what []
 
@@ -210,6 +221,7 @@ handled_step outcomes station live what =
       accepted = settled.accepted;
     }
 
+-- A step of the device, for these outcomes of the flash.
 unfoldable pub heard_step : List Outcome → Station → Live → Heard → Stepped
 heard_step outcomes station live heard = handled_step outcomes station live (handled station live heard)
 
@@ -232,6 +244,7 @@ abbrev pub first_step : List (List Outcome) → List Outcome
 first_step [] = []
 first_step (outcomes ∷ more) = outcomes
 
+-- The outcomes of the flash in the steps after the first.
 abbrev pub later_steps : List (List Outcome) → List (List Outcome)
 later_steps [] = []
 later_steps (outcomes ∷ more) = more

@@ -16,6 +16,7 @@ use Rattle.records.specs.writes.Handled.{handled_request}
 abbrev pub Judged : Type 0
 Judged = IodWriteReq × Result Write CallFault
 
+-- What each record of a list asks for, or why it is refused.
 abbrev pub judged_each : Option (List ℕ) → Real → List Entry → List Judged
 judged_each standing real entries = map (λ entry. (entry.0, handled_request standing real entry.0 entry.1)) entries
 
@@ -24,10 +25,12 @@ abbrev pub text_of : Effect → List SetItem
 text_of (Stores value) = Ask (SetIm value) ∷ []
 text_of (Keeps parameter) = []
 
+-- The text that a record stores, if it stores one.
 abbrev pub texts_by : Result Write CallFault → List SetItem
 texts_by (Ok write) = text_of write.effect
 texts_by (Err fault) = []
 
+-- The texts that these records store, in order.
 abbrev pub texts_in : List Judged → List SetItem
 texts_in [] = []
 texts_in (one ∷ others) = texts_by one.1 ++ texts_in others

@@ -57,7 +57,7 @@ pub fn cycle<F: Flash<S>, const S: usize, K: Sink, P: FnOnce(F) -> F>(
     )
 }
 
-/// The same for a device with these options.
+/// Runs a cycle of a device with these options, and the start after it.
 pub fn cycle_with<F: Flash<S>, const S: usize, K: Sink, P: FnOnce(F) -> F>(
     identity: Identity,
     real: Real,

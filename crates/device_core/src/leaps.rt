@@ -10,7 +10,7 @@ use frame_codec::Outbox;
 use pn_alarms::NEVER;
 
 impl<F: Flash<S>, const S: usize> Device<F, S> {
-    /// The number of units up to and with the next one with which something is sent, an alarm is given up, the relation
+    /// The number of units up to and including the next one with which something is sent, an alarm is given up, the relation
     /// ends, or the lamp goes off. 4,294,967,295 if no unit ever does any of these.
     pub fn due(&self) -> u32
         ensures value { result ≡ live_due_in self.now.live }
@@ -20,7 +20,7 @@ impl<F: Flash<S>, const S: usize> Device<F, S> {
     }
 
     /// Lets `units` units of 31.25 microseconds pass at once, at most as many as `due` returns, and replaces the content
-    /// of the outbox by the frames to be sent. It does what as many Tick events do, one by one.
+    /// of the outbox by the frames to be sent. It has the same effect as that many Tick events, one by one.
     #[tactic(auto, using(crate::proofs::Leaping::leap_device_to, crate::proofs::Leaping::leap_frames_to, crate::proofs::Leaping::leap_last_to))]
     pub fn elapse(&mut self, units: u32, outbox: &mut Outbox) -> Note
         requires { units ≤ live_due_in self.old.live }
@@ -69,7 +69,7 @@ fn units_later(units: u64, more: u32) -> u64
     units.wrapping_add(u64::from(more))
 }
 
-// The number of units up to and with the next one with which the lamp goes off, `NEVER` if it is off.
+// The number of units up to and including the next one with which the lamp goes off, `NEVER` if it is off.
 fn lamp_off_in(lamp: u32) -> u32
     ensures value { result ≡ lamp_off_in lamp }
     ensures some { 0 < result }

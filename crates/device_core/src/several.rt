@@ -129,7 +129,7 @@ fn first_answer(answers: &[BlockError]) -> BlockError
     }
 }
 
-/// The answers after the first if that is taken, else all.
+/// The answers after the first if that one is used, else all.
 fn rest_of(is_taken: bool, answers: &[BlockError]) -> &[BlockError]
     ensures { result.now ≡ (if is_taken then drop 1 answers.now else answers.now) }
 {

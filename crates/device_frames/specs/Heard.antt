@@ -94,10 +94,12 @@ abbrev pub heard_low : Mac → Result (Header × ToDevice) AlarmFault → Heard
 heard_low source (Ok x) = LowConfirms source x.0 x.1
 heard_low source (Err fault) = Unreadable
 
+-- An alarm PDU, of high or of low priority.
 abbrev pub heard_alarm : Mac → ℕ → List ℕ → Result (Header × ToDevice) AlarmFault → Heard
 heard_alarm source frame_id body (Ok x) = heard_reply source (priority_of frame_id) x.0 x.1
 heard_alarm source frame_id body (Err fault) = heard_low source (low_message_of body)
 
+-- A request of DCP, or one that cannot be read.
 abbrev pub heard_request : Mac → Result Asked DcpFault → Heard
 heard_request source (Ok request) = Asks source request
 heard_request source (Err fault) = Unreadable
@@ -107,6 +109,7 @@ abbrev pub said_else : Result Answered RpcFault → Said
 said_else (Ok response) = Responds response
 said_else (Err fault) = Garbled
 
+-- What the body of a datagram says: a call, else a response.
 abbrev pub said_first : Result Call RpcFault → Result Answered RpcFault → Said
 said_first (Ok call) response = Calls call
 said_first (Err fault) response = said_else response
@@ -138,12 +141,14 @@ abbrev pub heard_frame : Identity → Result Meaning FrameFault → Heard
 heard_frame identity (Ok meaning) = heard_content identity meaning.destination meaning.source meaning.content
 heard_frame identity (Err fault) = Unreadable
 
+-- A change of diagnosis.
 abbrev pub diagnosed : (slot subslot channel error : ℕ) → Bool → Heard
 diagnosed slot subslot channel error appears = Diagnosed (record {
   diagnosis = record { slot = slot; subslot = subslot; channel = channel; error = error };
   appears = appears;
 })
 
+-- What each event is to a device.
 unfoldable pub heard_of : Identity → Event → Heard
 heard_of identity (Frame bytes) = heard_frame identity (frame_of bytes.items)
 heard_of identity (Joined caller address octets) = Reported caller address (said_by octets.items)

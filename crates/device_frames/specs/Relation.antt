@@ -21,23 +21,27 @@ abbrev pub frames_in : Route → Option Frame → List Sent
 frames_in route (Some frame) = Exchanges route frame ∷ []
 frames_in route None = []
 
+-- The process alarm that is sent.
 abbrev pub alarms_of : Option Flow → List Sent
 alarms_of None = []
 alarms_of (Some flow) = frames_in flow.cyclic.route (alarm_frame flow)
 
+-- The frame of inputs with this CycleCounter.
 abbrev pub inputs_of : ℕ → Option Flow → List Sent
 inputs_of counter None = []
 inputs_of counter (Some flow) = Exchanges flow.cyclic.route (inputs_frame flow counter) ∷ []
 
+-- The ACK or NACK of data of high priority.
 abbrev pub replies_of : Taken → Option Flow → List Sent
 replies_of taken None = []
 replies_of taken (Some flow) = Exchanges flow.cyclic.route (reply_frame flow taken) ∷ []
 
--- The same of low priority.
+-- The alarm of low priority that is sent.
 abbrev pub low_alarms_of : Option Flow → List Sent
 low_alarms_of None = []
 low_alarms_of (Some flow) = frames_in flow.cyclic.route (low_alarm_frame flow)
 
+-- The ACK or NACK of data of low priority.
 abbrev pub low_replies_of : Taken → Option Flow → List Sent
 low_replies_of taken None = []
 low_replies_of taken (Some flow) = Exchanges flow.cyclic.route (low_reply_frame flow taken) ∷ []

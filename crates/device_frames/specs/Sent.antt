@@ -59,6 +59,7 @@ abbrev pub reply_content : Identity → List ℕ → Holder → Content
 reply_content identity address target =
     ArpPacket (record { operation = Reply; sender = record { mac = identity.mac; address = address }; target = target })
 
+-- The octets of an ARP reply.
 abbrev pub reply_frame : Identity → Mac → List ℕ → Holder → List ℕ
 reply_frame identity asker address target = own_frame identity asker (reply_content identity address target)
 
@@ -66,6 +67,7 @@ reply_frame identity asker address target = own_frame identity asker (reply_cont
 abbrev pub response_content : Caller → List ℕ → Answered → Content
 response_content caller address answer = UdpDatagram (calls_at address) caller.endpoint (response_bytes answer)
 
+-- The octets of the response to a call.
 abbrev pub response_frame : Identity → Caller → List ℕ → Answered → List ℕ
 response_frame identity caller address answer = own_frame identity caller.mac (response_content caller address answer)
 
@@ -75,6 +77,7 @@ ready_content address ready =
     UdpDatagram (calls_at address) (calls_at ready.partner.address)
     (call_bytes Controller (record { header = ready.header; args_maximum = 1372; blocks = Some (block_bytes (is.ApplicationReady ready.block)) }))
 
+-- The octets of an ApplicationReady.
 abbrev pub ready_frame : Identity → List ℕ → Ready → List ℕ
 ready_frame identity address ready = own_frame identity ready.partner.mac (ready_content address ready)
 
@@ -82,6 +85,7 @@ ready_frame identity address ready = own_frame identity ready.partner.mac (ready
 abbrev pub farewell_content : Farewell → Content
 farewell_content farewell = RealTime (frame_id_of Error) (pdu_bytes (said_by farewell))
 
+-- The octets of an ERR.
 abbrev pub farewell_frame : Identity → Farewell → List ℕ
 farewell_frame identity farewell = alarm_frame identity farewell.initiator farewell.tag (farewell_content farewell)
 
@@ -89,6 +93,7 @@ farewell_frame identity farewell = alarm_frame identity farewell.initiator farew
 abbrev pub exchange_content : Route → Frame → Content
 exchange_content route frame = RealTime (id_of route frame) (body_of frame)
 
+-- The octets of a frame of a relation.
 abbrev pub exchange_frame : Identity → Route → Frame → List ℕ
 exchange_frame identity route frame = alarm_frame identity route.partner (tag_of route frame) (exchange_content route frame)
 

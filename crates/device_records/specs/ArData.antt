@@ -42,7 +42,7 @@ ar_bytes request = request.ar.uuid ++ big_bytes 2 1 ++ big_bytes 4 request.ar.pr
     ++ big_bytes 2 (length request.ar.name.items) ++ request.ar.name.items
 
 -- AlarmCRType 1, the endpoints of alarms of the device and of the controller, ParameterServerObjectUUID and
--- ParameterServerStationName, of which there is none, NumberOfAPIs 1, and API 0.
+-- ParameterServerStationName, which are empty, NumberOfAPIs 1, and API 0.
 abbrev pub alarm_bytes : Request → ℕ → List ℕ
 alarm_bytes request endpoint =
     big_bytes 2 1 ++ big_bytes 2 endpoint ++ big_bytes 2 request.alarm.reference ++ replicate 18 0 ++ 0 ∷ 1 ∷ 0 ∷ 0 ∷ 0 ∷ 0 ∷ []

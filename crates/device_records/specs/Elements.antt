@@ -10,7 +10,7 @@ use Rattle.cyclic_data.specs.exchange.Cyclic.{Cyclic}
 abbrev pub block_of : ℕ → List ℕ → List ℕ
 block_of type fields = big_bytes 2 type ++ big_bytes 2 (2 + length fields) ++ 1 ∷ 0 ∷ fields
 
--- The IOCS of a submodule in an image, 0 if there is none.
+-- The IOCS of a submodule in an image, 0 if the image has none.
 abbrev pub iocs_in : Shown → ℕ → ℕ → ℕ
 iocs_in shown slot subslot = unwrap_or (option_map (λ cell. cell.status) (cell_at Iocs slot subslot shown.cells)) 0
 
@@ -35,6 +35,7 @@ abbrev pub input_of : Cyclic → ℕ → ℕ → Option (List ℕ)
 input_of cyclic slot subslot = option_map (λ cell. input_element (iocs_in cyclic.taken slot subslot) cell.value cell.status)
     (cell_at Data slot subslot cyclic.shown.cells)
 
+-- RecordOutputDataObjectElement of a submodule, if it has an output.
 abbrev pub output_of : Cyclic → ℕ → ℕ → Option (List ℕ)
 output_of cyclic slot subslot = option_map (λ cell. output_element (iocs_in cyclic.shown slot subslot) cell.value cell.status)
     (cell_at Data slot subslot cyclic.taken.cells)

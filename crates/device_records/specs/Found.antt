@@ -32,6 +32,7 @@ abbrev pub module_found : RealModule → Option (List ExpectedSubmodule) → Lis
 module_found entry (Some own) = entry_of entry (length (parts_found own entry.submodules.items)) ∷ []
 module_found entry None = []
 
+-- The submodules of a module that are plugged where the relation expects some.
 abbrev pub own_found : RealModule → Option (List ExpectedSubmodule) → List FilterSubmodule
 own_found entry (Some own) = parts_found own entry.submodules.items
 own_found entry None = []
@@ -41,6 +42,7 @@ abbrev pub modules_found : List Wanted → List RealModule → List FilterModule
 modules_found wanteds [] = []
 modules_found wanteds (entry ∷ entries) = module_found entry (own_in entry.slot wanteds) ++ modules_found wanteds entries
 
+-- Those of these modules.
 abbrev pub submodules_found : List Wanted → List RealModule → List FilterSubmodule
 submodules_found wanteds [] = []
 submodules_found wanteds (entry ∷ entries) = own_found entry (own_in entry.slot wanteds) ++ submodules_found wanteds entries

@@ -70,5 +70,6 @@ own_asked is_within known real read None = None
 own_asked is_within known real read (Some x) =
     option_map (take 1308) (own_at is_within known real x.0 read.header.slot_number read.header.subslot_number x.1)
 
+-- The record of this page that a request asks for, if there is one.
 abbrev pub own_of : Bool → Known → Real → IodReadReq → Option (List ℕ)
 own_of is_within known real read = own_asked is_within known real read (listing_of real read)

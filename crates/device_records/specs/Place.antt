@@ -7,7 +7,7 @@ use Rattle.records.specs.declared.reads.listing.Listing.TheVariants as listing
 use Rattle.device_records.specs.Sources.{Known}
 
 -- The record of this kind at a slot and subslot: the port is in subslot 0x8001 of slot 0, the interface in 0x8000, and both are
--- told for any slot and subslot. The other kinds are no records of the place.
+-- returned for any slot and subslot. The other kinds are no records of the place.
 abbrev pub place_with : Known → Real → ℕ → ℕ → Listing → Option (List ℕ)
 place_with known real slot subslot listing.Port = if slot == 0 && subslot == 0x8001 then Some (port_bytes known.peer) else None
 place_with known real slot subslot listing.Interface = if slot == 0 && subslot == 0x8000 then Some (interface_bytes known.identity known.settings) else None

@@ -21,7 +21,7 @@ pub record Known : Type 0 where
   pub peer : Option Peer
   pub diagnoses : List Diagnosis
 
--- The same of a device.
+-- What the records of a device say of it, from where each value is.
 abbrev pub known : Sources → Known
 known sources = record {
   link = sources.relation.now;

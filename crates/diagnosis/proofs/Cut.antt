@@ -23,7 +23,7 @@ cut_to_room n xs ys room whole = sym (take-append-add xs ys room) ∙ ap (λ mos
 pub cut_whole : (n : ℕ) (xs : List ℕ) → length xs ≤ n → xs ≡ take n (xs ++ [])
 cut_whole n xs few = sym (ap (take n) (append-nil xs) ∙ take_all n xs few)
 
--- A piece was appended and cut, and the rest is to follow.
+-- A piece was appended and cut, and the rest follows.
 pub goes_on : (n : ℕ) (now before piece rest whole : List ℕ) → now ≡ take n (before ++ piece) → take n (before ++ (piece ++ rest)) ≡ whole
     → take n (now ++ rest) ≡ whole
 goes_on n now before piece rest whole cut e = ap (λ octets. take n (octets ++ rest)) cut ∙ cut_both n before piece rest ∙ e

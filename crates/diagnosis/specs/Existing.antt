@@ -30,6 +30,7 @@ with_one diagnosis diagnoses =
 abbrev pub others : Diagnosis → List Diagnosis → List Diagnosis
 others diagnosis diagnoses = filter (λ other. not (is_same diagnosis other)) diagnoses
 
+-- The diagnoses without this one, if it exists.
 abbrev pub without : Diagnosis → List Diagnosis → Option (List Diagnosis)
 without diagnosis diagnoses = if exists diagnosis diagnoses then Some (others diagnosis diagnoses) else None
 
@@ -41,5 +42,6 @@ changed change diagnoses = if change.appears then with_one change.diagnosis diag
 abbrev pub is_any_at : ℕ → ℕ → List Diagnosis → Bool
 is_any_at slot subslot diagnoses = list_any (is_at slot subslot) diagnoses
 
+-- Whether a diagnosis exists at one of these submodules.
 abbrev pub is_any_in : (ℕ → ℕ → Bool) → List Diagnosis → Bool
 is_any_in has diagnoses = list_any (λ diagnosis. has diagnosis.slot diagnosis.subslot) diagnoses

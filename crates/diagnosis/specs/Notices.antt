@@ -28,6 +28,8 @@ properties_of change = if change.appears then 0x0800 else 0x1000
 abbrev pub flag : Bool → ℕ → ℕ
 flag is_set value = if is_set then value else 0
 
+-- The AlarmSpecifier of a change (5.2.5.11): sequence number, and whether a diagnosis exists at the submodule and in the
+-- relation.
 abbrev pub specifier_of : Notice → ℕ → ℕ
 specifier_of notice sequence = sequence + flag notice.is_any_at_submodule 0x2800 + flag notice.is_any_in_relation 0x8000
 
@@ -47,6 +49,8 @@ first_notice diagnosis = record {
   is_any_in_relation = true;
 }
 
+-- What must be reported when data exchange begins: each diagnosis that exists at a submodule of the relation, as one that
+-- appears.
 abbrev pub first_notices : (ℕ → ℕ → Bool) → List Diagnosis → List Notice
 first_notices has diagnoses = map first_notice (filter (λ diagnosis. has diagnosis.slot diagnosis.subslot) diagnoses)
 
@@ -55,6 +59,7 @@ abbrev pub first_of : List Notice → Option Notice
 first_of [] = None
 first_of (notice ∷ notices) = Some notice
 
+-- The changes that wait after the first one.
 abbrev pub rest_of : List Notice → List Notice
 rest_of [] = []
 rest_of (notice ∷ notices) = notices

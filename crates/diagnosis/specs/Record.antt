@@ -19,6 +19,7 @@ abbrev pub head_bytes : ℕ → ℕ → ℕ → List ℕ
 head_bytes slot subslot count = big_bytes 2 0x0010 ++ big_bytes 2 (16 + 6 * count) ++ 1 ∷ 1 ∷ [] ++ big_bytes 4 0 ++ big_bytes 2 slot
     ++ big_bytes 2 subslot ++ big_bytes 2 0x8000 ++ big_bytes 2 0x0800 ++ big_bytes 2 0x8000
 
+-- DiagnosisData of one submodule (5.2.4.14), empty without a diagnosis.
 abbrev pub block_bytes : ℕ → ℕ → List Diagnosis → List ℕ
 block_bytes slot subslot [] = []
 block_bytes slot subslot (diagnosis ∷ diagnoses) =
@@ -29,10 +30,12 @@ abbrev pub submodule_bytes : (ℕ → ℕ → Bool) → List Diagnosis → ℕ �
 submodule_bytes has diagnoses slot subslot =
     if has slot subslot then block_bytes slot subslot (filter (is_at slot subslot) diagnoses) else []
 
+-- DiagnosisData of these submodules of a slot, in order.
 abbrev pub slot_bytes : (ℕ → ℕ → Bool) → List Diagnosis → ℕ → List RealSubmodule → List ℕ
 slot_bytes has diagnoses slot [] = []
 slot_bytes has diagnoses slot (part ∷ parts) = submodule_bytes has diagnoses slot part.subslot ++ slot_bytes has diagnoses slot parts
 
+-- DiagnosisData of these modules, in order.
 abbrev pub modules_bytes : (ℕ → ℕ → Bool) → List Diagnosis → List RealModule → List ℕ
 modules_bytes has diagnoses [] = []
 modules_bytes has diagnoses (entry ∷ entries) =
@@ -42,5 +45,6 @@ modules_bytes has diagnoses (entry ∷ entries) =
 abbrev pub room : ℕ
 room = 1308
 
+-- The record of diagnosis of the submodules that it asks for, cut at the room of a record.
 abbrev pub record_bytes : (ℕ → ℕ → Bool) → List Diagnosis → List RealModule → List ℕ
 record_bytes has diagnoses real = take room (modules_bytes has diagnoses real)

@@ -38,7 +38,7 @@ use Rattle.end_laws.proofs.TurnsBelongs.{reached_steady}
 use Rattle.end_laws.proofs.TurnsOneTurn.{event_is}
 use Rattle.end_laws.proofs.TurnsWhole.{reached_on, whole_end}
 
--- ---- a request that stays active was not sent anew
+-- ---- a request that stays active was not sent again
 
 some_is : (one other : Request) → Some one ≡ Some other → one ≡ other
 some_is one other e = cc

@@ -47,7 +47,7 @@ use Rattle.end_laws.specs.turns.Turns.{Came, IsKind, Kind, Rests, Connects, Addr
 use Rattle.end_laws.proofs.TurnsOneTurn.{event_is}
 use Rattle.end_laws.proofs.ControllerTurns.{event_goes}
 
--- ---- what belongs to another request is told apart
+-- ---- what belongs to another request is distinguished
 
 other_activity : (mine theirs : List ℕ) → mine ≢ theirs → pointwise nat_eq theirs mine ≡ false
 other_activity mine theirs other = by_test (pointwise nat_eq theirs mine) refl

@@ -1,4 +1,4 @@
--- Each event after which a controller has ended is that of its cause, and the device is told as the cause says.
+-- Each event after which a controller has ended is that of its cause, and what the device is then sent is as the cause says.
 use Rattle.std.proofs.Common.{◌≡◌, ◌≢◌, ◌⊎◌, inl, inr, ◌+◌, ◌==◌, ◌&&◌, ℕ, Bool, true, false, List, [], ◌∷◌, length, map, Option, Some, None, refl, sym, ap, subst, ◌∙◌}
 use Rattle.std.specs.Prelude.{if◌then◌else◌, nat_eq, nat_lt}
 use Rattle.std.specs.Cmp.Lexicographic.{other_text, pointwise, same_text}
@@ -108,7 +108,7 @@ identify_is Get e = absurd (false≢true e)
 identify_is Set e = absurd (false≢true e)
 
 module _ (setup : Setup) (live : Live) (going : has_ended live.phase ≡ false) where
-  -- If a turn ends the controller, it is for the cause of what comes, and the device is told.
+  -- If a turn ends the controller, it is for the cause of what comes, and the device learns of it.
   record IsFor (came : Came) (turn : Turn) : Type 0 where
     caused : (cause : Cause) → turn.live.phase ≡ Ended cause → HasCause setup live came cause × IsToldAs setup live cause (map (bytes_of setup) turn.sent)
 

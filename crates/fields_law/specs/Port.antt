@@ -40,6 +40,8 @@ pub record IsPortEnd (octets : List ℕ) : Type 0 where
 abbrev pub after_names : Peer → ℕ
 after_names peer = aligned_place (26 + length peer.port + length peer.chassis)
 
+-- These octets of PDPortDataReal name this neighbour: its port and chassis with their lengths, LineDelay 0 and its MAC
+-- address; after padding the end of the record follows.
 pub record IsPeer (octets : List ℕ) (peer : Peer) : Type 0 where
   pub port_length : number_at 24 1 octets ≡ length peer.port
   pub port : octets_at 25 (length peer.port) octets ≡ peer.port

@@ -31,7 +31,7 @@ ghost use Rattle.fields_law.specs.Acknowledgement.{IsFack};
 ghost use Rattle.fields_law.specs.Mapper.{IsEndAnswer, IsEntryAnswer, IsFreedAnswer, IsIdentity};
 ghost use Rattle.fields_law.specs.Packet.{IsCall, IsNoCall, IsReject};
 
-/// The answers to calls that nobody serves, the acknowledgement of fragments, and the answers of the endpoint mapper.
+/// The answers to calls to unknown interfaces or operations, the acknowledgement of fragments, and the answers of the endpoint mapper.
 pub fn answers_are_read_back()
     // A ping is answered by nocall.
     ensures no_call { (call : Head) → IsCall call → IsNoCall (answer_bytes call NoCall) call }

@@ -28,6 +28,7 @@ pub after_calls-append : (chip : Chip) (front back : List Call) → after_calls 
 after_calls-append chip [] back = refl
 after_calls-append chip (call ∷ front) back = after_calls-append (after_call chip call) front back
 
+-- Calls that were asked of a flash one after the other.
 pub asked_more-of : {S : ℕ} (old between new : MemoryFlash S) (front back : List Call) → IsAsked old front between → IsAsked between back new → IsAsked old (front ++ back) new
 asked_more-of old between new front back first second =
     second ∙ ap (λ chip. after_calls chip back) first ∙ sym (after_calls-append (chip_of old) front back)

@@ -32,18 +32,23 @@ im1_of text = record { im_tag_function = take 32 text; im_tag_location = drop 32
 
 -- ---- the records
 
+-- I&M0, as octets.
 abbrev pub im0_record : Identity → List ℕ
 im0_record identity = block_bytes (is.Im0 (im0_of identity))
 
+-- I&M1 with this text, as octets.
 abbrev pub im1_record : List ℕ → List ℕ
 im1_record text = block_bytes (is.Im1 (im1_of text))
 
+-- I&M2 with this text, as octets.
 abbrev pub im2_record : List ℕ → List ℕ
 im2_record text = block_bytes (is.Im2 (record { im_date = text }))
 
+-- I&M3 with this text, as octets.
 abbrev pub im3_record : List ℕ → List ℕ
 im3_record text = block_bytes (is.Im3 (record { im_descriptor = text }))
 
+-- I&M4 with this text, as octets.
 abbrev pub im4_record : List ℕ → List ℕ
 im4_record text = block_bytes (is.Im4 (record { im_signature = text }))
 

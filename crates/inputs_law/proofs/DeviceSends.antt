@@ -158,7 +158,7 @@ all_calm : (shown : Image) (sent : List Sent) → AreCalm None sent → AreOfIma
 all_calm shown [] calm = tt
 all_calm shown (message ∷ sent) calm = (calm_silent shown message calm.0, all_calm shown sent calm.1)
 
--- a relation is made, or there is none afterwards; and no inputs are sent
+-- a relation is made, or none exists afterwards; and no inputs are sent
 record Alone (real : List RealModule) (calls : List Answer) (heard : Heard) (after : Option RelationState) (sent : List Sent) : Type 0 where
   silent : (shown : Image) → AreOfImage shown sent
   makes : (next : RelationState) → after ≡ Some next → Makes calls None heard after sent

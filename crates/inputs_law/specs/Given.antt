@@ -45,7 +45,7 @@ input_by place (move.Input slot subslot value) last =
     if ((place.slot == slot) && (place.subslot == subslot)) && (place.size == length value.items + 1) then Some value.items else last
 input_by place one last = last
 
--- a value that is given belongs to the relation of the device; without a relation there is none
+-- a value that is given belongs to the relation of the device; without a relation no value counts as given
 abbrev pub in_relation : Option RelationState → Option (List ℕ) → Option (List ℕ)
 in_relation None value = None
 in_relation (Some link) value = value
@@ -106,6 +106,7 @@ module _ {F : Type 0} where
   abbrev pub iops_at : Setup → World F → List (Move × World F) → Place → ℕ
   iops_at setup first run place = iops_by (mark_for setup first.device.station (statuses_after first run) place (last_input place None run))
 
+  -- The IOPS that the device sends for the input of a submodule after these moves, if the plan has one.
   abbrev pub iops_for : Setup → World F → List (Move × World F) → ℕ → ℕ → Option ℕ
   iops_for setup first run slot subslot = option_map (iops_at setup first run) (place_at Data slot subslot (places_for setup))
 
@@ -113,6 +114,8 @@ module _ {F : Type 0} where
   abbrev pub value_given : Setup → World F → List (Move × World F) → Place → List ℕ
   value_given setup first run place = if iops_at setup first run place == good then value_or_zeros place (last_input place None run) else zeros_at place
 
+  -- The value that the application of the device gave last in this relation for the input of a submodule, if the plan has
+  -- one.
   abbrev pub given_for : Setup → World F → List (Move × World F) → ℕ → ℕ → Option (List ℕ)
   given_for setup first run slot subslot = option_map (value_given setup first run) (place_at Data slot subslot (places_for setup))
 

@@ -10,7 +10,7 @@ use Rattle.lldp.specs.Message.{Message, message}
 use Rattle.lldp.specs.Peer.{Told, chassis_text}
 use Rattle.lldp.specs.Frame.{nearest, lldp_type, link}
 
--- What there is to say: the MAC address, the running name, the running IP address, and what the host says of the link.
+-- What an announcement says: the MAC address, the running name, the running IP address, and what the host says of the link.
 pub record Station : Type 0 where
   pub mac : Mac
   pub name : List ℕ

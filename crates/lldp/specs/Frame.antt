@@ -29,6 +29,7 @@ is_lldp own size header =
     nat_le size (longest header.tag) && pointwise nat_eq header.destination.octets nearest && header.ether_type == lldp_type
     && not (pointwise nat_eq header.source.octets own.octets)
 
+-- What a frame says of a neighbour, if it is a message of LLDP.
 abbrev pub frame_told : Mac → ℕ → Result (Header × List ℕ) FrameFault → Option Told
 frame_told own size (Ok frame) = if is_lldp own size frame.0 then value_of (told_from frame.0.source frame.1) else None
 frame_told own size (Err fault) = None

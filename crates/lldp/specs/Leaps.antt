@@ -7,7 +7,7 @@ abbrev pub sooner : Option Known → ℕ → ℕ
 sooner None ticks = ticks
 sooner (Some known) ticks = min (max 1 known.left) ticks
 
--- the number of ticks up to and with the next one that sends an announcement or forgets the neighbour
+-- the number of ticks up to and including the next one that sends an announcement or forgets the neighbour
 abbrev pub due_in : State → ℕ
 due_in state = sooner state.known (max state.next 1)
 

@@ -41,6 +41,7 @@ abbrev pub read_next : {F A B : Type 0} → (A → Result (List B) F) → (A →
 read_next others first None = Ok []
 read_next others first (Some x) = others x >>= λ values. Ok (first x ∷ values)
 
+-- The TLVs after the first three, up to the end.
 unfoldable pub read_others : ℕ → List ℕ → Result (List Tlv) LldpFault
 read_others zero bytes = Ok []
 read_others (suc most) bytes = next_of bytes >>= read_next (λ x. read_others most x.1) (λ x. x.0)
@@ -65,6 +66,7 @@ pub record Message : Type 0 where
   pub lifetime : ℕ
   pub more : List Tlv
 
+-- The format of a message: ChassisID, PortID, time to live, and other TLVs (IEEE 802.1AB, 8.2).
 unfoldable pub message : Whole LldpFault Message
 message = seen_whole (λ x. record { chassis = x.0; port = x.1.0; lifetime = x.1.1.0; more = x.1.1.1 })
     (λ m. (m.chassis, (m.port, (m.lifetime, m.more))))

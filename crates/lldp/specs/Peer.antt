@@ -45,6 +45,7 @@ value_of (Err fault) = None
 abbrev pub mac_told : Tlv → Option Mac
 mac_told t = if type_of t == 127 then value_of (chassis_mac.read t.octets) else None
 
+-- A MAC address, or another one without it.
 abbrev pub mac_or : Option Mac → Mac → Mac
 mac_or None other = other
 mac_or (Some mac) other = mac

@@ -15,6 +15,7 @@ pub record Known : Type 0 where
   pub peer : Peer
   pub left : ℕ
 
+-- The LLDP of a station: its announcements and its neighbour.
 pub record State : Type 0 where
   -- the MAC address of this station
   pub mac : Mac
@@ -41,6 +42,7 @@ known_after known told =
     if told.lifetime == 0 then (if is_known known told.peer then None else known)
     else Some (record { peer = told.peer; left = told.lifetime * 32000 })
 
+-- The state after a message of a neighbour.
 abbrev pub after_told : State → Option Told → State
 after_told state None = state
 after_told state (Some told) = record state { known = known_after state.known told }

@@ -5,7 +5,7 @@ ghost use Rattle.lldp.specs.Leaps.{NoneActs, acts, due_in, later as later_by, so
 use crate::Neighbours;
 
 impl Neighbours {
-    /// The number of ticks up to and with the next one that sends an announcement or forgets the neighbour.
+    /// The number of ticks up to and including the next one that sends an announcement or forgets the neighbour.
     pub fn due_in(&self) -> u32
         ensures value { result ≡ due_in self.now }
         ensures some { 0 < result }
@@ -30,7 +30,7 @@ impl Neighbours {
     /// Lets ticks pass that neither send nor forget: fewer than `due_in` returns.
     pub fn pass(&mut self, ticks: u32)
         requires { ticks < due_in self.old }
-        // It does what as many ticks do, one by one, and none of them sends or forgets.
+        // It has the same effect as that many ticks, one by one, and none of them sends or forgets.
         ensures state { self.new ≡ ticks_of ticks self.old }
         ensures none { NoneActs ticks self.old }
     {

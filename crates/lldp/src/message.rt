@@ -53,7 +53,7 @@ fn chassis_in(tlv: &Tlv<'_>) -> Option<Mac>
     chassis_mac_at(tlv.octets).ok()
 }
 
-/// The MAC address that was told first.
+/// The first MAC address in the TLVs.
 fn first_told(found: Option<Mac>, tlv: &Tlv<'_>) -> Option<Mac>
     ensures { (other : Mac) → mac_or result other ≡ mac_or found (mac_or (mac_told (tlv_as tlv.now)) other) }
 {

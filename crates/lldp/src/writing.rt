@@ -73,7 +73,7 @@ fn put_lifetime(out: &mut Octets)
     append_u16(out, SECONDS);
 }
 
-/// Appends the ChassisID: the running name, or the MAC address if there is none.
+/// Appends the ChassisID: the running name, or the MAC address without a name.
 fn put_chassis(out: &mut Octets, mac: Mac, name: &[u8])
     requires empty { out.old.items ≡ [] }
     requires size { length name.now ≤ 240 }
@@ -87,7 +87,7 @@ fn put_chassis(out: &mut Octets, mac: Mac, name: &[u8])
     }
 }
 
-/// The text of a station's ChassisID, as its neighbours read it: the running name, or the MAC address if there is none.
+/// The text of a station's ChassisID, as its neighbours read it: the running name, or the MAC address without a name.
 pub fn own_chassis(mac: Mac, name: &StationName) -> ArrayVec<u8, 240>
     ensures text { result.items ≡ own_chassis_of mac name.now }
     // The text has at most 240 octets.
@@ -183,7 +183,7 @@ fn header(mac: Mac) -> ArrayVec<u8, 14>
 pub fn announcement(mac: Mac, name: &StationName, address: [u8; 4], link: Option<Link>) -> Frame
     // Each octet of the frame is given.
     ensures value { result.items ≡ announcement_of (record { mac = mac; name = name.now; address = address; link = link }) }
-    // Any other station hears it as it is meant: the name, or the MAC address if there is none, the port, and the lifetime.
+    // Any other station hears it as it is meant: the name, or the MAC address without a name, the port, and the lifetime.
     ensures heard { (own : Mac) → pointwise nat_eq mac.octets own.octets ≡ false →
         told_in own result.items ≡ Some (told_of (record { mac = mac; name = name.now; address = address; link = link })) }
 {

@@ -112,10 +112,12 @@ diff_of expected real = record {
 abbrev pub has_subslot : ℕ → List DiffSubmodule → Bool
 has_subslot subslot rows = list_any (λ row. row.subslot_number == subslot) rows
 
+-- Whether these rows list a submodule.
 abbrev pub lists : ℕ → ℕ → List DiffModule → List DiffSubmodule → Bool
 lists slot subslot [] submodules = false
 lists slot subslot (row ∷ modules) submodules =
     (row.slot_number == slot && has_subslot subslot (take (rows_of row) submodules)) || lists slot subslot modules (drop (rows_of row) submodules)
 
+-- Whether a ModuleDiffBlock lists a submodule.
 abbrev pub is_listed : ℕ → ℕ → Listed DiffModule DiffSubmodule → Bool
 is_listed slot subslot rows = lists slot subslot rows.modules rows.submodules

@@ -11,7 +11,7 @@ use denote.RattleType.{RattleType}
 use denote.RawPtr.{Ptr, block_ptr, lies_at}
 use denote.Slice.{ShrSlice, slice_val}
 
--- These octets lie at a place, one behind the other, and may be read as long as the lifetime lasts: what is owned by a
+-- These octets lie at a place, one after the other, and may be read as long as the lifetime lasts: what is owned by a
 -- `&[u8]` whose octets these are, and whose address this is.
 abbrev pub lie_for : Lft → Ptr → List ℕ → Fml
 lie_for κ place octets = fex (ℕ × ℕ) (λ at. fsep (feq Ptr place (block_ptr at.0 at.1))

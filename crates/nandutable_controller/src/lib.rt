@@ -105,7 +105,7 @@ pub extern "C" fn pn_tool_hear(tool: &WrittenTool, search: &mut Search, given: &
     ensures place { place_of search.new ≡ after_frame (tool_in tool.now) search.old.xid (place_of search.old) (take 1519 given.now) }
     // It goes on to ask by this number.
     ensures number { search.new.xid ≡ search.old.xid }
-    // A host finds no more than is told.
+    // A host finds no more than was reported.
     ensures tidy { IsTidy search.old → IsTidy search.new }
     // After the answer of a second station the name is still that of the first one.
     ensures kept { search.old.stations ≢ 0 → search.new.stations ≢ 1 → name_of search.new ≡ name_of search.old }

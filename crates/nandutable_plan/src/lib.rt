@@ -32,7 +32,7 @@ pub extern "C" fn pn_plan_make(
     read(alloc, text, size, plan)
 }
 
-/// Writes the key at which the first fault of a catalogue is, followed by a zero. Returns 1 if it wrote one, 2 if there is none or no room for
+/// Writes the key at which the first fault of a catalogue is, followed by a zero. Returns 1 if it wrote one, 2 if no key is at fault or there is no room for
 /// it, and 0 if there was not enough memory, and only then.
 #[unsafe(no_mangle)]
 pub extern "C" fn pn_plan_show(text: &[u8], room: &mut [u8], alloc: Global) -> u32

@@ -23,7 +23,7 @@ use std::marker::Model;
 pub struct World<F: Flash<S>, const S: usize> {
     controller: Controller,
     sent: SentFrames,
-    // Last: what is proved of the size of a struct doubles with each field behind one of any type.
+    // Last: what is proved of the size of a struct doubles with each field after one of any type.
     device: Device<F, S>,
 }
 

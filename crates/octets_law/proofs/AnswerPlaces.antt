@@ -48,11 +48,11 @@ counted answer = big_bytes 4 (length answer.blocks) ++ (big_bytes 4 answer.maxim
 abbrev body_octets : Answered → List ℕ
 body_octets answer = word answer ++ counted answer
 
--- The octets behind the activity, with more behind them.
+-- The octets after the activity, with more after them.
 abbrev behind_activity : Answered → List ℕ → List ℕ
 behind_activity answer inside = boot ++ (big_bytes 4 answer.header.sequence ++ (big_bytes 2 answer.header.operation ++ (ending answer ++ inside)))
 
--- The octets of a response that is written, with more behind them.
+-- The octets of a response that is written, with more after them.
 abbrev response_octets : Answered → List ℕ → List ℕ
 response_octets answer more =
     4 ∷ 2 ∷ 0x0A ∷ 0 ∷ 0 ∷ 0 ∷ 0 ∷ 0 ∷ (answer.header.object ++ (answer.header.interface ++ (answer.header.activity ++ behind_activity answer (body_octets answer ++ more))))
@@ -87,7 +87,7 @@ status_front one rest it =
 take_whole : (octets : List ℕ) → take (length octets) octets ≡ octets
 take_whole octets = ap (take (length octets)) (sym (append-nil octets)) ∙ take_front octets []
 
--- An answer that can be sent is read at fixed places as it is, whatever is behind it.
+-- An answer that can be sent is read at fixed places as it is, whatever follows it.
 pub response_placed : (answer : Answered) (more : List ℕ) → CanBeAnswered answer → IsAnswerRead (response_bytes answer ++ more) answer
 response_placed answer more can =
     let object : List ℕ = answer.header.object in

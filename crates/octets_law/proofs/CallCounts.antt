@@ -17,7 +17,7 @@ pub record IsCallCounted (bytes : List ℕ) (meaning : Call) : Type 0 where
   pub sequence : in_order 64 4 bytes ≡ meaning.header.sequence
   pub counted : is_counted bytes ≡ is_some meaning.blocks
 
--- A number of so many octets at the front, in the byte order of a representation.
+-- A number of n octets at the front, in the byte order of a representation.
 abbrev at_front : ℕ → ℕ → List ℕ → ℕ
 at_front representation size octets = if representation / 16 == 1 then little_number size octets else big_number size octets
 

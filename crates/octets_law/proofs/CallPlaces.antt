@@ -112,7 +112,7 @@ take_within zero front rest few = refl
 take_within (suc n) [] rest few = absurd (omega arith)
 take_within (suc n) (x ∷ front) rest few = ap (λ l. x ∷ l) (take_within n front rest (omega arith))
 
--- The blocks of a call, read behind its header and four counts.
+-- The blocks of a call, read after its header and four counts.
 pub args_placed : (a b c d r e f g : ℕ) (object interface activity boot sequence operation ending word size maximum offset actual behind rest : List ℕ)
     → length object ≡ 16 → length interface ≡ 16 → length activity ≡ 16 → length boot ≡ 8 → length sequence ≡ 4 → length operation ≡ 2 → length ending ≡ 10
     → length word ≡ 4 → length size ≡ 4 → length maximum ≡ 4 → length offset ≡ 4 → length actual ≡ 4 → value_in (r * 1 + 0) 4 size ≤ length behind

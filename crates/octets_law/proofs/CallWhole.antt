@@ -40,7 +40,7 @@ further (suc o) w k (x ∷ l) e =
     let on : suc (o + w) ≡ k = omega (arith, e) in
     further o w (o + w) l refl ∙ ap (λ n. drop n (x ∷ l)) on
 
--- So many octets at a place, in front of those behind them.
+-- n octets at a place, before those that follow them.
 pub record IsCut (bytes : List ℕ) (o w k : ℕ) : Type 0 where
   pub wide : length (take w (drop o bytes)) ≡ w
   pub is : drop o bytes ≡ take w (drop o bytes) ++ drop k bytes
@@ -63,7 +63,7 @@ value_taken representation size l =
     ap (λ n. if representation / 16 == 1 then n else big_number size (take size l)) (little_taken size l)
     ∙ ap (λ n. if representation / 16 == 1 then little_number size l else n) (big_taken size l)
 
--- So many octets at a place, of those before another place.
+-- n octets at a place, of those before another place.
 pub window : (o w n : ℕ) (l : List ℕ) → o + w ≤ n → take w (drop o (take n l)) ≡ take w (drop o l)
 window zero zero n l few = refl
 window zero (suc w) zero l few = absurd (omega (arith, few))

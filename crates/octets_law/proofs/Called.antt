@@ -38,7 +38,7 @@ asked_for xid = record { service = Identify; xid = big_number 4 xid; blocks = re
 four_long : 0 < length {A = ℕ} (255 ∷ 255 ∷ 0 ∷ 0 ∷ [])
 four_long = omega arith
 
--- Octets behind a FrameID that are such a request.
+-- Octets after a FrameID that are such a request.
 identify_spelled : (first second xid delay rest : List ℕ) → length first ≡ 1 → length second ≡ 1 → length xid ≡ 4 → length delay ≡ 2
     → big_number 1 first ≡ 5 → big_number 1 second ≡ 0 → IsRequest 0xFEFE (first ++ (second ++ (xid ++ (delay ++ (0 ∷ 4 ∷ 255 ∷ 255 ∷ 0 ∷ 0 ∷ rest))))) (asked_for xid)
 unfolding IsRequest request header_and_data data_of blocks_of block_of block kind

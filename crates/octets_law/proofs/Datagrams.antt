@@ -31,7 +31,7 @@ kind_under n bytes content =
 
 -- ---- the headers before a datagram's body
 
--- The body begins behind 20 octets of IPv4 and 8 of UDP.
+-- The body begins after 20 octets of IPv4 and 8 of UDP.
 pub record IsBehind (rest body : List ℕ) : Type 0 where
   pub more : List ℕ
   pub is : drop 28 rest ≡ body ++ more

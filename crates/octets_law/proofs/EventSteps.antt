@@ -97,7 +97,7 @@ module _ (names : List (List ℕ)) (outcomes : List Outcome) (station : Station)
   Writes event = (octets : List ℕ) (caller : Caller) (address : List ℕ) (call : Called) (asks : asking_of station.identity.mac event ≡ calling octets) (read : IsCallRead octets call)
       (heard : heard_of station.identity event ≡ Reported caller address (Calls call)) → WritesAreBridged names outcomes station live event octets asks caller address call read heard
 
-  -- What is said in these octets, with more behind them.
+  -- What is said in these octets, with more after them.
   said_step : (event : Event) (body more : List ℕ) (caller : Caller) (address : List ℕ) → asking_of station.identity.mac event ≡ calling (body ++ more)
       → heard_of station.identity event ≡ Reported caller address (said_by body) → Writes event → IsNamed event → Goal event
   unfolding said_by

@@ -193,7 +193,7 @@ module _ (names : List (List ℕ)) (outcomes : List Outcome) (station : Station)
   nothing : (is_to station.identity.mac (untagged bytes) ≡ true → is_dcp 0xFEFD 4 0 (untagged bytes) ≡ false) → asking_of station.identity.mac event ≡ Nothing
   nothing other = asks ∙ timely_nothing station.identity.mac (untagged bytes) id body it other
 
-  -- A frame that is not taken for a request is no Set.
+  -- A frame that is not read as a request is no Set.
   untaken : is_taken station.identity destination id ≡ false → asking_of station.identity.mac event ≡ Nothing
   untaken not = nothing (λ own. false_from_ne_true (is_dcp 0xFEFD 4 0 (untagged bytes)) (λ is.
       let same : id ≡ 0xFEFD = sym it.id ∙ (dcp_id 0xFEFD 4 0 (untagged bytes) is).0 in

@@ -21,7 +21,7 @@ use Rattle.octets_law.proofs.Identified.{first_identified}
 use Rattle.octets_law.proofs.Turned.{cycle_more}
 use Rattle.octets_law.proofs.Split.{AreExact, all_answered, made_by_octets, settled, told_events}
 
--- What is told of a cycle is a cycle, read from octets.
+-- What is reported of a cycle is a cycle, read from octets.
 is_cycle : (outcomes : List (List Outcome)) (station : Station) (first settings : Settings) (room : ℕ) (events : List Event) → AreSent outcomes station (started first room) events
     → IsMadeOf (run_of outcomes station (started first room) events).accepted first settings
     → IsCycle station.identity.mac first (told_of outcomes station (started first room) events) settings

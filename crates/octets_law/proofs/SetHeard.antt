@@ -96,7 +96,7 @@ asked_parts frame_id body asked whole =
 
 -- ---- a frame of real time
 
--- What is read of the octets of a frame of real time: stations, EtherType, FrameID, and the two octets behind it.
+-- What is read of the octets of a frame of real time: stations, EtherType, FrameID, and the two octets after it.
 pub record IsTimely (frame : List ℕ) (frame_id : ℕ) (body : List ℕ) : Type 0 where
   pub ether_type : number 12 2 frame ≡ 0x8892
   pub id : number 14 2 frame ≡ frame_id

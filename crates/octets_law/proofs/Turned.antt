@@ -1,4 +1,4 @@
--- Steps one after another, and what is told of them.
+-- Steps one after another, and what is reported of them.
 use Rattle.std.proofs.Common.{◌≡◌, ◌==◌, ◌+◌, ◌-◌, ◌<◌, ◌^◌, ℕ, suc, Bool, length, List, [], ◌∷◌, ◌++◌, map, take, drop, get_or, inl, inr, refl, sym, ap, subst, ◌∙◌, arith, append_assoc, if◌then◌else◌}
 use Rattle.std.proofs.lemmas.Bool.{cases_lt, cond_both}
 use Rattle.std.proofs.lemmas.List.{append-nil, get_or-drop, get_or-take, get_or_append_left, get_or-append_right, get_or_past, length-take}
@@ -44,7 +44,7 @@ small_of octets small =
     four_small (drop 18 (untagged octets)) (octets_behind 18 (untagged octets)
     (cond_both (number 12 2 octets == 0x8100) _ _ AreOctets (λ _. octets_both (take 12 octets) (drop 16 octets) (octets_first 12 octets small) (octets_behind 16 octets small)) (λ _. small)))
 
--- What is told of a step is what is handed on of it.
+-- What is reported of a step is what is handed on of it.
 pub handed_is : (lost : Bool) (frames sent : List (List ℕ)) (step : Stepped) → sent ≡ (if lost then [] else frames) → lost ≡ step.live.values.is_lost → frames ≡ step.frames → sent ≡ handed step
 handed_is lost frames sent step is gone are =
     is ∙ ap (λ b. if b then [] else frames) gone ∙ ap (λ f. if step.live.values.is_lost then [] else f) are

@@ -94,7 +94,7 @@ whole_blocks (suc most) (a ∷ []) whole = absurd (short_no a [] most (omega ari
 
 -- ---- the request
 
--- Octets behind a FrameID that are a Set of these blocks.
+-- Octets after a FrameID that are a Set of these blocks.
 request_spelled : (first second xid delay size inside rest : List ℕ) → length first ≡ 1 → length second ≡ 1 → length xid ≡ 4 → length delay ≡ 2 → length size ≡ 2
     → big_number 1 first ≡ 4 → big_number 1 second ≡ 0 → big_number 2 size ≡ length inside → (whole : AreSpelled 16 inside)
     → IsRequest 0xFEFD (first ++ (second ++ (xid ++ (delay ++ (size ++ (inside ++ rest)))))) (record { service = SetService; xid = big_number 4 xid; blocks = whole.blocks })

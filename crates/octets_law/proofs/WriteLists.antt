@@ -23,7 +23,7 @@ use Rattle.octets_law.proofs.WriteMarks.{AreWritten, IsWritten}
 use Rattle.octets_law.proofs.WriteReads.{IsHeaderRead, header_read}
 use Rattle.octets_law.proofs.WriteTexts.{text_read}
 
--- The first record of a list, and what is behind it.
+-- The first record of a list, and what follows it.
 pub record IsEntry (octets : List ℕ) (x : Entry × List ℕ) : Type 0 where
   pub behind : List ℕ
   pub spelled : IsBlock octets (is.IodWriteReq x.0.0) behind
@@ -96,7 +96,7 @@ no_entry : entry_of [] ≡ None
 unfolding entry_of block_of block
 no_entry = refl
 
--- The records of a list are read as what each asks for, whatever is behind the list.
+-- The records of a list are read as what each asks for, whatever follows the list.
 pub texts_listed : (standing : Option (List ℕ)) (real : Real) (most : ℕ) (octets extra : List ℕ) → is_list most octets ≡ true
     → AreWritten (judged_each standing real (entries_in most octets)) (texts_in most (octets ++ extra))
 unfolding entries_in is_list

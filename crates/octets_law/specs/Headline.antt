@@ -133,6 +133,6 @@ AreCycles mac (events ∷ cycles) transcript first settings =
     (now : List Told) × (later : List Told) × (between : Settings) × (transcript ≡ now ++ later) × (map (λ told. told.0) now ≡ events)
     × IsCycle mac first now between × AreCycles mac cycles later between settings
 
--- What was told since is a life of these cycles, from a blank chip on.
+-- What was reported since is a life of these cycles, from a blank chip on.
 abbrev pub IsLife : Mac → List (List Event) → List Told → List Told → Settings → Type 0
 IsLife mac cycles before now settings = (transcript : List Told) × (now ≡ before ++ transcript) × AreCycles mac cycles transcript factory_settings settings

@@ -1,5 +1,5 @@
 -- What the octets of a frame or of a call ask of a device, and how the octets of the frames that it sends answer that.
--- Everything is read at fixed places: a frame of Ethernet from its first octet, with the VLAN tag taken out; a call from the
+-- Everything is read at fixed places: a frame of Ethernet from its first octet, without its VLAN tag; a call from the
 -- first octet of its datagram.
 use Rattle.std.specs.Prelude.{◌+◌, ◌-◌, ◌*◌, ◌/◌, ◌%◌, ◌==◌, ◌&&◌, ◌||◌, ℕ, zero, suc, Bool, true, false, not, nat_eq, nat_le, List, [], ◌∷◌, ◌++◌, map, take, drop, zip, flat_map, filter_map, length, Option, Some, None, if◌then◌else◌}
 use Rattle.std.specs.Cmp.Lexicographic.{pointwise}
@@ -12,11 +12,11 @@ use Rattle.pn_values.specs.declared.command.Command.TheVariants.{SetName, SetIp,
 use Rattle.device_frames.specs.declared.event.Event.{Event}
 use Rattle.device_frames.specs.declared.event.Event.TheVariants.{Frame, Call as Joined}
 
--- The number of so many octets at a place, the highest octet first.
+-- The number in n octets at a place, the highest octet first.
 abbrev pub number : ℕ → ℕ → List ℕ → ℕ
 number place size octets = big_number size (drop place octets)
 
--- So many octets at a place.
+-- n octets at a place.
 abbrev pub part : ℕ → ℕ → List ℕ → List ℕ
 part place size octets = take size (drop place octets)
 
@@ -26,7 +26,7 @@ part place size octets = take size (drop place octets)
 abbrev pub is_dcp : ℕ → ℕ → ℕ → List ℕ → Bool
 is_dcp id service type frame = number 12 2 frame == 0x8892 && number 14 2 frame == id && number 16 1 frame == service && number 17 1 frame == type
 
--- Blocks: Option and Suboption as one number, and the contents, whose length stands before them. The next block is at an
+-- Blocks: Option and Suboption as one number, and the contents, with their length before them. The next block is at an
 -- even place.
 abbrev pub blocks_in : ℕ → List ℕ → List (ℕ × List ℕ)
 blocks_in zero octets = []
@@ -35,10 +35,11 @@ blocks_in (suc most) (first ∷ behind) =
     let octets = first ∷ behind in
     (number 0 2 octets, part 4 (number 2 2 octets) octets) ∷ blocks_in most (drop (4 + (number 2 2 octets + 1) / 2 * 2) octets)
 
+-- The blocks of a DCP frame, by its DCPDataLength.
 abbrev pub dcp_blocks : List ℕ → List (ℕ × List ℕ)
 dcp_blocks frame = blocks_in 16 (part 26 (number 24 2 frame) frame)
 
--- Whether these are at most so many blocks of a Set: each has a BlockQualifier, and all octets that its length counts. The
+-- Whether these are at most n blocks of a Set: each has a BlockQualifier, and all octets that its length counts. The
 -- last octet of padding may be missing.
 abbrev pub are_whole : ℕ → List ℕ → Bool
 are_whole most [] = true
@@ -65,8 +66,8 @@ command_in block =
     else if block.0 == 0x0506 && qualifier / 2 == 2 then Some ResetCommunication
     else None
 
--- The BlockErrors with which a frame answers a Set, one for each of its blocks; none if it is no answer to it. Each stands
--- behind the Option and the Suboption that it is about.
+-- The BlockErrors with which a frame answers a Set, one for each of its blocks; none if it is no answer to it. Each is
+-- after the Option and the Suboption that it is about.
 abbrev pub block_errors : List ℕ → List ℕ → List ℕ
 block_errors set frame =
     if is_dcp 0xFEFD 4 1 frame && number 18 4 frame == number 18 4 set
@@ -136,7 +137,7 @@ statuses_in (suc most) [] = []
 statuses_in (suc most) (first ∷ behind) = number 44 4 (first ∷ behind) ∷ statuses_in most (drop 64 (first ∷ behind))
 
 -- The statuses with which a frame answers a call: of the call, and of each record of a list; none if it is no answer to it.
--- In an answer the call's octets begin behind 14 of Ethernet, 20 of IPv4 and 8 of UDP.
+-- In an answer the call's octets begin after 14 of Ethernet, 20 of IPv4 and 8 of UDP.
 abbrev pub statuses : List ℕ → List ℕ → List ℕ
 statuses call frame =
     let answer = drop 42 frame in
@@ -152,12 +153,16 @@ pub data Asking : Type 0 where
   Call : (call : List ℕ) → Asking
   Nothing : Asking
 
+-- A frame without its VLAN tag.
 abbrev pub untagged : List ℕ → List ℕ
 untagged frame = if number 12 2 frame == 0x8100 then take 12 frame ++ drop 16 frame else frame
 
+-- What octets ask of a device that are the body of a datagram: a call, if they are a request of DCE/RPC (version 4, packet
+-- type 0).
 abbrev pub calling : List ℕ → Asking
 calling call = if number 0 2 call == 0x0400 then Call call else Nothing
 
+-- What a frame without a tag asks of the device with this MAC address: a Set of DCP, a call, or nothing.
 abbrev pub asking_in : Mac → List ℕ → Asking
 asking_in mac frame =
     if not (pointwise nat_eq (take 6 frame) mac.octets) then Nothing

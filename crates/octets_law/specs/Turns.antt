@@ -1,4 +1,4 @@
--- The steps of a cycle, one after another, and what is told of them.
+-- The steps of a cycle, one after another, and what is reported of them.
 use Rattle.std.specs.Prelude.{◌≡◌, ◌<◌, ◌^◌, ℕ, length, List, [], ◌∷◌, ◌++◌, map}
 use Rattle.flash_model.specs.declared.flash.Flash.{Ghosts as Flash}
 use Rattle.pn_values.specs.Settings.{factory_settings}
@@ -20,7 +20,7 @@ abbrev pub IsSmall : Event → Type 0
 IsSmall (Frame frame) = number 18 4 (untagged frame.items) < 2 ^ 32
 IsSmall event = Unit {0}
 
--- One event: the step of the device, and what is told of it.
+-- One event: the step of the device, and what is reported of it.
 pub record Turns {F : Type 0} {S : ℕ} (as_flash : Flash F S) (old : State F) (event : Event) (before now : List Told) (new : State F) : Type 0 where
   pub outcomes : List Outcome
   pub same : new.station ≡ old.station
@@ -70,7 +70,7 @@ pub record Lives {F : Type 0} {S : ℕ} (as_flash : Flash F S) (station : Statio
   pub is : IsCycle station.identity.mac first transcript settings
   pub ready : IsReady as_flash station settings again
 
--- What was told since is cycles of these events, after which a device is ready.
+-- What was reported since is cycles of these events, after which a device is ready.
 pub record HasLived {F : Type 0} {S : ℕ} (as_flash : Flash F S) (station : Station) (cycles : List (List Event)) (before now : List Told) (device : State F) : Type 0 where
   pub transcript : List Told
   pub settings : Settings

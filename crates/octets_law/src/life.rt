@@ -17,7 +17,7 @@ use pn_values::{Identity, Real};
 use relations::DeviceOptions;
 use settings_journal::BootFault;
 
-/// Who is told what a device was given and what it sent.
+/// Who learns what a device was given and what it sent.
 pub trait Witness {
     /// The events, each with the frames that were sent at it, in order.
     ghost told: { Self → List Told };
@@ -59,7 +59,7 @@ pub fn live<F: Flash<S>, const S: usize, T: Product, W: Witness, P: Fn(F) -> F>(
     requires powers { P.IsAlwaysCallable power_up }
     requires keeps { (lost flash : F) → P.post power_up lost flash → F.image flash ≡ F.image lost }
 
-    // From a blank chip on, whatever the flash does: what was told is a life of these cycles, and the device has its settings.
+    // From a blank chip on, whatever the flash does: what was reported is a life of these cycles, and the device has its settings.
     ensures octets { F.image flash ≡ record { first = erased S; second = erased S } →
         IfOk result (λ device. IsLife (T.identity_of product.now).mac (map (λ events. events.items) cycles.now)
         (W.told witness.old) (W.told witness.new) device.live.values.running) }
@@ -80,7 +80,7 @@ pub fn live<F: Flash<S>, const S: usize, T: Product, W: Witness, P: Fn(F) -> F>(
     Ok(device)
 }
 
-// One cycle: the events, the loss of power, and a start on what is left.
+// One cycle: the events, the loss of power, and a start from the flash.
 fn live_once<F: Flash<S>, const S: usize, T: Product, W: Witness, P: Fn(F) -> F>(
     product: &T,
     options: DeviceOptions,

@@ -28,6 +28,7 @@ ended text room =
     let count = min (length text) (length room - 1) in
     take count text ++ 0 ∷ drop (count + 1) room
 
+-- Whether memory ended.
 abbrev pub is_memory : PlanFault → Bool
 is_memory OutOfMemory = true
 is_memory fault = false

@@ -28,15 +28,19 @@ pub record IsFault (text : List ℕ) (answer : ℕ) : Type 0 where
 abbrev pub over : {A : Type 0} → List A → List A → List A
 over room items = items ++ drop (length items) room
 
+-- A parameter record as C sees it.
 abbrev pub written_parameter : ParameterRecord → Parameter
 written_parameter entry = record { index = entry.index; length = entry.length }
 
+-- An unused one.
 abbrev pub no_parameter : Parameter
 no_parameter = record { index = 0; length = 0 }
 
+-- Two unused ones.
 abbrev pub no_parameters : List Parameter
 no_parameters = no_parameter ∷ no_parameter ∷ []
 
+-- A submodule as C sees it.
 abbrev pub written_submodule : RealSubmodule → Submodule
 written_submodule entry = record {
   ident = entry.ident;
@@ -47,12 +51,15 @@ written_submodule entry = record {
   parameters = over no_parameters (map written_parameter entry.parameters.items);
 }
 
+-- An unused one.
 abbrev pub no_submodule : Submodule
 no_submodule = record { ident = 0; subslot = 0; input = 0; output = 0; parameter_count = 0; parameters = no_parameters }
 
+-- Four unused ones.
 abbrev pub no_submodules : List Submodule
 no_submodules = no_submodule ∷ no_submodule ∷ no_submodule ∷ no_submodule ∷ []
 
+-- A module as C sees it.
 abbrev pub written_module : RealModule → Module
 written_module entry = record {
   ident = entry.ident;
@@ -61,9 +68,11 @@ written_module entry = record {
   submodules = over no_submodules (map written_submodule entry.submodules.items);
 }
 
+-- An unused one.
 abbrev pub no_module : Module
 no_module = record { ident = 0; slot = 0; submodule_count = 0; submodules = no_submodules }
 
+-- A record of the plan as C sees it.
 abbrev pub written_record : PlanRecord → WrittenRecord
 written_record entry = record {
   slot = entry.slot;
@@ -73,6 +82,7 @@ written_record entry = record {
   octets = over (replicate 64 0) entry.«data».items;
 }
 
+-- An unused one.
 abbrev pub no_record : WrittenRecord
 no_record = record { slot = 0; subslot = 0; index = 0; length = 0; octets = replicate 64 0 }
 

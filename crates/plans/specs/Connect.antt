@@ -22,6 +22,7 @@ use Rattle.plans.specs.Parts.{data_of, module_of, submodule_of}
 abbrev pub initiator_object : List ℕ
 initiator_object = 0xDE ∷ 0xA0 ∷ 0x00 ∷ 0x00 ∷ 0x6C ∷ 0x97 ∷ 0x11 ∷ 0xD1 ∷ 0x82 ∷ 0x71 ∷ 0x00 ∷ 0x01 ∷ 0x00 ∷ 0x00 ∷ 0x00 ∷ 0x00 ∷ []
 
+-- The ARBlockReq of a plan.
 abbrev pub ar_block : Parts → List ℕ → ArBlockReq
 ar_block parts ar = record {
   ar_uuid = ar;
@@ -39,6 +40,7 @@ abbrev pub reference_of : IocrType → ℕ
 reference_of Input = 1
 reference_of Output = 2
 
+-- The FrameID that a controller asks for: of the outputs the device chooses it (0xFFFF).
 abbrev pub asked_id : IocrType → ℕ
 asked_id Input = input_frame_id
 asked_id Output = 0xFFFF
@@ -100,6 +102,7 @@ abbrev pub bytes_of : List Block → List ℕ
 bytes_of [] = []
 bytes_of (block ∷ blocks) = block_bytes block ++ bytes_of blocks
 
+-- The octets of these blocks.
 abbrev pub size_of : List Block → ℕ
 size_of [] = 0
 size_of (block ∷ blocks) = block_size block + size_of blocks

@@ -25,6 +25,7 @@ low_tag = 0xA000
 abbrev pub alarm_factor : ℕ
 alarm_factor = 1
 
+-- RTARetries of a plan.
 abbrev pub alarm_retries : ℕ
 alarm_retries = 3
 

@@ -17,9 +17,11 @@ abbrev pub IsRising : List ℕ → Type 0
 IsRising [] = Unit {0}
 IsRising (number ∷ numbers) = AllByRecursion (λ other. number < other) numbers × IsRising numbers
 
+-- The slots of these modules.
 abbrev pub slots_of : List RealModule → List ℕ
 slots_of modules = map (λ entry. entry.slot) modules
 
+-- The subslots of a module.
 abbrev pub subslots_of : RealModule → List ℕ
 subslots_of entry = map (λ part. part.subslot) entry.submodules.items
 
@@ -53,6 +55,7 @@ some_octets octets = if octets == 0 then None else Some octets
 abbrev pub io_data_of : RealSubmodule → SubmoduleData
 io_data_of part = record { input = some_octets part.input; output = some_octets part.output }
 
+-- The data of the submodules of a slot.
 abbrev pub data_in_slot : ℕ → List RealSubmodule → List ExpectedData
 data_in_slot slot parts = map (λ part. record { slot = slot; subslot = part.subslot; io_data = io_data_of part }) parts
 
@@ -70,5 +73,6 @@ module_of entry = record {
   number_of_submodules = length entry.submodules.items;
 }
 
+-- A submodule as the Connect expects it.
 abbrev pub submodule_of : RealSubmodule → ExpectedSubmodule
 submodule_of part = record { subslot_number = part.subslot; submodule_ident_number = part.ident; io_data = io_data_of part }

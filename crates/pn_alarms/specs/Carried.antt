@@ -25,6 +25,7 @@ wanted pick (Err reason) = Err fault.Block
 abbrev pub ack_of : List ℕ → Result AlarmAck AlarmFault
 ack_of body = wanted in_alarm_ack (block_of body)
 
+-- The AlarmNotification in the body of a PDU, or the fault.
 abbrev pub notification_of : List ℕ → Result AlarmNotification AlarmFault
 notification_of body = wanted in_alarm_notification (block_of body)
 

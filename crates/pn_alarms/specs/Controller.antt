@@ -24,6 +24,7 @@ controller_later c = record { sending = ticked c.sending; confirming = c.confirm
 abbrev pub with_data : ControllerEnd → ℕ → ControllerEnd
 with_data c number = record { sending = c.sending; confirming = c.confirming; seen = last_behind c.seen number }
 
+-- The controller's end after an ACK with this number.
 abbrev pub with_ack : ControllerEnd → ℕ → ControllerEnd
 with_ack c number = record { sending = acked c.sending number; confirming = c.confirming; seen = c.seen }
 

@@ -57,8 +57,10 @@ header_now e kind destination source = record {
 abbrev pub end_with : DeviceEnd → AlarmNotification → DeviceEnd
 end_with e notice = record { sender = standing_with notice e.sender; seen = e.seen }
 
+-- The device's end after an alarm is raised.
 abbrev pub end_raised : DeviceEnd → Alarm → DeviceEnd
 end_raised e alarm = record { sender = raised alarm e.sender; seen = e.seen }
 
+-- The device's end after a unit of time.
 abbrev pub end_later : DeviceEnd → DeviceEnd
 end_later e = record { sender = later e.sender; seen = e.seen }

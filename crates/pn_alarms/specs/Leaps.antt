@@ -15,11 +15,12 @@ after step (suc units) state = step (after step units state)
 abbrev pub never : ℕ
 never = 4294967295
 
--- The number of units up to and with the next one with which data is sent again or given up.
+-- The number of units up to and including the next one with which data is sent again or given up.
 abbrev pub waiting_due_in : Sending → Option ℕ → ℕ
 waiting_due_in s None = never
 waiting_due_in s (Some units) = min (s.limit - units) (s.interval - units % s.interval)
 
+-- The units until data is sent again or given up.
 abbrev pub data_due_in : Sending → ℕ
 data_due_in s = waiting_due_in s s.waiting
 
@@ -27,6 +28,7 @@ data_due_in s = waiting_due_in s s.waiting
 abbrev pub waiting_later : ℕ → Option ℕ → Option ℕ
 waiting_later units waiting = option_map (λ waited. waited + units) waiting
 
+-- The sender of data this many units later.
 abbrev pub data_later : ℕ → Sending → Sending
 data_later units s = record { interval = s.interval; limit = s.limit; last = s.last; waiting = waiting_later units s.waiting }
 
@@ -34,9 +36,11 @@ data_later units s = record { interval = s.interval; limit = s.limit; last = s.l
 abbrev pub alarm_due : Alarming → Due
 alarm_due a = due a.sending
 
+-- What is due at the device's end with the next unit.
 abbrev pub device_due : DeviceEnd → Due
 device_due e = due e.sender.sending
 
+-- What is due at the controller's end with the next unit.
 abbrev pub ack_due : ControllerEnd → Due
 ack_due c = due c.sending
 

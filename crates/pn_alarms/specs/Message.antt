@@ -32,9 +32,10 @@ notice_in block pdu.Error said = Ok (Abort (status_in said.body))
 abbrev pub notice_of : {B : Type 0} → (List ℕ → Result B AlarmFault) → List ℕ → Result (Header × Notice B) AlarmFault
 notice_of block bytes = pdu_of bytes >>= λ said. notice_in block said.header.kind said >>= λ notice. Ok (said.header, notice)
 
--- The same at a device.
+-- What a PDU of high priority says to a device, or the fault.
 abbrev pub message_in : PduType → Said → Result ToDevice AlarmFault
 message_in kind said = notice_in ack_of kind said
 
+-- The PDU in these octets, with the AlarmAck that it may carry, or the fault.
 abbrev pub message_of : List ℕ → Result (Header × ToDevice) AlarmFault
 message_of bytes = notice_of ack_of bytes

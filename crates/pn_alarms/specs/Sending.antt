@@ -33,6 +33,7 @@ abbrev pub due_behind : Sending → Option ℕ → Due
 due_behind s None = Nothing
 due_behind s (Some units) = due_at s (units + 1)
 
+-- What is due with the next unit: nothing, a repeat, or the end after the last one.
 abbrev pub due : Sending → Due
 due s = due_behind s s.waiting
 
@@ -55,6 +56,7 @@ abbrev pub waiting_behind : Sending → Option ℕ → Option ℕ
 waiting_behind s None = None
 waiting_behind s (Some units) = if units + 1 == s.limit then None else Some (units + 1)
 
+-- The sender after a unit of time.
 abbrev pub ticked : Sending → Sending
 ticked s = record { interval = s.interval; limit = s.limit; last = s.last; waiting = waiting_behind s s.waiting }
 
@@ -63,6 +65,7 @@ abbrev pub is_repeated_at : Sending → Option ℕ → Bool
 is_repeated_at s None = false
 is_repeated_at s (Some units) = not (units == 0) && (units % s.interval == 0)
 
+-- Whether data is sent again with the next unit.
 abbrev pub is_repeated : Sending → Bool
 is_repeated s = is_repeated_at s s.waiting
 

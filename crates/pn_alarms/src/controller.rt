@@ -110,7 +110,7 @@ impl ControllerAlarms {
         self.repeats.tick()
     }
 
-    /// The number of units up to and with the next one with which the AlarmAck is sent again or given up, `NEVER` if no
+    /// The number of units up to and including the next one with which the AlarmAck is sent again or given up, `NEVER` if no
     /// AlarmAck waits for its ACK.
     pub fn due_in(&self) -> u32
         ensures value { result ≡ data_due_in self.now.sending }

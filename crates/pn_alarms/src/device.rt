@@ -134,7 +134,7 @@ impl DeviceAlarms {
         self.sender.is_repeated()
     }
 
-    /// The number of units up to and with the next one with which the alarm is sent again or given up, `NEVER` if no
+    /// The number of units up to and including the next one with which the alarm is sent again or given up, `NEVER` if no
     /// alarm waits for its ACK.
     pub fn due_in(&self) -> u32
         ensures value { result ≡ data_due_in self.now.sender.sending }

@@ -144,7 +144,7 @@ impl Repeats {
         }
     }
 
-    /// The number of units up to and with the next one with which the data is sent again or given up, `NEVER` if no
+    /// The number of units up to and including the next one with which the data is sent again or given up, `NEVER` if no
     /// data waits for its ACK.
     pub fn due_in(&self) -> u32
         ensures value { result ≡ data_due_in self.now }

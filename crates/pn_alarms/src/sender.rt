@@ -248,7 +248,7 @@ impl Sender {
         self.repeats.is_repeated()
     }
 
-    /// The number of units up to and with the next one with which the alarm is sent again or given up, `NEVER` if no
+    /// The number of units up to and including the next one with which the alarm is sent again or given up, `NEVER` if no
     /// alarm waits for its ACK.
     pub fn due_in(&self) -> u32
         ensures value { result ≡ data_due_in self.now.sending }

@@ -51,7 +51,7 @@ impl IpSuite {
         suite_of(address, mask, gateway)
     }
 
-    /// The IP address. Zeros mean that there is none.
+    /// The IP address. Zeros mean no address.
     pub fn address(&self) -> [u8; 4]
         // The result is the address of the suite.
         ensures value { result ≡ self.now.address }
@@ -73,7 +73,7 @@ impl IpSuite {
         self.mask
     }
 
-    /// The default gateway. The address itself, or zeros, mean that there is none.
+    /// The default gateway. The address itself, or zeros, mean no gateway.
     pub fn gateway(&self) -> [u8; 4]
         // The result is the default gateway of the suite.
         ensures value { result ≡ self.now.gateway }

@@ -327,7 +327,7 @@ own_written plan number k left again next is =
     ∙ (subst (λ (b : Bool). (if b then controller.asking plan (controller.following plan (k + 1)) c else controller.stays c) ≡ controller.asking plan (controller.following plan (k + 1)) c) (sym (eq-eqb k k refl)) refl
     ∙ ap (λ (s : Stage). controller.asking plan s c) is))
 
--- From the Write with this number on, if so many follow it.
+-- From the Write with this number on, if that many follow it.
 pub write_within : (more : ℕ) (plan : Plan) → IsPlan plan → (number k left again silent ready : ℕ) (kept : List Kept) → k + more + 1 ≡ plan.writes
     → plan.patience ≤ left + k + 1
     → ExchangesWithin plan (more + 3) (writing plan number (Writing k) (Call number (Write k)) left again silent ready k kept)

@@ -45,7 +45,7 @@ abbrev pub has_confirm : List ToDevice → Bool
 has_confirm [] = false
 has_confirm (message ∷ messages) = if is_confirm message then true else has_confirm messages
 
--- No call among both, if there is none among either.
+-- No call among both, if neither has one.
 pub no_call_in : (one other : List ToDevice) → has_call one ≡ false → has_call other ≡ false → has_call (one ++ other) ≡ false
 no_call_in [] other a b = b
 no_call_in (message ∷ one) other a b = by (is_call message) (λ e. no_call_in one other e b) a

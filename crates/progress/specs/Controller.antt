@@ -18,6 +18,7 @@ pub record Turn : Type 0 where
   pub controller : Controller
   pub sent : List ToDevice
 
+-- A controller that stays as it is and sends nothing.
 abbrev pub stays : Controller → Turn
 stays controller = record { controller = controller; sent = [] }
 
@@ -40,6 +41,7 @@ abbrev pub left_in : Plan → Controller → Stage → Stage → ℕ
 left_in plan controller (Writing j) (Writing k) = controller.left
 left_in plan controller before next = plan.patience
 
+-- A controller that goes to this stage and sends its request.
 abbrev pub asking : Plan → Stage → Controller → Turn
 asking plan stage controller = record {
   controller = record { number = controller.number; stage = stage; left = left_in plan controller controller.stage stage; again = plan.repeat; asked = true };
@@ -93,18 +95,22 @@ stands Waiting = true
 stands Exchanging = true
 stands stage = false
 
+-- What the answer of the station to the search does.
 abbrev pub found : Plan → Bool → Controller → Stage → Turn
 found plan addressed controller Looking = asking plan (if addressed then Connecting else Addressing) controller
 found plan addressed controller stage = stays controller
 
+-- What the answer to the Set of the address does.
 abbrev pub addressed : Plan → Bool → Controller → Stage → Turn
 addressed plan done controller Addressing = goes_on plan done Connecting controller
 addressed plan done controller stage = stays controller
 
+-- What an abort does: it ends a relation that exists.
 abbrev pub aborted : Plan → Controller → Bool → Turn
 aborted plan controller true = stays (over plan Aborted controller)
 aborted plan controller false = stays controller
 
+-- What each message does to a controller.
 abbrev pub heard : Plan → ToController → Controller → Turn
 heard plan (Found is_addressed) controller = found plan is_addressed controller controller.stage
 heard plan (Addressed done) controller = addressed plan done controller controller.stage
@@ -136,6 +142,7 @@ asks_again plan controller =
     else stays (record controller { again = controller.again - 1 }))
     else stays controller
 
+-- A controller a unit later.
 abbrev pub later : Controller → Controller
 later controller = record controller { left = controller.left - 1 }
 
@@ -158,6 +165,7 @@ started plan number = record {
 abbrev pub limited : Plan → Controller → Turn
 limited plan controller = if nat_le controller.left 1 then given_up plan controller controller.stage else asks_again plan (later controller)
 
+-- What a unit of time does in each stage.
 abbrev pub passed_in : Plan → Controller → Stage → Turn
 passed_in plan controller Looking = asks_again plan controller
 passed_in plan controller Exchanging =
@@ -167,5 +175,6 @@ passed_in plan controller Exchanging =
 passed_in plan controller (Ended cause) = if nat_le controller.left 1 then started plan (controller.number + 1) else asks_again plan (later controller)
 passed_in plan controller stage = limited plan controller
 
+-- What a unit of time does.
 abbrev pub passed : Plan → Controller → Turn
 passed plan controller = passed_in plan controller controller.stage

@@ -28,9 +28,11 @@ abbrev pub sent_of : Option ToController → List ToController
 sent_of None = []
 sent_of (Some message) = message ∷ []
 
+-- A device that stays as it is and sends nothing.
 abbrev pub stays : Device → Turn
 stays device = record { device = device; sent = [] }
 
+-- The device with another relation, or without one.
 abbrev pub with_link : Option Link → Device → Device
 with_link link device = record device { link = link }
 
@@ -53,6 +55,7 @@ abbrev pub kept_of : ℕ → List Kept → Option Kept
 kept_of number [] = None
 kept_of number (kept ∷ others) = if kept.number == number then Some kept else kept_of number others
 
+-- The stored answers without that of this controller.
 abbrev pub without : ℕ → List Kept → List Kept
 without number [] = []
 without number (kept ∷ others) = if kept.number == number then others else kept ∷ without number others
@@ -63,6 +66,7 @@ pub data Looked : Type 0 where
   Again : (done : Bool) → Looked
   Old : Looked
 
+-- What a call is to the stored answer of its controller: new, the same again, or old.
 abbrev pub looked_by : ℕ → Option Kept → Looked
 looked_by sequence None = New
 looked_by sequence (Some kept) =
@@ -75,21 +79,25 @@ three_of (first ∷ []) = first ∷ []
 three_of (first ∷ second ∷ []) = first ∷ second ∷ []
 three_of (first ∷ second ∷ third ∷ others) = first ∷ second ∷ third ∷ []
 
+-- The stored answers with one more, at most four.
 abbrev pub kept_with : ℕ → ℕ → Bool → List Kept → List Kept
 kept_with number sequence done kept = record { number = number; sequence = sequence; done = done } ∷ three_of (without number kept)
 
 -- ---- calls
 
+-- Whether the relation waits for its parameters.
 abbrev pub is_started : Phase → Bool
 is_started Started = true
 is_started Awaiting = false
 is_started Exchanging = false
 
+-- Whether the device waits for the answer to its ApplicationReady.
 abbrev pub is_awaiting : Phase → Bool
 is_awaiting Started = false
 is_awaiting Awaiting = true
 is_awaiting Exchanging = false
 
+-- Whether data is exchanged.
 abbrev pub is_exchanging : Phase → Bool
 is_exchanging Started = false
 is_exchanging Awaiting = false
@@ -137,6 +145,7 @@ answered plan number ask device false = record {
   sent = says.Answer number ask false ∷ [];
 }
 
+-- What a call does: a new one is answered, the same one gets its stored answer again, an old one nothing.
 abbrev pub looked_at : Plan → ℕ → Ask → Device → Looked → Turn
 looked_at plan number ask device New = answered plan number ask device (granted ask number device.link)
 looked_at plan number ask device (Again done) = record { device = device; sent = says.Answer number ask done ∷ [] }
@@ -159,6 +168,7 @@ abbrev pub confirmed : Plan → ℕ → Link → Link
 confirmed plan number link =
     if (link.number == number) && is_awaiting link.phase then record link { phase = Exchanging; left = plan.hold } else link
 
+-- What each message does to a device.
 abbrev pub heard : Plan → ToDevice → Device → Turn
 heard plan Identify device = record { device = device; sent = says.Found device.addressed ∷ [] }
 heard plan Address device = addressed_by device device.link
@@ -180,6 +190,7 @@ heard_all plan (message ∷ messages) device = record {
 abbrev pub fed : Plan → Link → Link
 fed plan link = if is_exchanging link.phase then record link { left = plan.hold } else link
 
+-- The relation after a unit, with outputs that came in it or not.
 abbrev pub fed_by : Plan → Bool → Option Link → Option Link
 fed_by plan true link = on_link (fed plan) link
 fed_by plan false link = link
@@ -188,6 +199,7 @@ fed_by plan false link = link
 abbrev pub is_again : Link → Bool
 is_again link = is_awaiting link.phase && nat_le link.again 1
 
+-- The relation a unit later.
 abbrev pub unit_later : Plan → Link → Link
 unit_later plan link = record link { left = link.left - 1; again = if is_again link then plan.repeat else link.again - 1 }
 
@@ -204,9 +216,11 @@ abbrev pub link_later : Plan → Option Link → Option Link
 link_later plan None = None
 link_later plan (Some link) = if nat_le link.left 1 then None else Some (unit_later plan link)
 
+-- What a device sends with a unit: an abort if its time is over, else ApplicationReady if it is due again.
 abbrev pub unit_sent : Option Link → List ToController
 unit_sent None = []
 unit_sent (Some link) = if nat_le link.left 1 then says.Abort ∷ [] else (if is_again link then says.Ready link.number ∷ [] else [])
 
+-- What a unit of time does.
 abbrev pub passed : Plan → Device → Turn
 passed plan device = passed_with plan device device.link

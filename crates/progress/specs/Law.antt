@@ -31,6 +31,7 @@ pub record IsStart (plan : Plan) (world : World) : Type 0 where
   pub to_controller : world.to_controller ≡ []
   pub outputs : world.outputs ≡ false
 
+-- From a start both exchange data within the limit of a start.
 abbrev pub BothStart : Type 0
 BothStart = (plan : Plan) (world : World) → IsPlan plan → IsStart plan world → ExchangesWithin plan (start_up_limit plan) world
 
@@ -51,6 +52,7 @@ IsLink plan number (Some link) = (link.number ≤ number) × (link.left ≤ long
 abbrev pub IsKept : ℕ → Kept → Type 0
 IsKept number kept = kept.number ≤ number
 
+-- A message that may be under way to the device: of this controller, or of an earlier one.
 abbrev pub IsUnderWay : ℕ → ToDevice → Type 0
 IsUnderWay number (Call other ask) = other ≤ number
 IsUnderWay number message = Unit {0}
@@ -73,6 +75,7 @@ pub record IsState (plan : Plan) (world : World) : Type 0 where
   pub asked : world.controller.stage ≡ Looking → world.controller.asked ≡ true
   pub time : world.controller.left ≤ patience_in plan world.controller.stage
 
+-- From any state both exchange data within the limit of the way back.
 abbrev pub BothComeBack : Type 0
 BothComeBack = (plan : Plan) (world : World) → IsPlan plan → IsState plan world → ExchangesWithin plan (comeback_limit plan) world
 

@@ -31,6 +31,7 @@ pub record World : Type 0 where
 abbrev pub device_turn : Plan → World → DeviceTurn
 device_turn plan world = device_hears plan world.to_device world.device
 
+-- The controller after all that is under way to it, and what the device then sent, has come.
 abbrev pub controller_turn : Plan → World → ControllerTurn
 controller_turn plan world = controller_hears plan (world.to_controller ++ (device_turn plan world).sent) world.controller
 
@@ -38,6 +39,7 @@ controller_turn plan world = controller_hears plan (world.to_controller ++ (devi
 abbrev pub device_unit : Plan → Bool → DeviceTurn → DeviceTurn
 device_unit plan outputs turn = device_passes plan (with_link (fed_by plan outputs turn.device.link) turn.device)
 
+-- The controller after a unit, with inputs that came in it or not.
 abbrev pub controller_unit : Plan → Bool → ControllerTurn → ControllerTurn
 controller_unit plan inputs turn = controller_passes plan (fed plan inputs turn.controller turn.controller.stage)
 
@@ -53,24 +55,29 @@ joined device sent controller = record {
   inputs = is_some device.device.link;
 }
 
+-- A round: all that is under way comes, and then a unit passes at both ends.
 abbrev pub round : Plan → World → World
 round plan world = joined
     (device_unit plan world.outputs (device_turn plan world)) (controller_turn plan world).sent
     (controller_unit plan world.inputs (controller_turn plan world))
 
+-- This number of rounds.
 abbrev pub rounds : Plan → ℕ → World → World
 rounds plan zero world = world
 rounds plan (suc number) world = rounds plan number (round plan world)
 
 -- ---- both exchange data
 
+-- Whether the device exchanges data.
 abbrev pub is_linked : Option Link → Bool
 is_linked None = false
 is_linked (Some link) = is_exchanging link.phase
 
+-- Whether the controller exchanges data.
 abbrev pub is_related : Stage → Bool
 is_related Exchanging = true
 is_related stage = false
 
+-- Whether both exchange data.
 abbrev pub exchanges : World → Bool
 exchanges world = is_linked world.device.link && is_related world.controller.stage

@@ -20,6 +20,7 @@ in_control (is.PrmEnd block) = Some block
 in_control (is.Release block) = Some block
 in_control _ = None
 
+-- The one ControlBlock of this type in the blocks of a call, or the fault.
 abbrev pub control_block : BlockType → List ℕ → Result ControlBlock CallFault
 control_block type blocks = single_of type blocks >>= λ x. or_fault fault.BlockForm (in_control x.0)
 
@@ -36,6 +37,7 @@ named_of link block command = handled
 abbrev pub in_started : Option RelationState → Result (Unit {0}) CallFault
 in_started link = handled ((not (is_started (phase_of link)), fault.Phase) ∷ []) (Ok tt)
 
+-- The block of a PrmEnd that may be carried out: it names the relation, which waits for its parameters.
 unfoldable pub prm_end_of : Option RelationState → List ℕ → Result ControlBlock CallFault
 prm_end_of link blocks =
     control_block kind.PrmEnd blocks >>= λ block. named_of link block 1 >>= λ _. in_started link >>= λ _. Ok block
@@ -48,8 +50,10 @@ release_of link blocks = control_block kind.Release blocks >>= λ block. named_o
 abbrev pub done_of : ControlBlock → ControlBlock
 done_of block = record block { control_command = 8 }
 
+-- The block with which PrmEnd is answered, or the fault.
 abbrev pub prm_end_answer : Option RelationState → List ℕ → Result (List ℕ) CallFault
 prm_end_answer link blocks = prm_end_of link blocks >>= λ block. Ok (block_bytes (is.PrmEndRes (done_of block)))
 
+-- The block with which Release is answered, or the fault.
 abbrev pub release_answer : Option RelationState → List ℕ → Result (List ℕ) CallFault
 release_answer link blocks = release_of link blocks >>= λ block. Ok (block_bytes (is.ReleaseRes (done_of block)))

@@ -28,6 +28,7 @@ use Rattle.relations.specs.Phases.{Handled, Made, Unmoved, differing_octets}
 abbrev pub rows_of : Request → Real → Listed DiffModule DiffSubmodule
 rows_of request real = diff_of request.expected real.modules.items
 
+-- The ModuleDiffBlock of a request, as octets: none if what is plugged is what it expects.
 abbrev pub differing_of : Request → Real → List ℕ
 differing_of request real = differing_octets (rows_of request real)
 
@@ -41,9 +42,11 @@ iocr_answer type iocr frame_id = block_bytes (is.IocrBlockRes (record { iocr_typ
 abbrev pub input_answer : Request → List ℕ
 input_answer request = iocr_answer 1 request.input request.input.frame_id
 
+-- The IOCRBlockRes of the outputs, with the FrameID that the device chose.
 abbrev pub output_answer : ℕ → Request → List ℕ
 output_answer number request = iocr_answer 2 request.output (output_id number request.output)
 
+-- Both IOCRBlockRes, in the order of the request.
 abbrev pub iocrs_answer : ℕ → Request → List ℕ
 iocrs_answer number request = if request.input_first
     then input_answer request ++ output_answer number request
@@ -85,10 +88,12 @@ is_foreign options source (Some link) blocks = false
 abbrev pub connect_of : Option RelationState → List ℕ → Result Request CallFault
 connect_of link blocks = request_of (uuid_of link) blocks
 
+-- The request of a Connect that may be carried out, or the fault: with `only_own_controller` also of its sender.
 abbrev pub connect_within : DeviceOptions → Mac → Option RelationState → List ℕ → Result Request CallFault
 connect_within options source link blocks =
     if is_foreign options source link blocks then Err (fault.ArField 7) else request_within options.smallest_interval (uuid_of link) blocks
 
+-- The blocks with which a Connect is answered, or the fault.
 abbrev pub connect_answer : Identity → Real → DeviceOptions → ℕ → Mac → Option RelationState → List ℕ → Result (List ℕ) CallFault
 connect_answer identity real options number source link blocks =
     connect_within options source link blocks >>= λ request. Ok (connect_blocks identity number request (differing_of request real))

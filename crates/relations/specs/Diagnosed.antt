@@ -18,15 +18,17 @@ abbrev pub beginning : List RealModule → List Diagnosis → Option RelationSta
 beginning real diagnoses None = Unmoved
 beginning real diagnoses (Some link) = Exchanged (diagnoses_begun real diagnoses link.flow)
 
+-- Whether an alarm of a diagnosis is sent when data exchange begins.
 abbrev pub begin_one : List RealModule → List Diagnosis → Option RelationState → Bool
 begin_one real diagnoses None = false
 begin_one real diagnoses (Some link) = begins_with_one real diagnoses link.flow
 
--- The same of a change, after which these exist.
+-- What a change of diagnosis does to the relation, after which these exist.
 abbrev pub diagnosing : List RealModule → Change → List Diagnosis → Option RelationState → Handled
 diagnosing real change diagnoses None = Unmoved
 diagnosing real change diagnoses (Some link) = Exchanged (diagnosed real change diagnoses link.flow)
 
+-- Whether the alarm of a change is sent at once.
 abbrev pub diagnose_one : List RealModule → Change → List Diagnosis → Option RelationState → Bool
 diagnose_one real change diagnoses None = false
 diagnose_one real change diagnoses (Some link) = is_diagnosed real change diagnoses link.flow
@@ -36,6 +38,7 @@ abbrev pub reporting : List RealModule → Option RelationState → Handled
 reporting real None = Unmoved
 reporting real (Some link) = Exchanged (next_reported real link.flow)
 
+-- Whether a change that waits can be reported now.
 abbrev pub report_one : List RealModule → Option RelationState → Bool
 report_one real None = false
 report_one real (Some link) = is_next real link.flow.low
@@ -45,6 +48,7 @@ abbrev pub is_full_in : Option RelationState → Bool
 is_full_in None = false
 is_full_in (Some link) = is_full link.flow
 
+-- Whether the relation has sent data of low priority.
 abbrev pub has_sent_low : Option RelationState → Bool
 has_sent_low None = false
 has_sent_low (Some link) = is_some link.flow.low.alarms.sender.sending.last
@@ -54,6 +58,7 @@ abbrev pub heard_low : ToDevice → Option RelationState → PduFate
 heard_low message None = Ignored
 heard_low message (Some link) = heard_as link.flow.low.alarms message
 
+-- What a PDU of low priority does to the relation.
 abbrev pub hearing_low : ToDevice → Option RelationState → Handled
 hearing_low message None = Unmoved
 hearing_low message (Some link) = Exchanged (behind_low link.flow message)

@@ -22,12 +22,14 @@ abbrev pub received_by : Mac → ℕ → List ℕ → Option RelationState → R
 received_by source frame_id body None = Foreign
 received_by source frame_id body (Some link) = received_as link.flow source frame_id body
 
+-- What a cyclic frame does to the relation, by what was received: only an accepted one changes it.
 abbrev pub receiving_as : Received → Flow → Handled
 receiving_as Foreign flow = Unmoved
 receiving_as Short flow = Unmoved
 receiving_as Stale flow = Unmoved
 receiving_as Taken flow = Exchanged flow
 
+-- What a cyclic frame does to the relation.
 abbrev pub receiving : Mac → ℕ → List ℕ → Option RelationState → Handled
 receiving source frame_id body None = Unmoved
 receiving source frame_id body (Some link) =
@@ -48,6 +50,7 @@ abbrev pub rating : ℕ → ℕ → Bool → Option RelationState → Handled
 rating slot subslot is_good None = Unmoved
 rating slot subslot is_good (Some link) = Exchanged (rated_at link.flow slot subslot is_good)
 
+-- The exchange after an alarm is raised, if it may be raised.
 abbrev pub raised_to : List RealModule → ℕ → ℕ → List ℕ → Option RelationState → Option Flow
 raised_to real slot subslot octets None = None
 raised_to real slot subslot octets (Some link) = raised_at link.flow real slot subslot octets
@@ -67,12 +70,14 @@ abbrev pub heard_by : ToDevice → Option RelationState → PduFate
 heard_by message None = Ignored
 heard_by message (Some link) = heard_as link.flow.alarms message
 
+-- What an alarm PDU of high priority does, by its outcome: it is accepted, dropped, or ends the relation.
 abbrev pub hearing_as : PduFate → Flow → Handled
 hearing_as (Data taken) flow = Exchanged flow
 hearing_as Done flow = Exchanged flow
 hearing_as Ignored flow = Unmoved
 hearing_as (Aborted status) flow = Ended
 
+-- What an alarm PDU of high priority does to the relation.
 abbrev pub hearing : ToDevice → Option RelationState → Handled
 hearing message None = Unmoved
 hearing message (Some link) = hearing_as (heard_as link.flow.alarms message) (behind_message link.flow message)

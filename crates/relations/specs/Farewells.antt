@@ -23,6 +23,7 @@ farewell_by reason request header = record {
   reason = reason;
 }
 
+-- The ERR with this reason by which a device ends its relation.
 abbrev pub farewell_of : Abort → RelationState → Farewell
 farewell_of reason link = farewell_by reason link.request (header_of link.flow Error)
 

@@ -7,12 +7,12 @@ use Rattle.relations.specs.RelationState.{RelationState, is_awaiting}
 use Rattle.relations.specs.Timers.{due_of, is_timed, limit_of, nothing}
 use Rattle.relations.specs.Runs.{units_over}
 
--- The number of units up to and with the next one with which the activity timer, which has this limit and has run for so
+-- The number of units up to and including the next one with which the activity timer, which has this limit and has run for so
 -- many units, is over. It runs until data is exchanged.
 abbrev pub inactive_in : Phase → ℕ → ℕ → ℕ
 inactive_in phase limit inactive = if is_timed phase then max 1 (limit - inactive) else never
 
--- The number of units up to and with the next one with which ApplicationReady, which has waited for so many units, is
+-- The number of units up to and including the next one with which ApplicationReady, which has waited for that many units, is
 -- sent again.
 abbrev pub ready_in : Phase → ℕ → ℕ
 ready_in phase waited = if is_awaiting phase then 32000 - waited else never
@@ -21,15 +21,16 @@ ready_in phase waited = if is_awaiting phase then 32000 - waited else never
 abbrev pub inactive_by : Phase → ℕ → ℕ → ℕ
 inactive_by phase units inactive = if is_timed phase then inactive + units else inactive
 
+-- How long the device has waited for the answer to ApplicationReady, this many units later.
 abbrev pub waited_by : Phase → ℕ → ℕ → ℕ
 waited_by phase units waited = if is_awaiting phase then waited + units else waited
 
--- The number of units up to and with the next one that brings something to a relation: a frame of inputs, an alarm or
+-- The number of units up to and including the next one that brings something to a relation: a frame of inputs, an alarm or
 -- ApplicationReady is sent again, an alarm is given up, or a timeout ends the relation.
 abbrev pub link_due_in : RelationState → ℕ
 link_due_in link = min (flow_due_in link.flow) (min (inactive_in link.phase (limit_of link) link.inactive) (ready_in link.phase link.waited))
 
--- The same if there is a relation. Otherwise no unit ever brings anything.
+-- The number of units up to and including the next one that brings something to the relation; without one no unit does.
 abbrev pub due_within : Option RelationState → ℕ
 due_within None = never
 due_within (Some link) = link_due_in link

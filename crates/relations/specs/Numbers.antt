@@ -30,6 +30,7 @@ abbrev pub is_id_from : Option ℕ → ℕ → Bool
 is_id_from None frame_id = frame_id == 0xC000
 is_id_from (Some first) frame_id = nat_le 0xC000 frame_id && nat_le frame_id 0xF7FF
 
+-- Whether a FrameID is one that this device chooses.
 abbrev pub is_own_id : DeviceOptions → ℕ → Bool
 is_own_id options frame_id = is_id_from options.numbers_from frame_id
 

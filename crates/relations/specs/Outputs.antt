@@ -9,6 +9,7 @@ use Rattle.pn_values.specs.declared.real.RealSubmodule.{RealSubmodule}
 abbrev pub output_part : ℕ → List RealSubmodule → Option RealSubmodule
 output_part subslot parts = find (λ part. part.subslot == subslot && not (part.output == 0)) parts
 
+-- The module that is plugged in a slot.
 abbrev pub module_at : ℕ → List RealModule → Option RealModule
 module_at slot modules = find (λ entry. entry.slot == slot) modules
 
@@ -16,10 +17,12 @@ module_at slot modules = find (λ entry. entry.slot == slot) modules
 abbrev pub zeros_of : RealSubmodule → List ℕ
 zeros_of part = replicate (min part.output 1440) 0
 
+-- Zeros of the size of the output of a submodule, if it has one.
 abbrev pub zero_part : ℕ → Option RealModule → Option (List ℕ)
 zero_part subslot None = None
 zero_part subslot (Some entry) = option_map zeros_of (output_part subslot entry.submodules.items)
 
+-- The output of a submodule before a frame of outputs came: zeros, if it has one.
 abbrev pub zero_output : Real → ℕ → ℕ → Option (List ℕ)
 zero_output real slot subslot = zero_part subslot (module_at slot real.modules.items)
 

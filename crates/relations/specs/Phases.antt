@@ -69,6 +69,7 @@ made_of request partner rows options starting = record {
 abbrev pub phase_behind : Bool → Phase
 phase_behind by_application = if by_application then Preparing else Awaiting
 
+-- The relation after PrmEnd.
 abbrev pub parameterized_from : Bool → RelationState → RelationState
 parameterized_from by_application link = record link { phase = phase_behind by_application; waited = 0 }
 
@@ -108,14 +109,17 @@ updated Unmoved link = link
 -- ---- the outcome of a unit of time, of a call that is answered positively or not, and of a parameter record that is
 -- written
 
+-- What a unit of time does, by whether the relation ends with it.
 abbrev pub passing_by : Option Abort → Handled
 passing_by (Some reason) = Ended
 passing_by None = Passed
 
+-- What a unit of time does to the relation.
 abbrev pub passing : Option RelationState → Handled
 passing None = Unmoved
 passing (Some link) = passing_by (ending_of link)
 
+-- What a call does to the relation: nothing if it is refused.
 abbrev pub answered : {A : Type 0} → Handled → Result A CallFault → Handled
 answered handled (Ok answer) = handled
 answered handled (Err fault) = Unmoved
@@ -125,6 +129,7 @@ abbrev pub kept_in : PassedOn → Result (List TakenRecord) CallFault → Result
 kept_in passed (Ok taken) = Ok (record { taken = taken; passed = passed })
 kept_in passed (Err fault) = Err fault
 
+-- The records after a Write of a parameter record in this relation, or the fault.
 abbrev pub keeping : TakenRecord → Option RelationState → Result Records CallFault
 keeping parameter None = Err fault.UnknownRelation
 keeping parameter (Some link) =
@@ -132,6 +137,7 @@ keeping parameter (Some link) =
     then Ok (record { taken = link.taken; passed = passed_more parameter link.passed })
     else kept_in link.passed (keep_of parameter link.taken)
 
+-- What such a Write does to the relation.
 abbrev pub taking : Result Records CallFault → Handled
 taking (Ok records) = Took records
 taking (Err fault) = Unmoved

@@ -57,6 +57,7 @@ abbrev pub confirmed_by : List ℕ → Option ControlBlock → ReadyAnswer
 confirmed_by uuid None = heard.Garbled
 confirmed_by uuid (Some block) = if pointwise nat_eq block.ar_uuid uuid then heard.Confirmed else heard.NotWanted
 
+-- What a response to ApplicationReady means in this relation: not awaited, a confirmation, or a refusal that ends it.
 abbrev pub answer_in : Answered → RelationState → ReadyAnswer
 answer_in response link =
     if is_wanted response link

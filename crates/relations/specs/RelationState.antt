@@ -35,6 +35,7 @@ abbrev pub link_in : Option Phase → (Phase → RelationState) → Option Relat
 link_in None link = None
 link_in (Some phase) link = Some (link phase)
 
+-- The phase of the relation, if there is one.
 abbrev pub phase_of : Option RelationState → Option Phase
 phase_of link = option_map (λ l. l.phase) link
 
@@ -52,10 +53,12 @@ abbrev pub taken_of : Option RelationState → List TakenRecord
 taken_of None = []
 taken_of (Some link) = link.taken
 
+-- The records that were passed on in this relation.
 abbrev pub passed_of : Option RelationState → PassedOn
 passed_of None = none_passed
 passed_of (Some link) = link.passed
 
+-- The ModuleDiffBlock of the relation, as octets.
 abbrev pub differing_in : Option RelationState → List ℕ
 differing_in None = []
 differing_in (Some link) = link.differing
@@ -81,6 +84,7 @@ is_started (Some Awaiting) = false
 is_started (Some Exchanging) = false
 is_started None = false
 
+-- Whether the application prepares: PrmEnd came, and it is not ready yet.
 abbrev pub is_preparing : Option Phase → Bool
 is_preparing (Some Started) = false
 is_preparing (Some Preparing) = true
@@ -96,6 +100,7 @@ is_parameterized (Some Awaiting) = true
 is_parameterized (Some Exchanging) = true
 is_parameterized None = false
 
+-- Whether the device waits for the answer to its ApplicationReady.
 abbrev pub is_awaiting : Phase → Bool
 is_awaiting Started = false
 is_awaiting Preparing = false
@@ -114,7 +119,7 @@ abbrev pub HasBegunIn : Option Phase → Flow → Type 0
 HasBegunIn None flow = Unit {0}
 HasBegunIn (Some phase) flow = flow.cyclic.begun ≡ is_exchanging phase
 
--- The same for the state of the relation.
+-- The exchange of the relation has begun exactly if data is exchanged in its phase.
 abbrev pub IsInStep : Option RelationState → Type 0
 IsInStep None = Unit {0}
 IsInStep (Some link) = HasBegunIn (Some link.phase) link.flow
@@ -127,6 +132,7 @@ is_from source other = pointwise nat_eq source.mac.octets other.mac.octets && po
 abbrev pub is_alive_by : DeviceOptions → Partner → Partner → Bool
 is_alive_by options own source = not options.only_own_controller || is_from source own
 
+-- Whether a frame from this station counts as a sign of life of the controller.
 abbrev pub is_alive : Partner → RelationState → Bool
 is_alive source link = is_alive_by link.options link.partner source
 
@@ -134,6 +140,7 @@ is_alive source link = is_alive_by link.options link.partner source
 abbrev pub passes_on_in : DeviceOptions → Phase → Bool
 passes_on_in options phase = options.records_passed_on && is_exchanging phase
 
+-- Whether records are passed on to the application and not kept: with the option, while data is exchanged.
 abbrev pub passes_on : RelationState → Bool
 passes_on link = passes_on_in link.options link.phase
 

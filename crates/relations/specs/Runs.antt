@@ -15,6 +15,7 @@ use Rattle.relations.specs.Phases.{Handled, Made, Parameterized, Prepared, Confi
 abbrev pub unit_over : Option RelationState → Option RelationState
 unit_over link = updated (passing link) link
 
+-- The relation after this number of units in which nothing else happens.
 abbrev pub units_over : ℕ → Option RelationState → Option RelationState
 units_over zero link = link
 units_over (suc units) link = unit_over (units_over units link)
@@ -61,10 +62,12 @@ abbrev pub all_updated : List Handled → Option RelationState → Option Relati
 all_updated [] link = link
 all_updated (handled ∷ more) link = all_updated more (updated handled link)
 
+-- 1 if a step is a unit of time, else 0.
 abbrev pub units_in : Handled → ℕ
 units_in Passed = 1
 units_in handled = 0
 
+-- The number of units in these steps.
 abbrev pub units_of : List Handled → ℕ
 units_of [] = 0
 units_of (handled ∷ more) = units_in handled + units_of more
@@ -91,6 +94,7 @@ leaves_timer own Passed = true
 leaves_timer own Ended = false
 leaves_timer own Unmoved = true
 
+-- None of these steps is a sign of life of this controller.
 abbrev pub AreOfOthers : Partner → List Handled → Type 0
 AreOfOthers own [] = Unit {0}
 AreOfOthers own (handled ∷ more) = (leaves_timer own handled ≡ true) × AreOfOthers own more
@@ -113,7 +117,7 @@ EndsBehind units reason link =
 abbrev pub IsPatientFor : ℕ → Sending → Type 0
 IsPatientFor units sending = (waited : ℕ) → sending.waiting ≡ Some waited → waited + units < sending.limit
 
--- The same of an alarm of each priority.
+-- No alarm of either priority is given up within this many units.
 abbrev pub ArePatientFor : ℕ → Flow → Type 0
 ArePatientFor units flow = IsPatientFor units flow.alarms.sender.sending × IsPatientFor units flow.low.alarms.sender.sending
 

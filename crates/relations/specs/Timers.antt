@@ -51,9 +51,11 @@ is_again link = is_awaiting link.phase && (link.waited + 1 == 32000)
 abbrev pub inactive_later : RelationState → ℕ
 inactive_later link = if is_timed link.phase then link.inactive + 1 else link.inactive
 
+-- How long the device has waited for the answer to ApplicationReady, a unit later; 0 when it is sent again.
 abbrev pub waited_later : RelationState → ℕ
 waited_later link = if is_again link then 0 else (if is_awaiting link.phase then link.waited + 1 else link.waited)
 
+-- The relation after a unit of time with which it does not end.
 abbrev pub unit_later : RelationState → RelationState
 unit_later link = record link { inactive = inactive_later link; waited = waited_later link; flow = flow_later link.flow }
 
@@ -78,12 +80,15 @@ due_by link None =
       is_cyclic = (tick_of link.flow).is_cyclic;
     }
 
+-- What is due with the next unit in this relation.
 abbrev pub due_in : RelationState → Due
 due_in link = due_by link (ending_of link)
 
+-- Nothing is due.
 abbrev pub nothing : Due
 nothing = record { farewell = None; is_alarm = false; is_low = false; is_ready = false; is_cyclic = false }
 
+-- What is due with the next unit, nothing without a relation.
 abbrev pub due_of : Option RelationState → Due
 due_of None = nothing
 due_of (Some link) = due_in link

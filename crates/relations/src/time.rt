@@ -144,7 +144,7 @@ impl Relation {
         }
     }
 
-    /// The number of units up to and with the next one that brings something: a frame of inputs is due, an alarm or
+    /// The number of units up to and including the next one that brings something: a frame of inputs is due, an alarm or
     /// ApplicationReady is sent again, an alarm is given up, or a timeout ends the relation. `NEVER` if there is no
     /// relation.
     #[inline(always)]
@@ -209,7 +209,7 @@ fn limit_of(request: &ConnectRequest) -> u32
     u32::from(request.ar().timeout_factor) * TENTH_OF_A_SECOND
 }
 
-/// The number of units up to and with the next one with which the activity timer, which has `limit` units and has run
+/// The number of units up to and including the next one with which the activity timer, which has `limit` units and has run
 /// for `inactive` of them, is over. `NEVER` if it does not run.
 fn inactive_in(phase: Phase, limit: u32, inactive: u32) -> u32
     ensures value { result ≡ inactive_in phase limit inactive }
@@ -222,7 +222,7 @@ fn inactive_in(phase: Phase, limit: u32, inactive: u32) -> u32
     }
 }
 
-/// The number of units up to and with the next one with which ApplicationReady, which has waited for `waited` units, is
+/// The number of units up to and including the next one with which ApplicationReady, which has waited for `waited` units, is
 /// sent again. `NEVER` if it does not wait for its answer.
 fn ready_in(phase: Phase, waited: u32) -> u32
     requires { waited < 32000 }

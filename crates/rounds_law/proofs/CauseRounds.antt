@@ -147,7 +147,7 @@ module _ {F : Type 0} {S : ℕ} (as_flash : Flash F S) (setup : Setup) (identity
             (kept.goes_on ∙ hears_one kept.between answer);
       }
 
-  -- ---- the name is taken
+  -- ---- the name is in use
 
   other_round : IsOther setup identity → (net next : Net F) → Seeks setup identity net → Round as_flash net next → EndedWith cause.WrongDevice next.controller
   other_round other net next at round =

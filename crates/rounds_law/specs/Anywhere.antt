@@ -44,7 +44,7 @@ pub record Lasts (silence : ℕ) (link : RelationState) : Type 0 where
   pub object : IsUuid link.request.ar.object
   pub inputs : is_cyclic link.flow.cyclic.route.sent_id ≡ true
 
--- The same, if there is a relation.
+-- The relation of the device, if it has one, lasts at most this long without its controller.
 abbrev pub AllLast : ℕ → Option RelationState → Type 0
 AllLast silence None = Unit {0}
 AllLast silence (Some link) = Lasts silence link

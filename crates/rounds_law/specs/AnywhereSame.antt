@@ -33,11 +33,11 @@ Chooses setup Holds (Responds response) = is_answer setup asks.Connect response.
     → (chosen : Chosen) → chosen_in response.blocks ≡ Some chosen → Holds chosen
 Chooses setup Holds heard = Unit {0}
 
--- The same of a frame.
+-- If these octets are a positive response to the Connect of this controller, this holds of what the device chose in it.
 abbrev pub ChoosesIn : Setup → (Chosen → Type 0) → List ℕ → Type 0
 ChoosesIn setup Holds octets = Chooses setup Holds (heard_of setup.plan.controller octets)
 
--- The same of the answer to this controller that the device has stored.
+-- This holds of what the device chose in the answer to this controller's Connect that it has stored.
 abbrev pub StoresChosen : Setup → (Chosen → Type 0) → Live → Type 0
 StoresChosen setup Holds live = (kept : Kept) → kept_of setup.activity live.rest.calls ≡ Some kept → ChoosesIn setup Holds kept.frame
 

@@ -36,11 +36,13 @@ pub data Stage : Type 0 where
   Addresses : Stage
   Connects : Stage
 
+-- The state of the controller in each stage of a start before its relation.
 abbrev pub phase_in : Stage → Phases
 phase_in Searches = Looking
 phase_in Addresses = Addressing
 phase_in Connects = Connecting
 
+-- The request that the controller repeats in each stage.
 abbrev pub request_in : Stage → Request
 request_in Searches = Identify
 request_in Addresses = Address

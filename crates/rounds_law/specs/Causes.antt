@@ -40,7 +40,7 @@ EndsWithin as_flash zero cause net = EndedWith cause net.controller
 EndsWithin {F} as_flash (suc limit) cause net =
     EndedWith cause net.controller ⊎ ((next : Net F) → Round as_flash net next → EndsWithin as_flash limit cause next)
 
--- ---- the name is taken
+-- ---- the name is in use
 
 -- A device of this identity is not the plan's: it has another VendorID or another DeviceID.
 abbrev pub IsOther : Setup → Identity → Type 0

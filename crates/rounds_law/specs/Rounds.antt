@@ -84,7 +84,7 @@ abbrev pub without : {F : Type 0} → End → Net F → Net F
 without Device net = record net { to_device = [] }
 without Controller net = record net { to_controller = [] }
 
--- The same with this device.
+-- Both ends and their frames, with another device.
 abbrev pub with_device : {F : Type 0} → State F → Net F → Net F
 with_device device net = record net { device = device }
 

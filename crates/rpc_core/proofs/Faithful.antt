@@ -144,7 +144,7 @@ module _ (most : ℕ) (activity : List ℕ) (sequence : ℕ) (frame : List ℕ) 
   all_calls (call ∷ calls) cache held holds =
       all_calls calls (behind_call most call cache) held.1 (one_call call cache (now_held calls (behind_call most call cache) held.1) holds)
 
-  -- the response is the same, or there is none
+  -- the response is the same, or none is stored
   reported_at_last : (cache : List Kept) → Holds activity sequence frame cache → IsFaithful frame (looked activity sequence cache)
   reported_at_last cache holds = by holds.follows
     where

@@ -148,7 +148,7 @@ impl<const N: usize> CallCache<N> {
     }
 
     /// Stores the response to a call as its frame, so that a repeated call gets the same response whatever has changed
-    /// since. It replaces the response of its activity or, if there is none and the cache is full, the response that
+    /// since. It replaces the response of its activity or, if none is stored and the cache is full, the response that
     /// was stored longest ago.
     pub fn keep(&mut self, activity: &Uuid, sequence: u32, frame: &Frame)
         requires { 0 < N }

@@ -8,7 +8,7 @@ use Rattle.rpc_services.specs.declared.endpoint_mapper.lookup.Lookup.{Lookup}
 use Rattle.rpc_services.specs.endpoint_mapper.Entry.{object_of, told_handle}
 use Rattle.rpc_services.specs.endpoint_mapper.Lookup.{gets_entry, no_handle}
 
--- the handle that was told is not zeros
+-- the handle of an answer is not zeros
 told_differs : (little : Bool) (identity : Identity) → pointwise nat_eq (told_handle little identity) no_handle ≡ false
 unfolding in_order object_of
 told_differs true identity = refl

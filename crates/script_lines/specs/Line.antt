@@ -92,6 +92,7 @@ if_decoded (Err fault) = None
 abbrev pub bytes_of : List ℕ → Option (List ℕ)
 bytes_of digits = if length digits == 0 then None else if_decoded (decode_of digits)
 
+-- The command of a line that is one word, for both ends.
 abbrev pub bare_of_both : List ℕ → Option Command
 bare_of_both word =
     if is_text word (codes "deliver") then Some Deliver
@@ -99,6 +100,7 @@ bare_of_both word =
     else (if is_text word (codes "stands") then Some Stands
     else (if is_text word (codes "told") then Some Told else (if is_text word (codes "reply") then Some Reply else None))))
 
+-- The command of a line that is one word.
 abbrev pub bare : List ℕ → Option Command
 bare word =
     if is_text word (codes "restart") then Some Restart
@@ -116,6 +118,7 @@ units_of (Some (suc more)) = Some (suc more)
 abbrev pub services_of : List ℕ → Option Command
 services_of state = if is_text state (codes "on") then Some Serve else None
 
+-- The command of a line with one word after it.
 abbrev pub with_one : List ℕ → List ℕ → Option Command
 with_one word first =
     if is_text word (codes "frame") then option_map Frame (bytes_of first)
@@ -165,6 +168,7 @@ abbrev pub provider_of : Option ℕ → Option ℕ → Option Command
 provider_of None subslot = None
 provider_of (Some slot) subslot = option_map (Provider slot) subslot
 
+-- The command of a line with two words after it.
 abbrev pub with_two : List ℕ → List ℕ → List ℕ → Option Command
 with_two word first second =
     if is_text word (codes "start") then start_of (parsed first) (parsed second)
@@ -189,6 +193,7 @@ placed word (Some slot) (Some subslot) third =
     else (if is_text word (codes "read") then option_map (Read slot subslot) (number_of 65535 third)
     else targeted word slot subslot (bytes_of third)))
 
+-- The command of a line with three words after it.
 abbrev pub with_three : List ℕ → List ℕ → List ℕ → List ℕ → Option Command
 with_three word first second third = placed word (number_of 65535 first) (number_of 65535 second) third
 
@@ -199,6 +204,7 @@ write_of (Some slot) (Some subslot) None octets = None
 write_of (Some slot) None index octets = None
 write_of None subslot index octets = None
 
+-- The command of a line with four words after it.
 abbrev pub with_four : List ℕ → List ℕ → List ℕ → List ℕ → List ℕ → Option Command
 with_four word first second third fourth =
     if is_text word (codes "write")
@@ -214,6 +220,7 @@ diagnosis_of (Some slot) (Some subslot) None error appears = None
 diagnosis_of (Some slot) None channel error appears = None
 diagnosis_of None subslot channel error appears = None
 
+-- The command of a line with five words after it.
 abbrev pub with_five : List ℕ → List ℕ → List ℕ → List ℕ → List ℕ → List ℕ → Option Command
 with_five word first second third fourth fifth =
     if is_text word (codes "diagnosis")
@@ -240,6 +247,7 @@ is_unfit line = nat_lt 65536 (length line) || list_any (λ b. nat_lt 127 b) line
 abbrev pub is_skipped : List ℕ → Bool
 is_skipped line = length line == 0 || slice_index line 0 == 35
 
+-- A line with this command, or an unknown one.
 abbrev pub asked : Option Command → Line
 asked (Some command) = Asks command
 asked None = Unknown

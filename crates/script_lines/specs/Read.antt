@@ -5,6 +5,7 @@ use Rattle.script_lines.specs.declared.command.Line.{Line as CodeLine}
 use Rattle.script_lines.specs.declared.command.Line.TheVariants as line
 use Rattle.script_lines.specs.Line.{Command, Frame, Restart, Tick, Elapse, Show, Due, Choose, Ready, Arm, Input, Alarm, Status, Diagnosis, Provider, Config, Start, Give, OutputStatus, Stop, Stands, Told, Read, Write, Reply, Deliver, Serve, Line, Unfit, Skipped, Asks, Unknown}
 
+-- What the functions return is this command.
 abbrev pub command_read : Code → Command
 command_read (code.Frame bytes) = Frame bytes.now
 command_read code.Restart = Restart
@@ -33,6 +34,7 @@ command_read code.Reply = Reply
 command_read code.Deliver = Deliver
 command_read code.Serve = Serve
 
+-- What the functions return is this line.
 abbrev pub line_read : CodeLine → Line
 line_read line.Unfit = Unfit
 line_read line.Skipped = Skipped

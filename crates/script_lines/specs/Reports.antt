@@ -22,6 +22,7 @@ spaced value = codes " " ++ decimal value
 
 -- ---- alarms
 
+-- The word for a priority.
 abbrev pub priority_word : Priority → List ℕ
 priority_word High = codes "high"
 priority_word Low = codes "low"
@@ -48,6 +49,7 @@ told_shown lines = if length lines == 0 then printed (codes "told -") else lines
 
 -- ---- requests for records
 
+-- The word for a request of the application.
 abbrev pub service_word : RecordService → List ℕ
 service_word Read = codes "read"
 service_word Write = codes "write"
@@ -61,12 +63,13 @@ abbrev pub done_word : RecordService → List ℕ → List ℕ
 done_word Read octets = octets_word octets
 done_word Write octets = codes "done"
 
--- The same, or the status with which the device refused the request.
+-- What is printed of a request that was done, or the status with which the device refused it.
 abbrev pub result_words : RecordService → Status → List ℕ → List ℕ
 result_words service status octets =
     if is_done status then done_word service octets
     else codes "refused " ++ encode_lower (status.code ∷ status.decode ∷ status.code1 ∷ status.code2 ∷ [])
 
+-- What is printed of an answer to such a request.
 abbrev pub answer_words : Answer → List ℕ → List ℕ
 answer_words answer octets =
     service_word answer.request.service ++ place_words answer.request ++ codes " " ++ result_words answer.request.service answer.status octets

@@ -46,6 +46,7 @@ phase_word (Some Preparing) = codes "awaiting"
 phase_word (Some Awaiting) = codes "awaiting"
 phase_word (Some Exchanging) = codes "exchanging"
 
+-- The line with the phase of the relation.
 unfoldable pub phase_line : Option Phase → List ℕ
 phase_line phase = printed (codes "phase " ++ phase_word phase)
 
@@ -53,7 +54,7 @@ phase_line phase = printed (codes "phase " ++ phase_word phase)
 unfoldable pub lamp_line : ℕ → List ℕ
 lamp_line units = printed (codes "lamp " ++ decimal units)
 
--- The number of units up to and with the next one with which something happens at the device.
+-- The number of units up to and including the next one with which something happens at the device.
 unfoldable pub due_line : ℕ → List ℕ
 due_line units = printed (codes "due " ++ decimal units)
 
@@ -62,6 +63,7 @@ abbrev pub shown_or : Option (List ℕ) → List ℕ
 shown_or (Some value) = value
 shown_or None = []
 
+-- The line with an output.
 unfoldable pub output_line : ℕ → ℕ → List ℕ → List ℕ
 output_line slot subslot value = printed (codes "output " ++ decimal slot ++ codes " " ++ decimal subslot ++ codes " " ++ encode_lower value)
 
@@ -70,6 +72,7 @@ abbrev pub part_shown : Real → Option RelationState → ℕ → RealSubmodule 
 part_shown real link slot part =
     if part.output == 0 then [] else output_line slot part.subslot (shown_or (output_of real slot part.subslot (output_in slot part.subslot link)))
 
+-- The lines with the outputs of a module.
 abbrev pub module_shown : Real → Option RelationState → RealModule → List ℕ
 module_shown real link entry = flat_map (part_shown real link entry.slot) entry.submodules.items
 
@@ -113,6 +116,7 @@ state_word Waiting = codes "waiting"
 state_word controller.Exchanging = codes "exchanging"
 state_word (Ended cause) = codes "ended " ++ decimal (number_of cause)
 
+-- The line with the state of the controller.
 unfoldable pub state_line : State → List ℕ
 state_line state = printed (codes "state " ++ state_word state)
 

@@ -33,6 +33,7 @@ out_line frame = printed (codes "out " ++ encode_lower frame)
 abbrev pub out_lines : List (List ℕ) → List ℕ
 out_lines frames = flat_map out_line frames
 
+-- The word for each note.
 abbrev pub note_word : Note → List ℕ
 note_word Done = codes "done"
 note_word NotMine = codes "not-mine"

@@ -37,7 +37,7 @@ pub enum Command<'a> {
     Tick(u32),
     /// Lets this number of units of time pass, by leaps of several units at once.
     Elapse(u32),
-    /// Shows the number of units up to and with the next one with which something happens at the device.
+    /// Shows the number of units up to and including the next one with which something happens at the device.
     Due,
     /// Shows the settings, the relation and the lamp.
     Show,

@@ -100,7 +100,7 @@ pub fn reply(
     text.extend_from_slice(b"\n")
 }
 
-/// That it waits, that there is none, or its words. This is not a line of its own.
+/// That it waits, that it does not exist, or its words. This is not a line of its own.
 fn reply_words(
     waiting: Option<RecordRequest>,
     answer: Option<Answer>,

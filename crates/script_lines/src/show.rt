@@ -125,7 +125,7 @@ fn lamp_units(units: u32, text: &mut Vec<u8>) -> Result<(), AllocError>
     text.extend_from_slice(b"\n")
 }
 
-/// The number of units up to and with the next one with which something happens at the device.
+/// The number of units up to and including the next one with which something happens at the device.
 #[tactic(auto, unfolding(crate::specs::Show::due_line))]
 pub fn due(units: u32, text: &mut Vec<u8>) -> Result<(), AllocError>
     ensures { OnOk result (text.new.items ≡ text.old.items ++ due_line units) }

@@ -6,6 +6,7 @@ use Rattle.configurator.specs.Fault.{number_of as plan_number}
 use Rattle.script_runner.specs.declared.fault.RunFault.{RunFault}
 use Rattle.script_runner.specs.declared.fault.RunFault.TheVariants.{Read, Write, Line, OutOfMemory, Config, EndlessInput}
 
+-- The number of each fault of a run.
 abbrev pub number_of : RunFault → ℕ
 number_of Read = 1
 number_of Write = 2

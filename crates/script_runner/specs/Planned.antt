@@ -19,6 +19,7 @@ use Rattle.script_lines.specs.Text.{printed}
 
 -- ---- the lines
 
+-- The word for data or a consumer status.
 abbrev pub kind_word : PlaceKind → List ℕ
 kind_word Data = codes "data "
 kind_word Iocs = codes "iocs "

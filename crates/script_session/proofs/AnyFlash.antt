@@ -47,7 +47,7 @@ module _ (as_flash : Flash (MemoryFlash 4096) 4096) where
         frames = one.frames ∙ ap (λ (s : Stepped). s.frames) same;
       }
 
-  -- the step of a device that was told of its neighbour
+  -- the step of a device that knows its neighbour
   told_step : (old new : State (MemoryFlash 4096)) (had after : Serving) (event : Event) (outbox : Frames) (note : Note)
       → (let ready = told_at old.station old.live had in
       StationSteps as_flash (station_of (record old { live = ready.live }) ready.services) event outbox note (station_of new after))

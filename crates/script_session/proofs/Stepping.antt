@@ -56,7 +56,7 @@ module _ (as_flash : Flash (MemoryFlash 4096) 4096) (fine : (flash : MemoryFlash
         left = gives.2.steps.stretch.safe.left after.left;
       }
 
-  -- the step of a device that was told
+  -- the step of a device that knows its neighbour
   stepped_at : (old new : State (MemoryFlash 4096)) (had after : Serving) (event : Event) (outbox : Frames) (note : Note)
       → IsReliable old.flash → old.live.values.has_failed ≡ false → LeftByDevice (image_of old.flash)
       → (let ready = told_at old.station old.live had in

@@ -55,7 +55,7 @@ abbrev pub given_for : List Outcome → Device → Option Event → Stepped → 
 given_for outcomes device None step = step
 given_for outcomes device (Some call) step = step_of outcomes device step.live call
 
--- The same over a flash that never fails.
+-- After a step the device is given the call that the services joined, over a flash that never fails.
 abbrev pub given : Device → Option Event → Stepped → Stepped
 given device joined step = given_for [] device joined step
 
@@ -76,24 +76,26 @@ turned_for outcomes (Some state) device event step =
       note = after.note;
     }
 
--- The same over a flash that never fails.
+-- A step of the device, what the services do beside it, and the step of a joined call, over a flash that never fails.
 abbrev pub turned : Option Serving → Device → Event → Stepped → Turned
 turned had device event step = turned_for [] had device event step
 
--- The number of units up to and with the next one that brings something to the station.
+-- The number of units up to and including the next one that brings something to the station.
 abbrev pub due_with : Option Serving → Live → ℕ
 due_with None live = live_due_in live
 due_with (Some state) live = due_beside live state
 
+-- The units until something happens at the station.
 abbrev pub due_of : Station → ℕ
 due_of station = due_with station.services station.live
 
--- Before an event the device is told of its neighbour, if that changed.
+-- Before an event the neighbour is reported to the device, if that changed.
 abbrev pub ready_with : Option Serving → Device → Live → Station
 ready_with None device live = record { device = device; live = live; services = None }
 ready_with (Some state) device live =
     let told = told_at device live state in record { device = device; live = told.live; services = Some told.services }
 
+-- The station once its neighbour is reported to its device, if that changed.
 abbrev pub ready_of : Station → Station
 ready_of station = ready_with station.services station.device station.live
 
@@ -125,6 +127,7 @@ pub record Network : Type 0 where
   pub station : Station
   pub other : Other
 
+-- Both ends.
 abbrev pub with_ends : Station → Other → Network
 with_ends station other = record { station = station; other = other }
 
@@ -140,6 +143,7 @@ pub record IsRightFor (plans : List ℕ → Option Parts) (catalogue : List ℕ)
 abbrev pub KnowsThePlan : Type 0
 KnowsThePlan = (plans : List ℕ → Option Parts) (catalogue : List ℕ) (plan : Parts) → IsPlanOf catalogue plan → plans catalogue ≡ Some plan → IsRightFor plans catalogue
 
+-- If a catalogue is refused for another reason than memory, and the plans have none for it, they are right for it.
 abbrev pub KnowsTheRefusal : Type 0
 KnowsTheRefusal = (plans : List ℕ → Option Parts) (catalogue : List ℕ) (fault : PlanFault) → IsRefused catalogue fault → fault ≢ OutOfMemory → plans catalogue ≡ None → IsRightFor plans catalogue
 
@@ -156,7 +160,7 @@ pub record Running : Type 0 where
   pub live : Live
   pub services : Option Serving
 
--- The same without its flash.
+-- A running station without its flash.
 abbrev pub station_in : Running → Station
 station_in device = record { device = device.station; live = device.live; services = device.services }
 
@@ -174,6 +178,7 @@ pub record DeviceRun : Type 0 where
   pub station : Station
   pub frames : List (List ℕ)
 
+-- What a station does with these events, and all that it sends.
 abbrev pub device_run : Station → List Event → DeviceRun
 device_run station [] = record { station = station; frames = [] }
 device_run station (event ∷ events) =
@@ -195,6 +200,7 @@ news_by before None alarm = []
 news_by before (Some number) None = []
 news_by before (Some number) (Some alarm) = if is_last before number then [] else alarm ∷ []
 
+-- The alarm of a priority that the controller accepted between these states, if it accepted one.
 abbrev pub news_at : Priority → Controlling → Controlling → List Report
 news_at priority before after = news_by (end_of before.live priority).seen (end_of after.live priority).seen (report_in after.live priority)
 
@@ -216,6 +222,7 @@ may_request controller = can_request controller.live
 abbrev pub frames_for_device : List (List ℕ) → List Event
 frames_for_device frames = map (λ frame. event.Frame (record { items = frame })) frames
 
+-- These frames as events of the controller.
 abbrev pub frames_for_controller : List (List ℕ) → List ControllerEvent
 frames_for_controller frames = map (λ frame. heard.Frame (record { items = frame })) frames
 
@@ -226,6 +233,7 @@ abbrev pub kept : Option Controlling → List (List ℕ) → List (List ℕ) →
 kept None waiting frames = waiting
 kept (Some controller) waiting frames = waiting ++ frames
 
+-- The other end, with these frames under way to its controller.
 abbrev pub with_sent : Other → List (List ℕ) → Other
 with_sent other frames = record other { to_controller = kept other.controller other.to_controller frames }
 
@@ -254,6 +262,7 @@ with_choice options (InputsBad is_on) = record options { inputs_begin_bad = is_o
 with_choice options (ReadyLater is_on) = record options { ready_by_application = is_on }
 with_choice options (Interval units) = record options { smallest_interval = units }
 
+-- The other end with an option of the device chosen, from the next restart on.
 abbrev pub chosen : Other → Choice → Other
 chosen other choice = record other { options = with_choice other.options choice }
 
@@ -265,7 +274,7 @@ serving other = record other { serves = true }
 abbrev pub cleared : Other → Other
 cleared other = record other { to_device = []; to_controller = [] }
 
--- The alarms that these frames brought to a controller were told to its application.
+-- The alarms that these frames brought to a controller were reported to its application.
 abbrev pub with_told : Other → List Report → Other
 with_told other alarms = record other { told = other.told ++ flat_map told_line alarms }
 

@@ -87,15 +87,17 @@ is_handed Unknown = false
 abbrev pub Delivers : Other → Other → Type 0
 Delivers old new = (new.options ≡ old.options) × (new.plan ≡ old.plan) × (new.controller ≡ old.controller) × (new.to_device ≡ [])
 
+-- What a line does to the other end while there is no power: nothing, unless it delivers frames.
 abbrev pub Leaves : Command → Other → Other → Type 0
 Leaves Deliver old new = Delivers old new
 Leaves command old new = new ≡ old
 
+-- That of each form of line.
 abbrev pub LeavesBy : Line → Other → Other → Type 0
 LeavesBy (Asks command) old new = Leaves command old new
 LeavesBy line old new = ⊤
 
--- If there was power before and there is none now, only this loss was printed and the other end was left like this,
+-- If there was power before and there is no power now, only this loss was printed and the other end was left like this,
 -- unless memory was refused.
 abbrev pub TellsLoss : {T E : Type 0} → Type 0 → Power → Power → List ℕ → List ℕ → Result T E → Type 0
 TellsLoss is_left old new before now result = is_off old ≡ false → is_off new ≡ true → OnOk result ((now ≡ before ++ lost_line) × is_left)

@@ -50,8 +50,8 @@ IsDemo (On device) = device.station ≡ demo_device device.station.options
 IsDemo (Off fault flash) = Unit {0}
 IsDemo Away = ⊥
 
--- The same flash: no byte of it has changed, and the orders against its program and erase calls are still armed. A read
--- may have used up an order against reads.
+-- No byte of the flash has changed, and the orders against its program and erase calls are still armed. A read may have used
+-- up an order against reads.
 abbrev pub IsSameFlash : MemoryFlash 4096 → MemoryFlash 4096 → Type 0
 IsSameFlash old new = (image_of new ≡ image_of old) × (against_writes (armed_in new) ≡ against_writes (armed_in old))
 

@@ -55,6 +55,7 @@ step_answer network step = record {
 abbrev pub handed : List ℕ → ArrayVec ℕ
 handed bytes = record { items = take 1519 bytes }
 
+-- What an event of the device prints, and both ends after it.
 abbrev pub event_answer : Network → Event → Answer
 event_answer network event = step_answer network (station_step network.station event)
 
@@ -75,6 +76,7 @@ tick_answer network units =
       text = printed_for network.other.controller run.frames ++ note_line Done;
     }
 
+-- What the line `show` prints.
 abbrev pub show_answer : Network → Answer
 show_answer network =
     let live = network.station.live in
@@ -84,7 +86,7 @@ show_answer network =
           ++ (outputs_shown network.station.device.real live.rest.link ++ controller_shown network.other.controller);
     }
 
--- The number of units up to and with the next one with which something happens at the station.
+-- The number of units up to and including the next one with which something happens at the station.
 abbrev pub due_answer : Network → Answer
 due_answer network = record { network = network; text = due_line (due_of network.station) }
 
@@ -116,14 +118,17 @@ pub data Outcome : Type 0 where
 abbrev pub at_other : Network → Other → Outcome
 at_other network other = Answers (record { network = with_ends network.station other; text = controller_shown other.controller })
 
+-- What the line `config` does: the plan of its catalogue, or that it has none.
 abbrev pub config_outcome : Network → List ℕ → Option Parts → Outcome
 config_outcome network catalogue (Some plan) = Answers (record { network = with_ends network.station (with_plan network.other plan); text = printed (codes "plan ok") })
 config_outcome network catalogue None = HasNoPlan catalogue
 
+-- What the line `start` does, if there is a plan.
 abbrev pub start_outcome : Network → List ℕ → List ℕ → Option Parts → Outcome
 start_outcome network ar activity (Some plan) = at_other network (with_fresh network.other plan ar activity)
 start_outcome network ar activity None = Refuses
 
+-- What an event of the controller does, if there is a controller.
 abbrev pub heard_outcome : Network → ControllerEvent → Option Controlling → Outcome
 heard_outcome network event (Some controller) = at_other network (with_run network.other (controller_step controller event))
 heard_outcome network event None = Refuses
@@ -144,6 +149,7 @@ reply_shown (Some controller) =
     let access = controller.live.access in reply_line access.waiting access.answer (record_of access)
 reply_shown None = []
 
+-- What the line `reply` prints, if there is a controller.
 abbrev pub reply_outcome : Network → Option Controlling → Outcome
 reply_outcome network (Some controller) = Answers (record { network = network; text = reply_shown (Some controller) })
 reply_outcome network None = Refuses
@@ -153,6 +159,7 @@ reply_outcome network None = Refuses
 abbrev pub declined : Network → Answer
 declined network = record { network = network; text = note_line Declined }
 
+-- What the lines `read` and `write` do: a request, or that it is declined.
 abbrev pub record_outcome : Network → ControllerEvent → Bool → Option Controlling → Outcome
 record_outcome network event fits (Some controller) =
     if fits && may_request controller then heard_outcome network event (Some controller) else Answers (declined network)
@@ -179,6 +186,7 @@ deliver_answer network =
       text = moved_line (length network.other.to_device) (length between.to_controller) ++ controller_shown after.controller;
     }
 
+-- What the line `deliver` does, if there is a controller.
 abbrev pub deliver_outcome : Network → Option Controlling → Outcome
 deliver_outcome network (Some controller) = Answers (deliver_answer network)
 deliver_outcome network None = Refuses
@@ -260,5 +268,6 @@ is_order Unknown = false
 abbrev pub factory_device : Station
 factory_device = demo_started default_options false factory_settings (capacity 4096)
 
+-- The device as it leaves the factory, without a controller.
 abbrev pub alone : Network
 alone = with_ends factory_device nobody

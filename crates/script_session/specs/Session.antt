@@ -65,7 +65,7 @@ pub record IsStepFor (before : Station) (event : Event) (device : Running) (outb
   pub frames : in_order outbox ≡ (step_for outcomes later before event).frames
   pub note_is : note ≡ (step_for outcomes later before event).note
 
--- What a step returned is told: the frames that it sends are rendered or wait, and then its note is rendered.
+-- What a step returned is reported: the frames that it sends are rendered or wait, and then its note is rendered.
 pub record IsTold (far : Other) (frames : List (List ℕ)) (note : Note) (other : Other) (before now : List ℕ) : Type 0 where
   pub waits : other ≡ with_sent far frames
   pub text : now ≡ before ++ (printed_for far.controller frames ++ note_line note)

@@ -32,7 +32,7 @@ pub(crate) fn respond(
         OnOk result (IsDone (event_answer network event.now) device.new other.new text.old.items text.new.items) }
     ensures lost { is_powerless device.new.flash ≡ true →
         OnOk result ((text.new.items ≡ text.old.items ++ lost_line) × (other.new ≡ other.old)) }
-    // Whatever the flash does: what is told is what the step returned.
+    // Whatever the flash does: what is reported is what the step returned.
     ensures told { is_powerless device.new.flash ≡ false →
         (note : Note) × IsStepFor (station_in device.old) event.now device.new outbox.new note
         × OnOk result (IsTold other.old (in_order outbox.new) note other.new text.old.items text.new.items) }

@@ -80,7 +80,7 @@ impl<'a> DemoStation<'a> {
         }
     }
 
-    /// The number of units of time up to and with the next one that brings something.
+    /// The number of units of time up to and including the next one that brings something.
     pub(crate) fn due(&self) -> u32
         ensures value { result ≡ due_with self.now.services self.now.live }
         ensures some { 0 < result }

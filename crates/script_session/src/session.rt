@@ -372,7 +372,7 @@ impl<'a> Session<'a> {
         }
     }
 
-    /// Shows the number of units up to and with the next one with which something happens at the device.
+    /// Shows the number of units up to and including the next one with which something happens at the device.
     fn due(&self, text: &mut Vec<u8>) -> Result<(), AllocError>
         ensures { (network : Network) → Are network self.now →
             OnOk result (IsObeyed (due_answer network) self.now text.old.items text.new.items) }

@@ -16,7 +16,7 @@ use Rattle.services.specs.Run.{Event, Hears, Ticks, Observes, after, ticks_in, K
 
 -- ---- what a frame leaves as it is
 
--- the states agree on the address, on what is to be announced, and on the guard
+-- the states agree on the address, on what must be announced, and on the guard
 pub record Agrees (one other : State) : Type 0 where
   pub address : one.address ≡ other.address
   pub announcement : one.announcement ≡ other.announcement

@@ -46,6 +46,7 @@ echo_answer state (Err fault) = None
 
 -- ---- ARP (RFC 826)
 
+-- Whether a packet of ARP is a request.
 abbrev pub is_request : ArpOperation → Bool
 is_request arp.Request = true
 is_request arp.Reply = false
@@ -72,6 +73,7 @@ arp_reply_of mac address asker target = record {
   content = ArpPacket (record { operation = arp.Reply; sender = record { mac = mac; address = address }; target = target });
 }
 
+-- The reply to a packet of ARP, if it asks for the address of the station.
 abbrev pub arp_answer : State → Mac → Mac → Arp → Option (List ℕ)
 arp_answer state destination source packet =
     if is_sought state destination packet then Some (frame_bytes (arp_reply_of state.mac state.address source packet.sender)) else None
@@ -86,7 +88,7 @@ is_conflict state sender = is_running state sender.address && not (is_own state 
 abbrev pub frame_in : Option (Items ℕ) → Option (List ℕ)
 frame_in frame = option_map (λ (items : Items ℕ). items.items) frame
 
--- ---- calls that nobody serves (C706)
+-- ---- calls to unknown interfaces or operations (C706)
 
 -- Whether the services answer calls: a controller's do not.
 abbrev pub answers_calls : Role → Bool
@@ -103,6 +105,7 @@ is_called state destination from to =
 abbrev pub call_reply_of : Mac → List ℕ → Mac → Endpoint → List ℕ → Meaning
 call_reply_of mac address asker from body = record { destination = asker; source = mac; tag = None; content = UdpDatagram (calls_at address) from body }
 
+-- The answer to a datagram, if it is a call to an unknown interface or operation, or a ping.
 abbrev pub datagram_answer : State → Mac → Mac → Endpoint → Endpoint → List ℕ → Option (List ℕ)
 datagram_answer state destination source from to body =
     if is_called state destination from to then option_map (λ answer. frame_bytes (call_reply_of state.mac state.address source from answer)) (unserved_answer body) else None
@@ -113,6 +116,7 @@ pub record Call : Type 0 where
   pub caller : Endpoint
   pub body : List ℕ
 
+-- The call in a frame to the port of calls, if it has one.
 abbrev pub call_by : State → Mac → Mac → Content → Option Call
 call_by state destination source (RealTime frame_id body) = None
 call_by state destination source (ArpPacket packet) = None
@@ -158,11 +162,13 @@ IsOtherFrame (Err fault) = Unit {0}
 abbrev pub after_packet : State → Holder → State
 after_packet state sender = if is_conflict state sender then disputed state else state
 
+-- The state after a frame: a packet of ARP may dispute the address.
 abbrev pub after_content : State → Content → State
 after_content state (RealTime frame_id body) = state
 after_content state (ArpPacket packet) = after_packet state packet.sender
 after_content state (UdpDatagram from to body) = state
 
+-- The state after octets, unchanged if they are no frame.
 abbrev pub after_layers : State → Result Meaning FrameFault → State
 after_layers state (Ok meaning) = after_content state meaning.content
 after_layers state (Err fault) = state
@@ -177,6 +183,7 @@ content_disputes state (RealTime frame_id body) = false
 content_disputes state (ArpPacket packet) = is_conflict state packet.sender
 content_disputes state (UdpDatagram from to body) = false
 
+-- Whether octets dispute the address.
 abbrev pub layers_dispute : State → Result Meaning FrameFault → Bool
 layers_dispute state (Ok meaning) = content_disputes state meaning.content
 layers_dispute state (Err fault) = false

@@ -37,12 +37,14 @@ concern_as (found.Echo request) = Asks (asked_by request)
 
 -- ---- what of a frame concerns them
 
+-- What of a frame concerns the services, by its layers.
 abbrev pub content_concern : State → Mac → Mac → Content → Concern
 content_concern state destination source (RealTime frame_id body) = Nothing
 content_concern state destination source (ArpPacket packet) = Packet destination source packet
 content_concern state destination source (UdpDatagram from to body) =
     if is_called state destination from to then Calls (record { source = source; caller = from; body = body }) else Nothing
 
+-- What of an echo request concerns the services: one to the station is answered.
 abbrev pub echo_concern : State → Result Request FrameFault → Concern
 echo_concern state (Ok request) = if is_asked state request then Asks request else Nothing
 echo_concern state (Err fault) = Nothing
@@ -57,6 +59,7 @@ abbrev pub in_length : ℕ → Result (LinkHeader × List ℕ) FrameFault → Op
 in_length size (Ok frame) = if nat_lt (longest frame.0.tag) size then None else Some frame
 in_length size (Err fault) = None
 
+-- The Ethernet header of octets and what follows it, if they can be read.
 unfoldable pub opened : List ℕ → Option (LinkHeader × List ℕ)
 opened bytes = in_length (length bytes) (link.read bytes)
 
@@ -64,6 +67,7 @@ opened bytes = in_length (length bytes) (link.read bytes)
 abbrev pub is_other : ℕ → Bool
 is_other type = not (type == profinet || type == address_resolution || type == internet)
 
+-- Whether an opened frame has another EtherType than PROFINET, ARP and IPv4.
 abbrev pub other_in : Option (LinkHeader × List ℕ) → Bool
 other_in (Some frame) = is_other frame.0.ether_type
 other_in None = false
@@ -78,32 +82,39 @@ concern_in state bytes = if has_other_type bytes then OtherType else concern_by 
 
 -- ---- what follows an Ethernet header
 
+-- A frame with this Ethernet header and content.
 abbrev pub meaning_with : LinkHeader → Content → Meaning
 meaning_with header content = record { destination = header.destination; source = header.source; tag = header.tag; content = content }
 
+-- The layers after an Ethernet header.
 abbrev pub layers_under : LinkHeader → List ℕ → Result Meaning FrameFault
 layers_under header octets = (content_under header.ether_type).read octets >>= λ content. Ok (meaning_with header content)
 
+-- A packet of ARP after an Ethernet header.
 abbrev pub arp_under : LinkHeader → List ℕ → Result Meaning FrameFault
 arp_under header octets = arp.read octets >>= λ content. Ok (meaning_with header content)
 
+-- A datagram of UDP after an Ethernet header.
 abbrev pub datagram_under : LinkHeader → List ℕ → Result Meaning FrameFault
 datagram_under header octets = datagram.read octets >>= λ content. Ok (meaning_with header content)
 
+-- An echo request (ICMP type 8) after an Ethernet header.
 abbrev pub echo_under : LinkHeader → List ℕ → Result Request FrameFault
 echo_under header octets =
     (echo 8).read octets >>= λ message. Ok (record { destination = header.destination; source = header.source; echo = message })
 
+-- An echo request after an Ethernet header, if its EtherType is that of IPv4.
 abbrev pub request_under : LinkHeader → List ℕ → Result Request FrameFault
 request_under header octets = if header.ether_type == internet then echo_under header octets else Err EtherType
 
+-- What concerns the services of what follows an Ethernet header.
 abbrev pub concern_under : State → LinkHeader → List ℕ → Concern
 concern_under state header octets =
     if is_other header.ether_type then OtherType else concern_by state (layers_under header octets) (request_under header octets)
 
 -- ---- what follows from it
 
--- The frame that refuses a whole call, if nobody serves it.
+-- The frame that refuses a whole call to an unknown interface or operation.
 abbrev pub refused_by : State → Call → List ℕ → Option (List ℕ)
 refused_by state call octets =
     option_map (λ answer. frame_bytes (call_reply_of state.mac state.address call.source call.caller answer)) (unserved_answer octets)

@@ -8,7 +8,7 @@ use Rattle.services.specs.State.{State, announces, is_defended, sent_by_tick, ti
 abbrev pub never : ℕ
 never = 4294967295
 
--- The number of ticks up to and with the next one in which an announcement is sent.
+-- The number of ticks up to and including the next one in which an announcement is sent.
 abbrev pub announcement_due_in : Announcement → ℕ
 announcement_due_in Nothing = never
 announcement_due_in First = 1
@@ -20,7 +20,7 @@ announcement_later ticks Nothing = Nothing
 announcement_later ticks First = First
 announcement_later ticks (Second left) = Second (left - ticks)
 
--- The number of ticks up to and with the next one that sends a frame. A conflict is defended in the next tick, or not at
+-- The number of ticks up to and including the next one that sends a frame. A conflict is defended in the next tick, or not at
 -- all.
 abbrev pub due_in : State → ℕ
 due_in state = if is_defended state then 1 else announcement_due_in state.announcement

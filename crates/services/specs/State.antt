@@ -17,7 +17,7 @@ pub record State : Type 0 where
   pub role : Role
   -- the MAC address of the station
   pub mac : Mac
-  -- the running IP address; zeros if there is none
+  -- the running IP address; zeros without one
   pub address : List ℕ
   -- which announcement of the address is still to be sent
   pub announcement : Announcement
@@ -71,7 +71,7 @@ announcement_after Nothing = Nothing
 announcement_after First = Second 64000
 announcement_after (Second ticks) = if nat_le ticks 1 then Nothing else Second (ticks - 1)
 
--- What is to be announced of this new address.
+-- What must be announced of this new address.
 abbrev pub announcement_for : List ℕ → Announcement
 announcement_for address = if is_zero address then Nothing else First
 

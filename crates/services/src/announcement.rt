@@ -57,7 +57,7 @@ impl Announcement {
         }
     }
 
-    /// The number of ticks up to and with the next one in which an announcement is sent. `NEVER` if none is still to be sent.
+    /// The number of ticks up to and including the next one in which an announcement is sent. `NEVER` if none is still to be sent.
     pub(crate) fn due_in(self) -> u32
         ensures value { result ≡ announcement_due_in self }
         ensures some { 0 < result }

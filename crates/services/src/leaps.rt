@@ -8,7 +8,7 @@ use crate::Services;
 pub const NEVER: u32 = u32::MAX;
 
 impl Services {
-    /// The number of ticks up to and with the next one that sends a frame. `NEVER` if no tick does, unless something is heard
+    /// The number of ticks up to and including the next one that sends a frame. `NEVER` if no tick does, unless something is heard
     /// or the address changes.
     pub fn due_in(&self) -> u32
         ensures value { result ≡ due_in self.now }
@@ -26,7 +26,7 @@ impl Services {
     /// Lets ticks pass that send nothing: fewer than `due_in` returns.
     pub fn pass(&mut self, ticks: u32)
         requires { ticks < due_in self.old }
-        // It does what as many ticks do, one by one, and none of them sends a frame.
+        // It has the same effect as that many ticks, one by one, and none of them sends a frame.
         ensures state { self.new ≡ ticks_of ticks self.old }
         ensures none { NoneSends ticks self.old }
     {

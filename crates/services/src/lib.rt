@@ -1,5 +1,5 @@
 //! What a station does beside its relation: it answers echo requests (RFC 792), announces its IP address and defends it
-//! (RFC 826, RFC 5227), and answers pings and calls that nobody serves (The Open Group C706). A controller has the same
+//! (RFC 826, RFC 5227), and answers pings and calls to unknown interfaces or operations (The Open Group C706). A controller has the same
 //! services, but for the calls.
 //!
 //! The services are a machine of their own. They hear only the frames that the device or controller dropped, and each

@@ -31,7 +31,7 @@ const DEFEND_INTERVAL: u32 = 320_000;
 
 /// The services of a station. They answer echo requests (RFC 792), announce the running IP address, count its conflicts
 /// and defend it (RFC 5227). Those of a controller also answer requests of ARP (RFC 826), which a device does itself. Those
-/// of a device also answer pings and calls that nobody serves (C706).
+/// of a device also answer pings and calls to unknown interfaces or operations (C706).
 ///
 /// The owner gives them each frame of ARP, each frame that the station drops, each tick, and after each step the running
 /// IP address. Clauses see them as the state of one machine.
@@ -57,7 +57,7 @@ impl Model for Services {
     ghost invariant = { λ s. length s.address ≡ 4 };
 }
 
-/// What is to be announced of a new address.
+/// What must be announced of a new address.
 fn announcement_for(address: [u8; 4]) -> Announcement
     ensures { result ≡ announced address }
 {
@@ -136,7 +136,7 @@ impl Services {
         self.conflicts
     }
 
-    /// The running IP address that the services know; zeros if there is none.
+    /// The running IP address that the services know; zeros without one.
     pub fn address(&self) -> [u8; 4]
         ensures { result ≡ self.now.address }
     {

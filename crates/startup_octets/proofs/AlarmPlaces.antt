@@ -23,7 +23,7 @@ use Rattle.startup_octets.specs.Alarms.{alarm_in}
 
 -- ---- one field after another
 
--- A field of so many octets at the front: its number, and what follows it.
+-- A field of n octets at the front: its number, and what follows it.
 abbrev IsField : ℕ → List ℕ → ℕ → List ℕ → Type 0
 IsField size octets value rest = (front : List ℕ) × (length front ≡ size) × (octets ≡ front ++ rest) × (value ≡ big_number size front)
 

@@ -25,7 +25,7 @@ use Rattle.startup_octets.specs.StartUp.{Written, parameter_in, parameters_in}
 abbrev octets_for : Block → List ℕ
 octets_for value = big_bytes 2 (kind_number (kind_of value)) ++ (big_bytes 2 ((fields_of (kind_of value)).size value) ++ (fields_of (kind_of value)).write value)
 
--- Its type, and the ARUUID behind two octets of its own.
+-- Its type, and the ARUUID after two octets of its own.
 pub record IsBlockOf (type : ℕ) (relation octets : List ℕ) : Type 0 where
   pub type_is : number 0 2 octets ≡ type
   pub relation_is : part 8 16 octets ≡ relation
@@ -73,7 +73,7 @@ drop_more (suc n) m (first ∷ octets) = ap (λ k. drop k (first ∷ octets)) (o
 
 -- ---- the header of a Write
 
--- What is read of a header: its type, its ARUUID, the place of its record, and what is behind it.
+-- What is read of a header: its type, its ARUUID, the place of its record, and what follows it.
 pub record IsWriteHeader (asked : IodWriteReq) (octets rest : List ℕ) : Type 0 where
   pub block : IsBlockOf 0x0008 asked.header.ar_uuid octets
   pub slot : number 28 2 octets ≡ asked.header.slot_number
@@ -116,7 +116,7 @@ write_read asked rest wide slot subslot index count =
 
 -- ---- parameter records
 
--- The record of a header with octets behind it.
+-- The record of a header with octets after it.
 abbrev pub written_in : IodWriteReq → List ℕ → Written
 written_in asked octets = record { slot = asked.header.slot_number; subslot = asked.header.subslot_number; index = asked.header.index; octets = octets }
 
@@ -134,7 +134,7 @@ parameter_read asked octets value rest it small count =
     ∙ same_written _ _ _ _ _ _ _ _ it.slot it.subslot it.index
     (ap (λ n. take n (drop 64 octets)) (it.count ∙ count) ∙ ap (take (length value)) (it.behind 0) ∙ take_front value rest)
 
--- The first of several records, and those behind it.
+-- The first of several records, and those after it.
 parameters_for : (most : ℕ) (asked : IodWriteReq) (rest : List ℕ) →
     parameters_in (suc most) (octets_for (is.IodWriteReq asked) ++ rest)
     ≡ parameter_in (octets_for (is.IodWriteReq asked) ++ rest)

@@ -61,7 +61,7 @@ came_by_sent sent (move.Write slot subslot index octets) = inl refl
 came_by_sent sent move.Stop = inl refl
 
 module _ {F : Type 0} {S : ℕ} (as_flash : Flash F S) where
-  -- What is sent is behind what was sent before.
+  -- What is sent follows what was sent before.
   abbrev pub IsMore : World F → World F → Type 0
   IsMore before after = (frames : List (List ℕ)) × (after.sent ≡ before.sent ++ frames)
 

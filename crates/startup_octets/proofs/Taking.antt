@@ -108,7 +108,7 @@ kept_records value taken records link e = by_room (nat_lt (length taken) 64) e
     by_room true f = ap (λ (r : Records). r.taken) (sym (same_records (record { taken = taken ++ value ∷ []; passed = link.passed }) records f))
     by_room false f = absurd cc
 
--- A record that is kept is behind the others.
+-- A record that is kept is after the others.
 pub keeping_more : (value : TakenRecord) (link : RelationState) (records : Records) → link.phase ≡ Started → keeping value (Some link) ≡ Ok records → records.taken ≡ link.taken ++ value ∷ []
 keeping_more value link records started e =
     kept_records value link.taken records link
@@ -123,7 +123,7 @@ module _ (law : AreNotDone) where
     pub grown : IsGrown link (link_behind judged link) now
     pub granted : granted_in (zip (map (λ value. Some (written_of value)) values) (numbers (statuses_of judged answers link))) ≡ map written_of now
 
-  -- One that is refused, and those behind it.
+  -- One that is refused, and those after it.
   refused_each : (one : Judged) (judged : List Judged) (value : TakenRecord) (values : List TakenRecord) (answers : List BlockError) (link : Option RelationState) (fault : CallFault)
       → one_outcome one.0 one.1 answers link ≡ Err fault → one_link one.1 link ≡ link → IsEach judged values (one_answers one.1 answers) link
       → IsEach (one ∷ judged) (value ∷ values) answers link

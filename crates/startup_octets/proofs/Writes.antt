@@ -128,7 +128,7 @@ one_each write header entries e = absurd cc
 each_one : (header : IodWriteReq) (entries : List Entry) (write : Write) → ◌≡◌ {A = Result Writing CallFault} (Ok (Each header entries)) (Ok (One write)) → ⊥
 each_one header entries write e = absurd cc
 
--- A header that is none of a list asks for one record, and one of a list for a list.
+-- A header that is not that of a list asks for one record, and one of a list for a list.
 no_each : (standing : Option (List ℕ)) (real : Real) (request : IodWriteReq) (rest : List ℕ) (header : IodWriteReq) (entries : List Entry) → is_several request ≡ false
     → handled_writing standing real request rest ≡ Ok (Each header entries) → ⊥
 no_each standing real request rest header entries single e =

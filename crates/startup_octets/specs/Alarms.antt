@@ -1,5 +1,5 @@
 -- The process alarms of a device and its controller, read from the octets of frames (IEC 61158-6-10, 4.8 and 5.2.5). Each frame
--- is read at fixed places, with its VLAN tag taken out.
+-- is read at fixed places, without its VLAN tag.
 use Rattle.std.specs.Prelude.{◌≡◌, ◌≤◌, ◌+◌, ◌-◌, ◌==◌, ◌&&◌, ◌++◌, ℕ, Bool, List, [], ◌∷◌, length, map, flat_map, if◌then◌else◌, Option, Some, None}
 use Rattle.std.specs.List.{list_any}
 use Rattle.record_blocks.specs.declared.alarm_notification.AlarmNotification.{AlarmNotification}
@@ -42,6 +42,7 @@ pub record Raise : Type 0 where
   pub subslot : ℕ
   pub octets : List ℕ
 
+-- What the application of the device raised, by the AlarmNotification that the device made of it.
 abbrev pub raise_of : AlarmNotification → Raise
 raise_of alarm = record {
   alarm_type = alarm.alarm_type;
@@ -66,11 +67,13 @@ accepted_by _ came sent = []
 abbrev pub raises_in : List Entry → List Raise
 raises_in entries = flat_map (λ (entry : Entry). raised_by entry.said entry.turn.sent) entries
 
+-- The alarms that the controller accepted in these turns, in order.
 abbrev pub acceptances_in : List Entry → List AlarmNotification
 acceptances_in entries = flat_map (λ (entry : Entry). accepted_by entry.said entry.turn.came entry.turn.sent) entries
 
 -- ---- the law
 
+-- The last element of a list.
 abbrev pub last_in : {A : Type 0} → List A → Option A
 last_in [] = None
 last_in (one ∷ []) = Some one

@@ -18,6 +18,7 @@ pub record Entry : Type 0 where
 abbrev pub turns_in : List Entry → List Turn
 turns_in entries = map (λ entry. entry.turn) entries
 
+-- The moves that were made in these turns, in order.
 abbrev pub moves_in : List Entry → List Move
 moves_in entries = filter_map (λ entry. entry.said) entries
 

@@ -8,6 +8,7 @@ use Rattle.network_world.specs.declared.moves.Move.TheVariants as move
 use Rattle.network_world.specs.World.{World, end_at}
 use Rattle.startup_octets.specs.StartUp.{Turn, Written}
 
+-- Whether an end is the device.
 abbrev pub is_device : End → Bool
 is_device Device = true
 is_device Controller = false

@@ -66,6 +66,7 @@ is_granted call sent = pointwise nat_eq (flat_map (λ frame. take 1 (statuses ca
 abbrev pub asking_at : Mac → Turn → Asking
 asking_at mac turn = asking_in mac (untagged turn.came)
 
+-- Whether what came is a call of this operation, type of block and relation, which these frames answer positively.
 abbrev pub is_granted_of : ℕ → ℕ → List ℕ → Asking → List (List ℕ) → Bool
 is_granted_of operation type relation (Call call) sent = is_of operation type relation call && is_granted call sent
 is_granted_of operation type relation (Set frame) sent = false
@@ -91,6 +92,7 @@ names_in (Call call) = name_of call ∷ []
 names_in (Set frame) = []
 names_in Nothing = []
 
+-- The names (activity and sequence number) of the calls that came to the device in these turns.
 abbrev pub names_at : Mac → List Turn → List (List ℕ)
 names_at mac turns = flat_map (λ (turn : Turn). if turn.at_device then names_in (asking_at mac turn) else []) turns
 

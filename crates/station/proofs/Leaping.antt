@@ -435,7 +435,7 @@ leap_after {F} old new units state after sent some is last follow =
     (subst (λ (v : Values). Follows old.station.identity v units state after sent) values
     (subst (λ (i : Identity). Follows i new.live.values units state after sent) identity follow))
 
--- ---- the device is told before the first unit
+-- ---- the neighbour is reported before the first unit
 
 ready_quiet : (b : Bool) (station : Station) (live : Live) (state : Serving) → state.has_news ≡ b → (told_if b station live state).services.has_news ≡ false
 ready_quiet true station live state is = refl
@@ -449,7 +449,7 @@ tick_quiet : (station : Station) (now : Leapt) → now.services.has_news ≡ fal
 tick_quiet station now quiet =
     ap (λ (b : Bool). let ready = told_if b station now.live now.services in plain_tick station ready.live ready.services) quiet
 
--- Ticks are told ones, if there are news at most after the last.
+-- Ticks are those with a report before them, if there are news at most after the last.
 pub told_ticks : (units : ℕ) (station : Station) (live : Live) (state : Serving)
     → OnlyTheLastMeets (suc units) station (told_at station live state).live (told_at station live state).services
     → ticks_of (suc units) station live state ≡ plain_ticks (suc units) station (told_at station live state).live (told_at station live state).services

@@ -104,7 +104,7 @@ module _ {F : Type 0} {S : ℕ} (as_flash : Flash F S) where
   nothing_on true taken = sym (append-nil taken)
   nothing_on false taken = sym (append-nil taken)
 
-  -- the device alone is told of its neighbour, or not
+  -- the neighbour is reported to the device alone, or not
   told_more : Laws → (b : Bool) (old : device.State F) (mid new : State F) (events : List Event) (taken : List (List ℕ)) → DeviceRuns as_flash old events [] taken mid.device
       → TellsIf as_flash b mid new → DeviceRuns as_flash old (events ++ (if b then news_in mid.services ∷ [] else [])) [] taken new.device
   told_more laws true old mid new events taken run tells =

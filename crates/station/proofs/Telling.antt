@@ -1,4 +1,4 @@
--- The step in which the device is told of its neighbour.
+-- The step in which its neighbour is reported to the device.
 use Rattle.std.proofs.Common.{◌≡◌, ℕ, suc, Bool, true, false, Option, option_map, List, [], refl, sym, ap, subst, ◌∙◌, arith}
 use Rattle.flash_model.specs.declared.flash.Flash.{Ghosts as Flash}
 use Rattle.settings_journal.specs.settings_store.Machine.{Outcome}
@@ -73,7 +73,7 @@ pub exact_by : {F : Type 0} {S : ℕ} (as_flash : Flash F S) (old new : device.S
 exact_by {F} as_flash old new state event sent said is steps =
     exactly as_flash old new (option_map as_neighbour state.near.known) sent said (subst (λ (e : Event). DeviceSteps as_flash old e sent said new) is steps)
 
--- ---- what is told
+-- ---- what is reported
 
 pub tells_news : {F : Type 0} {S : ℕ} (as_flash : Flash F S) (old new : State F) → old.services.has_news ≡ true
     → DeviceSteps as_flash old.device (news_in old.services) [] Done new.device
@@ -109,9 +109,9 @@ told_due {F} as_flash old new tells =
     ∙ (ap (due_beside (told_at old.device.station old.device.live old.services).live) is.1
     ∙ due_if old.services.has_news old.device.station old.device.live old.services)
 
--- ---- units at a device that is told first
+-- ---- units at a device to which its neighbour is reported first
 
--- what units do at a device that was told
+-- what units do at a device that knows its neighbour
 pub record Plain {F : Type 0} (units : ℕ) (old : device.State F) (state : Serving) (new : device.State F) (after : Serving) (sent : List (List ℕ)) : Type 0 where
   pub device : new ≡ record old { live = (plain_ticks units old.station old.live state).live }
   pub services : after ≡ (plain_ticks units old.station old.live state).services

@@ -76,6 +76,7 @@ by_call identity state note call = record {
 abbrev pub by_neighbour : Serving → Note → List ℕ → Beside
 by_neighbour state note bytes = record { services = met state bytes; sent = []; note = if meets state bytes then Done else note }
 
+-- What the services beside a device do with a frame, by what of it concerns them.
 abbrev pub by_concern : Identity → Serving → Note → List ℕ → concern.Concern → Beside
 by_concern identity state note bytes concern.Nothing = by_address state note concern.Nothing
 by_concern identity state note bytes concern.OtherType = by_neighbour state note bytes
@@ -132,6 +133,7 @@ joined_by is_lost state note (Neighbour neighbour) = None
 joined_by is_lost state note (Diagnosis slot subslot channel error appears) = None
 joined_by is_lost state note Ready = None
 
+-- The call that a frame completed, if it did.
 abbrev pub joined_of : Serving → Note → Event → Option Event
 joined_of state note event = joined_by false state note event
 

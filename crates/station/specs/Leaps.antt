@@ -12,15 +12,16 @@ use Rattle.services.specs.Leaps.{never}
 use Rattle.station.specs.Serving.{Serving, due_in, knows, news_in, serving_ticks, told}
 use Rattle.station.specs.Beside.{Beside, beside}
 
--- The number of units up to and with the next one with which the services beside a device with these running settings send
+-- The number of units up to and including the next one with which the services beside a device with these running settings send
 -- a frame, or see that they are others than they know. Once power is lost they do nothing.
 abbrev pub due_at : Bool → Settings → Serving → ℕ
 due_at is_lost running state = if is_lost then never else (if knows state running then due_in state else 1)
 
+-- The units until something is due of the services beside a device with these settings.
 abbrev pub services_due : Values → Serving → ℕ
 services_due values state = due_at values.is_lost values.running state
 
--- The number of units up to and with the next one that brings something to a station: the smaller of the device's and the
+-- The number of units up to and including the next one that brings something to a station: the smaller of the device's and the
 -- services'.
 abbrev pub due_beside : Live → Serving → ℕ
 due_beside live state = min (live_due_in live) (services_due live.values state)
@@ -52,7 +53,8 @@ pub record Follows (identity : Identity) (values : Values) (units : ℕ) (state 
   pub quiet : NoNewsBeside units identity values state
   pub frames : sent ≡ (tick_beside identity values (beside_ticks identity values (units - 1) state)).sent
 
--- The same beside each device that has lost its power or not, and has these running settings.
+-- What the services do beside each device that has lost its power or not, and has these running settings, in at least one
+-- Tick event and at most as many as are due.
 abbrev pub FollowsAt : Bool → Settings → ℕ → Serving → Serving → List (List ℕ) → Type 0
 FollowsAt is_lost running units state after sent =
     (identity : Identity) (values : Values) → values.is_lost ≡ is_lost → values.running ≡ running → Follows identity values units state after sent
@@ -87,21 +89,22 @@ pub record Leapt : Type 0 where
 abbrev pub both_of : Stepped → Beside → Leapt
 both_of step after = record { live = step.live; services = after.services; frames = step.frames ++ after.sent }
 
--- One Tick event at a station whose device was told of its neighbour: a step of the device alone, exactly as specified, and
+-- One Tick event at a station whose device knows its neighbour: a step of the device alone, exactly as specified, and
 -- what the services do beside it.
 abbrev pub plain_tick : Station → Live → Serving → Leapt
 plain_tick station live state =
     let step = step_of [] station live Tick in both_of step (beside station.identity state step.live.values step.note Tick)
 
--- The device is told of its neighbour, if that changed: a step of the device alone, which sends nothing.
+-- The neighbour is reported to the device, if that changed: a step of the device alone, which sends nothing.
 abbrev pub told_if : Bool → Station → Live → Serving → Leapt
 told_if true station live state = record { live = (step_of [] station live (news_in state)).live; services = told state; frames = [] }
 told_if false station live state = record { live = live; services = state; frames = [] }
 
+-- The station once its neighbour is reported to its device, if that changed.
 abbrev pub told_at : Station → Live → Serving → Leapt
 told_at station live state = told_if state.has_news station live state
 
--- One Tick event at a station: the device is told of its neighbour first, if that changed.
+-- One Tick event at a station: the neighbour is reported to the device first, if that changed.
 abbrev pub tick_of : Station → Live → Serving → Leapt
 tick_of station live state = let ready = told_at station live state in plain_tick station ready.live ready.services
 
@@ -115,7 +118,8 @@ ticks_of zero station live state = record { live = live; services = state; frame
 ticks_of (suc units) station live state =
     let before = ticks_of units station live state in then_leap before (tick_of station before.live before.services)
 
--- The same at a station whose device is not told of its neighbour in between.
+-- The state after this many Tick events at a station to whose device no neighbour is reported in between, and the frames that
+-- they send.
 abbrev pub plain_ticks : ℕ → Station → Live → Serving → Leapt
 plain_ticks zero station live state = record { live = live; services = state; frames = [] }
 plain_ticks (suc units) station live state =
@@ -125,11 +129,11 @@ plain_ticks (suc units) station live state =
 abbrev pub OnlyTheLastSends : ℕ → Station → Live → Serving → Type 0
 OnlyTheLastSends units station live state = (before : ℕ) → before < units → (ticks_of before station live state).frames ≡ []
 
--- The same of units at a station whose device is not told of its neighbour in between; and none of them but the last changes
--- the neighbour.
+-- None of these units but the last sends anything, if no neighbour is reported to the device in between.
 abbrev pub OnlyTheLastOfPlain : ℕ → Station → Live → Serving → Type 0
 OnlyTheLastOfPlain units station live state = (before : ℕ) → before < units → (plain_ticks before station live state).frames ≡ []
 
+-- None of these units but the last changes the neighbour.
 abbrev pub OnlyTheLastMeets : ℕ → Station → Live → Serving → Type 0
 OnlyTheLastMeets units station live state = (before : ℕ) → before < units → (plain_ticks before station live state).services.has_news ≡ state.has_news
 

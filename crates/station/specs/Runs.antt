@@ -34,7 +34,7 @@ pub record StationHandsOn {F : Type 0} {S : ℕ} (as_flash : Flash F S) (old : S
   pub steps : StationSteps as_flash between event sent said new
   pub handed : now ≡ before ++ in_order (handed_on new.device.live.values.is_lost sent)
 
--- The Neighbour event that the device is told before the next one: one if the neighbour changed, else none.
+-- The Neighbour event that the device is given before the next one: one if the neighbour changed, else none.
 abbrev pub news_of : Serving → List Event
 news_of serving = if serving.has_news then news_in serving ∷ [] else []
 
@@ -43,6 +43,7 @@ abbrev pub call_of : Option Event → List Event
 call_of None = []
 call_of (Some call) = call ∷ []
 
+-- The event of the call that was completed in a step, if one was.
 abbrev pub call_in : {F : Type 0} {S : ℕ} {as_flash : Flash F S} {old : State F} {event : Event} {frames : Frames} {said : Note} {new : State F} → StationSteps as_flash old event frames said new → List Event
 call_in {F} {S} {as_flash} {old} {event} steps = call_of (joined_beside old.services steps.middle.live.values steps.note event)
 

@@ -26,7 +26,7 @@ use Rattle.lldp.specs.State as near
 use Rattle.lldp.specs.Leaps as near_leaps
 
 -- What is beside a device: the services of its IP address, its neighbour, its running name, what the host says of the link:
--- whether it is up, and which link it is; whether the neighbour changed since the device was told of it; and the calls of which
+-- whether it is up, and which link it is; whether the neighbour changed since it was reported to the device; and the calls of which
 -- fragments are missing.
 pub record Serving : Type 0 where
   pub ip : ip.State
@@ -53,6 +53,7 @@ serving_at identity running = record {
 abbrev pub observed : Serving → Settings → Serving
 observed serving running = record serving { ip = ip.observed serving.ip running.suite.address; name = running.name }
 
+-- Whether the services know these running settings.
 abbrev pub knows : Serving → Settings → Bool
 knows serving running = pointwise nat_eq running.suite.address serving.ip.address && pointwise nat_eq running.name serving.name
 
@@ -91,6 +92,7 @@ abbrev pub completed_or : Event → Option (List ℕ) → Piece
 completed_or call None = Completes call
 completed_or call (Some refusal) = Taken (Some refusal)
 
+-- What a fragment is, by what becomes of it.
 abbrev pub piece_by : Serving → ip_answer.Call → calls.Outcome → Piece
 piece_by serving call calls.Nothing = Other
 piece_by serving call (calls.Drops fack) = dropped_by (option_map (reply_to serving call) fack)
@@ -99,6 +101,7 @@ piece_by serving call (calls.Joined octets) =
     completed_or (Joined (record { mac = call.source; endpoint = call.caller }) serving.ip.address (record { items = octets }))
     (refused_by serving call octets)
 
+-- What a frame is to the calls of which fragments are missing.
 abbrev pub piece_of : Serving → Option ip_answer.Call → Piece
 piece_of serving None = Other
 piece_of serving (Some call) = piece_by serving call (calls.heard_as serving.pieces call.body)
@@ -107,6 +110,7 @@ piece_of serving (Some call) = piece_by serving call (calls.heard_as serving.pie
 abbrev pub piece_in : Serving → List ℕ → Piece
 piece_in serving bytes = piece_of serving (ip_answer.call_in serving.ip bytes)
 
+-- Whether it is a fragment that is accepted.
 abbrev pub is_piece : Piece → Bool
 is_piece Other = false
 is_piece (Taken reply) = true
@@ -118,6 +122,7 @@ completed Other = None
 completed (Taken reply) = None
 completed (Completes call) = Some call
 
+-- The services after a fragment.
 abbrev pub after_piece : Serving → Option ip_answer.Call → Serving
 after_piece serving None = serving
 after_piece serving (Some call) = record serving { pieces = calls.heard serving.pieces call.body }
@@ -159,11 +164,13 @@ disputes serving bytes = ip_answer.disputes serving.ip bytes
 abbrev pub effect_on : Serving → List ℕ → Heard
 effect_on serving bytes = near.effect_of serving.near.known (told_in serving.near.mac bytes)
 
+-- Whether a message of LLDP is of a neighbour.
 abbrev pub is_taken : Heard → Bool
 is_taken Nothing = false
 is_taken Same = true
 is_taken Changed = true
 
+-- Whether it changes the neighbour.
 abbrev pub is_change : Heard → Bool
 is_change Nothing = false
 is_change Same = false
@@ -173,6 +180,7 @@ is_change Changed = true
 abbrev pub meets : Serving → List ℕ → Bool
 meets serving bytes = is_taken (effect_on serving bytes)
 
+-- Whether these octets change the neighbour.
 abbrev pub changes : Serving → List ℕ → Bool
 changes serving bytes = is_change (effect_on serving bytes)
 
@@ -188,6 +196,7 @@ overheard serving bytes = record serving { ip = ip_answer.heard serving.ip bytes
 abbrev pub met : Serving → List ℕ → Serving
 met serving bytes = record serving { near = near.heard serving.near bytes; has_news = changes serving bytes || serving.has_news }
 
+-- The services after a frame that the device dropped.
 abbrev pub heard : Serving → List ℕ → Serving
 heard serving bytes = overheard (pieced (met serving bytes) bytes) bytes
 
@@ -197,17 +206,17 @@ heard serving bytes = overheard (pieced (met serving bytes) bytes) bytes
 abbrev pub as_neighbour : near.Known → Neighbour
 as_neighbour known = record { chassis = record { items = known.peer.chassis }; port = record { items = known.peer.port }; mac = known.peer.mac }
 
--- what the device is to be told: the neighbour, or that none is known
+-- what must be reported to the device: the neighbour, or that none is known
 abbrev pub news_in : Serving → Event
 news_in serving = Met (option_map as_neighbour serving.near.known)
 
--- the device was told
+-- it was reported to the device
 abbrev pub told : Serving → Serving
 told serving = record serving { has_news = false }
 
 -- ---- ticks
 
--- what there is to say to a neighbour
+-- what is said to a neighbour
 abbrev pub said_of : Serving → lldp.Station
 said_of serving = record { mac = serving.near.mac; name = serving.name; address = serving.ip.address; link = serving.link }
 
@@ -228,10 +237,11 @@ aged serving = record serving {
   pieces = calls.ticked serving.pieces;
 }
 
+-- The services after a unit of time.
 abbrev pub ticked : Serving → Serving
 ticked serving = record (aged serving) { ip = ip.ticked serving.ip }
 
--- The number of ticks up to and with the next one that sends a frame or forgets the neighbour.
+-- The number of ticks up to and including the next one that sends a frame or forgets the neighbour.
 abbrev pub due_in : Serving → ℕ
 due_in serving = min (ip_leaps.due_in serving.ip) (near_leaps.due_in serving.near)
 

@@ -17,6 +17,7 @@ pub record Frames : Type 0 where
 abbrev pub in_order : Frames → List (List ℕ)
 in_order frames = frames.device ++ frames.services
 
+-- The frames of the device.
 abbrev pub of_device : Frames → List (List ℕ)
 of_device frames = frames.device
 

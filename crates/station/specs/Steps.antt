@@ -54,7 +54,7 @@ pub record StationSteps {F : Type 0} {S : ℕ} (as_flash : Flash F S) (old : Sta
   pub says : said ≡ (beside old.device.station.identity old.services middle.live.values note event).note
   pub gives : Gives as_flash (joined_beside old.services middle.live.values note event) middle first frames.device new.device
 
--- The device of a station is told of its neighbour, if that changed since it was told last: a step of its own, with the event
+-- The neighbour is reported to the device of a station, if it changed since the last report: a step of its own, with the event
 -- Neighbour, which sends nothing.
 abbrev pub TellsIf : {F : Type 0} {S : ℕ} → Flash F S → Bool → State F → State F → Type 0
 TellsIf as_flash true old new =
@@ -63,6 +63,7 @@ TellsIf as_flash true old new =
     × (new.services ≡ told old.services)
 TellsIf as_flash false old new = new ≡ old
 
+-- The neighbour is reported to the device, if it changed since the last report.
 abbrev pub Tells : {F : Type 0} {S : ℕ} → Flash F S → State F → State F → Type 0
 Tells as_flash old new = TellsIf as_flash old.services.has_news old new
 
@@ -83,12 +84,12 @@ IsSparing (Neighbour neighbour) frames = frames.services ≡ []
 IsSparing (Diagnosis slot subslot channel error appears) frames = frames.services ≡ []
 IsSparing Ready frames = frames.services ≡ []
 
--- The station is as it is once its device was told of its neighbour, if that changed.
+-- The station is as it is once its neighbour was reported to its device, if that changed.
 pub record IsReady {F : Type 0} (old new : State F) : Type 0 where
   pub device : new.device ≡ record old.device { live = (told_at old.device.station old.device.live old.services).live }
   pub services : new.services ≡ (told_at old.device.station old.device.live old.services).services
 
--- One event of a station: the device is told of its neighbour, if that changed, and then the step is made. If power was lost in
+-- One event of a station: the neighbour is reported to the device, if that changed, and then the step is made. If power was lost in
 -- it, the services send nothing, and they change nothing unless it was lost only as the device was given a call; if its note is
 -- not 'done', nothing is sent and the device is unchanged.
 pub record StationTakes {F : Type 0} {S : ℕ} (as_flash : Flash F S) (old : State F) (event : Event) (frames : Frames) (said : Note) (new : State F) : Type 0 where

@@ -61,7 +61,7 @@ pub struct DeviceServices {
     // What the host says of the link.
     is_up: bool,
     link: Option<Link>,
-    // Whether the neighbour changed since the device was told of it.
+    // Whether the neighbour changed since it was reported to the device.
     has_news: bool,
     // The calls of which fragments are missing.
     pieces: Joiner,
@@ -107,7 +107,7 @@ impl DeviceServices {
         self.link = link;
     }
 
-    /// What the device is to be told, if the neighbour changed since it was told last: the owner gives it this event.
+    /// What must be reported to the device, if the neighbour changed since the last report: the owner gives it this event.
     #[inline(never)]
     pub fn news(&self) -> Option<Event>
         ensures { result ≡ (if self.now.has_news then Some (news_in self.now) else None) }
@@ -119,21 +119,21 @@ impl DeviceServices {
         }
     }
 
-    /// Whether there is something to tell the device: the neighbour changed since it was told last.
+    /// Whether there is something to report to the device: the neighbour changed since the last report.
     pub fn has_news(&self) -> bool
         ensures { result ≡ self.now.has_news }
     {
         self.has_news
     }
 
-    /// The device was told.
+    /// It was reported to the device.
     pub fn set_told(&mut self)
         ensures { self.new ≡ told self.old }
     {
         self.has_news = false;
     }
 
-    /// The event by which the device is told of its neighbour, or that none is known.
+    /// The event that reports the neighbour to the device, or that none is known.
     #[inline(never)]
     pub(crate) fn neighbour_event(&self) -> Event
         ensures { result ≡ news_in self.now }
@@ -236,7 +236,7 @@ impl DeviceServices {
         if is_dropped(note) {
             return self.answer(identity, bytes, note, outbox, call);
         }
-        // Most frames of an exchange are taken without an answer. A packet of ARP is not, so these are not read again.
+        // Most frames of an exchange are accepted without an answer. A packet of ARP is not, so these are not read again.
         only_conflicts_are_counted();
         if has_sent {
             return Attended::Noted(self.overhear(bytes, note));
@@ -446,7 +446,7 @@ impl DeviceServices {
         outbox.put_copy(&frame);
     }
 
-    /// The number of ticks up to and with the next one that sends a frame or forgets the neighbour, unless something is heard
+    /// The number of ticks up to and including the next one that sends a frame or forgets the neighbour, unless something is heard
     /// or the settings change.
     pub fn due_in(&self) -> u32
         ensures value { result ≡ due_in self.now }
@@ -458,7 +458,7 @@ impl DeviceServices {
     /// Lets ticks pass that send nothing and forget no neighbour: fewer than `due_in` returns.
     pub fn pass(&mut self, ticks: u32)
         requires { ticks < due_in self.old }
-        // It does what as many ticks do, one by one, and none of them sends a frame or forgets the neighbour.
+        // It has the same effect as that many ticks, one by one, and none of them sends a frame or forgets the neighbour.
         ensures state { self.new ≡ serving_ticks ticks self.old }
         ensures none { NoneSends ticks self.old }
         ensures same { NoNews ticks self.old }

@@ -56,7 +56,7 @@ pub fn cycle<F: Flash<S>, const S: usize, K: Sink, P: FnOnce(F) -> F>(
     )
 }
 
-/// The same for a device with these options.
+/// Runs a cycle of a station with these options, and the start after it.
 pub fn cycle_with<F: Flash<S>, const S: usize, K: Sink, P: FnOnce(F) -> F>(
     identity: Identity,
     real: Real,

@@ -15,7 +15,7 @@ use pn_values::Settings;
 use services::NEVER;
 
 impl<F: Flash<S>, const S: usize> IoStation<F, S> {
-    /// The number of units up to and with the next one that brings something to the station: the smaller of the device's and
+    /// The number of units up to and including the next one that brings something to the station: the smaller of the device's and
     /// the services'. 4,294,967,295 if no unit ever does.
     pub fn due(&self) -> u32
         ensures value { result ≡ due_beside self.now.device.live self.now.services }
@@ -25,7 +25,7 @@ impl<F: Flash<S>, const S: usize> IoStation<F, S> {
     }
 
     /// Lets `units` units of 31.25 microseconds pass at once, at most as many as `due` returns, and replaces the content
-    /// of the outbox by the frames to be sent. It does what as many Tick events do, one by one.
+    /// of the outbox by the frames to be sent. It has the same effect as that many Tick events, one by one.
     pub fn elapse(&mut self, units: u32, outbox: &mut StationOutbox) -> Note
         requires { units ≤ due_beside self.old.device.live self.old.services }
         // The device, the services and the frames are those after that many Tick events. Only the last of them may send.
@@ -41,7 +41,7 @@ impl<F: Flash<S>, const S: usize> IoStation<F, S> {
     }
 }
 
-/// The number of units up to and with the next one that brings something to a device or to the services beside it.
+/// The number of units up to and including the next one that brings something to a device or to the services beside it.
 pub fn due_beside<F: Flash<S>, const S: usize>(
     device: &Device<F, S>,
     services: &DeviceServices,
@@ -54,7 +54,7 @@ pub fn due_beside<F: Flash<S>, const S: usize>(
         .min(services_due(device.is_lost(), device.running(), services))
 }
 
-/// The same of the services, beside a device with these running settings: the number of units up to and with the next one
+/// The same of the services, beside a device with these running settings: the number of units up to and including the next one
 /// in which they send a frame or learn other settings. `NEVER` if power is lost, or if no unit brings anything.
 pub fn services_due(is_lost: bool, running: &Settings, services: &DeviceServices) -> u32
     ensures value { result ≡ due_at is_lost running.now services.now }
@@ -70,8 +70,8 @@ pub fn services_due(is_lost: bool, running: &Settings, services: &DeviceServices
 }
 
 /// Lets units of time pass at a device and at the services beside it, at most as many as `due_beside` returns, and
-/// replaces the content of the outbox by the frames to be sent. It does what as many Tick events do, one by one. The device is
-/// told of its neighbour before them, if that changed.
+/// replaces the content of the outbox by the frames to be sent. It has the same effect as that many Tick events, one by one. The
+/// neighbour is reported to the device before them, if that changed.
 pub fn elapse_beside<F: Flash<S>, const S: usize>(
     device: &mut Device<F, S>,
     services: &mut DeviceServices,
@@ -93,7 +93,7 @@ pub fn elapse_beside<F: Flash<S>, const S: usize>(
     elapse_told(device, services, units, outbox)
 }
 
-/// The same at a device that was told of its neighbour.
+/// The same at a device that knows its neighbour.
 fn elapse_told<F: Flash<S>, const S: usize>(
     device: &mut Device<F, S>,
     services: &mut DeviceServices,
@@ -187,7 +187,7 @@ pub fn elapse_alone<F: Flash<S>, const S: usize>(
 
 /// As long as nothing is due of the services beside a device that has power, units of time are ticks of theirs and send
 /// nothing, bring what is due nearer by exactly their number, and do not change the neighbour. So such units may be counted, and
-/// the services told of them later, all at once. These are laws of the definitions that specify `follow_units`.
+/// the services may learn of them later, all at once. These are laws of the definitions that specify `follow_units`.
 pub fn quiet_units_are_ticks()
     ensures ticks { QuietUnitsAreTicks }
     ensures count { QuietUnitsCount }

@@ -44,7 +44,7 @@ impl<F: Flash<S>, const S: usize> IoStation<F, S> {
         IoStation { device, services }
     }
 
-    /// Handles an event, and replaces the content of the outbox by the frames to be sent. The device is told of its neighbour
+    /// Handles an event, and replaces the content of the outbox by the frames to be sent. The neighbour is reported to the device
     /// first, if that changed.
     pub fn step(&mut self, event: &Event, outbox: &mut StationOutbox) -> Note
         // The step of the device is a step of the device alone: the same device, the same frames in the same order, and all

@@ -16,7 +16,7 @@ use flash_model::Flash;
 use frame_codec::Outbox;
 
 /// Handles an event at a device and at the services beside it, and replaces the content of the outbox by the frames to be
-/// sent. The device is told of its neighbour first, if that changed. Then the event goes to the device. The services answer a
+/// sent. The neighbour is reported to the device first, if that changed. Then the event goes to the device. The services answer a
 /// frame only if the device dropped it, and hear each packet of ARP. They do nothing in a step in which power was lost. A call
 /// that the event completed, as its last fragment, is then given to the device.
 pub fn step_beside<F: Flash<S>, const S: usize>(
@@ -32,7 +32,7 @@ pub fn step_beside<F: Flash<S>, const S: usize>(
     step_told(device, services, event, outbox)
 }
 
-/// The same at a device that was told of its neighbour.
+/// The same at a device that knows its neighbour.
 fn step_told<F: Flash<S>, const S: usize>(
     device: &mut Device<F, S>,
     services: &mut DeviceServices,
@@ -98,7 +98,7 @@ pub fn give<F: Flash<S>, const S: usize>(
     device.step_call(&call.caller, call.address, call.octets.as_slice(), outbox)
 }
 
-/// Tells a device of its neighbour, if that changed since it was told last: a step of its own, with the event Neighbour, which
+/// Reports its neighbour to a device, if it changed since the last report: a step of its own, with the event Neighbour, which
 /// sends nothing. `step_beside` and `elapse_beside` do it; the owner of a device whose
 /// flash calls are carried out elsewhere does it before the device's step.
 pub fn tell_beside<F: Flash<S>, const S: usize>(

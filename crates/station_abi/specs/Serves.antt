@@ -85,6 +85,7 @@ IsAfter (Ok left) middle given asked answer new reported =
     IsEvent middle (Frame (record { items = take 1519 given })) (record asked { units = left }) answer new reported
 IsAfter (Err refusal) middle given asked answer new reported = (answer ≡ refusal_number refusal) × (new ≡ middle) × (reported ≡ asked)
 
+-- What the operation FrameAfter does: units pass, and then a frame comes if nothing remains of them.
 abbrev pub IsFrameAfter : Served → List ℕ → Op → ℕ → Served → Op → Type 0
 IsFrameAfter old given asked answer new reported =
     (passed : Result ℕ Refusal) × (middle : Served) × QuietOrNot old asked.units passed middle × IsAfter passed middle given asked answer new reported
@@ -95,6 +96,7 @@ IsInput (Some place) old given asked answer new reported =
     IsEvent old (Input place.0 place.1 (record { items = take 1519 given })) asked answer new reported
 IsInput None old given asked answer new reported = (answer ≡ 9) × (new ≡ old) × (reported ≡ asked)
 
+-- What the operation Alarm does, with its place if it is one of 16 bits.
 abbrev pub IsAlarm : Option (ℕ × ℕ) → Served → List ℕ → Op → ℕ → Served → Op → Type 0
 IsAlarm (Some place) old given asked answer new reported =
     IsEvent old (Alarm place.0 place.1 (record { items = take 1519 given })) asked answer new reported
@@ -114,7 +116,7 @@ IsDiagnosis (Some place) None old asked answer new reported = (answer ≡ 9) × 
 IsDiagnosis None what old asked answer new reported = (answer ≡ 9) × (new ≡ old) × (reported ≡ asked)
 
 -- The number of units that remain, what is due, and the kind of the first piece of work. The note is 0, done. Due is the
--- number of units up to and with the next one with which anything is due.
+-- number of units up to and including the next one with which anything is due.
 abbrev pub with_passed : Result Passed Refusal → Served → Op → Op
 with_passed (Ok units) new asked =
     record asked { units = units.left; due = due_both new; note = 0; work = waiting_both new }
@@ -128,10 +130,12 @@ IsTick old asked answer new reported =
 
 -- ---- a start
 
+-- The number of a sector, as C sees it.
 abbrev pub sector_number : Sector → ℕ
 sector_number First = 0
 sector_number Second = 1
 
+-- The sector with this number, if there is one.
 abbrev pub sector_of : ℕ → Option Sector
 sector_of number = if number == 0 then Some First else if number == 1 then Some Second else None
 
@@ -140,6 +144,7 @@ abbrev pub IsSector : Option Sector → Served → List ℕ → ℕ → Served �
 IsSector (Some sector) old octets answer new = (result : Result (Unit {0}) Refusal) × KnowsBothOrNot old sector octets result new × (answer ≡ answer_of result)
 IsSector None old octets answer new = (answer ≡ 8) × (new ≡ old)
 
+-- What the operation Boot does.
 abbrev pub IsBoot : Served → ℕ → Served → Type 0
 IsBoot old answer new = (result : Result (Unit {0}) Refusal) × StartsBothOrNot old result new × (answer ≡ answer_of result)
 
@@ -193,11 +198,12 @@ abbrev pub settings_octets : Settings → List ℕ
 settings_octets settings =
     ((((((settings.suite.address ++ settings.suite.mask) ++ settings.suite.gateway) ++ settings.im1) ++ settings.im2) ++ settings.im3) ++ settings.im4) ++ settings.name
 
+-- What the operations Running and Stored return.
 abbrev pub IsSettings : Option Refusal → Settings → Op → ℕ → Op → Type 0
 IsSettings (Some refusal) settings asked answer reported = (answer ≡ refusal_number refusal) × (reported ≡ asked)
 IsSettings None settings asked answer reported = (answer ≡ 0) × (reported ≡ with_octets (settings_octets settings) asked)
 
--- The number of units up to and with the next one with which anything is due.
+-- The number of units up to and including the next one with which anything is due.
 abbrev pub IsDue : Option Refusal → ℕ → Op → ℕ → Op → Type 0
 IsDue (Some refusal) due asked answer reported = (answer ≡ refusal_number refusal) × (reported ≡ asked)
 IsDue None due asked answer reported = (answer ≡ 0) × (reported ≡ record asked { units = due })
@@ -207,6 +213,7 @@ abbrev pub IsLeft : Option Refusal → ℕ → Op → ℕ → Op → Type 0
 IsLeft (Some refusal) left asked answer reported = (answer ≡ refusal_number refusal) × (reported ≡ asked)
 IsLeft None left asked answer reported = (answer ≡ 0) × (reported ≡ record asked { place = left })
 
+-- The number of each phase, as C sees it; 0 without a relation.
 abbrev pub phase_number : Option Phase → ℕ
 phase_number None = 0
 phase_number (Some Started) = 1
@@ -225,13 +232,16 @@ abbrev pub IsValue : Option (List ℕ) → Op → ℕ → Op → Type 0
 IsValue (Some value) asked answer reported = (answer ≡ 0) × (reported ≡ with_octets value asked)
 IsValue None asked answer reported = (answer ≡ 9) × (reported ≡ asked)
 
+-- The output of a submodule, zeros before the first frame.
 abbrev pub value_of : State → ℕ → ℕ → Option (List ℕ)
 value_of port slot subslot = output_of port.device.station.real slot subslot (output_in slot subslot port.device.live.rest.link)
 
+-- What an operation returns of a value, unless the port refuses it.
 abbrev pub IsValueOf : Option Refusal → Option (List ℕ) → Op → ℕ → Op → Type 0
 IsValueOf (Some refusal) value asked answer reported = (answer ≡ refusal_number refusal) × (reported ≡ asked)
 IsValueOf None value asked answer reported = IsValue value asked answer reported
 
+-- What the operation Output returns.
 abbrev pub IsOutput : Option (ℕ × ℕ) → State → Op → ℕ → Op → Type 0
 IsOutput (Some place) port asked answer reported = IsValueOf (closed port.stage) (value_of port place.0 place.1) asked answer reported
 IsOutput None port asked answer reported = (answer ≡ 9) × (reported ≡ asked)
@@ -240,14 +250,17 @@ IsOutput None port asked answer reported = (answer ≡ 9) × (reported ≡ asked
 abbrev pub with_statuses : ProviderStatus → Op → Op
 with_statuses status asked = with_octets (status.iops ∷ status.data_status.0 ∷ []) asked
 
+-- What is returned of a status of the controller, if there is one.
 abbrev pub IsProviderAt : Option ProviderStatus → Op → ℕ → Op → Type 0
 IsProviderAt (Some status) asked answer reported = (answer ≡ 0) × (reported ≡ with_statuses status asked)
 IsProviderAt None asked answer reported = (answer ≡ 24) × (reported ≡ asked)
 
+-- What is returned of a status of the controller, unless the port refuses it.
 abbrev pub IsProviderOf : Option Refusal → Option ProviderStatus → Op → ℕ → Op → Type 0
 IsProviderOf (Some refusal) status asked answer reported = (answer ≡ refusal_number refusal) × (reported ≡ asked)
 IsProviderOf None status asked answer reported = IsProviderAt status asked answer reported
 
+-- What the operation Provider returns.
 abbrev pub IsProvider : Option (ℕ × ℕ) → State → Op → ℕ → Op → Type 0
 IsProvider (Some place) port asked answer reported =
     IsProviderOf (closed port.stage) (provider_in place.0 place.1 port.device.live.rest.link) asked answer reported
@@ -258,15 +271,18 @@ IsProvider None port asked answer reported = (answer ≡ 24) × (reported ≡ as
 abbrev pub with_received : ProviderStatus → List ℕ → Op → Op
 with_received status value asked = record (with_octets value asked) { sector = status.iops; place = status.data_status.0 }
 
+-- What is returned of a value and its status, if both exist.
 abbrev pub IsReceivedAt : Option ProviderStatus → Option (List ℕ) → Op → ℕ → Op → Type 0
 IsReceivedAt (Some status) (Some value) asked answer reported = (answer ≡ 0) × (reported ≡ with_received status value asked)
 IsReceivedAt (Some status) None asked answer reported = (answer ≡ 9) × (reported ≡ asked)
 IsReceivedAt None value asked answer reported = (answer ≡ 24) × (reported ≡ asked)
 
+-- What is returned of a value and its status, unless the port refuses it.
 abbrev pub IsReceivedOf : Option Refusal → Option ProviderStatus → Option (List ℕ) → Op → ℕ → Op → Type 0
 IsReceivedOf (Some refusal) status value asked answer reported = (answer ≡ refusal_number refusal) × (reported ≡ asked)
 IsReceivedOf None status value asked answer reported = IsReceivedAt status value asked answer reported
 
+-- What the operation Received returns.
 abbrev pub IsReceived : Option (ℕ × ℕ) → State → Op → ℕ → Op → Type 0
 IsReceived (Some place) port asked answer reported =
     IsReceivedOf (closed port.stage) (provider_in place.0 place.1 port.device.live.rest.link) (value_of port place.0 place.1) asked answer reported
@@ -278,10 +294,12 @@ abbrev pub with_record : TakenRecord → Op → Op
 with_record taken asked =
     with_octets taken.value.items (record asked { slot = taken.slot; subslot = taken.subslot; place = taken.index })
 
+-- What is returned of a record, if it exists.
 abbrev pub IsRecordAt : Option TakenRecord → Op → ℕ → Op → Type 0
 IsRecordAt (Some taken) asked answer reported = (answer ≡ 0) × (reported ≡ with_record taken asked)
 IsRecordAt None asked answer reported = (answer ≡ 15) × (reported ≡ asked)
 
+-- What is returned of a record, unless the port refuses it.
 abbrev pub IsRecordOf : Option Refusal → Option TakenRecord → Op → ℕ → Op → Type 0
 IsRecordOf (Some refusal) taken asked answer reported = (answer ≡ refusal_number refusal) × (reported ≡ asked)
 IsRecordOf None taken asked answer reported = IsRecordAt taken asked answer reported
@@ -311,6 +329,7 @@ link_at octets = record {
   mau_type = from_be_bytes w16 (drop 3 octets);
 }
 
+-- What the host says of the link: five octets, or none if it is down.
 abbrev pub link_of : List ℕ → Result (Option Link) Refusal
 link_of octets = if length octets == 0 then Ok None else (if length octets == 5 then Ok (Some (link_at octets)) else Err refusal.BadLength)
 

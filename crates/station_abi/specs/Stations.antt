@@ -46,6 +46,7 @@ abbrev pub are_subslots : List Submodule → Bool
 are_subslots [] = true
 are_subslots (part ∷ others) = (is_subslot part.subslot && not (has_subslot part.subslot others)) && are_subslots others
 
+-- Whether the subslots of a module differ and are in their range.
 abbrev pub is_parted : Module → Bool
 is_parted plugged = are_subslots (submodules_in plugged)
 
@@ -53,6 +54,7 @@ is_parted plugged = are_subslots (submodules_in plugged)
 abbrev pub fits : Submodule → Bool
 fits part = nat_le part.input 1439 && nat_le part.output 1439
 
+-- Whether the data of each submodule fits one frame.
 abbrev pub is_carried : Module → Bool
 is_carried plugged = list_all fits (submodules_in plugged)
 
@@ -60,6 +62,7 @@ is_carried plugged = list_all fits (submodules_in plugged)
 abbrev pub has_parameters : Submodule → Bool
 has_parameters part = are_parameters (parameters_in part)
 
+-- Whether the parameter records of each submodule are in their ranges.
 abbrev pub is_described : Module → Bool
 is_described plugged = list_all has_parameters (submodules_in plugged)
 
@@ -82,11 +85,13 @@ fault_of station =
     (if not (list_all is_described (modules_in station)) then 22 else
     (if not (has_interval station) then 23 else 0))))))
 
+-- Whether a station that C wrote has no fault.
 abbrev pub is_station : Station → Bool
 is_station station = fault_of station == 0
 
 -- ---- the values
 
+-- The identity that C wrote.
 abbrev pub identity_of : Station → Identity
 identity_of station = record {
   mac = record { octets = station.mac };
@@ -102,6 +107,7 @@ identity_of station = record {
   profile_specific_type = station.profile_specific_type;
 }
 
+-- The modules that C wrote.
 abbrev pub real_of : Station → Real
 real_of station = record { modules = record { items = map module_of (modules_in station) } }
 

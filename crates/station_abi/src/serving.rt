@@ -498,7 +498,7 @@ fn output(port: &Port, op: &mut Op) -> u32
     }
 }
 
-// The output of a submodule, or why there is none.
+// The output of a submodule, or why it has none.
 fn tell_output(port: &Port, slot: u16, subslot: u16, op: &mut Op) -> u32
     ensures { IsValueOf (closed port.now.port.stage) (value_of port.now.port slot subslot) op.old result op.new }
 {

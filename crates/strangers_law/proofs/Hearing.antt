@@ -156,7 +156,7 @@ module _ (identity : Identity) (link : RelationState) where
       reset : is_reset (untagged bytes) ≡ false
       said : (is_datagram (untagged bytes) && is_said_of marks (drop 42 (untagged bytes))) ≡ false
 
-    -- A frame to this device is none of those of the relation.
+    -- A frame to this device does not belong to the relation.
     others : is_own identity meaning.destination ≡ true → AreOthers
     others own =
         let to : same (take 6 (untagged bytes)) identity.mac.octets ≡ true = ap (λ l. pointwise nat_eq l identity.mac.octets) (frame_to bytes meaning bare) ∙ own in

@@ -83,6 +83,7 @@ pub record IsWholeCall (frame : List ℕ) : Type 0 where
   pub interface : names_interface header (interface_uuid Device) ≡ true
   pub operation : header.turn.operation ≤ 5
 
+-- An event that brings a frame with a whole call.
 abbrev pub CallsWhole : Event → Type 0
 CallsWhole (Frame frame) = IsWholeCall frame.items
 CallsWhole event = ⊥

@@ -95,7 +95,7 @@ abbrev pub IsOwn : List ℕ → Heard → Type 0
 IsOwn own (Reported caller address (Calls call)) = call.header.activity ≡ own
 IsOwn own heard = Unit {0}
 
--- The same of the octets of a frame: if it is a call, it has this activity.
+-- If the octets of a frame are a call, it has this activity.
 abbrev pub IsOwnAt : List ℕ → List ℕ → Type 0
 IsOwnAt own octets = is_call (untagged octets) ≡ true → same (activity_of (drop 42 (untagged octets))) own ≡ true
 

@@ -33,6 +33,7 @@ abbrev pub AreMadeWithCallers : {F : Type 0} {S : ℕ} → Flash F S → List (L
 AreMadeWithCallers as_flash others before [] = Unit {0}
 AreMadeWithCallers as_flash others before (one ∷ run) = Occurs as_flash others before one.0 one.1 × AreMadeWithCallers as_flash others one.1 run
 
+-- The world at the end of a run with calls of strangers.
 abbrev pub last_with_callers : {F : Type 0} → World F → List (Occurrence × World F) → World F
 last_with_callers before [] = before
 last_with_callers before (one ∷ run) = last_with_callers one.1 run
@@ -42,6 +43,7 @@ abbrev pub moves_with : {F : Type 0} → Occurrence → World F → List (Move �
 moves_with (Uncalled one) after others = own_with one after others
 moves_with (Called octets) after others = others
 
+-- The moves of such a run, each with its world, without the calls of strangers.
 abbrev pub moves_in : {F : Type 0} → List (Occurrence × World F) → List (Move × World F)
 moves_in [] = []
 moves_in (one ∷ run) = moves_with one.0 one.1 (moves_in run)

@@ -28,6 +28,7 @@ marks_at controlling =
 abbrev pub is_dcp_answer : ℕ → ℕ → ℕ → List ℕ → Bool
 is_dcp_answer id service xid frame = number 12 2 frame == 0x8892 && number 14 2 frame == id && number 16 1 frame == service && number 18 4 frame == xid
 
+-- Whether a frame is the answer of DCP that a controller waits for in its state: to Identify, or to the Set of the address.
 abbrev pub is_awaited : State → List ℕ → Bool
 is_awaited Looking frame = is_dcp_answer 0xFEFF 5 1 frame
 is_awaited Addressing frame = is_dcp_answer 0xFEFD 4 2 frame
@@ -61,6 +62,7 @@ abbrev pub after_events : Controlling → List Event → Controlling
 after_events controlling [] = controlling
 after_events controlling (event ∷ events) = after_events (step_of controlling event).controller events
 
+-- The frames that a controller sends at these events.
 abbrev pub sent_at : Controlling → List Event → List (List ℕ)
 sent_at controlling [] = []
 sent_at controlling (event ∷ events) = (step_of controlling event).frames ++ sent_at (step_of controlling event).controller events

@@ -46,6 +46,7 @@ IsNoExchange frame = is_of_exchange (untagged frame) ≡ false
 abbrev pub frames_stored : List Kept → List (List ℕ)
 frames_stored calls = map (λ kept. kept.frame) calls
 
+-- A frame is one of these.
 abbrev pub IsIn : List ℕ → List (List ℕ) → Type 0
 IsIn frame [] = ⊥
 IsIn frame (one ∷ others) = (frame ≡ one) ⊎ IsIn frame others
@@ -65,6 +66,7 @@ abbrev pub is_unit : Event → Bool
 is_unit Tick = true
 is_unit event = false
 
+-- How many of these events are units of time.
 abbrev pub units_in : List Event → ℕ
 units_in [] = 0
 units_in (event ∷ events) = if is_unit event then suc (units_in events) else units_in events
@@ -74,6 +76,7 @@ abbrev pub alone : ℕ → Station → Live → Live
 alone zero station live = live
 alone (suc units) station live = alone units station (step_of [] station live Tick).live
 
+-- The frames that a device sends in this number of units, if nothing else happens.
 abbrev pub frames_alone : ℕ → Station → Live → List (List ℕ)
 frames_alone zero station live = []
 frames_alone (suc units) station live = let step = step_of [] station live Tick in step.frames ++ frames_alone units station step.live

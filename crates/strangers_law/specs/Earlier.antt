@@ -35,11 +35,12 @@ pub record IsNumbered (station : Station) (made : ℕ) (link : RelationState) : 
   pub frame_id : link.flow.cyclic.route.taken_id ≡ output_id (number_of station.options.numbers_from before) link.request.output
   pub cyclic : is_cyclic link.flow.cyclic.route.taken_id ≡ true
 
--- The same, if there is a relation.
+-- The relation of the device, if it has one, has the number of the count before it, and the device has counted it.
 abbrev pub IsNumberedIn : Station → ℕ → Option RelationState → Type 0
 IsNumberedIn station made None = Unit {0}
 IsNumberedIn station made (Some link) = IsNumbered station made link
 
+-- The FrameIDs and the reference of the relation that exists are those of its number, if the device gives numbers.
 abbrev pub AreNumbered : Station → Rest → Type 0
 AreNumbered station rest = IsNumberedIn station rest.made rest.link
 
@@ -67,6 +68,7 @@ pub record AreApart (earlier later : RelationState) : Type 0 where
   pub frame_id : earlier.request.output.device_chooses ≡ true → later.request.output.device_chooses ≡ true
       → later.flow.cyclic.route.taken_id ≢ earlier.flow.cyclic.route.taken_id
 
+-- Two relations of one device, one after the other, have other numbers.
 abbrev pub NumbersDiffer : Type 0
 NumbersDiffer = (station : Station) (live : Live) (earlier later : RelationState) (outcomes : List (List Outcome)) (events : List Event)
     → Follows outcomes station live events earlier later → AreApart earlier later
@@ -78,6 +80,7 @@ abbrev pub IsCyclicFrameOf : RelationState → Event → Type 0
 IsCyclicFrameOf link (Frame frame) = is_cyclic_of (marks_of link) (untagged frame.items) ≡ true
 IsCyclicFrameOf link event = ⊥
 
+-- An event that brings an alarm frame of this relation.
 abbrev pub IsAlarmFrameOf : RelationState → Event → Type 0
 IsAlarmFrameOf link (Frame frame) = is_alarm_of (marks_of link) (untagged frame.items) ≡ true
 IsAlarmFrameOf link event = ⊥

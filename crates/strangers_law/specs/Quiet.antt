@@ -35,7 +35,7 @@ belongs_in station (Some link) frame = belongs station (marks_of link) frame
 abbrev pub is_quiet_stranger : List ℕ → Option RelationState → List ℕ → Bool
 is_quiet_stranger station link frame = not (is_asking station link frame) && not (belongs_in station link frame)
 
--- The same of the octets of a frame, with its VLAN tag if it has one, that comes to a device.
+-- The octets of a frame that comes to a device, with its VLAN tag if it has one, are of a quiet stranger.
 abbrev pub IsQuietAt : {F : Type 0} → State F → List ℕ → Type 0
 IsQuietAt device octets = is_quiet_stranger device.station.identity.mac.octets device.live.rest.link (untagged octets) ≡ true
 

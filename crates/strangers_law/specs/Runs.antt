@@ -40,6 +40,7 @@ pub data Happening : Type 0 where
   Own : (one : Move) → Happening
   Stranger : (end : End) → (octets : List ℕ) → Happening
 
+-- A move of both ends, or the frame of a stranger, leads from one world to the next.
 abbrev pub HappensAmong : {F : Type 0} {S : ℕ} → Flash F S → World F → Happening → World F → Type 0
 HappensAmong as_flash before (Own one) after = Happens as_flash before one after
 HappensAmong as_flash before (Stranger end octets) after = IsStrangerTo before end octets × Takes as_flash before end octets after
@@ -49,6 +50,7 @@ abbrev pub AreMadeAmong : {F : Type 0} {S : ℕ} → Flash F S → World F → L
 AreMadeAmong as_flash before [] = Unit {0}
 AreMadeAmong as_flash before (one ∷ run) = HappensAmong as_flash before one.0 one.1 × AreMadeAmong as_flash one.1 run
 
+-- The world at the end of a run with frames of strangers.
 abbrev pub last_among : {F : Type 0} → World F → List (Happening × World F) → World F
 last_among before [] = before
 last_among before (one ∷ run) = last_among one.1 run
@@ -58,6 +60,7 @@ abbrev pub own_with : {F : Type 0} → Happening → World F → List (Move × W
 own_with (Own one) after others = (one, after) ∷ others
 own_with (Stranger end octets) after others = others
 
+-- The moves of both ends in such a run, each with its world.
 abbrev pub own_in : {F : Type 0} → List (Happening × World F) → List (Move × World F)
 own_in [] = []
 own_in (one ∷ run) = own_with one.0 one.1 (own_in run)
@@ -69,6 +72,7 @@ pub record IsRunAlone {F : Type 0} {S : ℕ} (as_flash : Flash F S) (first : Wor
   pub made : AreMade as_flash first (own_in run)
   pub last : last_world first (own_in run) ≡ last_among first run
 
+-- In any run with frames of strangers the moves of both ends, by themselves, are a run.
 abbrev pub RunsGoOn : {F : Type 0} {S : ℕ} → Flash F S → Type 0
 RunsGoOn {F} as_flash = (first : World F) (run : List (Happening × World F)) → AreMadeAmong as_flash first run → IsRunAlone as_flash first run
 

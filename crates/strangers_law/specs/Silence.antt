@@ -27,8 +27,8 @@ is_frame_of station marks frame =
     same (take 6 frame) station
     && (is_cyclic_of marks frame || is_alarm_of marks frame || (is_datagram frame && is_said_of marks (drop 42 frame)))
 
--- The same of an event at a device: a frame, or a call that was joined of fragments. A unit of time, and what its application says,
--- comes from no controller.
+-- Whether an event at a device is a frame, or a call that was joined of fragments, of this relation. A unit of time, and what
+-- its application says, comes from no controller.
 abbrev pub is_event_of : List ℕ → Marks → Event → Bool
 is_event_of station marks (Frame frame) = is_frame_of station marks (untagged frame.items)
 is_event_of station marks (Joined caller address call) = is_said_of marks call.items
@@ -39,6 +39,7 @@ is_event_of station marks event = false
 abbrev pub IsSilent : Station → RelationState → Event → Type 0
 IsSilent station link event = is_event_of station.identity.mac.octets (marks_of link) event ≡ false
 
+-- None of these events is heard from the controller of this relation.
 abbrev pub AreSilent : Station → RelationState → List Event → Type 0
 AreSilent station link events = AllByRecursion (IsSilent station link) events
 
@@ -48,6 +49,7 @@ is_received (Frame frame) = true
 is_received (Joined caller address call) = true
 is_received event = false
 
+-- None of these events is a frame or a call.
 abbrev pub AreUnplugged : List Event → Type 0
 AreUnplugged events = AllByRecursion (λ event. is_received event ≡ false) events
 
@@ -66,6 +68,7 @@ silence_limit link = max 1 (if is_timed link.phase then limit_of link else hold_
 abbrev pub left_of : ℕ → ℕ → ℕ
 left_of limit passed = max 1 (limit - passed)
 
+-- The units after which the relation of a silent controller ends: the rest of its activity time, or of the data hold time.
 abbrev pub remaining : RelationState → ℕ
 remaining link = if is_timed link.phase then left_of (limit_of link) link.inactive else left_of (hold_of link.request) link.flow.cyclic.hearing.held
 
@@ -74,7 +77,7 @@ pub record IsTimed (link : RelationState) : Type 0 where
   pub runs : is_timed link.phase ≡ false → link.flow.cyclic.begun ≡ true
   pub limit : link.flow.cyclic.hearing.limit ≡ hold_of link.request
 
--- The same, if there is a relation.
+-- The clocks of the relation of the device, if it has one, are those of its request.
 abbrev pub AreTimed : Option RelationState → Type 0
 AreTimed None = Unit {0}
 AreTimed (Some link) = IsTimed link

@@ -20,6 +20,7 @@ abbrev pub completing : Serving → Event → Option Event
 completing services (Frame frame) = completed (piece_in services frame.items)
 completing services event = None
 
+-- The call that fragments completed, if any, is of a stranger.
 abbrev pub IsStrangeOrNone : Station → RelationState → Option Event → Type 0
 IsStrangeOrNone station link (Some call) = IsStrange station link call
 IsStrangeOrNone station link None = Unit {0}

@@ -42,9 +42,11 @@ is_reset frame = is_dcp 0xFEFD 4 0 frame && list_any (λ block. block.0 == 0x050
 abbrev pub is_call_of : Marks → List ℕ → Bool
 is_call_of marks call = number 0 2 call == 0x0400 && same marks.uuid (part 8 16 (args_of call))
 
+-- Whether the body of a datagram is a response of this relation, by its activity.
 abbrev pub is_response_of : Marks → List ℕ → Bool
 is_response_of marks call = number 0 2 call == 0x0402 && same (activity_of call) marks.uuid
 
+-- Whether it is a call or a response of this relation.
 abbrev pub is_said_of : Marks → List ℕ → Bool
 is_said_of marks call = is_call_of marks call || is_response_of marks call
 
@@ -58,8 +60,8 @@ belongs station marks frame =
     same (take 6 frame) station
     && (is_cyclic_of marks frame || is_alarm_of marks frame || is_reset frame || (is_datagram frame && is_said_of marks (drop 42 frame)))
 
--- The same of an event at a device: a frame, or a call that was joined of fragments. What its application says, and a unit of time, comes
--- from no stranger.
+-- Whether an event at a device comes from no stranger: a frame, or a call that was joined of fragments, of this relation; what
+-- its application says; or a unit of time.
 abbrev pub is_own : List ℕ → Marks → Event → Bool
 is_own station marks (Frame frame) = belongs station marks (untagged frame.items)
 is_own station marks (Joined caller address call) = is_said_of marks call.items

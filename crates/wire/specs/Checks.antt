@@ -28,7 +28,7 @@ allowed test fault whole = record {
   read = λ bytes. if test then whole.read bytes else Err fault;
 }
 
--- the value, or the fault if there is none
+-- the value, or the fault without one
 abbrev pub or_fault : {F A : Type 0} → F → Option A → Result A F
 or_fault fault (Some value) = Ok value
 or_fault fault None = Err fault

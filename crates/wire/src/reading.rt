@@ -38,7 +38,7 @@ pub fn front<'a>(bytes: &'a [u8], rest: &[u8]) -> &'a [u8]
     &bytes[..bytes.len().saturating_sub(rest.len())]
 }
 
-/// A number of one octet and the octets after it, or `short` if there is none.
+/// A number of one octet and the octets after it, or `short` if none is left.
 pub fn u8_at<F: Drop>(bytes: &[u8], short: F) -> Result<(u8, &[u8]), F>
     ensures { Gives (λ x. (x.0, x.1.now)) result ((number short 1).read bytes.now) }
 {

@@ -64,10 +64,12 @@ abbrev pub number_in : Option RelationState → Option ℕ
 number_in None = None
 number_in (Some link) = link.flow.low.alarms.sender.sending.last
 
+-- The alarm of low priority that a device has sent and that is not acknowledged, if there is one.
 abbrev pub active_in : Option RelationState → List AlarmNotification
 active_in None = []
 active_in (Some link) = one_in link.flow.low.alarms.sender.standing
 
+-- Whether two SendSeqNums, each of the last data that was sent, if any was, are the same.
 abbrev pub is_same_number : Option ℕ → Option ℕ → Bool
 is_same_number None None = true
 is_same_number (Some one) (Some other) = one == other
@@ -79,6 +81,7 @@ abbrev pub reported_by : Option RelationState → Option RelationState → List 
 reported_by before after = if is_same_number (number_in after) (number_in before) then [] else active_in after
 
 module _ {F : Type 0} where
+  -- The alarms of low priority that the device reports between two worlds.
   abbrev pub reported_with : World F → World F → List AlarmNotification
   reported_with before after = reported_by before.device.live.rest.link after.device.live.rest.link
 

@@ -53,6 +53,7 @@ abbrev pub read_next : Found → Result (Block × List ℕ) BlockFault → Optio
 read_next found (Ok x) = Some (with_block x.0 found, x.1)
 read_next found (Err fault) = None
 
+-- What was found after an AlarmCRBlockRes, and the octets after it.
 abbrev pub alarm_next : Found → Result (AlarmRelation × List ℕ) BlockFault → Option (Found × List ℕ)
 alarm_next found (Ok x) = Some (with_alarm x.0 found, x.1)
 alarm_next found (Err fault) = None
@@ -73,10 +74,12 @@ next_by found bytes kind =
     else if kind == 0x8103 then alarm_next found (alarm_relation.read bytes)
     else other_next found (other_block.read bytes)
 
+-- What was found after a block whose type was read.
 abbrev pub next_as : Found → List ℕ → Result (ℕ × List ℕ) BlockFault → Option (Found × List ℕ)
 next_as found bytes (Ok x) = next_by found bytes x.0
 next_as found bytes (Err fault) = None
 
+-- What was found after the next block, and the octets after it.
 unfoldable pub next_found : Found → List ℕ → Option (Found × List ℕ)
 next_found found bytes = next_as found bytes ((number Truncated 2).read bytes)
 
@@ -87,7 +90,7 @@ abbrev pub behind_block : Option (Found × List ℕ) → (Found → List ℕ →
 behind_block (Some x) next = next x.0 x.1
 behind_block None next = None
 
--- What was found in octets that are a sequence of blocks, in any order, at most the given number. There is none if one
+-- What was found in octets that are a sequence of blocks, in any order, at most the given number. Nothing was found if one
 -- of them cannot be read.
 unfoldable pub found_in : ℕ → List ℕ → Found → Option Found
 found_in zero bytes found = None
@@ -112,10 +115,12 @@ pub record Chosen : Type 0 where
   pub reference : ℕ
   pub deviates : Bool
 
+-- What the device chose in its answer, if it named a FrameID of the outputs and its alarm endpoint.
 abbrev pub chosen_by : Option ℕ → Option ℕ → Bool → Option Chosen
 chosen_by (Some frame_id) (Some reference) deviates = Some (record { frame_id = frame_id; reference = reference; deviates = deviates })
 chosen_by (Some frame_id) None deviates = None
 chosen_by None alarm deviates = None
 
+-- That of an answer.
 abbrev pub chosen_of : Found → Option Chosen
 chosen_of found = chosen_by found.output found.alarm found.deviates

@@ -34,8 +34,10 @@ abbrev pub piece_within : ℕ → Sofar → Piece → Result Sofar CallFault
 piece_within smallest sofar piece =
     with_piece sofar piece >>= λ next. handled ((is_short_in smallest piece.found, fault.IocrField 10) ∷ []) (Ok next)
 
+-- The request after these blocks, or the fault; with a smallest interval also of an IOCR that is shorter.
 abbrev pub pieces_within : ℕ → Sofar → List Piece → Result Sofar CallFault
 pieces_within smallest sofar pieces = if some_short smallest sofar pieces then Err (fault.IocrField 10) else with_pieces sofar pieces
 
+-- The request of a Connect after its AR block, or the fault; with a smallest interval also of an IOCR that is shorter.
 abbrev pub behind_within : ℕ → Ar → List Piece → Result Request CallFault
 behind_within smallest ar pieces = if some_short smallest nothing pieces then Err (fault.IocrField 10) else request_behind ar pieces

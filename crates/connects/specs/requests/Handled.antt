@@ -78,6 +78,7 @@ abbrev pub uuid_in : Result Ar CallFault → List ℕ
 uuid_in (Ok ar) = ar.uuid
 uuid_in (Err fault) = replicate 16 0
 
+-- The ARUUID of a Connect, or of its first block if the rest cannot be read.
 unfoldable pub asked_uuid : List ℕ → List ℕ
 asked_uuid blocks = uuid_in (ar_in (piece_at blocks))
 
@@ -86,6 +87,7 @@ abbrev pub initiator_in : Result Ar CallFault → Option Mac
 initiator_in (Ok ar) = Some ar.initiator
 initiator_in (Err fault) = None
 
+-- CMInitiatorMacAdd of a Connect, if its AR block can be read.
 unfoldable pub asked_initiator : List ℕ → Option Mac
 asked_initiator blocks = initiator_in (ar_in (piece_at blocks))
 
@@ -121,6 +123,7 @@ abbrev pub has_iocr : Sofar → IocrType → Bool
 has_iocr sofar Input = is_some sofar.input
 has_iocr sofar Output = is_some sofar.output
 
+-- The request so far with one more IOCR, of inputs or outputs.
 abbrev pub with_iocr : Sofar → IocrBlockReq → IocrType → Sofar
 with_iocr sofar block Input = record sofar { input = Some block; input_first = not (is_some sofar.output) }
 with_iocr sofar block Output = record sofar { output = Some block }
@@ -209,6 +212,7 @@ abbrev pub is_short : ℕ → Block → Bool
 is_short smallest (is.IocrBlockReq block) = nat_lt (block.send_clock_factor * block.reduction_ratio) smallest
 is_short smallest _ = false
 
+-- Whether a block is an IOCR with an interval shorter than this.
 abbrev pub is_short_in : ℕ → Result Block BlockFault → Bool
 is_short_in smallest (Ok block) = is_short smallest block
 is_short_in smallest (Err form) = false
@@ -218,15 +222,19 @@ abbrev pub this_or : Result Sofar CallFault → Bool → (Sofar → Bool) → Bo
 this_or (Ok next) this others = this || others next
 this_or (Err fault) this others = false
 
+-- Whether one of these blocks is, before a fault.
 unfoldable pub some_short : ℕ → Sofar → List Piece → Bool
 some_short smallest sofar [] = false
 some_short smallest sofar (piece ∷ pieces) = this_or (with_piece sofar piece) (is_short_in smallest piece.found) (λ next. some_short smallest next pieces)
 
--- The same for the blocks after an ARBlockReq that is accepted. While a relation exists no further block is looked at.
+-- Whether this holds of the blocks after an ARBlockReq that is accepted. While a relation exists no further block is looked
+-- at.
 abbrev pub behind_ar : Result Ar CallFault → Bool → Bool
 behind_ar (Ok ar) others = others
 behind_ar (Err fault) others = false
 
+-- Whether a Connect has an IOCR with an interval shorter than this before its first fault. While a relation exists its blocks
+-- are not looked at.
 unfoldable pub any_short : ℕ → Option (List ℕ) → List Piece → Bool
 any_short smallest (Some standing) pieces = false
 any_short smallest None [] = false

@@ -26,6 +26,7 @@ pub record Request : Type 0 where
 
 -- ---- the fields of each block that are used
 
+-- What a request keeps of its AR block.
 abbrev pub ar_of : ArBlockReq → Ar
 ar_of block = record {
   uuid = block.ar_uuid;
@@ -37,6 +38,7 @@ ar_of block = record {
   name = block.cm_initiator_station_name;
 }
 
+-- What a request keeps of its AlarmCR block.
 abbrev pub alarm_of : AlarmCrBlockReq → AlarmCr
 alarm_of block = record {
   timeout_factor = block.rta_timeout_factor;
@@ -61,6 +63,7 @@ abbrev pub leaves_choice : IocrType → ℕ → Bool
 leaves_choice Input id = false
 leaves_choice Output id = id == 0xFFFF
 
+-- What a request keeps of an IOCR block.
 abbrev pub iocr_of : IocrBlockReq → Table → Iocr
 iocr_of block layout = record {
   reference = block.iocr_reference;
@@ -76,10 +79,12 @@ iocr_of block layout = record {
 
 -- ---- the ranges that each of them is in (IEC 61158-6-10, 5.2.4)
 
+-- The activity timeout is in its range, 1 to 1,000 (5.2.4.4).
 pub record IsAr (ar : Ar) : Type 0 where
   pub timeout_least : 1 ≤ ar.timeout_factor
   pub timeout_greatest : ar.timeout_factor ≤ 1000
 
+-- FrameID, SendClockFactor, ReductionRatio and DataHoldFactor are in their ranges.
 pub record IsIocr (iocr : Iocr) : Type 0 where
   pub id : is_frame_id Input iocr.frame_id ≡ true
   pub clock_least : 1 ≤ iocr.send_clock_factor
@@ -89,6 +94,7 @@ pub record IsIocr (iocr : Iocr) : Type 0 where
   pub hold_least : 1 ≤ iocr.data_hold_factor
   pub hold_greatest : iocr.data_hold_factor ≤ 7680
 
+-- RTATimeoutFactor and RTARetries are in their ranges.
 pub record IsAlarmCr (alarm : AlarmCr) : Type 0 where
   pub timeout : 1 ≤ alarm.timeout_factor
   pub retries_least : 1 ≤ alarm.retries

@@ -25,11 +25,13 @@ use Rattle.block_codec.specs.Block.{block_of, in_application_ready}
 
 -- ---- DCP answers
 
+-- Whether a DCP answer belongs to an Identify.
 abbrev pub is_identify : Service → Bool
 is_identify Identify = true
 is_identify Get = false
 is_identify Set = false
 
+-- Whether a DCP answer belongs to a Set.
 abbrev pub is_set : Service → Bool
 is_set Set = true
 is_set Get = false
@@ -55,6 +57,7 @@ ident_bytes station = to_be_bytes w16 station.vendor_id ++ to_be_bytes w16 stati
 abbrev pub is_right : Parts → Answered → Bool
 is_right plan answer = is_reported (ident_bytes plan.station) (value_among DeviceId answer.blocks)
 
+-- Whether a station reports the IP suite of the plan.
 abbrev pub is_addressed : Parts → Answered → Bool
 is_addressed plan answer = is_reported (suite_bytes plan.station.suite) (value_among IpSuite answer.blocks)
 
@@ -94,5 +97,6 @@ abbrev pub ready_block : Result (Block × List ℕ) BlockFault → Option Contro
 ready_block (Ok x) = in_application_ready x.0
 ready_block (Err fault) = None
 
+-- The ControlBlock of a call ApplicationReady (operation 4), if it is one.
 abbrev pub ready_in : Call → Option ControlBlock
 ready_in call = if call.header.operation == 4 then ready_block (block_of (unwrap_or call.blocks [])) else None

@@ -20,10 +20,12 @@ abbrev pub outcome_behind : Option IodWriteRes → List ℕ → Option (Status �
 outcome_behind (Some block) behind = Some (status_in block.pnio_status, behind)
 outcome_behind None behind = None
 
+-- The outcome of a record of a list, and the octets after it.
 abbrev pub outcome_in : Result (Block × List ℕ) BlockFault → Option (Status × List ℕ)
 outcome_in (Ok x) = outcome_behind (in_iod_write_res x.0) x.1
 outcome_in (Err fault) = None
 
+-- The outcome at the front of these octets, if there is one.
 unfoldable pub outcome_at : List ℕ → Option (Status × List ℕ)
 outcome_at octets = outcome_in (block_of octets)
 
@@ -53,5 +55,6 @@ is_all_written AllWritten = true
 is_all_written (Refused place status) = false
 is_all_written Unreadable = false
 
+-- Whether all records of a list were written.
 abbrev pub are_written : Parts → ℕ → List ℕ → Bool
 are_written plan number blocks = is_all_written (outcomes_of plan number blocks)

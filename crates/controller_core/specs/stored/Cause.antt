@@ -6,6 +6,7 @@ use Rattle.pn_alarms.specs.declared.abort.Abort.{Abort}
 use Rattle.pn_alarms.specs.declared.abort.Abort.TheVariants as reason
 use Rattle.controller_core.specs.declared.stored.state.Cause.TheVariants as cause
 
+-- The number of each cause, as a host sees it.
 abbrev pub number_of : Cause → ℕ
 number_of WrongDevice = 1
 number_of Refused = 2

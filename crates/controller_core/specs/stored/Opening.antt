@@ -28,9 +28,11 @@ route_of device frame_id reference = record {
   reference = reference;
 }
 
+-- The interval of cyclic frames in units: SendClockFactor times ReductionRatio.
 abbrev pub interval_of : Times → ℕ
 interval_of times = times.send_clock_factor * times.reduction_ratio
 
+-- The clock of the outputs at the beginning of an exchange.
 abbrev pub sending_of : Times → Sending
 sending_of times = record { interval = interval_of times; elapsed = 0 }
 
@@ -47,6 +49,7 @@ nobody = record { octets = replicate 6 0 }
 abbrev pub hearing_of : Times → Hearing
 hearing_of times = record { last = None; held = 0; limit = times.data_hold_factor * interval_of times }
 
+-- The cyclic data of a controller before its relation.
 abbrev pub first_cyclic : Parts → Cyclic
 first_cyclic plan =
     opened (route_of nobody 0xFFFF 1) (sending_of plan.times) (hearing_of plan.times) first_status

@@ -19,14 +19,17 @@ abbrev pub mark_at : ℕ → ℕ → List OutputMark → Option OutputMark
 mark_at slot subslot [] = None
 mark_at slot subslot (mark ∷ marks) = if is_of Data slot subslot mark.place then Some mark else mark_at slot subslot marks
 
+-- The IOPS of an output by its mark; 0 without one.
 abbrev pub iops_of : Option OutputMark → ℕ
 iops_of None = 0
 iops_of (Some mark) = iops_by mark
 
+-- Whether an output waits for its first value.
 abbrev pub is_awaited_in : Option OutputMark → Bool
 is_awaited_in None = false
 is_awaited_in (Some mark) = mark.is_awaited
 
+-- Whether the output of this submodule waits for its first value.
 abbrev pub awaits : ℕ → ℕ → List OutputMark → Bool
 awaits slot subslot marks = is_awaited_in (mark_at slot subslot marks)
 

@@ -50,7 +50,7 @@ pub record Controlling : Type 0 where
   pub setup : Setup
   pub live : Live
 
--- The same controller with this state.
+-- A controller with another state.
 abbrev pub with_live : Controlling → Live → Controlling
 with_live controlling live = record controlling { live = live }
 

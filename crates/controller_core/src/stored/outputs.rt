@@ -93,7 +93,7 @@ pub fn change(marks: &mut ArrayVec<OutputMark, 128>, slot: u16, subslot: u16, st
     *marks = next;
 }
 
-/// The IOPS of the output of a submodule, by the first of its marks; 0 if there is none.
+/// The IOPS of the output of a submodule, by the first of its marks; 0 without a mark.
 pub fn iops_in(marks: &[OutputMark], slot: u16, subslot: u16) -> u8
     ensures { result ≡ iops_of (mark_at slot subslot marks.now) }
 {

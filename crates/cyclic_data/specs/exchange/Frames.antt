@@ -12,6 +12,7 @@ use Rattle.cyclic_data.specs.declared.exchange.route.Route.{Route}
 abbrev pub plain_frame : Mac → Mac → Content → List ℕ
 plain_frame source destination content = frame_bytes (record { destination = destination; source = source; tag = None; content = content })
 
+-- The octets of a frame with a VLAN tag.
 abbrev pub tagged_frame : Mac → Mac → ℕ → Content → List ℕ
 tagged_frame source destination tag content =
     frame_bytes (record { destination = destination; source = source; tag = Some tag; content = content })
@@ -25,6 +26,7 @@ tail_at has_problem counter = record {
   transfer_status = 0;
 }
 
+-- The tail of a cyclic frame with this CycleCounter, with DataStatus 0x35: run, valid, primary, no problem.
 abbrev pub running_at : ℕ → CyclicTail
 running_at counter = tail_at false counter
 
@@ -37,9 +39,10 @@ abbrev pub frame_at : Mac → Route → Bool → Shown → ℕ → List ℕ
 frame_at source route has_problem shown counter =
     tagged_frame source route.partner route.sent_tag (RealTime route.sent_id (body_at has_problem shown counter))
 
--- The same of a station without a problem.
+-- The octets after the FrameID of a cyclic frame of a station without a problem.
 abbrev pub cyclic_body : Shown → ℕ → List ℕ
 cyclic_body shown counter = body_at false shown counter
 
+-- The octets of a cyclic frame of an end without a problem.
 abbrev pub cyclic_frame : Mac → Route → Shown → ℕ → List ℕ
 cyclic_frame source route shown counter = frame_at source route false shown counter

@@ -6,12 +6,12 @@ use Rattle.pn_alarms.specs.Leaps.{after, never}
 use Rattle.cyclic_data.specs.exchange.Cyclic.{Cyclic}
 use Rattle.cyclic_data.specs.exchange.Units.{cyclic_later, is_silent}
 
--- The number of units up to and with the next one with which the data hold time is over. It runs while data is
+-- The number of units up to and including the next one with which the data hold time is over. It runs while data is
 -- exchanged.
 abbrev pub silent_in : Cyclic → ℕ
 silent_in cyclic = if cyclic.begun then over_in cyclic.hearing else never
 
--- The number of units up to and with the next one with which a frame is due or the data hold time is over.
+-- The number of units up to and including the next one with which a frame is due or the data hold time is over.
 abbrev pub cyclic_due_in : Cyclic → ℕ
 cyclic_due_in cyclic = min (frame_due_in cyclic.sending) (silent_in cyclic)
 
@@ -19,6 +19,6 @@ cyclic_due_in cyclic = min (frame_due_in cyclic.sending) (silent_in cyclic)
 abbrev pub IsQuiet : Cyclic → Type 0
 IsQuiet cyclic = (is_silent cyclic ≡ false) × (is_due cyclic.sending ≡ false)
 
--- The same of each of the next units.
+-- With each of the next units no frame is due, and the data hold time is not over.
 abbrev pub IsQuietFor : ℕ → Cyclic → Type 0
 IsQuietFor units cyclic = (before : ℕ) → before < units → IsQuiet (after cyclic_later before cyclic)

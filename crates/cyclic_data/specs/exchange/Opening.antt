@@ -17,6 +17,7 @@ abbrev pub first_cell : StatusOf → Place → Cell
 first_cell statuses place =
     record { place = place; value = replicate (place.size - 1) 0; status = statuses place.kind place.slot place.subslot }
 
+-- The data that an end sends first: zeros, with these statuses.
 abbrev pub first_shown : StatusOf → Table → Shown
 first_shown statuses layout = record { data_length = layout.data_length; cells = map (first_cell statuses) layout.places }
 

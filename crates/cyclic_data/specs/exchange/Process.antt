@@ -18,10 +18,11 @@ changed_at change cyclic slot subslot value =
 abbrev pub given_at : Cyclic → ℕ → ℕ → List ℕ → Option Cyclic
 given_at cyclic slot subslot value = changed_at (with_value value) cyclic slot subslot value
 
--- The same, and its IOPS is good from now on.
+-- A cell with this value, whose IOPS is good from now on.
 abbrev pub with_good : List ℕ → Cell → Cell
 with_good value cell = record { place = cell.place; value = value; status = good }
 
+-- The exchange after a value is given with a good status, if the submodule has a place of that size.
 abbrev pub provided_at : Cyclic → ℕ → ℕ → List ℕ → Option Cyclic
 provided_at cyclic slot subslot value = changed_at (with_good value) cyclic slot subslot value
 
@@ -44,6 +45,7 @@ taken_tail cyclic =
 abbrev pub status_with : ℕ → Cell → ProviderStatus
 status_with data_status cell = record { iops = cell.status; data_status = record { 0 = data_status } }
 
+-- What the other end says of a value that it sends, if a frame was accepted.
 abbrev pub provider_at : Cyclic → ℕ → ℕ → Option ProviderStatus
 provider_at cyclic slot subslot =
     if is_some cyclic.hearing.last

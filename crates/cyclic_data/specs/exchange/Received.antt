@@ -25,6 +25,7 @@ abbrev pub received_in : Cyclic → Result (List ℕ × CyclicTail) ShortFrame �
 received_in cyclic (Ok x) = if is_new cyclic x.1 then Taken else Stale
 received_in cyclic (Err short) = Short
 
+-- What a cyclic frame is to an exchange: accepted, too short, not newer, or not of its partner and FrameID.
 abbrev pub received_as : Cyclic → Mac → ℕ → List ℕ → Received
 received_as cyclic source frame_id body =
     if is_of_partner cyclic.route source frame_id then received_in cyclic (cyclic_of cyclic.taken.data_length body) else Foreign
@@ -38,10 +39,12 @@ taken_from cyclic octets tail = record cyclic {
   data_status = tail.data_status.0;
 }
 
+-- The exchange after the data of a frame was read.
 abbrev pub behind_read : Cyclic → Result (List ℕ × CyclicTail) ShortFrame → Cyclic
 behind_read cyclic (Ok x) = if is_new cyclic x.1 then taken_from cyclic x.0 x.1 else cyclic
 behind_read cyclic (Err short) = cyclic
 
+-- The exchange after a cyclic frame.
 abbrev pub behind_frame : Cyclic → Mac → ℕ → List ℕ → Cyclic
 behind_frame cyclic source frame_id body =
     if is_of_partner cyclic.route source frame_id then behind_read cyclic (cyclic_of cyclic.taken.data_length body) else cyclic

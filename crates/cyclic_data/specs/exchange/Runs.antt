@@ -34,6 +34,7 @@ behind (Provides slot subslot value) cyclic = unwrap_or (provided_at cyclic slot
 behind (States slot subslot status) cyclic = stated_at cyclic slot subslot status
 behind Rests cyclic = cyclic
 
+-- The exchange after these events.
 abbrev pub behind_all : List Event → Cyclic → Cyclic
 behind_all [] cyclic = cyclic
 behind_all (event ∷ events) cyclic = behind_all events (behind event cyclic)
@@ -49,6 +50,7 @@ units_of (Provides slot subslot value) = 0
 units_of (States slot subslot status) = 0
 units_of Rests = 0
 
+-- How many of these events are units of time.
 abbrev pub units_in : List Event → ℕ
 units_in [] = 0
 units_in (event ∷ events) = units_of event + units_in events
@@ -59,6 +61,7 @@ abbrev pub taken_in : Cyclic → Result (List ℕ × CyclicTail) ShortFrame → 
 taken_in cyclic (Ok x) = if is_new cyclic x.1 then Some x.0 else None
 taken_in cyclic (Err short) = None
 
+-- The data that an event makes the exchange show, if it does: of an accepted frame, or zeros at its end.
 abbrev pub taken_with : Event → Cyclic → Option (List ℕ)
 taken_with Begins cyclic = None
 taken_with Ends cyclic = Some (replicate cyclic.taken.data_length 0)
@@ -70,10 +73,12 @@ taken_with (Provides slot subslot value) cyclic = None
 taken_with (States slot subslot status) cyclic = None
 taken_with Rests cyclic = None
 
+-- The later of two values, if there is one.
 abbrev pub later_one : Option (List ℕ) → Option (List ℕ) → Option (List ℕ)
 later_one (Some later) earlier = Some later
 later_one None earlier = earlier
 
+-- The data that the exchange shows last in these events, if they bring any.
 abbrev pub last_taken : List Event → Cyclic → Option (List ℕ)
 last_taken [] cyclic = None
 last_taken (event ∷ events) cyclic = later_one (last_taken events (behind event cyclic)) (taken_with event cyclic)
@@ -94,6 +99,7 @@ is_renewal (Provides slot subslot value) cyclic = false
 is_renewal (States slot subslot status) cyclic = false
 is_renewal Rests cyclic = false
 
+-- None of these events restarts the data hold time.
 abbrev pub AreNoRenewals : List Event → Cyclic → Type 0
 AreNoRenewals [] cyclic = Unit {0}
 AreNoRenewals (event ∷ events) cyclic = (is_renewal event cyclic ≡ false) × AreNoRenewals events (behind event cyclic)

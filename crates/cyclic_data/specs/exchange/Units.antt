@@ -21,6 +21,7 @@ ending_by Nothing = None
 ending_by Again = None
 ending_by Spent = Some Other
 
+-- Why the relation ends with this unit, if it does: its data hold time is over, or an alarm was given up.
 abbrev pub ending_of : Cyclic → Due → Option Abort
 ending_of cyclic alarm = if is_silent cyclic then Some DataHold else ending_by alarm
 
@@ -30,6 +31,7 @@ pub record Brought : Type 0 where
   pub is_alarm : Bool
   pub is_cyclic : Bool
 
+-- What a unit brings, by the number that says it.
 abbrev pub brought_by : Brings → Brought
 brought_by brings.Nothing = record { ending = None; is_alarm = false; is_cyclic = false }
 brought_by brings.Cyclic = record { ending = None; is_alarm = false; is_cyclic = true }
@@ -44,6 +46,7 @@ abbrev pub tick_by : Cyclic → Due → Option Abort → Brought
 tick_by cyclic alarm (Some reason) = record { ending = Some reason; is_alarm = false; is_cyclic = false }
 tick_by cyclic alarm None = record { ending = None; is_alarm = is_again alarm; is_cyclic = is_due cyclic.sending }
 
+-- What a unit brings to the exchange and its alarms.
 abbrev pub tick_of : Cyclic → Due → Brought
 tick_of cyclic alarm = tick_by cyclic alarm (ending_of cyclic alarm)
 
@@ -51,5 +54,6 @@ tick_of cyclic alarm = tick_by cyclic alarm (ending_of cyclic alarm)
 abbrev pub hearing_later : Cyclic → Hearing
 hearing_later cyclic = if cyclic.begun then held_on cyclic.hearing else cyclic.hearing
 
+-- The exchange after a unit of time.
 abbrev pub cyclic_later : Cyclic → Cyclic
 cyclic_later cyclic = record cyclic { sending = unit_later cyclic.sending; hearing = hearing_later cyclic }

@@ -158,7 +158,7 @@ impl CyclicExchange {
         }
     }
 
-    /// The number of units up to and with the next one with which a frame is due or the data hold time is over.
+    /// The number of units up to and including the next one with which a frame is due or the data hold time is over.
     pub fn due_in(&self) -> u32
         ensures value { result ≡ cyclic_due_in self.now }
         ensures some { 0 < result }
@@ -167,7 +167,7 @@ impl CyclicExchange {
         self.provider.due_in().min(self.silent_in())
     }
 
-    /// The number of units up to and with the next one with which the data hold time is over, `NEVER` if no data is
+    /// The number of units up to and including the next one with which the data hold time is over, `NEVER` if no data is
     /// exchanged.
     fn silent_in(&self) -> u32
         ensures value { result ≡ silent_in self.now }

@@ -38,7 +38,7 @@ abbrev pub turn_with : Station → Live → List Event → List (List ℕ) → O
 turn_with station live heard own services =
     record { heard = heard; sent = record { device = (run_of [] station live heard).frames; services = own }; services = services }
 
--- An event, with this step of the device that was told of its neighbour: the services do what is said of them beside this step, and the
+-- An event, with this step of the device that knows its neighbour: the services do what is said of them beside this step, and the
 -- device hears its neighbour, if that changed, the event, and the call that the event completed, if it did.
 abbrev pub turn_by : Station → Live → Serving → Event → Leapt → Stepped → Turn
 turn_by station live state event ready step =
@@ -61,6 +61,7 @@ pub record Hosted : Type 0 where
 abbrev pub then_hosted : Turn → Hosted → Hosted
 then_hosted turn more = record { heard = turn.heard ++ more.heard; turns = turn.sent ∷ more.turns; services = more.services }
 
+-- What a device and the services beside it do with these events, from this state on.
 abbrev pub hosted_from : Station → Live → Option Serving → List Event → Hosted
 hosted_from station live services [] = record { heard = []; turns = []; services = services }
 hosted_from station live services (event ∷ events) =
@@ -189,6 +190,7 @@ pub record UnderWay (begun : Begun) (events : List Event) (now : List (List ℕ)
   pub sent : now ≡ begun.sent ++ frames_by begun earlier
   pub cut : (torn : Image) → IsImage 4096 torn → CutOff chip calls torn → Stores begun (heard begun earlier) (heard begun events) torn
 
+-- The calls that remain are under way on the chip, if any remain.
 abbrev pub IsOpen : Begun → List Event → List (List ℕ) → List Call → Image → Type 0
 IsOpen begun events now [] chip = Unit {0}
 IsOpen begun events now (call ∷ calls) chip = UnderWay begun events now (call ∷ calls) chip

@@ -1,4 +1,4 @@
--- Units of time that are counted for services, which are told of them later.
+-- Units of time that are counted for services, which learn of them later.
 use Rattle.std.specs.Prelude.{◌≡◌, ◌-◌, ◌<◌, ◌≤◌, ◌⊎◌, ⊤, ℕ, min, true, false, List, [], Option, Some, None}
 use Rattle.std.specs.Option.{option_map}
 use Rattle.settings_journal.specs.settings_store.State.{Values}
@@ -16,11 +16,12 @@ pub record Calm (limit : ℕ) (values : Values) (state : Serving) : Type 0 where
   pub due : limit ≡ due_in state
   pub few : limit < never
 
+-- The services, if there are any, have nothing due in this many units.
 abbrev pub AreCalm : ℕ → Values → Option Serving → Type 0
 AreCalm limit values None = ⊤
 AreCalm limit values (Some state) = Calm limit values state
 
--- The services were not told of the last units, this limit less the rest: no frame of theirs remains, and what is due of them next is
+-- The services do not know of the last units, this limit less the rest: no frame of theirs remains, and what is due of them next is
 -- due at the limit. So it is due after the rest.
 pub record Resting (rest limit : ℕ) (values : Values) (services : Option Serving) (frames : List (List ℕ)) : Type 0 where
   pub some : 0 < rest
@@ -28,7 +29,7 @@ pub record Resting (rest limit : ℕ) (values : Values) (services : Option Servi
   pub fetched : frames ≡ []
   pub calm : AreCalm limit values services
 
--- Either the services were told of all units, or this.
+-- Either the services know of all units, or this.
 abbrev pub IsPaced : ℕ → ℕ → Values → Option Serving → List (List ℕ) → Type 0
 IsPaced rest limit values services frames = ((rest ≡ 0) × (limit ≡ 0)) ⊎ Resting rest limit values services frames
 
@@ -42,7 +43,7 @@ abbrev pub IsBehind : ℕ → Option Serving → Type 0
 IsBehind behind None = ⊤
 IsBehind behind (Some state) = (behind ≡ 0) ⊎ (behind < due_in state)
 
--- The services once they are told of units with which nothing is due of them.
+-- The services once they learn of units with which nothing is due of them.
 abbrev pub caught_up : ℕ → Option Serving → Option Serving
 caught_up behind services = option_map (serving_ticks behind) services
 
@@ -58,7 +59,7 @@ pub record TicksBeside (units : ℕ) (identity : Identity) (values : Values) (ol
   pub quiet : NoNewsBeside units identity values old
   pub frames : sent ≡ (tick_beside identity values (beside_ticks identity values (units - 1) old)).sent
 
--- The same if there are any.
+-- What services, if there are any, do beside this many units of time of a device with these settings.
 abbrev pub TicksBesideAny : ℕ → Identity → Values → Option Serving → Option Serving → List (List ℕ) → Type 0
 TicksBesideAny units identity values None new sent = (new ≡ None) × (sent ≡ [])
 TicksBesideAny units identity values (Some state) new sent = (after : Serving) × TicksBeside units identity values state after sent × (new ≡ Some after)

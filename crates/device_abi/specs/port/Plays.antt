@@ -15,6 +15,7 @@ pub record Point : Type 0 where
   pub chip : Image
   pub sent : List (List ℕ)
 
+-- A port, its chip, and what was sent.
 abbrev pub point : Served → Image → List (List ℕ) → Point
 point port chip sent = record { port = port; chip = chip; sent = sent }
 
@@ -25,6 +26,7 @@ worked_by rest at (call ∷ calls) frames = point rest (carried_out at.chip call
 worked_by rest at [] (frame ∷ frames) = point rest at.chip (at.sent ++ frame ∷ [])
 worked_by rest at [] [] = point rest at.chip at.sent
 
+-- After one piece of work.
 abbrev pub worked : Point → Point
 worked at = worked_by (advanced_both at.port) at at.port.port.calls (frames_of at.port)
 

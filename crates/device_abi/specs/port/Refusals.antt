@@ -3,6 +3,7 @@ use Rattle.std.specs.Prelude.{ℕ}
 use Rattle.device_abi.specs.declared.port.refusal.Refusal.{Refusal}
 use Rattle.device_abi.specs.declared.port.refusal.Refusal.TheVariants.{NotBooted, IsBooted, HasWork, BadLength, NoSlot, Foreign, PowerLost}
 
+-- The number of each refusal, as C sees it.
 abbrev pub refusal_number : Refusal → ℕ
 refusal_number NotBooted = 5
 refusal_number IsBooted = 6

@@ -34,7 +34,7 @@ IsFetched served = IsIdle served.port × (served.frames ≡ [])
 abbrev pub barred_both : Served → Option Refusal
 barred_both served = barred_by served.port.stage (has_work served.port.calls (frames_of served))
 
--- The kind of a piece of work, or of another one if there is none.
+-- The kind of a piece of work, or that of another one without work.
 abbrev pub or_own : ℕ → ℕ → ℕ
 or_own kind own = if kind == 0 then own else kind
 
@@ -54,6 +54,7 @@ advanced_from served [] [] = record served { frames = drop 1 served.frames }
 advanced_from served [] (frame ∷ frames) = record served { port = advanced served.port }
 advanced_from served (call ∷ calls) frames = record served { port = advanced served.port }
 
+-- The port and its services once the next piece of work was fetched.
 abbrev pub advanced_both : Served → Served
 advanced_both served = advanced_from served served.port.calls served.port.frames
 
@@ -61,11 +62,12 @@ advanced_both served = advanced_from served served.port.calls served.port.frames
 abbrev pub lost_both : Served → Served
 lost_both served = record served { port = lost served.port; frames = [] }
 
--- The number of units up to and with the next one that brings something to the device, or to the services beside it.
+-- The number of units up to and including the next one that brings something to the device, or to the services beside it.
 abbrev pub due_with : Option Serving → Live → ℕ
 due_with None live = live_due_in live
 due_with (Some state) live = due_beside live state
 
+-- The units until something is due of the device or its services.
 abbrev pub due_both : Served → ℕ
 due_both served = due_with served.services served.port.device.live
 

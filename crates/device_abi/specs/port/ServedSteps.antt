@@ -26,32 +26,34 @@ IsBeside None identity values said event services frames note = (services ≡ No
 IsBeside (Some state) identity values said event services frames note =
     let after = beside identity state values said event in (services ≡ Some after.services) × (frames ≡ after.sent) × (note ≡ after.note)
 
--- The device is told of its neighbour: one step of the port, which sends nothing.
+-- The neighbour is reported to the device: one step of the port, which sends nothing.
 pub record Tells (old : Served) (state : Serving) (new : Served) : Type 0 where
   pub takes : Takes old.port (news_in state) Done new.port
   pub serves : new.serves ≡ old.serves
   pub services : new.services ≡ Some (told state)
   pub frames : new.frames ≡ old.frames
 
--- The same of the port and of the services alone.
+-- The neighbour is reported to the device of a port: what the port and its services are then.
 abbrev pub TellsPort : Bool → State → Serving → State → Serving → Type 0
 TellsPort true old state new after = Takes old (news_in state) Done new × (after ≡ told state)
 TellsPort false old state new after = (new ≡ old) × (after ≡ state)
 
--- The same of services that there may be.
+-- What a port and its services, if there are any, are once the neighbour is reported.
 abbrev pub TellsPortAny : Option Serving → State → State → Option Serving → Type 0
 TellsPortAny None old new after = (new ≡ old) × (after ≡ None)
 TellsPortAny (Some state) old new after = (now : Serving) × TellsPort state.has_news old state new now × (after ≡ Some now)
 
--- The same if the neighbour changed since the device was told of it.
+-- The neighbour is reported to the device if it changed since the last report.
 abbrev pub TellsIf : Bool → Served → Serving → Served → Type 0
 TellsIf true old state new = Tells old state new
 TellsIf false old state new = new ≡ old
 
+-- The neighbour is reported to the device, if there are services and it changed.
 abbrev pub TellsOf : Option Serving → Served → Served → Type 0
 TellsOf None old new = new ≡ old
 TellsOf (Some state) old new = TellsIf state.has_news old state new
 
+-- The neighbour is reported to the device of a port with its services, if it changed.
 abbrev pub TellsBoth : Served → Served → Type 0
 TellsBoth old new = TellsOf old.services old new
 
@@ -61,6 +63,7 @@ abbrev pub GivesPort : Option Event → State → State → Type 0
 GivesPort None old new = new ≡ old
 GivesPort (Some call) old new = (barred old ≡ None) × (said : Note) × Takes old call said new
 
+-- The device is given the call that a frame completed, if it did.
 abbrev pub GivesAny : Option Serving → Values → Note → Event → State → State → Type 0
 GivesAny None values said event old new = new ≡ old
 GivesAny (Some state) values said event old new = GivesPort (joined_beside state values said event) old new
@@ -75,7 +78,7 @@ pub record StepsBoth (old : Served) (event : Event) (note : Note) (new : Served)
   pub beside : IsBeside old.services old.port.device.station.identity middle.device.live.values said event new.services new.frames note
   pub gives : GivesAny old.services middle.device.live.values said event middle new.port
 
--- An event: the device is told of its neighbour, if that changed, and then the step is made.
+-- An event: the neighbour is reported to the device, if that changed, and then the step is made.
 pub record TakesBoth (old : Served) (event : Event) (note : Note) (new : Served) : Type 0 where
   pub between : Served
   pub tells : TellsBoth old between
@@ -98,7 +101,7 @@ pub record PassesBoth (old : Served) (units left : ℕ) (new : Served) : Type 0 
   pub ticks : TicksBoth (units - left) old new
   pub stops : left ≢ 0 → barred_both new ≡ Some refusal.HasWork
 
--- The same with what is due then, or no unit passed.
+-- Units pass at a port and its services, with what is due after them, or no unit passed.
 abbrev pub PassesBothOrNot : Served → ℕ → Result Passed Refusal → Served → Type 0
 PassesBothOrNot old units (Ok passed) new = (barred_both old ≡ None) × PassesBoth old units passed.left new × (passed.due ≡ due_both new)
 PassesBothOrNot old units (Err refusal) new = (barred_both old ≡ Some refusal) × (new ≡ old)
@@ -119,7 +122,7 @@ pub record Quiet (old : Served) (units left : ℕ) (new : Served) : Type 0 where
   pub stops : left ≢ 0 → (state : Serving) → old.services ≡ Some state → (limit : ℕ) → 1 < limit → Calm limit old.port.device.live.values state
       → due_both old ≡ suc (units - left)
 
--- The same, or no unit passed.
+-- Units pass that bring nothing, or no unit passed.
 abbrev pub QuietOrNot : Served → ℕ → Result ℕ Refusal → Served → Type 0
 QuietOrNot old units (Ok left) new = (barred_both old ≡ None) × Quiet old units left new
 QuietOrNot old units (Err refusal) new = (barred_both old ≡ Some refusal) × (new ≡ old)
@@ -141,10 +144,11 @@ pub record OfThePort (old new : Served) : Type 0 where
   pub services : new.services ≡ old.services
   pub frames : new.frames ≡ old.frames
 
+-- A sector is handed in, or refused; the services are as before.
 abbrev pub KnowsBothOrNot : Served → Sector → List ℕ → Result (Unit {0}) Refusal → Served → Type 0
 KnowsBothOrNot old sector octets result new = KnowsOrNot old.port sector octets result new.port × OfThePort old new
 
--- Services that begin beside a device that starts, if it is to have any.
+-- Services that begin beside a device that starts, if the station has them.
 abbrev pub services_from : Bool → State → Option Serving
 services_from true port = Some (serving_at port.device.station.identity port.device.live.values.running)
 services_from false port = None
@@ -154,6 +158,7 @@ abbrev pub BeginsOrNot : Served → Result (Unit {0}) Refusal → Served → Typ
 BeginsOrNot old (Ok done) new = (new.serves ≡ old.serves) × (new.services ≡ services_from old.serves new.port) × (new.frames ≡ [])
 BeginsOrNot old (Err refusal) new = OfThePort old new
 
+-- The port and its services start, or it says why not.
 abbrev pub StartsBothOrNot : Served → Result (Unit {0}) Refusal → Served → Type 0
 StartsBothOrNot old result new = StartsOrNot old.port result new.port × BeginsOrNot old result new
 
@@ -168,7 +173,7 @@ IsNoticed port services octets note =
 abbrev pub seen_by : Values → Option Serving → Option Serving
 seen_by values services = if values.is_lost then services else option_map (λ (state : Serving). observed state values.running) services
 
--- The services have no part in so many units: fewer than are due of them, and they have nothing to tell.
+-- The services have no part in that many units: fewer than are due of them, and they have nothing to tell.
 abbrev pub RestsFor : ℕ → Option Serving → Values → Type 0
 RestsFor units None values = ⊤
 RestsFor units (Some state) values = (values.is_lost ≡ false) × (state.has_news ≡ false) × (units < services_due values state)

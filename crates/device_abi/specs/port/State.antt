@@ -79,6 +79,7 @@ barred_by Made is_left = Some refusal.NotBooted
 barred_by Booted is_left = if is_left then Some refusal.HasWork else None
 barred_by Lost is_left = Some refusal.PowerLost
 
+-- Why no event is accepted now, if none is.
 abbrev pub barred : State → Option Refusal
 barred port = barred_by port.stage (has_work port.calls port.frames)
 
@@ -94,6 +95,7 @@ abbrev pub advanced_by : State → List Call → State
 advanced_by port [] = record port { frames = drop 1 port.frames }
 advanced_by port (call ∷ calls) = record port { calls = calls }
 
+-- The port once its next piece of work was fetched.
 abbrev pub advanced : State → State
 advanced port = advanced_by port port.calls
 

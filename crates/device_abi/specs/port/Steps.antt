@@ -37,7 +37,7 @@ pub record Passes (old : State) (units left : ℕ) (new : State) : Type 0 where
   pub ticks : Ticks (units - left) old new
   pub stops : left ≢ 0 → barred new ≡ Some refusal.HasWork
 
--- The same with what is due then, or no unit passed.
+-- Units pass, with what is due after them, or no unit passed.
 abbrev pub PassesOrNot : State → ℕ → Result Passed Refusal → State → Type 0
 PassesOrNot old units (Ok passed) new = (barred old ≡ None) × Passes old units passed.left new × (passed.due ≡ live_due_in new.device.live)
 PassesOrNot old units (Err refusal) new = (barred old ≡ Some refusal) × (new ≡ old)
@@ -54,6 +54,7 @@ abbrev pub unfit : Option Refusal → ℕ → Refusal → Type 0
 unfit (Some late) size refused = refused ≡ late
 unfit None size refused = (size ≢ 4096) × (refused ≡ refusal.BadLength)
 
+-- A sector is handed in, or refused, and then nothing changes.
 abbrev pub KnowsOrNot : State → Sector → List ℕ → Result (Unit {0}) Refusal → State → Type 0
 KnowsOrNot old sector octets (Ok done) new = (past_start old.stage ≡ None) × (length octets ≡ 4096) × Knows old sector octets new
 KnowsOrNot old sector octets (Err refused) new = unfit (past_start old.stage) (length octets) refused × (new ≡ old)
@@ -86,6 +87,7 @@ abbrev pub NotStarted : Option Refusal → State → Refusal → State → Type 
 NotStarted (Some late) old refused new = (refused ≡ late) × (new ≡ old)
 NotStarted None old refused new = (refused ≡ refusal.Foreign) × IsStrange old new
 
+-- The port starts, or says why not.
 abbrev pub StartsOrNot : State → Result (Unit {0}) Refusal → State → Type 0
 StartsOrNot old (Ok done) new = (past_start old.stage ≡ None) × Starts old new
 StartsOrNot old (Err refused) new = NotStarted (past_start old.stage) old refused new

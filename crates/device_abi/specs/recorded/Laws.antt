@@ -28,6 +28,7 @@ IsImage-of flash = flash.memory.sized
 pub IsSectorSize-of : {S : ℕ} (flash : RecordedFlash S) → IsSectorSize S
 IsSectorSize-of flash = flash.memory.sector_size
 
+-- A recorded flash is never without power.
 pub has_power-of : {S : ℕ} (flash : RecordedFlash S) → IsAlways flash → has_power flash ≡ false
 has_power-of flash reliable = refl
 
@@ -40,14 +41,17 @@ pub after_all-append : (before : Record) (front back : List Call) → after_all 
 after_all-append before [] back = refl
 after_all-append before (call ∷ front) back = after_all-append (after_one before call) front back
 
+-- The first of these calls are writes too.
 pub front_recorded : (front back : List Call) → AreWrites (front ++ back) → AreWrites front
 front_recorded [] back are = tt
 front_recorded (call ∷ front) back are = (are.0, front_recorded front back are.1)
 
+-- The last of these calls are writes too.
 pub back_recorded : (front back : List Call) → AreWrites (front ++ back) → AreWrites back
 back_recorded [] back are = are
 back_recorded (call ∷ front) back are = back_recorded front back are.1
 
+-- Calls that were asked of a recorded flash one after the other.
 pub asked_more-of : {S : ℕ} (old between new : RecordedFlash S) (front back : List Call) → IsAsked old front between → IsAsked between back new → IsAsked old (front ++ back) new
 asked_more-of old between new front back first second are =
     second (back_recorded front back are) ∙ ap (λ r. after_all r back) (first (front_recorded front back are)) ∙ sym (after_all-append (record_of old) front back)

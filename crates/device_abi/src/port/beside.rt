@@ -21,7 +21,7 @@ use station::{
     quiet_units_are_ticks, services_due,
 };
 
-// The services begin beside a device that has started, if it is to have any. They are large: made in each branch they are written where they
+// The services begin beside a device that has started, if the station has them. They are large: made in each branch they are written where they
 // stay, and the stack that their parts take is free again before anything else is called.
 #[inline(never)]
 pub(crate) fn begin(services: &mut Option<DeviceServices>, serves: bool, port: &DevicePort)
@@ -183,7 +183,7 @@ pub(crate) fn soonest(due: u32, rest: u32, services: &Option<DeviceServices>) ->
 
 // ---- the neighbour
 
-// The device is told of its neighbour, if that changed.
+// The neighbour is reported to the device, if that changed.
 pub(crate) fn tell_neighbour(port: &mut DevicePort, services: &mut Option<DeviceServices>)
     requires free { barred port.old ≡ None }
     ensures tells { TellsPortAny services.old port.old port.new services.new }

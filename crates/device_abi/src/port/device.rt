@@ -422,7 +422,7 @@ impl DevicePort {
 
     // ---- units of time. None of them makes a flash call, so the flash is not looked at.
 
-    // Whether so many units of time surely bring nothing, and no work remains.
+    // Whether that many units of time surely bring nothing, and no work remains.
     #[inline(always)]
     pub(crate) fn is_quiet(&self, units: u32) -> bool
         ensures open { result ≡ true → barred self.now ≡ None }

@@ -33,7 +33,7 @@ use wire::at_most;
 /// after each the host fetches all work. It carries out each flash call, durably, before the next one, and all of them
 /// before it sends the first frame. A call that fails on its side counts as lost power.
 ///
-/// As long as nothing is due, units of time are only counted for the services. They are told of them all at once, before
+/// As long as nothing is due, units of time are only counted for the services. They learn of them all at once, before
 /// anything else concerns them.
 #[derive(Drop)]
 pub struct Port {
@@ -44,7 +44,7 @@ pub struct Port {
     /// Fewer units than this many surely bring nothing to the services, and they have nothing to see or to tell before; 0 if that is
     /// not known.
     rest: u32,
-    /// The same of the services as they were told of units last: that many less `rest` have passed since.
+    /// The same of the services as they learned of units last: that many less `rest` have passed since.
     limit: u32,
     /// The frames of the services.
     outbox: Outbox,
@@ -165,7 +165,7 @@ impl Port {
         self.port.fill(sector, octets)
     }
 
-    /// Starts from the content of the chip, as the port does. Services begin with the device, if it is to have any.
+    /// Starts from the content of the chip, as the port does. Services begin with the device, if the station has them.
     pub fn boot(&mut self) -> Result<(), Refusal>
         ensures { StartsBothOrNot self.old result self.new }
     {
@@ -212,7 +212,7 @@ impl Port {
         }
     }
 
-    // The same once the device was told of its neighbour.
+    // The same once the device knows its neighbour.
     fn take_frame(&mut self, octets: &[u8]) -> Note
         requires { barred_both self.old ≡ None }
         ensures { StepsBoth self.old (Framed (record { items = octets.now })) result self.new }
@@ -332,7 +332,7 @@ impl Port {
         }
     }
 
-    // The same once the device was told of its neighbour.
+    // The same once the device knows its neighbour.
     fn take(&mut self, event: &Event) -> Note
         requires free { barred_both self.old ≡ None }
         requires kind { IsOfApplication event.now }
@@ -346,7 +346,7 @@ impl Port {
         note
     }
 
-    /// Whether so many units of time surely bring nothing, and no work remains.
+    /// Whether that many units of time surely bring nothing, and no work remains.
     #[inline(always)]
     pub fn is_quiet(&self, units: u32) -> bool
         ensures { result ≡ true → barred_both self.now ≡ None }
@@ -368,7 +368,7 @@ impl Port {
         }
         quiet_units_are_ticks();
         let due = self.port.skip(units);
-        // The services are not told of them yet.
+        // The services do not know of them yet.
         self.rest -= units;
         Some(soonest(due, self.rest, &self.services))
     }
@@ -387,7 +387,7 @@ impl Port {
         }
         quiet_units_are_ticks();
         self.port.pass_quietly(units);
-        // The services are not told of them yet.
+        // The services do not know of them yet.
         self.rest -= units;
         Ok(0)
     }
@@ -412,7 +412,7 @@ impl Port {
         let first = due.min(rest);
         let quiet = units.min(first - 1);
         self.port.pass_quietly(quiet);
-        // The services are not told of them yet.
+        // The services do not know of them yet.
         self.rest = rest - quiet;
         Ok(units - quiet)
     }
@@ -434,7 +434,7 @@ impl Port {
         }
         quiet_units_are_ticks();
         let due = self.port.unit();
-        // The services are not told of it yet.
+        // The services do not know of it yet.
         self.rest -= 1;
         Some(soonest(due, self.rest, &self.services))
     }
@@ -458,7 +458,7 @@ impl Port {
         }
         quiet_units_are_ticks();
         let due = self.port.unit();
-        // The services are not told of it yet.
+        // The services do not know of it yet.
         self.rest = rest - 1;
         Some(soonest(due, rest - 1, &self.services))
     }
@@ -647,7 +647,7 @@ impl Port {
 
     // ---- what is due
 
-    /// The number of units up to and with the next one that brings something to the device, or to the services beside it.
+    /// The number of units up to and including the next one that brings something to the device, or to the services beside it.
     pub fn due(&mut self) -> Result<u32, Refusal>
         ensures same { self.new ≡ self.old }
         ensures due { MatchResult result (λ due. (closed self.old.port.stage ≡ None)
@@ -718,7 +718,7 @@ impl Port {
         self.frames_past < self.outbox.len()
     }
 
-    // The device is told of its neighbour, if that changed.
+    // The neighbour is reported to the device, if that changed.
     #[inline(never)]
     fn tell(&mut self)
         requires free { barred_both self.old ≡ None }

@@ -85,7 +85,7 @@ impl Calls {
         self.append_erase(sector);
     }
 
-    // Drops the oldest calls until one more call has room, with so many bytes.
+    // Drops the oldest calls until one more call has room, with that many bytes.
     fn make_room(&mut self, size: usize)
         requires { size ≤ 437 }
         ensures { (call : Call) → size_of call ≡ size → (have_room (self.new ++ call ∷ []) ≡ true)
@@ -96,7 +96,7 @@ impl Calls {
         }
     }
 
-    // Whether one more call has room, with so many bytes.
+    // Whether one more call has room, with that many bytes.
     fn has_room(&self, size: usize) -> bool
         requires { size ≤ 437 }
         ensures { result ≡ (nat_lt (length self.now) 48 && nat_le (sum_of self.now + size) 7008) }

@@ -20,6 +20,7 @@ status_bytes status = status.code ∷ status.decode ∷ status.code1 ∷ status.
 abbrev pub entry_bytes : LogEntry → List ℕ
 entry_bytes entry = big_bytes 8 entry.time ++ entry.uuid ++ status_bytes entry.status ++ 0 ∷ 0 ∷ 0 ∷ 0 ∷ []
 
+-- The entries of the log, as octets.
 abbrev pub entries_bytes : List LogEntry → List ℕ
 entries_bytes [] = []
 entries_bytes (entry ∷ entries) = entry_bytes entry ++ entries_bytes entries

@@ -12,7 +12,7 @@ use wire::append;
 /// BlockType of PDPortDataReal.
 const PORT: u16 = 0x020F;
 
-/// What follows the neighbours: the link is up, and nothing else is told of it.
+/// What follows the neighbours: the link is up, and nothing else is reported of it.
 const END: [u8; 20] = [0, 0, 0, 0, 0, 0, 0, 0, 0, 0, 0, 0, 0, 1, 0, 0, 0, 0, 0, 0];
 
 /// The octets after the header: at most 562.

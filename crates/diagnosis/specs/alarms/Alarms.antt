@@ -81,12 +81,14 @@ plugged_reported low notice (Some module_ident) (Some submodule_ident) = reporte
 plugged_reported low notice (Some module_ident) None = None
 plugged_reported low notice None submodule_ident = None
 
+-- The state after this change is sent as an alarm, if there is one and its module is plugged.
 abbrev pub first_reported : List RealModule → Low → Option Notice → Option Low
 first_reported real low None = None
 first_reported real low (Some notice) =
     plugged_reported low notice (module_ident real notice.change.diagnosis.slot)
     (submodule_ident real notice.change.diagnosis.slot notice.change.diagnosis.subslot)
 
+-- The state after the first change that waits is sent, if one can be sent now.
 abbrev pub next_in : List RealModule → Low → Option Low
 next_in real low = first_reported real low (first_of low.waiting)
 
@@ -94,6 +96,7 @@ next_in real low = first_reported real low (first_of low.waiting)
 abbrev pub after_next : List RealModule → Low → Low
 after_next real low = unwrap_or (next_in real low) low
 
+-- Whether a change that waits can be sent now.
 abbrev pub is_next : List RealModule → Low → Bool
 is_next real low = is_some (next_in real low)
 
@@ -108,6 +111,7 @@ abbrev pub waits_with : Change → List Diagnosis → Low → Low
 waits_with change diagnoses low =
     record low { waiting = unwrap_or (waiting_with (notice_of (is_own low.places) change diagnoses) low.waiting) low.waiting }
 
+-- Whether a change is reported by an alarm: data is exchanged, and its submodule belongs to the relation.
 abbrev pub is_reported : Bool → Change → Low → Bool
 is_reported has_begun change low = has_begun && is_own low.places change.diagnosis.slot change.diagnosis.subslot
 
@@ -116,6 +120,7 @@ abbrev pub changed : List RealModule → Bool → Change → List Diagnosis → 
 changed real has_begun change diagnoses low =
     if is_reported has_begun change low then after_next real (waits_with change diagnoses (noted diagnoses low)) else noted diagnoses low
 
+-- Whether the alarm of a change is sent at once: it is reported, and no other alarm is unacknowledged.
 abbrev pub is_sent : List RealModule → Bool → Change → List Diagnosis → Low → Bool
 is_sent real has_begun change diagnoses low =
     is_reported has_begun change low && is_next real (waits_with change diagnoses (noted diagnoses low))
@@ -124,6 +129,7 @@ is_sent real has_begun change diagnoses low =
 abbrev pub behind : ToDevice → Low → Low
 behind message low = record low { alarms = end_behind low.alarms message }
 
+-- The state after a unit of time.
 abbrev pub later : Low → Low
 later low = record low { alarms = end_later low.alarms }
 

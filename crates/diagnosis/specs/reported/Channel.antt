@@ -44,10 +44,12 @@ abbrev pub is_channel_structure : Option ℕ → Bool
 is_channel_structure (Some structure) = structure == 0x8000
 is_channel_structure None = false
 
+-- Whether an alarm reports a channel diagnosis: AlarmType diagnosis appears (1) or disappears (12), with ChannelDiagnosis.
 abbrev pub is_channel_diagnosis : Report → Bool
 is_channel_diagnosis report =
     (report.notification.alarm_type == 1 || report.notification.alarm_type == 0x000C) && is_channel_structure report.user_structure
 
+-- What an alarm reports of the channel that was found in its octets, if one was found.
 abbrev pub report_by : AlarmNotification → Option Channel → Option ChannelReport
 report_by alarm found = option_map (report_of alarm) found
 

@@ -30,6 +30,7 @@ with_diagnosis diagnosis reported =
 abbrev pub is_of_channel : Diagnosis → Diagnosis → Bool
 is_of_channel one other = is_at one.slot one.subslot other && one.channel == other.channel
 
+-- Whether a diagnosis disappears with another one: all of its channel, or only the same one.
 abbrev pub is_gone : Bool → Diagnosis → Diagnosis → Bool
 is_gone whole_channel one other = if whole_channel then is_of_channel one other else is_same one other
 
@@ -41,6 +42,7 @@ without_diagnosis diagnosis reported = record reported { existing = others diagn
 abbrev pub others_than_channel : Diagnosis → List Diagnosis → List Diagnosis
 others_than_channel diagnosis diagnoses = filter (λ other. not (is_of_channel diagnosis other)) diagnoses
 
+-- The list without the diagnoses of this channel.
 abbrev pub without_channel : Diagnosis → Reported → Reported
 without_channel diagnosis reported = record reported { existing = others_than_channel diagnosis reported.existing }
 
@@ -51,6 +53,7 @@ after_specifier Appears diagnosis reported = with_diagnosis diagnosis reported
 after_specifier Disappears diagnosis reported = without_diagnosis diagnosis reported
 after_specifier OthersRemain diagnosis reported = without_diagnosis diagnosis reported
 
+-- The list after the report of a channel, by its specifier.
 abbrev pub after_channel : ChannelReport → Reported → Reported
 after_channel report reported = after_specifier report.specifier report.diagnosis reported
 
@@ -59,5 +62,6 @@ abbrev pub after_found : Option ChannelReport → Reported → Reported
 after_found (Some report) reported = after_channel report reported
 after_found None reported = reported
 
+-- The list of a controller after an alarm that it accepted.
 abbrev pub after_report : Report → Reported → Reported
 after_report report reported = after_found (channel_report report) reported

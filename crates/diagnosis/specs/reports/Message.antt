@@ -21,9 +21,10 @@ alarm_in kind said = notice_in report_of kind said
 abbrev pub alarm_of : List ℕ → Result (Header × ToController) AlarmFault
 alarm_of bytes = notice_of report_of bytes
 
--- The same of a PDU of low priority to a device.
+-- What a PDU of low priority says to a device, or the fault.
 abbrev pub low_message_in : PduType → Said → Result ToDevice AlarmFault
 low_message_in kind said = notice_in low_ack_of kind said
 
+-- The PDU of low priority in these octets, with the AlarmAck that it may carry, or the fault.
 abbrev pub low_message_of : List ℕ → Result (Header × ToDevice) AlarmFault
 low_message_of bytes = notice_of low_ack_of bytes

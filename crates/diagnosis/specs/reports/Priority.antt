@@ -14,6 +14,7 @@ abbrev pub block_type_of : Priority → ℕ
 block_type_of High = 0x0001
 block_type_of Low = 0x0002
 
+-- The priority of an AlarmNotification by its BlockType, if it is one.
 abbrev pub priority_of_block : ℕ → Option Priority
 priority_of_block kind = if kind == 0x0001 then Some High else (if kind == 0x0002 then Some Low else None)
 

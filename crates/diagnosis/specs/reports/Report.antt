@@ -67,18 +67,22 @@ abbrev pub spells_payload : List ℕ → Option ℕ → List ℕ → Type 0
 spells_payload bytes None octets = (bytes ≡ []) × (octets ≡ [])
 spells_payload bytes (Some user_structure) octets = structured.Spells bytes (user_structure, octets)
 
+-- The octets after the AlarmSpecifier: a UserStructureIdentifier with its data, or none.
 abbrev pub payload_bytes : Option ℕ → List ℕ → List ℕ
 payload_bytes None octets = octets
 payload_bytes (Some user_structure) octets = structured.write (user_structure, octets)
 
+-- Their number.
 abbrev pub payload_size : Option ℕ → List ℕ → ℕ
 payload_size None octets = length octets
 payload_size (Some user_structure) octets = structured.size (user_structure, octets)
 
+-- Whether they can be written: without a UserStructureIdentifier there are none.
 abbrev pub payload_fits : Option ℕ → List ℕ → Type 0
 payload_fits None octets = octets ≡ []
 payload_fits (Some user_structure) octets = structured.Fits (user_structure, octets)
 
+-- The format of these octets: read as none if there are none.
 unfoldable pub payload : Whole BlockFault (Option ℕ × List ℕ)
 payload = record {
   Spells = λ bytes value. spells_payload bytes value.0 value.1;
@@ -101,6 +105,7 @@ notified f octets = record {
   alarm_data = octets;
 }
 
+-- The fixed fields of an AlarmNotification.
 abbrev pub front_of : AlarmNotification → Front
 front_of alarm = record {
   alarm_type = alarm.alarm_type;
@@ -112,6 +117,7 @@ front_of alarm = record {
   alarm_specifier = alarm.alarm_specifier;
 }
 
+-- The format of an AlarmNotification: its fixed fields and the octets after them.
 unfoldable pub report_fields : Whole BlockFault (AlarmNotification × Option ℕ)
 report_fields = seen_whole
     (λ x. (notified x.0 x.1.1, x.1.0))
@@ -165,6 +171,7 @@ low_ack = seen (λ x. x.1) (λ ack. (tt, ack)) (fixed Kind 2 0x8002 ⨾ framed (
 unfoldable pub IsLowAck : List ℕ → AlarmAck → Type 0
 IsLowAck bytes ack = (loose low_ack).Spells bytes ack
 
+-- The AlarmAck of low priority in these octets, or the fault.
 unfoldable pub low_ack_of : List ℕ → Result AlarmAck AlarmFault
 low_ack_of bytes = blamed ((loose low_ack).read bytes)
 

@@ -69,7 +69,7 @@ fn push_own(
 }
 
 impl Own {
-    /// None.
+    /// No change was reported yet.
     pub fn new() -> Own
         ensures { result ≡ [] }
     {

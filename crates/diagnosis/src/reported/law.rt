@@ -10,8 +10,8 @@ ghost use Rattle.diagnosis.specs.reported.Reported.{after_report};
 /// The diagnoses of a device at the submodules of a relation, and the list of a controller that takes the alarms of their
 /// changes. These are laws of the definitions; there is no code.
 pub fn reports_are_followed()
-    // If the controller's list is the device's at the submodules of the relation, and the device accepts a change at one of
-    // them, then it is so again after the alarm of that change.
+    // If the controller's list equals the device's list for the submodules of the relation, and the device accepts a change at one of
+    // them, then both lists are equal again after the alarm of that change.
     ensures follows { (has : ℕ → ℕ → Bool) (change : Change) (report : Report) (before after : List Diagnosis) (left_out : ℕ) →
         Reports change report → change.diagnosis.channel < 65536 → change.diagnosis.error < 65536 →
         has change.diagnosis.slot change.diagnosis.subslot ≡ true → changed change before ≡ Some after →

@@ -183,11 +183,12 @@ IsEffect station caller blocks (Ok octets) operation.Release before after = Rele
 IsEffect station caller blocks (Ok octets) operation.Read before after = IsRestarted before after
 IsEffect station caller blocks (Ok octets) operation.ReadImplicit before after = ⊥
 
--- ApplicationReady behind a response, if there is one
+-- ApplicationReady after a response, if there is one
 abbrev pub AreReadied : Live → Option RelationState → Option Ready → Type 0
 AreReadied live after None = Unit {0}
 AreReadied live after (Some ready) = IsReadied live after ready
 
+-- The call ApplicationReady that a device sends from this address, if it is due.
 abbrev pub readied_from : List ℕ → Option Ready → List Sent
 readied_from address None = []
 readied_from address (Some ready) = ReadyCall address ready ∷ []
@@ -213,6 +214,7 @@ pub record Serves (station : Station) (live : Live) (heard : Heard) (after : Res
 
 -- ---- a turn
 
+-- What a step of a device does is one of these five.
 abbrev pub Does : Station → Live → Heard → Rest → List Sent → Type 0
 Does station live heard after sent =
     Rests live after sent ⊎ (GoesBy live heard after sent ⊎ (Confirms live heard after sent ⊎ (Repeats live heard after sent ⊎ Serves station live heard after sent)))

@@ -41,6 +41,7 @@ pub record Happening : Type 0 where
 abbrev pub stepped : Station → Live → Happening → Stepped
 stepped station live one = step_of one.outcomes station live one.event
 
+-- The device after these events.
 abbrev pub after_all : Station → List Happening → Live → Live
 after_all station [] live = live
 after_all station (one ∷ more) live = after_all station more (stepped station live one).live
@@ -61,6 +62,7 @@ abbrev pub is_unit : Heard → Bool
 is_unit Ticks = true
 is_unit heard = false
 
+-- How many of these events are units of time.
 abbrev pub units_in : Station → List Happening → ℕ
 units_in station [] = 0
 units_in station (one ∷ more) = if is_unit (heard_of station.identity one.event) then suc (units_in station more) else units_in station more
@@ -74,6 +76,7 @@ given_with slot subslot size (Given to_slot to_subslot value) =
     if ((slot == to_slot) && (subslot == to_subslot)) && (size == length value + 1) then Some value else None
 given_with slot subslot size heard = None
 
+-- The value that the application gave last for the input of a submodule, of this size, if it gave one.
 abbrev pub last_given : Station → ℕ → ℕ → ℕ → List Happening → Option (List ℕ)
 last_given station slot subslot size [] = None
 last_given station slot subslot size (one ∷ more) =
@@ -88,6 +91,7 @@ abbrev pub is_inputs : Sent → Bool
 is_inputs (Exchanges route (Inputs has_problem inputs counter)) = true
 is_inputs message = false
 
+-- Whether one of these frames is a cyclic frame of inputs.
 abbrev pub sends_inputs : List Sent → Bool
 sends_inputs sent = list_any is_inputs sent
 
@@ -106,10 +110,12 @@ is_hold DataHold = true
 is_hold Activity = false
 is_hold Other = false
 
+-- Whether a message is the ERR of a device whose data hold time is over.
 abbrev pub is_end_of_data : Sent → Bool
 is_end_of_data (Ends farewell) = is_hold farewell.reason
 is_end_of_data message = false
 
+-- Whether one of these messages is that ERR.
 abbrev pub ends_for_data : List Sent → Bool
 ends_for_data sent = list_any is_end_of_data sent
 

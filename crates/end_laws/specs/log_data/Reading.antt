@@ -10,6 +10,7 @@ use Rattle.device_records.specs.declared.log_data.entry.LogEntry.{LogEntry}
 abbrev pub number_at : ℕ → ℕ → List ℕ → ℕ
 number_at place size octets = big_number size (drop place octets)
 
+-- The octets at a place, of this number.
 abbrev pub octets_at : ℕ → ℕ → List ℕ → List ℕ
 octets_at place size octets = take size (drop place octets)
 

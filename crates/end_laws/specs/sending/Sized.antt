@@ -58,6 +58,7 @@ abbrev pub IsWaiting : Option RecordRequest → List ℕ → Type 0
 IsWaiting None octets = ⊤
 IsWaiting (Some request) octets = IsRecordCall request octets
 
+-- The request of the application that waits, and its octets, have the sizes that a call can carry.
 abbrev pub IsAccess : Accessing → Type 0
 IsAccess access = IsWaiting access.waiting access.octets
 

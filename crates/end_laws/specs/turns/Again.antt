@@ -10,7 +10,7 @@ use Rattle.controller_core.specs.Machine.{step_of, turn_of}
 use Rattle.end_laws.specs.turns.Patience.{units_in}
 use Rattle.end_laws.specs.turns.Runs.{IsReached, behind_all}
 
--- The same request of the start-up, or the Release, is active after each of these events.
+-- One request of the start-up, or the Release, is active after each of these events.
 abbrev pub StaysAsked : Request → List Event → Controlling → Type 0
 StaysAsked request [] controller = Unit {0}
 StaysAsked request (event ∷ events) controller =
@@ -21,6 +21,7 @@ abbrev pub is_request : Sent → Bool
 is_request (Requests device request) = true
 is_request message = false
 
+-- Whether one of these messages is a request.
 abbrev pub sends_request : List Sent → Bool
 sends_request sent = list_any is_request sent
 

@@ -27,6 +27,7 @@ use Rattle.controller_core.specs.stored.State.{Live}
 
 -- ---- priorities
 
+-- Whether two priorities are the same.
 abbrev pub is_priority : Priority → Priority → Bool
 is_priority High High = true
 is_priority Low Low = true
@@ -38,6 +39,7 @@ abbrev pub structure_of : Priority → ℕ
 structure_of High = 1
 structure_of Low = 0x8000
 
+-- An AlarmNotification as the controller reads it, with this priority.
 abbrev pub report_as : Priority → AlarmNotification → Report
 report_as priority alarm = record { priority = priority; notification = alarm; user_structure = Some (structure_of priority) }
 
@@ -100,6 +102,7 @@ comes_to_device priority r (Some (Confirms route other header ack)) =
 comes_to_device priority r (Some _) = r
 comes_to_device priority r None = r
 
+-- The relation after the ACK with this number has come to the device.
 abbrev pub acked_at_device : Relation → ℕ → Relation
 acked_at_device r number = record r { device = end_behind r.device (notice.Ack number) }
 
@@ -145,6 +148,7 @@ behind_one priority setup r (Reads slot subslot index) = turns r (requested setu
 behind_one priority setup r (Writes slot subslot index octets) = turns r (written setup r.live slot subslot index octets)
 behind_one priority setup r Stops = turns r (stopped setup r.live r.live.phase)
 
+-- The relation after these moves of its alarms.
 abbrev pub behind : Priority → Setup → List Move → Relation → Relation
 behind priority setup [] r = r
 behind priority setup (move ∷ moves) r = behind priority setup moves (behind_one priority setup r move)

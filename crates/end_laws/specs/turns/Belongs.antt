@@ -37,6 +37,7 @@ abbrev pub waiting_by : Setup → Option Request → Option RecordRequest → Op
 waiting_by setup (Some request) waiting = call_by setup request
 waiting_by setup None waiting = option_map (λ request. record_header setup request) waiting
 
+-- The header of the call of the application that waits for its response, if one waits.
 abbrev pub waiting_in : Setup → Live → Option CallHeader
 waiting_in setup live = waiting_by setup live.asked live.access.waiting
 

@@ -1,4 +1,4 @@
--- Why a controller ends: each cause has its event, and each end is told to the device as its cause says.
+-- Why a controller ends: each cause has its event, and each end is reported to the device as its cause says.
 use Rattle.std.specs.Prelude.{◌≡◌, ◌≢◌, ◌⊎◌, ◌++◌, ◌∷◌, [], ℕ, Bool, true, false, List, Option, Some}
 use Rattle.pn_values.specs.declared.mac.Mac.{Mac}
 use Rattle.dcp_core.specs.declared.kind.Kind.TheVariants.{NameOfStation, DeviceId}
@@ -79,6 +79,7 @@ IsRefusalIn setup live (Responds response) = IsOfTheCall setup live response.hea
 IsRefusalIn setup live (Refuses refusal) = IsOfTheCall setup live refusal.activity refusal.sequence
 IsRefusalIn setup live heard = ⊥
 
+-- What comes is a message that refuses the request of this controller.
 abbrev pub IsRefusal : Setup → Live → Came → Type 0
 IsRefusal setup live came = (heard : Heard) × (came ≡ Hears heard) × IsRefusalIn setup live heard
 
@@ -119,6 +120,7 @@ pub record IsAborted (live : Live) (came : Came) : Type 0 where
   pub stands : live.stands ≡ true
   pub own : is_alarm live.cyclic.route source header ≡ true
 
+-- What comes is the event of this cause.
 abbrev pub HasCause : Setup → Live → Came → Cause → Type 0
 HasCause setup live came why.WrongDevice = IsOfWrongDevice setup live came
 HasCause setup live came why.Refused = IsRefusal setup live came
@@ -146,6 +148,7 @@ IsReleaseFromConnect setup live Looking frames = frames ≡ []
 IsReleaseFromConnect setup live Addressing frames = frames ≡ []
 IsReleaseFromConnect setup live state frames = IsReleaseAlone setup live frames
 
+-- These are the frames by which an end with this cause is reported to the device: an ERR, a Release, or none.
 abbrev pub IsToldAs : Setup → Live → Cause → List (List ℕ) → Type 0
 IsToldAs setup live why.WrongDevice frames = frames ≡ []
 IsToldAs setup live why.Refused frames = (frames ≡ []) ⊎ ((setup.plan.release_on_refused_record ≡ true) × IsReleaseAlone setup live frames)
@@ -158,12 +161,13 @@ IsToldAs setup live why.NoProgress frames = IsReleaseFromConnect setup live live
 
 -- ---- the law
 
--- An event after which a controller has ended, and before which it had not, is that of its cause, and the device is told as the
+-- An event after which a controller has ended, and before which it had not, is that of its cause, and it is reported to the device as the
 -- cause says.
 pub record EndsBy (controller : Controlling) (event : Event) (cause : Cause) : Type 0 where
   pub cause_is : HasCause controller.setup controller.live (came_by controller.setup event) cause
   pub told : IsToldAs controller.setup controller.live cause (step_of controller event).frames
 
+-- An event with which a controller ends is that of its cause, and what is then sent is what the cause says.
 abbrev pub EachEndHasItsCause : Type 0
 EachEndHasItsCause = (controller : Controlling) (event : Event) (cause : Cause) → has_ended controller.live.phase ≡ false
     → (step_of controller event).controller.live.phase ≡ Ended cause → EndsBy controller event cause
@@ -173,6 +177,7 @@ abbrev pub IsNoRefusal : Cause → Type 0
 IsNoRefusal why.Refused = ⊥
 IsNoRefusal cause = Unit {0}
 
+-- The event of each cause, except a refusal, ends a controller that has not ended, with this cause.
 abbrev pub EachCauseEnds : Type 0
 EachCauseEnds = (controller : Controlling) (event : Event) (cause : Cause) → has_ended controller.live.phase ≡ false → IsNoRefusal cause
     → HasCause controller.setup controller.live (came_by controller.setup event) cause
@@ -188,6 +193,7 @@ pub record WasEnded (first : Controlling) (events : List Event) (cause : Cause) 
   pub going : has_ended (behind_all before first).live.phase ≡ false
   pub ends : EndsBy (behind_all before first) event cause
 
+-- In any run of a new controller that has ended, one of the events is that of its cause, and ended it.
 abbrev pub EachRunHasItsCause : Type 0
 EachRunHasItsCause = (plan : Parts) (ar activity : List ℕ) (options : ControllerOptions) (events : List Event) (cause : Cause)
     → (behind_all events (fresh_with plan ar activity options)).live.phase ≡ Ended cause → WasEnded (fresh_with plan ar activity options) events cause

@@ -32,6 +32,7 @@ abbrev pub release_in : Setup → Mac → Option Request → Option (List ℕ)
 release_in setup device (Some (asks.Release sequence)) = Some (bytes_of setup (Requests device (asks.Release sequence)))
 release_in setup device _ = None
 
+-- The octets of the Release that an ended controller repeats, if one is active.
 abbrev pub release_of : Controlling → Option (List ℕ)
 release_of controller = release_in controller.setup controller.live.device controller.live.asked
 
@@ -71,6 +72,8 @@ IsReleased setup live heard = IsAnswered setup live heard ⊎ IsRefused setup li
 abbrev pub IsOnlySet : Live → Live → Type 0
 IsOnlySet before after = after ≡ record before { cyclic = record before.cyclic { shown = after.cyclic.shown }; outputs = after.outputs }
 
+-- What an ended controller does with an event: nothing but keep values that are set, or end its Release by the response to
+-- it.
 abbrev pub IsDropped : Setup → Event → Live → Live → Type 0
 IsDropped setup (Frame bytes) before after =
     (after ≡ before) ⊎ (IsReleased setup before (heard_of setup.plan.controller bytes.items) × (after ≡ record before { asked = None }))

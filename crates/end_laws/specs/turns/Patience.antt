@@ -21,7 +21,7 @@ StaysIn state [] controller = Unit {0}
 StaysIn state (event ∷ events) controller =
     ((step_of controller event).controller.live.phase ≡ state) × StaysIn state events (step_of controller event).controller
 
--- The patience of the state in which a controller is, in units. 0 is none: it looks for the station, exchanges data or has
+-- The patience of the state in which a controller is, in units. 0 is no limit: it looks for the station, exchanges data or has
 -- ended, or the options set none.
 abbrev pub patience_of : Controlling → ℕ
 patience_of controller = patience_in controller.setup.options controller.live.phase

@@ -54,6 +54,7 @@ pub data Came : Type 0 where
   AsksWrite : (slot subslot index : ℕ) → (octets : List ℕ) → Came
   Halts : Came
 
+-- What comes to a controller with an event.
 abbrev pub came_by : Setup → Event → Came
 came_by setup (Frame bytes) = Hears (heard_of setup.plan.controller bytes.items)
 came_by setup Tick = Passes
@@ -63,6 +64,7 @@ came_by setup (Read slot subslot index) = AsksRead slot subslot index
 came_by setup (Write slot subslot index octets) = AsksWrite slot subslot index octets.items
 came_by setup Stop = Halts
 
+-- What a controller does with what comes: the case of its machine.
 abbrev pub turn_for : Setup → Live → Came → Turn
 turn_for setup live (Hears heard) = turned setup live heard
 turn_for setup live Passes = ticked setup live
@@ -191,6 +193,7 @@ pub record IsSkipped (setup : Setup) (live : Live) (came : Came) (number : ℕ) 
 abbrev TypeOf : {A : Type 0} → A → Type 0
 TypeOf {A = A} value = A
 
+-- What is found in the blocks of the answer to a Connect.
 abbrev pub Found : Type 0
 Found = TypeOf nothing
 

@@ -81,8 +81,8 @@ pub fn each_end_has_its_cause()
     // the plan's name and another VendorID or DeviceID; 2, a refusal of its address, or of the call that waits, by a response, a
     // reject or a fault; 3, a response to its Connect that lists a wrong module; 4, the unit that completes the data hold time; 5,
     // an ERR of its relation; 6, the unit with which an AlarmAck is given up; 7, a stop by the application; 8, the last unit of
-    // the patience. With it the device is told of causes 4 and 6 by one ERR, with the reason, and of causes 3, 7 and 8, from the
-    // Connect on, by one Release; of 2 by a Release only if the plan says so; and nothing else is sent.
+    // the patience. It is reported to the device: causes 4 and 6 by one ERR, with the reason; causes 3, 7 and 8, from the
+    // Connect on, by one Release; cause 2 by a Release only if the plan says so. Nothing else is sent.
     ensures ends { EachEndHasItsCause }
     // Each of these events, except a refusal, ends a controller that had not ended for its cause, in any state.
     ensures causes { EachCauseEnds }

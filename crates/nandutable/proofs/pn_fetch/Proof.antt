@@ -129,7 +129,7 @@ pn_fetch_spec 𝓤 𝓛 𝓜 𝓡 wired =
     pick ! (λ new. split ! $ move ! (1 ∷ []) $ heard ! _ (λ handed.
     returns ! (look_at ! 0 refl) $ free_all ! refl $
     move ! (8 ∷ 7 ∷ 10 ∷ 0 ∷ []) $ group ! 4 $ use1 𝓛 (raw (ex 𝓤 (Told (block_ptr b o) at ws.1.0 ws.1.1.0))) (told b o ws.1.0 ws.1.1.0 new γ α r handed) $
-    -- [what is told; the answer's last value; the operation's; the place, in two parts; its token; its first part; the tokens]
+    -- [what is reported; the answer's last value; the operation's; the place, in two parts; its token; its first part; the tokens]
     move ! (6 ∷ 3 ∷ 4 ∷ []) $ fjoin3 ! $
     suffices ! _ (ends_at 𝓛 f.ended stayed c (y (block_ptr b o)) vunit tt (tt, (ws.1.0, (ws.1.1.0, (at, tt)))) (tt, (tt, (tt, (tt, tt))))) $
     nothing ! $ move ! (1 ∷ 0 ∷ []) $ join ! $ move ! (2 ∷ 0 ∷ []) $ join ! $ move ! (2 ∷ 0 ∷ []) $ join ! $ nothing ! $ join ! $

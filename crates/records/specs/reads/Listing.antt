@@ -175,6 +175,7 @@ listing_in false (Some level) (Some kind) = Some (level, kind)
 listing_in false (Some level) None = None
 listing_in false None kind = None
 
+-- What a request asks for, if it is a record of this page and no parameter record with such an index.
 unfoldable pub listing_of : Real → IodReadReq → Option (Level × Listing)
 listing_of real request =
     listing_in (has_parameter real request.header.slot_number request.header.subslot_number request.header.index)
@@ -185,5 +186,6 @@ abbrev pub served_by : Bool → Real → Option (List ℕ) → IodReadReq → Op
 served_by is_within real own request (Some x) readable = listed_at is_within real own request x.0 x.1
 served_by is_within real own request None readable = read_of real request readable
 
+-- The answer to a Read: of a record of this page, or of the others.
 unfoldable pub served : Bool → Real → Option (List ℕ) → IodReadReq → Option (List ℕ) → Result (List ℕ) CallFault
 served is_within real own request readable = served_by is_within real own request (listing_of real request) readable

@@ -20,6 +20,7 @@ header_of request status = record {
   pnio_status = number_of status;
 }
 
+-- The IODWriteRes of a record, with its status.
 unfoldable pub outcome_of : IodWriteReq → Status → List ℕ
 outcome_of request status = block_bytes (is.IodWriteRes (header_of request status))
 

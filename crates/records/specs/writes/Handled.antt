@@ -33,6 +33,7 @@ abbrev pub text_in : Result Command RecordFault → Option Effect
 text_in (Ok (SetIm value)) = Some (Stores value)
 text_in _ = None
 
+-- What a written text changes in the settings.
 abbrev pub stored : ℕ → List ℕ → Option Effect
 stored index octets = text_in (command_of index octets)
 

@@ -26,10 +26,12 @@ entry_behind (Some request) behind =
     else Some ((request, take request.header.record_data_length behind), drop (padded request.header.record_data_length) behind)
 entry_behind None behind = None
 
+-- A record of a list, and the octets after it.
 abbrev pub entry_in : Result (Block × List ℕ) BlockFault → Option (Entry × List ℕ)
 entry_in (Ok x) = entry_behind (in_iod_write_req x.0) x.1
 entry_in (Err fault) = None
 
+-- The record at the front of these octets, if there is one.
 unfoldable pub entry_of : List ℕ → Option (Entry × List ℕ)
 entry_of octets = entry_in (block_of octets)
 
@@ -38,6 +40,7 @@ abbrev pub is_then : Option (Entry × List ℕ) → (List ℕ → Bool) → Bool
 is_then (Some x) next = next x.1
 is_then None next = false
 
+-- Whether octets are a list of at most this number of records.
 unfoldable pub is_list : ℕ → List ℕ → Bool
 is_list count [] = true
 is_list zero (octet ∷ octets) = false
@@ -48,6 +51,7 @@ abbrev pub entries_then : Option (Entry × List ℕ) → (List ℕ → List Entr
 entries_then (Some x) next = x.0 ∷ next x.1
 entries_then None next = []
 
+-- The records of such a list.
 unfoldable pub entries_in : ℕ → List ℕ → List Entry
 entries_in zero octets = []
 entries_in (suc count) octets = entries_then (entry_of octets) (λ behind. entries_in count behind)
@@ -56,6 +60,7 @@ entries_in (suc count) octets = entries_then (entry_of octets) (λ behind. entri
 abbrev pub most_entries : ℕ
 most_entries = 16
 
+-- The records of a list in one Write, if it is one: at most 16.
 abbrev pub list_of : List ℕ → Option (List Entry)
 list_of octets = if is_list most_entries octets then Some (entries_in most_entries octets) else None
 

@@ -6,7 +6,7 @@ ghost use Rattle.records.specs.calls.Naming.{in_relation, is_relation};
 use crate::CallFault;
 use wire::Uuid;
 
-/// Whether this is the ARUUID of the active relation; false if there is none. `standing` is the ARUUID of the active
+/// Whether this is the ARUUID of the active relation; false without a relation. `standing` is the ARUUID of the active
 /// relation.
 pub fn is_relation(standing: Option<&Uuid>, ar_uuid: &Uuid) -> bool
     ensures { result ≡ is_relation (option_map (λ uuid. uuid.now) standing.entry) ar_uuid.now }
@@ -18,7 +18,7 @@ pub fn is_relation(standing: Option<&Uuid>, ar_uuid: &Uuid) -> bool
 }
 
 /// Checks that a call with this ARUUID names the active relation. Fails with UnknownRelation if it names another one or
-/// if there is none.
+/// if there is no relation.
 #[tactic(auto, unfolding(crate::specs::calls::Naming::in_relation))]
 pub fn check_relation(standing: Option<&Uuid>, ar_uuid: &Uuid) -> Result<(), CallFault>
     ensures { result ≡ in_relation (option_map (λ uuid. uuid.now) standing.entry) ar_uuid.now }

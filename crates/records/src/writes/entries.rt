@@ -119,7 +119,7 @@ impl<'a> Entries<'a> {
 
     /// The same records.
     pub fn again(&self) -> Entries<'a>
-        // The list is not changed, and can be taken again.
+        // The list is not changed, and can be read again.
         ensures { result ≡ self.now }
     {
         Entries {
@@ -130,7 +130,7 @@ impl<'a> Entries<'a> {
 
     /// Takes the next record.
     pub fn next(&mut self) -> Option<Entry<'a>>
-        // There is none only at the end of the list.
+        // Nothing is returned only at the end of the list.
         ensures ends { IfNone result (self.old ≡ []) }
         // It is the first of those that were left, and the others are left.
         ensures next { IfSome result (λ entry. self.old ≡ (entry.request, entry.octets.now) ∷ self.new) }

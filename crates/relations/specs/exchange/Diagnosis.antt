@@ -18,13 +18,15 @@ with_low flow low = record flow { low = low }
 abbrev pub diagnoses_begun : List RealModule → List Diagnosis → Flow → Flow
 diagnoses_begun real diagnoses flow = with_low flow (after_next real (begun diagnoses flow.low))
 
+-- Whether an alarm of a diagnosis is sent when data exchange begins.
 abbrev pub begins_with_one : List RealModule → List Diagnosis → Flow → Bool
 begins_with_one real diagnoses flow = is_next real (begun diagnoses flow.low)
 
--- The same of a change, after which these exist.
+-- The exchange after a change of diagnosis, after which these exist.
 abbrev pub diagnosed : List RealModule → Change → List Diagnosis → Flow → Flow
 diagnosed real change diagnoses flow = with_low flow (changed real flow.cyclic.begun change diagnoses flow.low)
 
+-- Whether the alarm of a change is sent at once.
 abbrev pub is_diagnosed : List RealModule → Change → List Diagnosis → Flow → Bool
 is_diagnosed real change diagnoses flow = is_sent real flow.cyclic.begun change diagnoses flow.low
 

@@ -30,16 +30,19 @@ pub data Frame : Type 0 where
 abbrev pub inputs_frame : Flow → ℕ → Frame
 inputs_frame flow counter = Inputs flow.low.has_problem flow.cyclic.shown counter
 
+-- The process alarm that is sent, or sent again, if one is not acknowledged.
 abbrev pub alarm_frame : Flow → Option Frame
 alarm_frame flow = option_map (Notifies (header_of flow Data)) flow.alarms.sender.standing
 
+-- The ACK or NACK of data of high priority.
 abbrev pub reply_frame : Flow → Taken → Frame
 reply_frame flow taken = Replies (header_of flow (answer_to taken))
 
--- The same of low priority.
+-- The alarm of low priority that is sent, or sent again, if one is not acknowledged.
 abbrev pub low_alarm_frame : Flow → Option Frame
 low_alarm_frame flow = option_map (Reports flow.low.tag (low_header_of flow Data)) flow.low.alarms.sender.standing
 
+-- The ACK or NACK of data of low priority.
 abbrev pub low_reply_frame : Flow → Taken → Frame
 low_reply_frame flow taken = RepliesLow flow.low.tag (low_header_of flow (answer_to taken))
 
@@ -51,6 +54,7 @@ tag_of route (Replies header) = route.alarm_tag
 tag_of route (Reports tag header alarm) = tag
 tag_of route (RepliesLow tag header) = tag
 
+-- The FrameID of each frame of a relation.
 abbrev pub id_of : Route → Frame → ℕ
 id_of route (Inputs has_problem inputs counter) = route.sent_id
 id_of route (Notifies header alarm) = frame_id_of Data
@@ -58,6 +62,7 @@ id_of route (Replies header) = frame_id_of header.kind
 id_of route (Reports tag header alarm) = frame_id_at Low Data
 id_of route (RepliesLow tag header) = frame_id_at Low header.kind
 
+-- The octets of each frame after its FrameID.
 abbrev pub body_of : Frame → List ℕ
 body_of (Inputs has_problem inputs counter) = body_at has_problem inputs counter
 body_of (Notifies header alarm) = pdu_bytes (alarm_pdu header alarm)
@@ -65,7 +70,7 @@ body_of (Replies header) = pdu_bytes (record { header = header; body = [] })
 body_of (Reports tag header alarm) = pdu_bytes (diagnosis_pdu header alarm)
 body_of (RepliesLow tag header) = pdu_bytes (record { header = header; body = [] })
 
--- The same for an optional frame.
+-- The octets of a frame after its FrameID, none without a frame.
 abbrev pub body_in : Option Frame → List ℕ
 body_in (Some frame) = body_of frame
 body_in None = []

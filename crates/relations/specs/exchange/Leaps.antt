@@ -6,7 +6,7 @@ use Rattle.cyclic_data.specs.exchange.Units.{Brought}
 use Rattle.relations.specs.exchange.Flow.{Flow}
 use Rattle.relations.specs.exchange.Units.{flow_later, tick_of}
 
--- The number of units up to and with the next one with which a frame is due, the data hold time is over, or an alarm is
+-- The number of units up to and including the next one with which a frame is due, the data hold time is over, or an alarm is
 -- sent again or given up.
 abbrev pub flow_due_in : Flow → ℕ
 flow_due_in flow =

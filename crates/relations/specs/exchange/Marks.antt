@@ -41,14 +41,17 @@ abbrev pub mark_at : ℕ → ℕ → List Mark → Option Mark
 mark_at slot subslot [] = None
 mark_at slot subslot (mark ∷ marks) = if is_of Data slot subslot mark.place then Some mark else mark_at slot subslot marks
 
+-- The IOPS of a submodule by its mark; 0 without one.
 abbrev pub iops_of : Option Mark → ℕ
 iops_of None = 0
 iops_of (Some mark) = iops_by mark
 
+-- Whether a submodule waits for its first value.
 abbrev pub is_awaited_in : Option Mark → Bool
 is_awaited_in None = false
 is_awaited_in (Some mark) = mark.is_awaited
 
+-- Whether the submodule in this slot and subslot waits for its first value.
 abbrev pub awaits : ℕ → ℕ → List Mark → Bool
 awaits slot subslot marks = is_awaited_in (mark_at slot subslot marks)
 

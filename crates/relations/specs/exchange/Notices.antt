@@ -14,7 +14,7 @@ use Rattle.relations.specs.exchange.Flow.{Flow}
 abbrev pub may_raise : Flow → List ℕ → Bool
 may_raise flow octets = flow.cyclic.begun && (nat_le (length octets) 32 && is_none flow.alarms.sender.standing)
 
--- The state after an alarm of a subslot, if it may be raised and a submodule is plugged there; otherwise there is none.
+-- The state after an alarm of a subslot, if it may be raised and a submodule is plugged there; otherwise no state.
 abbrev pub raised_by : Flow → ℕ → ℕ → List ℕ → Option ℕ → Option ℕ → Option Flow
 raised_by flow slot subslot octets (Some ident) (Some part) =
     if may_raise flow octets
@@ -23,6 +23,7 @@ raised_by flow slot subslot octets (Some ident) (Some part) =
 raised_by flow slot subslot octets (Some ident) None = None
 raised_by flow slot subslot octets None part = None
 
+-- The exchange after a process alarm of a submodule is raised, with the ident numbers of what is plugged there.
 abbrev pub raised_at : Flow → List RealModule → ℕ → ℕ → List ℕ → Option Flow
 raised_at flow real slot subslot octets = raised_by flow slot subslot octets (module_ident real slot) (submodule_ident real slot subslot)
 

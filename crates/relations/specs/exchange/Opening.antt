@@ -39,6 +39,7 @@ interval_of iocr = iocr.send_clock_factor * iocr.reduction_ratio
 abbrev pub status_of : Listed DiffModule DiffSubmodule → ℕ → ℕ → ℕ
 status_of rows slot subslot = if is_listed slot subslot rows then 0 else good
 
+-- The statuses with which an exchange begins: IOPS of the inputs by their marks, IOCS of the outputs by what is plugged.
 abbrev pub statuses_of : Listed DiffModule DiffSubmodule → List Mark → StatusOf
 statuses_of rows marks Data slot subslot = iops_of (mark_at slot subslot marks)
 statuses_of rows marks Iocs slot subslot = status_of rows slot subslot
@@ -57,6 +58,7 @@ terms_of request = record { timeout_factor = request.alarm.timeout_factor; retri
 abbrev pub first_marks : Request → Listed DiffModule DiffSubmodule → Starting → List Mark
 first_marks request rows starting = map (first_mark starting rows) request.input.layout.places
 
+-- The exchange of a relation that a Connect makes.
 abbrev pub opened : Request → Listed DiffModule DiffSubmodule → Starting → Flow
 opened request rows starting = record {
   cyclic = cyclic_opened (route_of starting.number request) (record { interval = interval_of request.input; elapsed = 0 })

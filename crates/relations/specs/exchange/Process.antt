@@ -5,7 +5,7 @@ use Rattle.cyclic_data.specs.exchange.Cyclic.{Cyclic}
 use Rattle.relations.specs.exchange.Flow.{Flow}
 use Rattle.relations.specs.exchange.Marks.{awaits, change_by, iops_of, mark_at, marked}
 
--- The same exchange with another end of cyclic data.
+-- The exchange with other cyclic data.
 abbrev pub with_cyclic : Flow → Cyclic → Flow
 with_cyclic flow cyclic = record flow { cyclic = cyclic }
 
@@ -21,6 +21,7 @@ abbrev pub with_input : Flow → ℕ → ℕ → Cyclic → Flow
 with_input flow slot subslot cyclic =
     if awaits slot subslot flow.marks then remarked (with_cyclic flow cyclic) slot subslot None else with_cyclic flow cyclic
 
+-- The exchange after the application gave an input, if the submodule has one of that size.
 abbrev pub given_at : Flow → ℕ → ℕ → List ℕ → Option Flow
 given_at flow slot subslot value = option_map (with_input flow slot subslot) (cyclic_given flow.cyclic slot subslot value)
 

@@ -49,6 +49,7 @@ behind (Raises real slot subslot octets) flow = unwrap_or (raised_at flow real s
 behind (Says message) flow = behind_message flow message
 behind (Lowers low) flow = with_low flow low
 
+-- The exchange after these events.
 abbrev pub behind_all : List Event → Flow → Flow
 behind_all [] flow = flow
 behind_all (event ∷ events) flow = behind_all events (behind event flow)
@@ -57,11 +58,13 @@ behind_all (event ∷ events) flow = behind_all events (behind event flow)
 abbrev pub iops_after : Flow → ℕ → ℕ → Option Bool → ℕ
 iops_after flow slot subslot status = iops_of (mark_at slot subslot (marked slot subslot (change_by status) flow.marks))
 
+-- The IOPS that a first value brings with it: that of the submodule, if it waited for the value.
 abbrev pub states_after : Flow → ℕ → ℕ → Option Cyclic → List core.Event
 states_after flow slot subslot None = []
 states_after flow slot subslot (Some cyclic) =
     if awaits slot subslot flow.marks then core.States slot subslot (iops_after flow slot subslot None) ∷ [] else []
 
+-- What an event of the exchange is to its cyclic data.
 abbrev pub cyclic_event : Event → Flow → List core.Event
 cyclic_event Begins flow = core.Begins ∷ []
 cyclic_event Passes flow = core.Passes ∷ []
@@ -73,6 +76,7 @@ cyclic_event (Raises real slot subslot octets) flow = core.Rests ∷ []
 cyclic_event (Says message) flow = core.Rests ∷ []
 cyclic_event (Lowers low) flow = core.Rests ∷ []
 
+-- What these events are to the cyclic data.
 abbrev pub cyclic_events : List Event → Flow → List core.Event
 cyclic_events [] flow = []
 cyclic_events (event ∷ events) flow = cyclic_event event flow ++ cyclic_events events (behind event flow)
@@ -88,6 +92,7 @@ units_of (Raises real slot subslot octets) = 0
 units_of (Says message) = 0
 units_of (Lowers low) = 0
 
+-- How many of these events are units of time.
 abbrev pub units_in : List Event → ℕ
 units_in [] = 0
 units_in (event ∷ events) = units_of event + units_in events
@@ -109,6 +114,7 @@ given_with slot subslot size (Raises real of_slot of_subslot octets) = None
 given_with slot subslot size (Says message) = None
 given_with slot subslot size (Lowers low) = None
 
+-- The value that was given last for an input of this size, if one was given.
 abbrev pub last_given : ℕ → ℕ → ℕ → List Event → Option (List ℕ)
 last_given slot subslot size [] = None
 last_given slot subslot size (event ∷ events) = later_one (last_given slot subslot size events) (given_with slot subslot size event)
@@ -125,10 +131,12 @@ rated_with slot subslot (Raises real of_slot of_subslot octets) = None
 rated_with slot subslot (Says message) = None
 rated_with slot subslot (Lowers low) = None
 
+-- The later of two statuses, if there is one.
 abbrev pub later_rated : Option Bool → Option Bool → Option Bool
 later_rated (Some later) earlier = Some later
 later_rated None earlier = earlier
 
+-- The status that the application gave last for a submodule, if it gave one.
 abbrev pub last_rated : ℕ → ℕ → List Event → Option Bool
 last_rated slot subslot [] = None
 last_rated slot subslot (event ∷ events) = later_rated (last_rated slot subslot events) (rated_with slot subslot event)
@@ -145,6 +153,7 @@ mark_after slot subslot events mark = record mark {
   is_bad = unwrap_or (last_rated slot subslot events) mark.is_bad;
 }
 
+-- The IOPS of an input after these events.
 abbrev pub input_iops : Listed DiffModule DiffSubmodule → Starting → ℕ → ℕ → List Event → Place → ℕ
 input_iops rows starting slot subslot events place = iops_by (mark_after slot subslot events (first_mark starting rows place))
 

@@ -13,18 +13,19 @@ is_for slot subslot status = status.slot == slot && status.subslot == subslot
 abbrev pub is_bad : ℕ → ℕ → List InputStatus → Bool
 is_bad slot subslot statuses = list_any (λ status. is_for slot subslot status && not status.is_good) statuses
 
--- The statuses with one more: in the place of the one that was given before for the same submodule, or behind all, if
+-- The statuses with one more: in the place of the one that was given before for the same submodule, or after all others, if
 -- there is room. There is room for 64, as many as submodules can be plugged.
 abbrev pub replaced : InputStatus → List InputStatus → List InputStatus
 replaced status statuses = map (λ other. if is_for status.slot status.subslot other then status else other) statuses
 
+-- The statuses of inputs with one more, if there is room for 64.
 abbrev pub statuses_with : InputStatus → List InputStatus → Option (List InputStatus)
 statuses_with status statuses =
     if list_any (is_for status.slot status.subslot) statuses then Some (replaced status statuses)
     else if nat_lt (length statuses) 64 then Some (statuses ++ status ∷ [])
     else None
 
--- The same, if a submodule is plugged there.
+-- The statuses of inputs with one more, if a submodule is plugged there and there is room.
 abbrev pub statuses_at : List RealModule → InputStatus → List InputStatus → Option (List InputStatus)
 statuses_at real status statuses =
     if is_some (submodule_ident real status.slot status.subslot) then statuses_with status statuses else None

@@ -22,6 +22,7 @@ alarm_due flow = either_due (due flow.alarms.sender.sending) (due flow.low.alarm
 abbrev pub repeated_of : Flow → Repeated
 repeated_of flow = record { high = is_again (due flow.alarms.sender.sending); low = is_again (due flow.low.alarms.sender.sending) }
 
+-- Which alarm is sent again with the next unit.
 abbrev pub repeated_in : Flow → Repeated
 repeated_in flow = record { high = is_repeated flow.alarms.sender.sending; low = is_repeated flow.low.alarms.sender.sending }
 

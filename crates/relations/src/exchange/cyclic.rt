@@ -68,7 +68,7 @@ impl DataExchange {
         }
     }
 
-    /// The number of units up to and with the next one with which a frame of inputs is due, the data hold time is over,
+    /// The number of units up to and including the next one with which a frame of inputs is due, the data hold time is over,
     /// or an alarm is sent again or given up.
     #[inline(always)]
     pub fn due_in(&self) -> u32

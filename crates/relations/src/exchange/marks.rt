@@ -121,7 +121,7 @@ pub(crate) fn change(marks: &mut ArrayVec<Mark, 128>, slot: u16, subslot: u16, s
     *marks = next;
 }
 
-/// The IOPS of the inputs of a submodule, by the first of its marks; 0 if there is none.
+/// The IOPS of the inputs of a submodule, by the first of its marks; 0 without a mark.
 pub(crate) fn iops_in(marks: &[Mark], slot: u16, subslot: u16) -> u8
     ensures { result ≡ iops_of (mark_at slot subslot marks.now) }
 {

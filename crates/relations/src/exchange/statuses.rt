@@ -44,7 +44,7 @@ fn is_known(statuses: &[InputStatus], slot: u16, subslot: u16) -> bool
     statuses.iter().any(|status| status.is_for(slot, subslot))
 }
 
-/// Puts a status in the place of the one that was given before for the same submodule, or behind all. Returns whether the
+/// Puts a status in the place of the one that was given before for the same submodule, or after all others. Returns whether the
 /// submodule is plugged and there is room; if not, nothing changes. There is room for 64, as many as submodules can be
 /// plugged.
 pub fn put_status(
@@ -68,7 +68,7 @@ pub fn is_plugged(real: &Real, slot: u16, subslot: u16) -> bool
     }
 }
 
-/// Puts a status in the place of the one that was given before for the same submodule, or behind all. Returns whether there
+/// Puts a status in the place of the one that was given before for the same submodule, or after all others. Returns whether there
 /// is room; if not, nothing changes.
 fn put(statuses: &mut ArrayVec<InputStatus, 64>, status: InputStatus) -> bool
     ensures done { result ≡ is_some (statuses_with status statuses.old.items) }

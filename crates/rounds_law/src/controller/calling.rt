@@ -31,7 +31,7 @@ fn connect_answers_are_read(setup: &Setup, identity: &Identity, address: [u8; 4]
 /// What a controller does with the responses of its device. These are laws of the machine by which each step of a controller is
 /// specified.
 pub fn controller_takes_responses(setup: &Setup, identity: &Identity)
-    // After the response to the Connect, its relation is established. It sends the first Write, or PrmEnd if there is none.
+    // After the response to the Connect, its relation is established. It sends the first Write, or PrmEnd if the plan has no Write.
     ensures connected { CanMeet setup.now identity.now → IsPatient setup.now.plan setup.now.options
         → (options : DeviceOptions) → AcceptsInterval options setup.now.plan → (serial : ℕ) → serial < 14336 → (controller : Controlling) (spare : ℕ)
         → Asks setup.now identity.now.mac Connecting Connect None spare controller

@@ -1,4 +1,4 @@
--- Pings, and calls that nobody serves (C706, 12.5 and appendix E).
+-- Pings, and calls to unknown interfaces or operations (C706, 12.5 and appendix E).
 use Rattle.std.specs.Prelude.{◌/◌, ◌*◌, ◌%◌, ◌==◌, ◌&&◌, ℕ, Bool, true, false, nat_eq, nat_le, nat_lt, List, [], ◌∷◌, ◌++◌, length, Option, Some, None, Result, Ok, Err, if◌then◌else◌}
 use Rattle.std.specs.Cmp.Lexicographic.{pointwise}
 use Rattle.std.specs.Option.{option_map}

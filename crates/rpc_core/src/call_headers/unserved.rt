@@ -1,4 +1,4 @@
-//! Pings, and calls that nobody serves (C706, 12.5 and appendix E).
+//! Pings, and calls to unknown interfaces or operations (C706, 12.5 and appendix E).
 ghost use Rattle.std.specs.Prelude.{◌≡◌};
 ghost use Rattle.std.specs.Option.{option_map};
 ghost use Rattle.rpc_core.specs.call_headers.Unserved.{answer_bytes, answer_head as answer_head_by, is_read as is_read_by, mapper_uuid, names_interface as names_interface_by, refusal_of, request_refusal, sent_uuid as sent_uuid_by, status_of, unserved_answer as unserved_answer_by};

@@ -10,9 +10,11 @@ digit unit n = if nat_lt n unit then 32 else 48 + n / unit % 10
 abbrev pub in_three : ℕ → List ℕ
 in_three n = digit 100 n ∷ digit 10 n ∷ (48 + n % 10) ∷ []
 
+-- A number in five decimal digits.
 abbrev pub in_five : ℕ → List ℕ
 in_five n = digit 10000 n ∷ digit 1000 n ∷ digit 100 n ∷ digit 10 n ∷ (48 + n % 10) ∷ []
 
+-- A space.
 abbrev pub space : List ℕ
 space = 32 ∷ []
 

@@ -11,11 +11,11 @@ ticks_of (suc ticks) state = ticked (ticks_of ticks state)
 abbrev pub later : ℕ → State → State
 later ticks state = record state { calls = map (older ticks) state.calls }
 
--- the number of ticks up to and with the next one that drops one of these; this many if nothing is unfinished
+-- the number of ticks up to and including the next one that drops one of these; this many if nothing is unfinished
 abbrev pub soonest : ℕ → List Unfinished → ℕ
 soonest never [] = never
 soonest never (u ∷ us) = if u.left == 0 then soonest never us else soonest (min never u.left) us
 
--- the number of ticks up to and with the next one that drops a call; 4,294,967,295 if nothing is unfinished
+-- the number of ticks up to and including the next one that drops a call; 4,294,967,295 if nothing is unfinished
 abbrev pub due_in : State → ℕ
 due_in state = soonest 4294967295 state.calls

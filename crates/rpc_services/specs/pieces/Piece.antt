@@ -54,6 +54,7 @@ is_piece kind h body =
 abbrev pub serial_of : List ℕ → ℕ
 serial_of bytes = slice_index bytes 7 * 256 + slice_index bytes 79
 
+-- The fragment that octets with this header are, if they are one.
 abbrev pub piece_by : Kind → List ℕ → Result (Head × List ℕ) RpcFault → Option Piece
 piece_by kind bytes (Ok x) =
     if is_piece kind x.0 x.1 then Some (record { head = x.0; serial = serial_of bytes; octets = take x.0.extent.length x.1 }) else None

@@ -21,6 +21,7 @@ pub record Unfinished : Type 0 where
   -- in how many ticks it is dropped; 0: nothing is here
   pub left : ℕ
 
+-- The calls, or answers, of which fragments are missing: four places.
 pub record State : Type 0 where
   -- whether calls or answers are joined
   pub kind : Kind
@@ -48,6 +49,7 @@ started kind = record { kind = kind; calls = blank ∷ blank ∷ blank ∷ blank
 
 -- ---- places
 
+-- Whether fragments are missing at a place.
 abbrev pub is_live : Unfinished → Bool
 is_live u = nat_lt 0 u.left
 
@@ -63,17 +65,19 @@ holds h u = is_live u && is_same h u.head
 abbrev pub is_unfinished : Unfinished → Bool
 is_unfinished u = is_live u && not u.is_whole
 
--- Which place makes room for another call: the one with the greatest number. One with nothing is taken first, then one with a
+-- Which place makes room for another call: the one with the greatest number. One with nothing is used first, then one with a
 -- finished call, and then one with an unfinished call; among such, the one whose call began first. An age is at most 3.
 abbrev pub turn_of : Unfinished → ℕ → ℕ
 turn_of u age = if is_unfinished u then age else if is_live u then age + 4 else age + 8
 
+-- The place with the greatest number from this one on.
 abbrev pub oldest_from : ℕ → ℕ → ℕ → List ℕ → List Unfinished → ℕ
 oldest_from place most index ages [] = place
 oldest_from place most index ages (u ∷ us) =
     if nat_lt most (turn_of u (slice_index ages index)) then oldest_from index (turn_of u (slice_index ages index)) (index + 1) ages us
     else oldest_from place most (index + 1) ages us
 
+-- The place that makes room for another call.
 abbrev pub oldest : List ℕ → List Unfinished → ℕ
 oldest ages calls = oldest_from 0 0 0 ages calls
 
@@ -86,6 +90,7 @@ place_of h ages calls =
 abbrev pub older_than : ℕ → ℕ → ℕ
 older_than age other = if nat_lt other age then other + 1 else other
 
+-- The ages after a call begins at a place.
 abbrev pub begun_at : ℕ → List ℕ → List ℕ
 begun_at place ages = slice_set (map (older_than (slice_index ages place)) ages) place 0
 
@@ -103,6 +108,7 @@ fresh h = record { head = h; octets = []; next = 0; is_whole = false; left = 640
 abbrev pub starts : Unfinished → Piece → Bool
 starts u p = number_of p == 0 && not (holds p.head u)
 
+-- A place after the first fragment of another call.
 abbrev pub begun : Unfinished → Piece → Unfinished
 begun u p = if starts u p then fresh p.head else u
 
@@ -177,6 +183,7 @@ pub data Outcome : Type 0 where
 abbrev pub fack_of : Unfinished → Piece → Option (List ℕ)
 fack_of u p = option_map (fack_bytes p) (acknowledged (continued u p) p)
 
+-- What becomes of a fragment: it completes its call, waits for the next one, or is dropped.
 abbrev pub outcome_by : Unfinished → Piece → Outcome
 outcome_by u p =
     if completes u p then Joined (whole_bytes u.head (u.octets ++ p.octets))
@@ -189,12 +196,15 @@ outcome_by u p =
 abbrev pub place_in : State → Piece → ℕ
 place_in state p = place_of p.head state.ages state.calls
 
+-- What a fragment finds at its place.
 abbrev pub at_place : State → Piece → Unfinished
 at_place state p = get_or state.calls (place_in state p) blank
 
+-- The ages after a fragment.
 abbrev pub ages_after : State → Piece → List ℕ
 ages_after state p = if starts (at_place state p) p then begun_at (place_in state p) state.ages else state.ages
 
+-- The places after a fragment.
 abbrev pub after_piece : State → Option Piece → State
 after_piece state None = state
 after_piece state (Some p) = record state {
@@ -206,6 +216,7 @@ after_piece state (Some p) = record state {
 unfoldable pub heard : State → List ℕ → State
 heard state bytes = after_piece state (piece_of state.kind bytes)
 
+-- What becomes of a fragment.
 abbrev pub outcome_of : State → Option Piece → Outcome
 outcome_of state None = Nothing
 outcome_of state (Some p) = outcome_by (begun (at_place state p) p) p
@@ -220,5 +231,6 @@ heard_as state bytes = outcome_of state (piece_of state.kind bytes)
 abbrev pub older : ℕ → Unfinished → Unfinished
 older ticks u = record u { left = u.left - ticks }
 
+-- The places after a unit of time.
 abbrev pub ticked : State → State
 ticked state = record state { calls = map (older 1) state.calls }

@@ -7,6 +7,6 @@ ghost use Rattle.rpc_services.specs.endpoint_mapper.Lookup.{gets_entry};
 
 /// A lookup ends.
 pub fn lookups_end()
-    // A lookup that goes on with the handle of an answer gets no entry, in either byte order: the entry is told once.
+    // A lookup that goes on with the handle of an answer gets no entry, in either byte order: the entry is returned once.
     ensures { (identity : Identity) (little : Bool) (asked : Lookup) → asked.handle ≡ told_handle little identity → gets_entry asked ≡ false }
 {}

@@ -17,7 +17,7 @@ pub fn headers_are_sound()
     ensures { IsSound head }
 {}
 
-/// What is joined, whatever comes.
+/// What is joined, for any fragments.
 pub fn joined_calls_are_their_fragments()
     // A whole consists of the octets of the fragments of one activity and sequence, from the first one to the last one, in the
     // order of their numbers, each once. Nothing else is joined.

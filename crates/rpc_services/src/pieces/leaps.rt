@@ -21,7 +21,7 @@ impl Joiner {
 
     /// Lets any number of ticks pass.
     pub fn elapse(&mut self, ticks: u32)
-        // It does what as many ticks do, one by one.
+        // It has the same effect as that many ticks, one by one.
         ensures state { self.new ≡ ticks_of ticks self.old }
     {
         self.pass(ticks);
@@ -36,7 +36,7 @@ impl Joiner {
         age(&mut self.calls, ticks);
     }
 
-    /// The number of ticks up to and with the next one that drops a call; `NEVER` if nothing is unfinished.
+    /// The number of ticks up to and including the next one that drops a call; `NEVER` if nothing is unfinished.
     pub fn due_in(&self) -> u32
         ensures { result ≡ due_by self.now }
     {

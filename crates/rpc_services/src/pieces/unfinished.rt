@@ -18,7 +18,7 @@ pub(crate) const LIFETIME: u32 = 64_000;
 pub(crate) struct Unfinished {
     head: Head,
     left: u32,
-    // What follows this room is short, so that a place with nothing is made without a copy of the room, which is not written then. With `left` behind
+    // What follows this room is short, so that a place with nothing is made without a copy of the room, which is not written then. With `left` after
     // it, a station that starts took 17,000 octets of stack more.
     octets: ArrayVec<u8, 4152>,
     next: u16,

@@ -33,9 +33,11 @@ numeral size = record {
 abbrev pub one : Codec BlockFault ℕ
 one = numeral 1
 
+-- A number of two octets.
 abbrev pub two : Codec BlockFault ℕ
 two = numeral 2
 
+-- A number of four octets.
 abbrev pub four : Codec BlockFault ℕ
 four = numeral 4
 
@@ -47,9 +49,11 @@ ranged field least greatest = checked (λ value. nat_le least value && nat_le va
 abbrev pub fixed : ℕ → ℕ → Codec BlockFault (Unit {0})
 fixed field value = seen (λ _. tt) (λ _. value) (checked (λ n. n == value) (Field field) two)
 
+-- One octet with this value, or the fault of this field.
 abbrev pub fixed_one : ℕ → ℕ → Codec BlockFault (Unit {0})
 fixed_one field value = seen (λ _. tt) (λ _. value) (checked (λ n. n == value) (Field field) one)
 
+-- Four octets with this value, or the fault of this field.
 abbrev pub fixed_four : ℕ → ℕ → Codec BlockFault (Unit {0})
 fixed_four field value = seen (λ _. tt) (λ _. value) (checked (λ n. n == value) (Field field) four)
 

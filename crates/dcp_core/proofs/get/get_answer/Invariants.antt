@@ -1,4 +1,4 @@
--- what was written and what is to come make the whole response, and there is room
+-- what was written and what follows make the whole response, and there is room
 use Rattle.std.proofs.Common.{◌≤◌, length, option_map}
 use Rattle.dcp_core.specs.Get.{got}
 use Rattle.dcp_core.proofs.Pairs.{IsSoFar}

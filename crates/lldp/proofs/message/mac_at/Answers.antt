@@ -32,7 +32,7 @@ loop-tlv-preserved c =
     let all : each (λ ts. mac_or c.first_told-found.result (mac_in source ts)) (read_others step.0 x.1) ≡ mac_behind source c.args.bytes.now = same ∙ (sym step.2 ∙ so_far.2) in
     (step.0, step.1, all)
 
--- what the first TLVs told, or the source address
+-- what the first TLVs say, or the source address
 pub returns-in-None : goal.returns-in-None
 returns-in-None c =
     let source = c.args.source in

@@ -1,4 +1,4 @@
--- the TLVs that are left say what all say, unless one of those before told the MAC address
+-- the TLVs that are left say what all say, unless one of those before has the MAC address
 use Rattle.std.proofs.Common.{◌≡◌, ◌≤◌, ℕ, length, Ok}
 use Rattle.wire.specs.Codec.{◌>>=◌}
 use Rattle.lldp.specs.Message.{read_others}

@@ -1,4 +1,4 @@
--- The device is told of its neighbour, and then the units pass.
+-- The neighbour is reported to the device, and then the units pass.
 use Rattle.std.proofs.Common.{◌-◌}
 use Rattle.station.specs.State.{in_order}
 use Rattle.station.specs.Steps.{station_of}

@@ -1,4 +1,4 @@
--- An output, or why there is none.
+-- An output, or why the submodule has none.
 use Rattle.std.proofs.Common.{refl}
 use Rattle.station_abi.proofs.Reported.{unreported}
 use Rattle.station_abi.proofs.serving.tell_output.Goals as goal

@@ -37,6 +37,7 @@ flat_alike format = record { write = λ before entry rest. refl; size = λ befor
 abbrev pub submodules_bytes : {S : Type 0} → (List S → Codec BlockFault S) → List S → List ℕ → List ℕ
 submodules_bytes format submodules rest = flat_bytes (format []).write submodules rest
 
+-- The octets of these submodules.
 abbrev pub submodules_size : {S : Type 0} → (List S → Codec BlockFault S) → List S → ℕ
 submodules_size format submodules = flat_size (format []).size submodules
 
@@ -67,5 +68,6 @@ module _ {M S : Type 0} (head : List M → Codec BlockFault M) (own : M → ℕ)
   abbrev pub modules_bytes : List M → List S → List ℕ → List ℕ
   modules_bytes modules submodules rest = nested_bytes (head []).write own (item []).write modules submodules rest
 
+  -- The octets of these modules with their submodules.
   abbrev pub modules_size : List M → List S → ℕ
   modules_size modules submodules = nested_size (head []).size own (item []).size modules submodules

@@ -1,4 +1,4 @@
--- The device is told what the services have to tell.
+-- What the services have to report is reported to the device.
 use Rattle.device_abi.proofs.ServedTelling.{tells_from}
 use Rattle.device_abi.proofs.port.beside.tell_of.Goals as goal
 

@@ -1,4 +1,4 @@
--- The handle that was told is not the one of a lookup that begins.
+-- The handle of an answer is not the one of a lookup that begins.
 use Rattle.rpc_services.proofs.EndpointMapperEnding.{ends}
 use Rattle.rpc_services.proofs.endpoint_mapper.law.lookups_end.Goals as goal
 

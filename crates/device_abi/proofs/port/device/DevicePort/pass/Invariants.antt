@@ -1,4 +1,4 @@
--- The units so far passed, one step each, and nothing is due before so many more.
+-- The units so far passed, one step each, and nothing is due before that many more.
 use Rattle.std.proofs.Common.{◌≡◌, ◌-◌, ◌≤◌, ◌<◌, None}
 use Rattle.device_core.specs.Leaps.{live_due_in}
 use Rattle.device_abi.specs.port.State.{barred}

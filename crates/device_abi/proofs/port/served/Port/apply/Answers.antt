@@ -1,4 +1,4 @@
--- The device is told of its neighbour, and then the event is handled.
+-- The neighbour is reported to the device, and then the event is handled.
 use Rattle.std.proofs.Common.{◌∙◌, sym}
 use Rattle.device_abi.proofs.port.served.Port.apply.Goals as goal
 

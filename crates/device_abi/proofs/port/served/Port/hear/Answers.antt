@@ -1,4 +1,4 @@
--- The device is told of its neighbour, and then the frame is handled.
+-- The neighbour is reported to the device, and then the frame is handled.
 use Rattle.std.proofs.Common.{◌∙◌, sym, subst}
 use Rattle.device_frames.specs.declared.event.Event.TheVariants.{Frame}
 use Rattle.device_abi.specs.port.ServedSteps.{StepsBoth}

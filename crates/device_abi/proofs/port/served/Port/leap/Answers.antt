@@ -1,4 +1,4 @@
--- The device is told of its neighbour, and then the units pass at both.
+-- The neighbour is reported to the device, and then the units pass at both.
 use Rattle.std.proofs.Common.{◌≡◌, ◌-◌, drop, Option, None, subst, sym}
 use Rattle.frame_codec.specs.Outbox.{boxed}
 use Rattle.station.specs.Serving.{Serving}
