@@ -215,11 +215,62 @@ fn numbers_of(identity: &Identity) -> [u8; 56]
     let [device, device_low] = identity.device_id.to_be_bytes();
     let [instance, instance_low] = identity.instance.to_be_bytes();
     [
-        2, 3, 0, 6, 0, 0, vendor, vendor_low, device, device_low, // DeviceId
-        2, 4, 0, 4, 0, 0, 1, 0, // DeviceRole: ROLE
-        2, 5, 0, 26, 0, 0, // DeviceOptions: KNOWN_OPTIONS
-        1, 1, 1, 2, 2, 1, 2, 2, 2, 3, 2, 4, 2, 5, 2, 7, 5, 3, 5, 4, 5, 5, 5, 6, //
-        2, 7, 0, 4, 0, 0, instance, instance_low, // DeviceInstance
+        2,
+        3,
+        0,
+        6,
+        0,
+        0,
+        vendor,
+        vendor_low,
+        device,
+        device_low, // DeviceId
+        2,
+        4,
+        0,
+        4,
+        0,
+        0,
+        1,
+        0, // DeviceRole: ROLE
+        2,
+        5,
+        0,
+        26,
+        0,
+        0, // DeviceOptions: KNOWN_OPTIONS
+        1,
+        1,
+        1,
+        2,
+        2,
+        1,
+        2,
+        2,
+        2,
+        3,
+        2,
+        4,
+        2,
+        5,
+        2,
+        7,
+        5,
+        3,
+        5,
+        4,
+        5,
+        5,
+        5,
+        6, //
+        2,
+        7,
+        0,
+        4,
+        0,
+        0,
+        instance,
+        instance_low, // DeviceInstance
     ]
 }
 
