@@ -2,11 +2,15 @@
 //! modules that differ for its ModuleDiffBlock.
 #![tactic(auto)]
 
+mod changes;
 mod differing;
 mod expected;
 mod plugged;
 mod rows;
 
+pub use changes::{
+    Affected, ChangeKind, RealChange, can_plug, pull, pull_module, plug,
+};
 pub use differing::diff;
 pub use expected::Expected;
 pub use plugged::{module_in, part_ident};
