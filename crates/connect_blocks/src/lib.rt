@@ -15,6 +15,7 @@ mod io_objects;
 mod iocr;
 mod law;
 mod module_diff;
+mod plug_control;
 mod submodule_data;
 
 pub use alarm_cr::{
@@ -40,5 +41,9 @@ pub use law::diffs_are_short;
 pub use module_diff::{
     DiffModule, DiffModules, DiffSubmodule, ModuleDiffBlock, module_diff_at, module_diff_len,
     put_module_diff,
+};
+pub use plug_control::{
+    PLUG_PRM_END, PlugControlBlock, plug_prm_end_at, plug_ready_res_at, put_plug_prm_end_res,
+    put_plug_ready,
 };
 pub use submodule_data::SubmoduleData;
