@@ -1,12 +1,14 @@
 //! Images of the cyclic data to be sent.
 ghost use Rattle.std.specs.Prelude.{◌≡◌, ◌+◌, ◌≤◌, IfSome, [], length, map, option_map, is_some, if◌then◌else◌};
 ghost use Rattle.cyclic_data.specs.declared.place.PlaceKind.TheVariants.{Data};
+ghost use Rattle.cyclic_data.specs.exchange.Opening.{blanked};
 ghost use Rattle.cyclic_data.specs.Image.{zero_cell, cell_at, changed, with_value, with_status, has_size, octets_of, IsFrame};
 
 use crate::laid_out::LaidOut;
 use crate::layout::Layout;
 use crate::octets::{place_at, write_at};
 use crate::place::PlaceKind;
+use crate::zero_octets::zeros;
 use std::marker::Model;
 
 /// The content of the frames of a layout that are sent: the data and the status at each place, as octets on the wire.
@@ -70,6 +72,22 @@ impl Image {
         }
         write_at(&mut self.laid_out.octets, place.offset as usize, value);
         true
+    }
+
+    /// Sets the data of a submodule to zeros, if it has data in these frames.
+    pub fn clear(&mut self, slot: u16, subslot: u16)
+        ensures { self.new ≡ blanked slot subslot self.old }
+    {
+        if let Some(place) = place_at(
+            self.laid_out.places.as_slice(),
+            PlaceKind::Data,
+            slot,
+            subslot,
+        ) {
+            // The IOPS follows the data, in the same place.
+            let size = place.size as usize - 1;
+            write_at(&mut self.laid_out.octets, place.offset as usize, zeros(size));
+        }
     }
 
     /// Sets the status of a place: the IOPS of data, or an IOCS. Returns whether there is such a place; if not, nothing

@@ -1,6 +1,6 @@
 //! Opening an end.
-ghost use Rattle.std.specs.Prelude.{◌≡◌};
-ghost use Rattle.cyclic_data.specs.exchange.Opening.{first_shown};
+ghost use Rattle.std.specs.Prelude.{◌≡◌, map};
+ghost use Rattle.cyclic_data.specs.exchange.Opening.{first_shown, stated};
 
 use crate::image::Image;
 use crate::layout::Layout;
@@ -23,6 +23,15 @@ pub(crate) fn fill<S: Statuses>(image: &mut Image, layout: &Layout, statuses: &S
     ensures { image.new ≡ first_shown (S.status_of statuses.now) layout.now }
 {
     image.start(layout);
+    state(image, layout, statuses);
+}
+
+/// Sets the status at each place of this layout. The data stays as it is.
+pub(crate) fn state<S: Statuses>(image: &mut Image, layout: &Layout, statuses: &S)
+    // The image has this layout.
+    requires { map (λ cell. cell.place) image.old.cells ≡ layout.now.places }
+    ensures { image.new ≡ stated (S.status_of statuses.now) image.old }
+{
     for place in layout.places() {
         let status = statuses.status(place.kind, place.slot, place.subslot);
         image.set_status(place.kind, place.slot, place.subslot, status);
