@@ -70,6 +70,14 @@ impl TakenRecords {
         Ok(())
     }
 
+    /// Removes the records of a submodule. The others keep their order.
+    pub fn forget_at(&mut self, slot: u16, subslot: u16)
+        ensures { self.new ≡ filter (λ taken. not (taken.slot == slot && taken.subslot == subslot)) self.old }
+    {
+        self.records
+            .retain(|record| record.slot != slot || record.subslot != subslot);
+    }
+
     /// The records, in the order in which they were accepted.
     pub fn as_slice(&self) -> &[TakenRecord]
         ensures { result.now ≡ self.now }
