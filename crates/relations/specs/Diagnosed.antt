@@ -7,11 +7,13 @@ use Rattle.pn_alarms.specs.declared.device.PduFate.{PduFate}
 use Rattle.pn_alarms.specs.declared.device.PduFate.TheVariants.{Ignored}
 use Rattle.pn_alarms.specs.Device.{heard_as}
 use Rattle.pn_alarms.specs.Message.{ToDevice}
-use Rattle.diagnosis.specs.alarms.Alarms.{is_next}
+use Rattle.diagnosis.specs.Queue.{is_next}
 use Rattle.diagnosis.specs.alarms.Own.{is_own}
 use Rattle.relations.specs.exchange.Diagnosis.{begins_with_one, behind_low, diagnosed, diagnoses_begun, is_diagnosed, is_full, next_reported}
 use Rattle.relations.specs.RelationState.{RelationState}
 use Rattle.relations.specs.Phases.{Handled, Exchanged, Unmoved}
+
+-- Each of these ends with `followed` of `Plugging`, which the outcome `Exchanged` cannot say: it needs an outcome of its own.
 
 -- Data exchange begins, and these diagnoses exist; whether an alarm of low priority must be sent.
 abbrev pub beginning : List RealModule → List Diagnosis → Option RelationState → Handled
@@ -32,13 +34,13 @@ diagnose_one real change diagnoses None = false
 diagnose_one real change diagnoses (Some link) = is_diagnosed real change diagnoses link.flow
 
 -- And of the next change that waits.
-abbrev pub reporting : List RealModule → Option RelationState → Handled
-reporting real None = Unmoved
-reporting real (Some link) = Exchanged (next_reported real link.flow)
+abbrev pub reporting : Option RelationState → Handled
+reporting None = Unmoved
+reporting (Some link) = Exchanged (next_reported link.flow)
 
-abbrev pub report_one : List RealModule → Option RelationState → Bool
-report_one real None = false
-report_one real (Some link) = is_next real link.flow.low
+abbrev pub report_one : Option RelationState → Bool
+report_one None = false
+report_one (Some link) = is_next link.flow.low
 
 -- Whether no further change can wait, and whether an alarm of low priority was sent.
 abbrev pub is_full_in : Option RelationState → Bool

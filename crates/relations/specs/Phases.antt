@@ -1,5 +1,7 @@
 -- The phases of a relation: what moves it, and where to.
 use Rattle.std.specs.Prelude.{◌==◌, ℕ, Bool, List, [], length, Option, Some, None, Result, Ok, Err, option_map, if◌then◌else◌}
+use Rattle.pn_values.specs.declared.real.RealModule.{RealModule}
+use Rattle.module_diff.specs.Diff.{diff_of}
 use Rattle.wire.specs.blocks.modules.Lists.{Listed}
 use Rattle.connect_blocks.specs.declared.module_diff.DiffModule.{DiffModule}
 use Rattle.connect_blocks.specs.declared.module_diff.DiffSubmodule.{DiffSubmodule}
@@ -11,6 +13,7 @@ use Rattle.records.specs.declared.status.call_fault.CallFault.TheVariants as fau
 use Rattle.records.specs.declared.writes.taken.TakenRecord.{TakenRecord}
 use Rattle.records.specs.writes.Taken.{keep_of}
 use Rattle.pn_alarms.specs.declared.abort.Abort.{Abort}
+use Rattle.expected_places.specs.Machine.{opened as plugs_opened}
 use Rattle.relations.specs.exchange.Flow.{Flow}
 use Rattle.relations.specs.exchange.Marks.{Starting}
 use Rattle.relations.specs.exchange.Opening.{begun_of, opened}
@@ -48,6 +51,14 @@ pub data Handled : Type 0 where
 abbrev pub differing_octets : Listed DiffModule DiffSubmodule → List ℕ
 differing_octets rows = if length rows.modules == 0 then [] else block_bytes (is.ModuleDiffBlock (record { api = 0; modules = rows }))
 
+-- The ModuleDiffBlock of a relation with these modules: it is made of what its Connect expects and of what is real now.
+abbrev pub differing_now : List RealModule → RelationState → List ℕ
+differing_now real link = differing_octets (diff_of link.request.expected real)
+
+abbrev pub differing_in : List RealModule → Option RelationState → List ℕ
+differing_in real None = []
+differing_in real (Some link) = differing_now real link
+
 -- A relation that is established now, if these modules differ, at a device with these options, and if the application says this
 -- of its inputs.
 abbrev pub made_of : Request → Partner → Listed DiffModule DiffSubmodule → DeviceOptions → Starting → RelationState
@@ -61,7 +72,7 @@ made_of request partner rows options starting = record {
   waited = 0;
   taken = [];
   passed = none_passed;
-  differing = differing_octets rows;
+  plugs = plugs_opened request.expected rows;
   flow = opened request rows starting;
 }
 
