@@ -61,9 +61,9 @@ is_low_reply Low told = is_ack told
 -- What is sent for data of low priority with this outcome: its response, and after that the alarm of the next change.
 abbrev pub confirmed_with : {F : Type 0} → State F → Taken → List Sent
 confirmed_with old taken =
-    let real = old.station.real.modules.items in
+    let real = old.live.rest.real.modules.items in
     let link = old.live.rest.link in
-    low_replies_of taken (flow_of link) ++ where_due (report_one real link) (low_alarms_of (flow_of (updated (reporting real link) link)))
+    low_replies_of taken (flow_of link) ++ where_due (report_one link) (low_alarms_of (flow_of (updated (reporting link) link)))
 
 -- What is sent after a unit of time that brought this.
 abbrev pub brought : {F : Type 0} → State F → Elapsed → List Sent

@@ -176,7 +176,7 @@ handled_effect station live caller call header (Keeps parameter) =
 abbrev pub handled_write : Station → Live → Caller → Call → Result Writing CallFault → Handled
 handled_write station live caller call (Ok (One write)) = handled_effect station live caller call write.request write.effect
 handled_write station live caller call (Ok (Each header entries)) =
-    WritesEach caller live.values.running.suite.address call header (judged_each (uuid_of live.rest.link) station.real entries)
+    WritesEach caller live.values.running.suite.address call header (judged_each (uuid_of live.rest.link) live.rest.real entries)
 handled_write station live caller call (Err fault) = served station live caller call Write (Err fault) live.rest.link []
 
 -- The number of a relation that begins now.
@@ -212,17 +212,17 @@ known_of station live = record {
 abbrev pub handled_new : Station → Live → Caller → Call → List ℕ → Operation → Handled
 handled_new station live caller call blocks Connect =
     let options = station.options in
-    let answer = connect_answer station.identity station.real options (number_now station live) caller.mac live.rest.link blocks in
+    let answer = connect_answer station.identity live.rest.real options (number_now station live) caller.mac live.rest.link blocks in
     served station (but_rest live (counted_by answer (with_log (connect_log blocks answer) live.rest))) caller call Connect answer
-    (updated (making station.real (partner_of caller) options (starting_of station live) (connect_within options caller.mac live.rest.link blocks)) live.rest.link) []
+    (updated (making live.rest.real (partner_of caller) options (starting_of station live) (connect_within options caller.mac live.rest.link blocks)) live.rest.link) []
 handled_new station live caller call blocks Release =
     let answer = release_answer live.rest.link blocks in
     served station (but_rest live (with_log (release_log (uuid_of live.rest.link) answer) live.rest)) caller call Release answer
     (updated (answered Ended (release_of live.rest.link blocks)) live.rest.link) []
 handled_new station live caller call blocks Read =
-    let read = relation_read (known_of station live) station.identity station.real live.values.running blocks in
+    let read = relation_read (known_of station live) station.identity live.rest.real live.values.running blocks in
     served station live caller call Read read (updated (answered (Named (partner_of caller)) read) live.rest.link) []
-handled_new station live caller call blocks Write = handled_write station live caller call (writing_of (uuid_of live.rest.link) station.real blocks)
+handled_new station live caller call blocks Write = handled_write station live caller call (writing_of (uuid_of live.rest.link) live.rest.real blocks)
 handled_new station live caller call blocks Control =
     let ended = prm_end_of live.rest.link blocks in
     let by_application = station.options.ready_by_application in
@@ -230,7 +230,7 @@ handled_new station live caller call blocks Control =
     served station live caller call Control (prm_end_answer live.rest.link blocks) link
     (ready_behind by_application live.values.running.suite.address link ended)
 handled_new station live caller call blocks ReadImplicit =
-    let read = implicit_read (known_of station live) station.identity station.real live.values.running blocks in
+    let read = implicit_read (known_of station live) station.identity live.rest.real live.values.running blocks in
     served station live caller call ReadImplicit read (updated (answered (implicitly (partner_of caller) live.rest.link blocks) read) live.rest.link) []
 
 -- A call by the result of the cache: it is answered as new, or again with the same frame, or it is older than an
@@ -256,7 +256,7 @@ handled_call station live caller call (Some operation) = handled_blocks station 
 -- ApplicationReady is confirmed: what exists of diagnosis is reported, and the first alarm of it is sent.
 abbrev pub handled_beginning : Station → Live → Option RelationState → Handled
 handled_beginning station live link =
-    let real = station.real.modules.items in
+    let real = live.rest.real.modules.items in
     let reported = updated (beginning real live.rest.diagnoses link) link in
     Moves (record live.rest { link = reported }) (where_due (begin_one real live.rest.diagnoses link) (low_alarms_of (flow_of reported)))
 
@@ -314,7 +314,7 @@ kept_status live slot subslot is_good None = Refuses note.Refused
 abbrev pub handled_rated : Station → Live → ℕ → ℕ → Bool → Handled
 handled_rated station live slot subslot is_good =
     kept_status live slot subslot is_good
-    (statuses_at station.real.modules.items (record { slot = slot; subslot = subslot; is_good = is_good }) live.rest.statuses)
+    (statuses_at live.rest.real.modules.items (record { slot = slot; subslot = subslot; is_good = is_good }) live.rest.statuses)
 
 -- This neighbour is known from now on, or none.
 abbrev pub handled_met : Live → Option Peer → Handled
@@ -324,7 +324,7 @@ handled_met live peer = Moves (record live.rest { peer = peer }) []
 -- low priority is active. Or the change is refused.
 abbrev pub handled_change : Station → Live → Change → Option (List Diagnosis) → Handled
 handled_change station live change (Some diagnoses) =
-    let real = station.real.modules.items in
+    let real = live.rest.real.modules.items in
     let link = updated (diagnosing real change diagnoses live.rest.link) live.rest.link in
     Moves (record live.rest { link = link; diagnoses = diagnoses })
     (where_due (diagnose_one real change diagnoses live.rest.link) (low_alarms_of (flow_of link)))
@@ -333,7 +333,7 @@ handled_change station live change None = Refuses note.Refused
 -- It is refused for what is not plugged, and while no further change can wait.
 abbrev pub may_be_diagnosed : Station → Live → Change → Bool
 may_be_diagnosed station live change =
-    is_some (submodule_ident station.real.modules.items change.diagnosis.slot change.diagnosis.subslot) && not (is_full_in live.rest.link)
+    is_some (submodule_ident live.rest.real.modules.items change.diagnosis.slot change.diagnosis.subslot) && not (is_full_in live.rest.link)
 
 abbrev pub handled_diagnosed : Station → Live → Change → Handled
 handled_diagnosed station live change =
@@ -349,7 +349,7 @@ handled_notice live (Some flow) =
 handled_notice live None = Refuses note.Refused
 
 abbrev pub handled_raised : Station → Live → ℕ → ℕ → List ℕ → Handled
-handled_raised station live slot subslot octets = handled_notice live (raised_to station.real.modules.items slot subslot octets live.rest.link)
+handled_raised station live slot subslot octets = handled_notice live (raised_to live.rest.real.modules.items slot subslot octets live.rest.link)
 
 -- The application is ready: ApplicationReady is sent if the relation waited for that, else it is refused.
 abbrev pub handled_ready : Live → Handled
@@ -378,9 +378,9 @@ handled_alarm live source header message =
 -- an ACK counts or does not.
 abbrev pub handled_low_pdu : Station → Live → PduFate → Option RelationState → Handled
 handled_low_pdu station live (fate.Data taken) link =
-    let real = station.real.modules.items in
-    let next = updated (reporting real link) link in
-    goes_on_with live next (low_replies_of taken (flow_of link) ++ where_due (report_one real link) (low_alarms_of (flow_of next)))
+    let real = live.rest.real.modules.items in
+    let next = updated (reporting link) link in
+    goes_on_with live next (low_replies_of taken (flow_of link) ++ where_due (report_one link) (low_alarms_of (flow_of next)))
 handled_low_pdu station live fate.Done link = goes_on_with live link []
 handled_low_pdu station live fate.Ignored link = Refuses note.Filter
 handled_low_pdu station live (fate.Aborted status) link = Refuses note.Filter

@@ -2,6 +2,7 @@ pub mod State
 pub mod Several
 pub mod Log
 pub mod Handled
+pub mod Modules
 pub mod Machine
 pub mod Faults
 pub mod Behind

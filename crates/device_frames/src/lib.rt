@@ -22,4 +22,4 @@ pub use exchange::{
 pub use frame_codec::Caller;
 pub use hearing::{RealTimeKind, is_asked, is_called, kind_of, open_frame, real_time_in};
 pub use note::Note;
-pub use relation::{send_farewell, send_ready};
+pub use relation::{send_farewell, send_plug_ready, send_ready};

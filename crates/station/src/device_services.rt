@@ -210,6 +210,10 @@ impl DeviceServices {
             | Event::Status(..)
             | Event::Neighbour(..)
             | Event::Diagnosis(..)
+            | Event::Pull(..)
+            | Event::PullModule(..)
+            | Event::Plug(..)
+            | Event::ReadyAt(..)
             | Event::Ready => Attended::Noted(note),
         }
     }
