@@ -34,6 +34,10 @@ pub(crate) fn receive(received: &mut Event, bytes: &[u8])
         | Event::Status(..)
         | Event::Neighbour(..)
         | Event::Diagnosis(..)
+        | Event::Pull(..)
+        | Event::PullModule(..)
+        | Event::Plug(..)
+        | Event::ReadyAt(..)
         | Event::Ready => *received = Event::Frame(copied(bytes)),
     }
 }

@@ -15,13 +15,14 @@ use crate::bytes::copied;
 use crate::device::receive;
 use crate::other_end::OtherEnd;
 use crate::outputs::outputs;
+use crate::places::expected;
 use crate::power::Power;
 use configurator::PlanFault;
 use controller_core::{Event as ControllerEvent, MOST_RECORD_OCTETS};
 use device_core::{Event, Note};
 use flash_model::{Flash, Lent, MemoryFlash, Order};
 use frame_codec::Bytes;
-use script_lines::{Command, Line, meaning, render, show};
+use script_lines::{Command, Line, PlugLine, meaning, render, show};
 use station::StationOutbox;
 use std::alloc::{AllocError, Global};
 use std::marker::Model;
@@ -161,6 +162,11 @@ impl<'a> Session<'a> {
                 always(Ok(()))
             }
             Command::Ready => always(self.ready(text)),
+            Command::ReadyAt(slot, subslot) => always(self.hand(&Event::ReadyAt(slot, subslot), text)),
+            Command::Pull(slot, subslot) => always(self.hand(&Event::Pull(slot, subslot), text)),
+            Command::PullModule(slot) => always(self.hand(&Event::PullModule(slot), text)),
+            Command::Plug(plug) => always(self.plug(&plug, text)),
+            Command::Expected => always(self.expected(text)),
             Command::Diagnosis(slot, subslot, channel, error, appears) => {
                 always(self.diagnose(slot, subslot, channel, error, appears, text))
             }
@@ -324,6 +330,31 @@ impl<'a> Session<'a> {
             &mut self.other,
             text,
         )
+    }
+
+    /// Hands an event of its application to the device.
+    fn hand(&mut self, event: &Event, text: &mut Vec<u8>) -> Result<(), AllocError> {
+        answered(
+            &mut self.power,
+            event,
+            &mut self.outbox,
+            &mut self.other,
+            text,
+        )
+    }
+
+    /// Plugs a submodule.
+    fn plug(&mut self, plug: &PlugLine, text: &mut Vec<u8>) -> Result<(), AllocError> {
+        let event = Event::Plug(plug.slot, plug.module_ident, plug.submodule());
+        self.hand(&event, text)
+    }
+
+    /// Shows the places of the device's relation.
+    fn expected(&self, text: &mut Vec<u8>) -> Result<(), AllocError> {
+        match &self.power {
+            Power::On(demo) => expected(demo.device(), text),
+            Power::Off(_, _) | Power::Away => text.extend_from_slice(b"off\n"),
+        }
     }
 
     /// Switches the device's power off and on again. The frames that wait are lost.
