@@ -11,6 +11,7 @@ use rattle_std::alloc::Global;
 use script_runner::run;
 
 mod alarms;
+mod answers;
 mod changes;
 mod places;
 mod records;
