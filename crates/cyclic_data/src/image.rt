@@ -86,7 +86,11 @@ impl Image {
         ) {
             // The IOPS follows the data, in the same place.
             let size = place.size as usize - 1;
-            write_at(&mut self.laid_out.octets, place.offset as usize, zeros(size));
+            write_at(
+                &mut self.laid_out.octets,
+                place.offset as usize,
+                zeros(size),
+            );
         }
     }
 

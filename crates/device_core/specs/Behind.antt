@@ -42,10 +42,10 @@ abbrev pub CanSend : {F : Type 0} → State F → Handled → Type 0
 CanSend old what = AreSendable old.station.identity (end_of old.station old.live what).sent
 
 -- What is due if no timeout is over: the active alarms, ApplicationReady, inputs.
-abbrev pub due_in : {F : Type 0} → State F → Repeated → Bool → Bool → List Sent
-due_in old repeated is_ready is_cyclic =
+abbrev pub due_in : {F : Type 0} → State F → Repeated → Elapsed → Bool → List Sent
+due_in old repeated elapsed is_cyclic =
     due_frames old.live.values.running.suite.address (counter_of old.live.rest.units)
-    (record { farewell = None; is_alarm = repeated.high; is_low = repeated.low; is_ready = is_ready; is_cyclic = is_cyclic }) old.live.rest.link
+    (record { farewell = None; is_alarm = repeated.high; is_low = repeated.low; is_ready = elapsed.is_ready; is_plug_ready = elapsed.is_plug_ready; is_cyclic = is_cyclic }) old.live.rest.link
 
 -- Whether what an alarm frame says under the FrameID of this priority may be an ACK of low priority.
 abbrev pub is_ack : ToDevice → Bool

@@ -13,8 +13,11 @@ use Rattle.diagnosis.specs.Queue.{remaining}
 use Rattle.diagnosis.specs.alarms.Alarms.{is_full}
 use Rattle.device_frames.specs.declared.note.Note.TheVariants as note
 use Rattle.expected_places.specs.Machine.{is_hit}
+use Rattle.rpc_core.specs.Response.{Answered}
 use Rattle.relations.specs.declared.exchange.statuses.InputStatus.{InputStatus}
-use Rattle.relations.specs.Plugging.{calling_next, is_alarmed_by, is_called_by, is_calling, is_readied_in, modules_changing, readying_at}
+use Rattle.relations.specs.declared.plugging.PlugAnswer.{PlugAnswer}
+use Rattle.relations.specs.declared.plugging.PlugAnswer.TheVariants as to_plug
+use Rattle.relations.specs.Plugging.{calling_next, is_alarmed_by, is_called_by, is_calling, is_readied_in, modules_changing, plug_answering, plug_ending, readying_at}
 use Rattle.relations.specs.RelationState.{RelationState, flow_of}
 use Rattle.device_frames.specs.Relation.{low_alarms_of, plug_calls, where_due}
 use Rattle.device_frames.specs.Sent.{Sent}
@@ -90,5 +93,20 @@ abbrev pub handled_ready_at : Live → ℕ → ℕ → Handled
 handled_ready_at live slot subslot =
     if is_readied_in slot subslot live.rest.link
     then (let link = calling_next (readying_at slot subslot live.rest.link) in
-      goes_on_with live link (where_due (is_calling (readying_at slot subslot live.rest.link)) (plug_calls live.values.running.suite.address link)))
+    goes_on_with live link (where_due (is_calling (readying_at slot subslot live.rest.link)) (plug_calls live.values.running.suite.address link)))
     else Refuses note.Refused
+
+-- A PrmEnd after a plug: its answer, and behind it the next ApplicationReady of a plug, if one is called.
+abbrev pub ended_link : Bool → List ℕ → Option RelationState → Option RelationState
+ended_link by_application blocks link = calling_next (plug_ending by_application blocks link)
+
+-- A response of the controller while data is exchanged, by what it means to the ApplicationReady of a plug: then the next one is
+-- called, if one may be.
+abbrev pub goes_on_after : Live → Option RelationState → Handled
+goes_on_after live link = goes_on_with live (calling_next link) (where_due (is_calling link) (plug_calls live.values.running.suite.address (calling_next link)))
+
+abbrev pub handled_plug_answer : Live → Answered → PlugAnswer → Handled
+handled_plug_answer live response to_plug.NotWanted = Refuses note.NoRelation
+handled_plug_answer live response to_plug.Garbled = Refuses note.Fault
+handled_plug_answer live response to_plug.Confirmed = goes_on_after live (plug_answering response live.rest.link)
+handled_plug_answer live response to_plug.Refused = goes_on_after live (plug_answering response live.rest.link)

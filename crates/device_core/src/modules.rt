@@ -9,7 +9,9 @@ use device_frames::{send_low_alarm, send_plug_ready};
 use expected_places::ExpectedPlace;
 use flash_model::Flash;
 use frame_codec::Outbox;
-use module_diff::{Affected, ChangeKind, RealChange, can_plug, module_in, part_ident, plug, pull, pull_module};
+use module_diff::{
+    Affected, ChangeKind, RealChange, can_plug, module_in, part_ident, plug, pull, pull_module,
+};
 use pn_values::{Real, RealSubmodule};
 use relations::{PlugAnswer, forget_statuses};
 use rpc_core::Response;

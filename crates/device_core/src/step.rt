@@ -33,8 +33,8 @@ use cyclic_data::Received;
 use dcp_core::Service;
 use device_frames::{
     Caller, RealTimeKind, is_asked, is_called, kind_of, open_frame, real_time_in, send_alarm,
-    send_alarm_again, send_alarm_reply, send_farewell, send_inputs, send_inputs_of, send_low_alarm, send_plug_ready,
-    send_ready, send_ready_again,
+    send_alarm_again, send_alarm_reply, send_farewell, send_inputs, send_inputs_of, send_low_alarm,
+    send_plug_ready, send_ready, send_ready_again,
 };
 use diagnosis::{Change, Diagnosis, Priority};
 use flash_model::Flash;
@@ -451,13 +451,7 @@ impl<F: Flash<S>, const S: usize> Device<F, S> {
     // An alarm, ApplicationReady, that of a plug, and inputs, each if it is due. The second is due only before data is exchanged,
     // and the third only from then on.
     #[inline(never)]
-    fn send_each(
-        &self,
-        repeated: Repeated,
-        elapsed: &Elapsed,
-        is_cyclic: bool,
-        outbox: &mut Outbox,
-    )
+    fn send_each(&self, repeated: Repeated, elapsed: &Elapsed, is_cyclic: bool, outbox: &mut Outbox)
         requires { outbox.old.items ≡ [] }
         ensures frames { boxed outbox.new ≡ map (bytes_of self.now.station.identity) (due_in self.now repeated elapsed.now is_cyclic) }
         ensures sendable { AreSendable self.now.station.identity (due_in self.now repeated elapsed.now is_cyclic) }

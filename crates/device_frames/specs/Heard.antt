@@ -15,6 +15,7 @@ use Rattle.dcp_core.specs.declared.request.DcpFault.{DcpFault}
 use Rattle.dcp_core.specs.Request.{Asked}
 use Rattle.dcp_core.specs.Reading.{request_of}
 use Rattle.diagnosis.specs.declared.diagnosis.Change.{Change}
+use Rattle.pn_values.specs.declared.real.RealSubmodule.{RealSubmodule}
 use Rattle.rpc_core.specs.declared.fault.RpcFault.{RpcFault}
 use Rattle.rpc_core.specs.declared.interface.Interface.TheVariants.{Device}
 use Rattle.rpc_core.specs.Call.{Asked as Call, call_of}
@@ -30,7 +31,7 @@ use Rattle.diagnosis.specs.reports.Priority.{priority_of}
 use Rattle.pn_alarms.specs.Message.{ToDevice, message_of}
 use Rattle.diagnosis.specs.reports.Message.{low_message_of}
 use Rattle.device_frames.specs.declared.event.Event.{Event}
-use Rattle.device_frames.specs.declared.event.Event.TheVariants.{Frame, Call as Joined, Tick, Input, Alarm, Status, Diagnosis, Neighbour, Ready}
+use Rattle.device_frames.specs.declared.event.Event.TheVariants.{Frame, Call as Joined, Tick, Input, Alarm, Status, Diagnosis, Neighbour, Pull, PullModule, Plug, ReadyAt, Ready}
 
 -- What the body of a datagram says: a call to the device, else a response, else neither.
 pub data Said : Type 0 where
@@ -41,8 +42,9 @@ pub data Said : Type 0 where
 -- What an event is: a unit of time, a frame that cannot be read, a frame for another station, a DCP request and who
 -- sends it, an ARP packet and who sends it, a datagram: who sends it, to which address, and what it says; a cyclic
 -- frame; an alarm frame: who sends it, between which endpoints, and what it says; or, from the application, the input
--- of a submodule, an alarm of one, whether its inputs are good, a diagnosis of one that appears or disappears, or that it is
--- ready; or which neighbour it has. Of alarm frames those that may be of low priority stand apart: an ACK under the FrameID of
+-- of a submodule, an alarm of one, whether its inputs are good, a diagnosis of one that appears or disappears, a
+-- submodule or a module that is pulled, a submodule that is plugged, or that it is ready, for a plug or for the start-up; or which
+-- neighbour it has. Of alarm frames those that may be of low priority stand apart: an ACK under the FrameID of
 -- low priority, and data that carries an AlarmAck of low priority.
 pub data Heard : Type 0 where
   Ticks : Heard
@@ -60,6 +62,10 @@ pub data Heard : Type 0 where
   Rated : (slot : ℕ) → (subslot : ℕ) → (is_good : Bool) → Heard
   Met : (peer : Option Peer) → Heard
   Diagnosed : (change : Change) → Heard
+  Pulled : (slot : ℕ) → (subslot : ℕ) → Heard
+  ModulePulled : (slot : ℕ) → Heard
+  Plugged : (slot : ℕ) → (ident : ℕ) → (part : RealSubmodule) → Heard
+  ReadiedAt : (slot : ℕ) → (subslot : ℕ) → Heard
   Readied : Heard
 
 -- The multicast address of Identify requests.
@@ -153,4 +159,8 @@ heard_of identity (Alarm slot subslot octets) = Raised slot subslot octets.items
 heard_of identity (Status slot subslot is_good) = Rated slot subslot is_good
 heard_of identity (Neighbour neighbour) = Met (option_map peer_as neighbour)
 heard_of identity (Diagnosis slot subslot channel error appears) = diagnosed slot subslot channel error appears
+heard_of identity (Pull slot subslot) = Pulled slot subslot
+heard_of identity (PullModule slot) = ModulePulled slot
+heard_of identity (Plug slot ident part) = Plugged slot ident part
+heard_of identity (ReadyAt slot subslot) = ReadiedAt slot subslot
 heard_of identity Ready = Readied

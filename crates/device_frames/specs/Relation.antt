@@ -62,9 +62,10 @@ abbrev pub where_due : Bool → List Sent → List Sent
 where_due is_due sent = if is_due then sent else []
 
 -- What is sent with a unit: the ERR of a timeout, and nothing else; or the active alarms of each priority again,
--- ApplicationReady again, and inputs.
+-- ApplicationReady or that of a plug again, and inputs.
 abbrev pub due_frames : List ℕ → ℕ → Due → Option RelationState → List Sent
 due_frames address units due link =
     farewells_in due.farewell
     ++ (where_due due.is_alarm (alarms_of (flow_of link)) ++ (where_due due.is_low (low_alarms_of (flow_of link))
-    ++ (where_due due.is_ready (ready_calls address link) ++ where_due due.is_cyclic (inputs_of units (flow_of link)))))
+    ++ (where_due due.is_ready (ready_calls address link) ++ (where_due due.is_plug_ready (plug_calls address link)
+    ++ where_due due.is_cyclic (inputs_of units (flow_of link))))))

@@ -106,8 +106,11 @@ impl QueuedAlarm {
         ensures { result ≡ diagnosis_queued real.now.modules.items notice.now }
     {
         let diagnosis = &notice.change.diagnosis;
-        let (module_ident_number, submodule_ident_number) =
-            idents_at(real, diagnosis.slot, diagnosis.subslot);
+        let (module_ident_number, submodule_ident_number) = idents_at(
+            real,
+            diagnosis.slot,
+            diagnosis.subslot,
+        );
         QueuedAlarm {
             change: LowChange::Diagnosis(notice.change),
             module_ident_number,

@@ -8,9 +8,7 @@ mod expected;
 mod plugged;
 mod rows;
 
-pub use changes::{
-    Affected, ChangeKind, RealChange, can_plug, pull, pull_module, plug,
-};
+pub use changes::{Affected, ChangeKind, RealChange, can_plug, plug, pull, pull_module};
 pub use differing::diff;
 pub use expected::Expected;
 pub use plugged::{module_in, part_ident};

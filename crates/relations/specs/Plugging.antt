@@ -67,10 +67,10 @@ abbrev pub places_changed : RealChange → Bool → List Diagnosis → RelationS
 places_changed made differs diagnoses link =
     if is_hit (affected_by made) link.plugs
     then (let flow = renewed (affected_by made) link.options.inputs_begin_bad link.flow in
-      record link {
-        plugs = touched_by made differs link.plugs;
-        flow = record flow { low = module_waits (alarmed made (asks link) differs) made diagnoses flow.low };
-      })
+    record link {
+      plugs = touched_by made differs link.plugs;
+      flow = record flow { low = module_waits (alarmed made (asks link) differs) made diagnoses flow.low };
+    })
     else link
 
 -- IOPS and IOCS follow.

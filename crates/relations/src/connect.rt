@@ -194,13 +194,7 @@ impl Relation {
         self.inactive = 0;
         self.waited = 0;
         self.phase = Some(Phase::Started);
-        put_answer(
-            answer,
-            identity,
-            number,
-            &self.request,
-            &rows,
-        );
+        put_answer(answer, identity, number, &self.request, &rows);
         Ok(())
     }
 }

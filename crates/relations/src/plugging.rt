@@ -184,8 +184,7 @@ impl Relation {
         let asks = self.request.ar().properties >= PULL_MODULE_ALARM;
         let differs = rows.is_listed(change.slot, change.subslot);
         self.touch(change.kind, affected, differs);
-        self.exchange
-            .renew(affected, self.options.inputs_begin_bad);
+        self.exchange.renew(affected, self.options.inputs_begin_bad);
         let reported = ModuleChange::of(change, asks, differs);
         self.exchange.report_modules(reported, change, diagnoses)
     }
@@ -263,10 +262,7 @@ impl Relation {
     {
         let block = prm_end_in(blocks)?;
         self.check_plug(&block)?;
-        if !self
-            .plugs
-            .end(block.alarm_sequence_number, !by_application)
-        {
+        if !self.plugs.end(block.alarm_sequence_number, !by_application) {
             return Err(CallFault::Phase);
         }
         put_plug_prm_end_res(

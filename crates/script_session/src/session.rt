@@ -162,7 +162,10 @@ impl<'a> Session<'a> {
                 always(Ok(()))
             }
             Command::Ready => always(self.ready(text)),
-            Command::ReadyAt(slot, subslot) => always(self.hand(&Event::ReadyAt(slot, subslot), text)),
+            Command::ReadyAt(slot, subslot) => always(self.hand(
+                &Event::ReadyAt(slot, subslot),
+                text,
+            )),
             Command::Pull(slot, subslot) => always(self.hand(&Event::Pull(slot, subslot), text)),
             Command::PullModule(slot) => always(self.hand(&Event::PullModule(slot), text)),
             Command::Plug(plug) => always(self.plug(&plug, text)),
