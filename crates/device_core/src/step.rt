@@ -45,7 +45,7 @@ use relations::{DataExchange, Elapsed, InputStatus, Repeated, put_status};
 
 impl<F: Flash<S>, const S: usize> Device<F, S> {
     /// Handles an event, and replaces the content of the outbox by the frames to be sent.
-    pub fn step(&mut self, event: &Event, outbox: &mut Outbox) -> Note
+    pub fn step(&mut self, event: &Event<'_>, outbox: &mut Outbox) -> Note
         ensures steps { Steps F.Flash self.old (heard_of self.old.station.identity event.now) (boxed outbox.new) result self.new }
 
         // If the failure counter of the flash, below 2^64 - 1, does not rise, the step is exactly the specified one. Over a
@@ -175,7 +175,7 @@ impl<F: Flash<S>, const S: usize> Device<F, S> {
     }
 
     // The outcome of an event.
-    fn respond(&mut self, event: &Event, outbox: &mut Outbox) -> Note
+    fn respond(&mut self, event: &Event<'_>, outbox: &mut Outbox) -> Note
         requires empty { outbox.old.items ≡ [] }
         ensures steps { Steps F.Flash self.old (heard_of self.old.station.identity event.now) (boxed outbox.new) result self.new }
         ensures reliable { StaysReliable F.Flash self.old self.new }

@@ -1,24 +1,22 @@
-use arrayvec::ArrayVec;
-use frame_codec::{Bytes, Caller};
+use crate::Octets;
+use frame_codec::Caller;
 use lldp::Neighbour;
 
-/// A call that is longer than a datagram: its header, and a body of at most 4,152 octets.
-pub type LongCall = ArrayVec<u8, 4232>;
-
-/// What happens to a device.
+/// What happens to a device. It borrows its octets.
 #[derive(Drop)]
-pub enum Event {
+pub enum Event<'a> {
     /// These octets came from the network. Of a longer frame only the first 1,519 octets are given, which are refused
     /// in the same way.
-    Frame(Bytes),
-    /// A call came in fragments, from this caller to this IP address, and was joined.
-    Call(Caller, [u8; 4], LongCall),
+    Frame(Octets<'a, 1519>),
+    /// A call came in fragments, from this caller to this IP address, and was joined: its header, and a body of at most 4,152
+    /// octets.
+    Call(Caller, [u8; 4], Octets<'a, 4232>),
     /// A unit of 31.25 microseconds is over.
     Tick,
     /// The application sets the input of the submodule in this slot and subslot.
-    Input(u16, u16, Bytes),
+    Input(u16, u16, Octets<'a, 1519>),
     /// The application raises a process alarm of the submodule in this slot and subslot, with these octets.
-    Alarm(u16, u16, Bytes),
+    Alarm(u16, u16, Octets<'a, 1519>),
     /// The application says whether the inputs of the submodule in this slot and subslot are good. Without data, it is the
     /// IOPS of the submodule.
     Status(u16, u16, bool),

@@ -9,7 +9,7 @@ ghost use Rattle.network_world.specs.World.{world_of};
 use crate::sent::SentFrames;
 use crate::{End, Move};
 use controller_core::{Controller, Event as ControllerEvent, State};
-use device_core::{Device, Event as DeviceEvent};
+use device_core::{Device, Event as DeviceEvent, Octets};
 use flash_model::Flash;
 use frame_codec::{Bytes, Frame, Outbox, is_cyclic, read_real_time};
 use lldp::Neighbour;
@@ -86,7 +86,7 @@ fn is_skipped<F: Flash<S>, const S: usize>(
 fn happen_at_device<F: Flash<S>, const S: usize>(
     device: &mut Device<F, S>,
     sent: &mut SentFrames,
-    event: &DeviceEvent,
+    event: &DeviceEvent<'_>,
 )
     requires room { 4 ≤ sent.old.room }
     ensures { IsHeard F.Flash device.old sent.old.frames (heard_of device.old.station.identity event.now) device.new
@@ -124,7 +124,7 @@ fn come<F: Flash<S>, const S: usize>(
         return;
     }
     match end {
-        End::Device => happen_at_device(device, sent, &DeviceEvent::Frame(bytes)),
+        End::Device => happen_at_device(device, sent, &DeviceEvent::Frame(Octets::of(bytes.as_slice()))),
         End::Controller => happen_at_controller(controller, sent, &ControllerEvent::Frame(bytes)),
     }
 }
@@ -190,11 +190,11 @@ fn happen<F: Flash<S>, const S: usize>(
         Move::Deliver(end, number) => deliver(device, controller, sent, *end, *number),
         Move::Tick(end) => pass(device, controller, sent, *end),
         Move::Input(slot, subslot, value) => {
-            let input = DeviceEvent::Input(*slot, *subslot, bytes_of(value.as_slice()));
+            let input = DeviceEvent::Input(*slot, *subslot, Octets::of(value.as_slice()));
             happen_at_device(device, sent, &input);
         }
         Move::Alarm(slot, subslot, octets) => {
-            let alarm = DeviceEvent::Alarm(*slot, *subslot, bytes_of(octets.as_slice()));
+            let alarm = DeviceEvent::Alarm(*slot, *subslot, Octets::of(octets.as_slice()));
             happen_at_device(device, sent, &alarm);
         }
         Move::Status(slot, subslot, is_good) => {

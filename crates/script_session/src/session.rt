@@ -12,13 +12,12 @@ ghost use Rattle.script_session.specs.Session.{IsObeyed};
 
 use crate::both::{exchange, leaps, respond, ticks};
 use crate::bytes::copied;
-use crate::device::receive;
 use crate::other_end::OtherEnd;
 use crate::outputs::outputs;
 use crate::power::Power;
 use configurator::PlanFault;
 use controller_core::{Event as ControllerEvent, MOST_RECORD_OCTETS};
-use device_core::{Event, Note};
+use device_core::{Event, Note, Octets};
 use flash_model::{Flash, Lent, MemoryFlash, Order};
 use frame_codec::Bytes;
 use script_lines::{Command, Line, meaning, render, show};
@@ -29,13 +28,11 @@ use std::mem;
 use uuid::Uuid;
 use wire::at_most;
 
-/// A run between two lines: the device, the other end, the last event that came from the network, and the frames of one
-/// step of the device. In clauses it is both ends.
+/// A run between two lines: the device, the other end, and the frames of one step of the device. In clauses it is both ends.
 #[derive(Drop)]
 pub struct Session<'a> {
     power: Power<'a>,
     other: OtherEnd,
-    received: Event,
     outbox: StationOutbox,
 }
 
@@ -73,7 +70,6 @@ impl<'a> Session<'a> {
         Session {
             power: Power::start(other.options(), false, Lent::new(flash)),
             other,
-            received: Event::Tick,
             outbox: StationOutbox::new(),
         }
     }
@@ -203,10 +199,10 @@ impl<'a> Session<'a> {
         ensures demo { IsDemo self.old.power → IsDemo self.new.power }
         ensures lost { TellsLoss (self.new.other ≡ self.old.other) self.old.power self.new.power text.old.items text.new.items result }
     {
-        receive(&mut self.received, bytes);
+        let event = Event::Frame(Octets::of(bytes));
         answered(
             &mut self.power,
-            &self.received,
+            &event,
             &mut self.outbox,
             &mut self.other,
             text,
@@ -227,7 +223,7 @@ impl<'a> Session<'a> {
         ensures demo { IsDemo self.old.power → IsDemo self.new.power }
         ensures lost { TellsLoss (self.new.other ≡ self.old.other) self.old.power self.new.power text.old.items text.new.items result }
     {
-        let event = Event::Input(slot, subslot, handed(bytes));
+        let event = Event::Input(slot, subslot, Octets::of(bytes));
         answered(
             &mut self.power,
             &event,
@@ -251,7 +247,7 @@ impl<'a> Session<'a> {
         ensures demo { IsDemo self.old.power → IsDemo self.new.power }
         ensures lost { TellsLoss (self.new.other ≡ self.old.other) self.old.power self.new.power text.old.items text.new.items result }
     {
-        let event = Event::Alarm(slot, subslot, handed(bytes));
+        let event = Event::Alarm(slot, subslot, Octets::of(bytes));
         answered(
             &mut self.power,
             &event,
@@ -638,7 +634,7 @@ impl<'a> Session<'a> {
 /// Hands an event to the device, if it runs.
 fn answered(
     power: &mut Power<'_>,
-    event: &Event,
+    event: &Event<'_>,
     outbox: &mut StationOutbox,
     other: &mut OtherEnd,
     text: &mut Vec<u8>,

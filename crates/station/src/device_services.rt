@@ -109,7 +109,7 @@ impl DeviceServices {
 
     /// What the device is to be told, if the neighbour changed since it was told last: the owner gives it this event.
     #[inline(never)]
-    pub fn news(&self) -> Option<Event>
+    pub fn news(&self) -> Option<Event<'static>>
         ensures { result ≡ (if self.now.has_news then Some (news_in self.now) else None) }
     {
         if self.has_news {
@@ -135,7 +135,7 @@ impl DeviceServices {
 
     /// The event by which the device is told of its neighbour, or that none is known.
     #[inline(never)]
-    pub(crate) fn neighbour_event(&self) -> Event
+    pub(crate) fn neighbour_event(&self) -> Event<'static>
         ensures { result ≡ news_in self.now }
     {
         match self.near.neighbour() {
@@ -182,7 +182,7 @@ impl DeviceServices {
     pub fn attend(
         &mut self,
         identity: &Identity,
-        event: &Event,
+        event: &Event<'_>,
         note: Note,
         has_sent: bool,
         outbox: &mut Outbox,

@@ -15,9 +15,9 @@ use flash_model::{Flash, FlashFault};
 
 /// What a host does next.
 #[derive(Drop)]
-pub enum Operation {
+pub enum Operation<'a> {
     /// It hands in an event, after it has fetched all work of the one before.
-    Happens(Event),
+    Happens(Event<'a>),
     /// It fetches one piece of work.
     Works,
 }
@@ -27,7 +27,7 @@ pub enum Operation {
 pub fn play<C: Flash<4096>, K: Sink>(
     port: &mut Port,
     chip: &mut C,
-    operations: &[Operation],
+    operations: &[Operation<'_>],
     sink: &mut K,
 ) -> Result<(), FlashFault>
     requires { IsFresh port.old (C.image chip.old) }
@@ -53,7 +53,7 @@ pub fn play<C: Flash<4096>, K: Sink>(
 fn go_on<C: Flash<4096>, K: Sink>(
     port: &mut Port,
     chip: &mut C,
-    operation: &Operation,
+    operation: &Operation<'_>,
     sink: &mut K,
 ) -> Result<(), FlashFault>
     ensures ends { (begun : Begun) (events : List Event) → Stands begun events (K.taken sink.old) port.old (C.image chip.old) →
@@ -95,7 +95,7 @@ fn settle<C: Flash<4096>, K: Sink>(
 }
 
 // Hands in an event, as a product does.
-fn hand_in(port: &mut Port, event: &Event)
+fn hand_in(port: &mut Port, event: &Event<'_>)
     ensures { HandsIn port.old event.now port.new }
 {
     match event {

@@ -16,7 +16,7 @@ use frame_codec::Outbox;
 /// recorded. A host carries them out on its chip, call by call, and then sends the frames.
 pub fn step<const S: usize>(
     device: &mut Device<RecordedFlash<S>, S>,
-    event: &Event,
+    event: &Event<'_>,
     outbox: &mut Outbox,
 ) -> Note
     requires { device.old.live.values.has_failed ≡ false }
