@@ -3,7 +3,7 @@
 use crate::operations::asked;
 use crate::stations::demo;
 use device_abi::{Operation, Port, play};
-use device_core::{Device, Event, Sink};
+use device_core::{Device, Event, Octets, Sink};
 use flash_model::{MemoryFlash, Sector};
 use pn_values::demo_identity;
 use relations::DeviceOptions;
@@ -236,16 +236,14 @@ impl Model {
         Model { station: IoStation::new(device.ok().expect("starts")), outbox: StationOutbox::new() }
     }
 
-    fn step(&mut self, event: &Event) -> Vec<Vec<u8>> {
+    fn step(&mut self, event: &Event<'_>) -> Vec<Vec<u8>> {
         let _ = self.station.step(event, &mut self.outbox);
         let all = [self.outbox.device(), self.outbox.services()];
         all.iter().flat_map(|frames| frames.iter().map(|frame| frame.as_slice().to_vec())).collect()
     }
 
     fn hear(&mut self, digits: &str) -> Vec<Vec<u8>> {
-        let mut bytes = frame_codec::Bytes::new();
-        bytes.try_extend_from_slice(&octets(digits)).expect("room");
-        self.step(&Event::Frame(bytes))
+        self.step(&Event::Frame(Octets::of(&octets(digits))))
     }
 
     /// Up to the first unit that sends something.

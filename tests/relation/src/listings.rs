@@ -3,11 +3,11 @@
 use crate::Tried;
 use crate::connects::{OTHER, THREE, TWO};
 use crate::requests::{related, write};
-use device_core::{Device, Event, Note};
+use device_core::{Device, Event, Note, Octets};
 use flash_model::MemoryFlash;
 use pn_values::{demo_identity, demo_modules};
 use relations::Phase;
-use test_stations::{READ, call, frame, octets as octets_of};
+use test_stations::{READ, call, frame};
 
 /// The name, the address, a Connect, PrmEnd, and the answer to ApplicationReady, of the demo station.
 const BEFORE: [&str; 5] = [
@@ -102,7 +102,7 @@ const DATA: [(&str, &str); 2] = [
 fn the_data_that_is_exchanged_is_read() {
     for (call, answer) in DATA {
         let mut device = exchanging();
-        device.notes(&Event::Input(1, 1, octets_of(&[0x12, 0x34])), Note::Done);
+        device.notes(&Event::Input(1, 1, Octets::of(&[0x12, 0x34])), Note::Done);
         device.notes(&frame(&octets(OUTPUTS)), Note::Done);
         device.sends(&frame(&octets(call)), &octets(answer));
     }

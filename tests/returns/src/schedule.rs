@@ -6,7 +6,7 @@ use crate::strangers::{Strangers, damaged};
 use crate::tokens::untagged;
 use arrayvec::ArrayVec;
 use controller_core::{Event as ControllerEvent, State};
-use device_core::Event as DeviceEvent;
+use device_core::{Event as DeviceEvent, Octets};
 use flash_model::Order;
 use lldp::Neighbour;
 use pn_values::{Mac, demo_identity};
@@ -207,7 +207,7 @@ impl Schedule<'_> {
                 format!("rate {slot} {}", u8::from(is_good))
             }
             4..6 => {
-                self.world.at_device(&DeviceEvent::Input(1, 1, octets(&value)));
+                self.world.at_device(&DeviceEvent::Input(1, 1, Octets::of(&value)));
                 format!("input {spelled}")
             }
             6 => {
@@ -216,7 +216,7 @@ impl Schedule<'_> {
                 format!("status {}", u8::from(is_good))
             }
             7..9 => {
-                self.world.at_device(&DeviceEvent::Alarm(1, 1, octets(&value)));
+                self.world.at_device(&DeviceEvent::Alarm(1, 1, Octets::of(&value)));
                 format!("alarm {spelled}")
             }
             9 => {
