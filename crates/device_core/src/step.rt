@@ -6,7 +6,7 @@ ghost use Rattle.device_frames.specs.Heard.{Asks, heard_alarm, heard_by, heard_c
 ghost use Rattle.frame_codec.specs.Frame.{arp, datagram, frame_of};
 ghost use Rattle.frame_codec.specs.Meaning.{IsNoRealTime, RealTime};
 ghost use Rattle.pn_alarms.specs.Message.{message_of};
-ghost use Rattle.device_frames.specs.declared.event.Event.TheVariants.{Frame, Call as Joined, Input};
+ghost use Rattle.device_frames.specs.declared.event.Event.TheVariants.{Frame, Input};
 ghost use Rattle.relations.specs.Farewells.{farewell_of};
 ghost use Rattle.relations.specs.RelationState.{RelationState, flow_of};
 ghost use Rattle.relations.specs.Timers.{farewell_for, left_behind};
@@ -74,63 +74,6 @@ impl<F: Flash<S>, const S: usize> Device<F, S> {
     {
         outbox.clear(); // of what the event before sent
         self.respond(event, outbox)
-    }
-
-    /// Handles a received frame, which is only read and not kept: it does what `step` does with the event of these octets.
-    pub fn step_frame(&mut self, octets: &[u8], outbox: &mut Outbox) -> Note
-        ensures steps { Steps F.Flash self.old (heard_of self.old.station.identity (Frame (record { items = octets.now }))) (boxed outbox.new)
-            result self.new }
-
-        // If the failure counter of the flash, below 2^64 - 1, does not rise, the step is exactly the specified one. Over a
-        // reliable flash with no failed commit it always is, the flash stays reliable, and no commit fails.
-        ensures exact { F.failures self.new.flash ≡ F.failures self.old.flash → F.failures self.old.flash < 2 ^ 64 - 1 →
-            IsExactStep self.old (Frame (record { items = octets.now })) (boxed outbox.new) result self.new }
-        ensures reliable { F.is_reliable self.old.flash → self.old.live.values.has_failed ≡ false →
-            F.is_reliable self.new.flash × (self.new.live.values.has_failed ≡ false)
-            × IsExactStep self.old (Frame (record { items = octets.now })) (boxed outbox.new) result self.new }
-    {
-        // Using a field makes the invariant known here.
-        let _ = &self.identity;
-        outbox.clear(); // as `step` does
-        self.hear(octets, outbox)
-    }
-
-    /// Handles a call that came in fragments and was joined, from this caller to this IP address. Its octets are only read and
-    /// not kept: it does what `step` does with the event of these octets.
-    pub fn step_call(
-        &mut self,
-        caller: &Caller,
-        address: [u8; 4],
-        octets: &[u8],
-        outbox: &mut Outbox,
-    ) -> Note
-        ensures steps { Steps F.Flash self.old (heard_of self.old.station.identity (Joined caller.now address (record { items = octets.now })))
-            (boxed outbox.new) result self.new }
-
-        // If the failure counter of the flash, below 2^64 - 1, does not rise, the step is exactly the specified one. Over a
-        // reliable flash with no failed commit it always is, the flash stays reliable, and no commit fails.
-        ensures exact { F.failures self.new.flash ≡ F.failures self.old.flash → F.failures self.old.flash < 2 ^ 64 - 1 →
-            IsExactStep self.old (Joined caller.now address (record { items = octets.now })) (boxed outbox.new) result self.new }
-        ensures reliable { F.is_reliable self.old.flash → self.old.live.values.has_failed ≡ false →
-            F.is_reliable self.new.flash × (self.new.live.values.has_failed ≡ false)
-            × IsExactStep self.old (Joined caller.now address (record { items = octets.now })) (boxed outbox.new) result self.new }
-
-        // A call that is not `Done` changes nothing and sends nothing. One that was answered gets the same frame again, while
-        // that frame is kept.
-        ensures refused { result ≢ Note.Done → (self.new ≡ self.old) × (outbox.new.items ≡ []) }
-        ensures identify { (asker : Mac) (request : Asked) →
-            heard_of self.old.station.identity (Joined caller.now address (record { items = octets.now })) ≡ Asks asker request →
-            request.service ≡ Service.Identify →
-            Identifies self.old asker request (boxed outbox.new) result self.new }
-        ensures again { (call : Called) (frame : List ℕ) →
-            IsServed self.old.live (heard_of self.old.station.identity (Joined caller.now address (record { items = octets.now }))) call →
-            looked call.header.activity call.header.sequence self.old.live.rest.calls ≡ again frame →
-            IsAgain self.old frame (boxed outbox.new) result self.new }
-    {
-        // Using a field makes the invariant known here.
-        let _ = &self.identity;
-        outbox.clear(); // as `step` does
-        self.hear_datagram(caller, address, octets, outbox)
     }
 
     /// Sets the input of a submodule, which is only read and not kept: it does what `step` does with that event, and sends nothing.

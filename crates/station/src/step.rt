@@ -95,7 +95,7 @@ pub fn give<F: Flash<S>, const S: usize>(
 ) -> Note
     ensures { DeviceSteps F.Flash device.old call.now (boxed outbox.new) result device.new }
 {
-    device.step_call(&call.caller, call.address, call.octets.as_slice(), outbox)
+    device.step(&call.event(), outbox)
 }
 
 /// Tells a device of its neighbour, if that changed since it was told last: a step of its own, with the event Neighbour, which
