@@ -95,7 +95,7 @@ pub fn give<F: Flash<S>, const S: usize>(
 ) -> Note
     ensures { DeviceSteps F.Flash device.old call.now (boxed outbox.new) result device.new }
 {
-    device.step(&call.event(), outbox)
+    step_device(device, &call.event(), outbox)
 }
 
 /// Tells a device of its neighbour, if that changed since it was told last: a step of its own, with the event Neighbour, which

@@ -1,4 +1,5 @@
-use Rattle.std.proofs.Common.{◌≡◌, ◌++◌, ℕ, List, Option, refl, subst, ◌∙◌}
+use Rattle.std.proofs.Common.{◌≡◌, ◌++◌, ℕ, List, Option, refl, ap, subst, ◌∙◌}
+use Rattle.arrayvec.specs.ArrayVec.{ArrayVec}
 use Rattle.lldp.specs.Peer.{Peer}
 use Rattle.device_frames.specs.Heard.{Given, Met, Raised, heard_of}
 use Rattle.controller_core.specs.declared.stored.event.Event.{Event as ControllerEvent}
@@ -12,7 +13,7 @@ pub returns-in-Input : goal.returns-in-Input
 unfolding heard_of
 returns-in-Input g c = rw c.in-Input.is (record {
   hears = subst (λ (octets : List ℕ). IsHeard g.F.Flash c.args.device.now c.args.sent.now.frames (Given c.in-Input.slot c.in-Input.subslot octets) c.happen_at_device.new.device c.happen_at_device.new.sent.frames)
-      (c.bytes_of.ensures ∙ c.as_slice.ensures.value) c.happen_at_device.ensures;
+      (ap (λ (o : ArrayVec ℕ). o.items) (c.of.ensures.whole c.as_slice.ensures.fits) ∙ c.as_slice.ensures.value) c.happen_at_device.ensures;
   controller = refl;
 })
 
@@ -20,7 +21,7 @@ pub returns-in-Alarm : goal.returns-in-Alarm
 unfolding heard_of
 returns-in-Alarm g c = rw c.in-Alarm.is (record {
   hears = subst (λ (octets : List ℕ). IsHeard g.F.Flash c.args.device.now c.args.sent.now.frames (Raised c.in-Alarm.slot c.in-Alarm.subslot octets) c.happen_at_device-in-Alarm.new.device c.happen_at_device-in-Alarm.new.sent.frames)
-      (c.bytes_of-in-Alarm.ensures ∙ c.as_slice-in-Alarm.ensures.value) c.happen_at_device-in-Alarm.ensures;
+      (ap (λ (o : ArrayVec ℕ). o.items) (c.of-in-Alarm.ensures.whole c.as_slice-in-Alarm.ensures.fits) ∙ c.as_slice-in-Alarm.ensures.value) c.happen_at_device-in-Alarm.ensures;
   controller = refl;
 })
 

@@ -5,4 +5,4 @@ use Rattle.script_session.proofs.session.Session.alarm.Goals as goal
 pub returns-clause-obeys : goal.returns-clause-obeys
 returns-clause-obeys c network are =
     let ends = subst (Are network) (sym c.self.view_is) are in
-    rw c.handed.ensures at (c.answered.ensures.obeys network ends.0 ends.1)
+    rw c.of.ensures.value at (c.answered.ensures.obeys network ends.0 ends.1)
