@@ -8,7 +8,7 @@ use network_world::{End, Move, World};
 use pn_values::{Real, RealModule, RealSubmodule, demo_identity};
 use rattle_std::alloc::Global;
 use relations::{DeviceOptions, Phase};
-use test_stations::{Station, no_modules, octets, set_pump, step};
+use test_stations::{Station, frame, no_modules, octets, set_pump, step};
 use uuid::Uuid;
 
 /// The catalogue of the station, with no records.
@@ -84,7 +84,7 @@ pub(crate) fn as_planned() -> Real {
 /// The station "pump-1", in which this is plugged.
 pub(crate) fn station() -> Station {
     let mut named: Station = Device::boot(demo_identity(), no_modules(), MemoryFlash::blank()).ok().expect("a station");
-    step(&mut named, &set_pump(b'1'), &mut Outbox::new());
+    step(&mut named, &frame(&set_pump(b'1')), &mut Outbox::new());
     Device::boot_with(demo_identity(), as_planned(), DeviceOptions::default(), named.into_flash()).ok().expect("a station")
 }
 
