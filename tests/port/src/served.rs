@@ -294,13 +294,10 @@ impl Sink for Sent {
 
 #[test]
 fn the_reference_host_drives_the_device_and_its_services() {
-    let event = |digits: &str| {
-        let mut bytes = frame_codec::Bytes::new();
-        bytes.try_extend_from_slice(&octets(digits)).expect("room");
-        Operation::Happens(Event::Frame(bytes))
-    };
+    let frames = [SWITCH, ADDRESS, PING, BY_ALIAS].map(octets);
+    let [switch, address, ping, by_alias] = frames.each_ref().map(|octets| Operation::Happens(Event::Frame(Octets::of(octets))));
     let mut sent = Sent(Vec::new());
-    let operations = [event(SWITCH), event(ADDRESS), event(PING), Operation::Works, event(BY_ALIAS), Operation::Works];
+    let operations = [switch, address, ping, Operation::Works, by_alias, Operation::Works];
     let mut port = booted();
     assert!(play(&mut port, &mut MemoryFlash::<4096>::blank(), &operations, &mut sent).is_ok());
     // The services answer the ping, and the device answers by the name that it has of its neighbour.

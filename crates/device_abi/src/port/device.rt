@@ -8,7 +8,7 @@ ghost use Rattle.flash_model.specs.Image.{erased};
 ghost use Rattle.device_abi.specs.recorded.Entry.{call_of};
 ghost use Rattle.device_abi.specs.recorded.Fits.{fits_in};
 ghost use Rattle.device_abi.specs.recorded.Record.{image_of, record_of};
-ghost use Rattle.device_frames.specs.declared.event.Event.TheVariants.{Call as Joined, Frame as Framed, Input};
+ghost use Rattle.device_frames.specs.declared.event.Event.TheVariants.{Frame as Framed, Input};
 ghost use Rattle.device_abi.specs.port.State.{IsIdle, IsNext, IsRead, advanced, barred, closed, has_some, has_work as is_left, kind_of, lost, waiting as kind_in, work_kind};
 ghost use Rattle.device_abi.specs.port.State.{past_start as too_late};
 ghost use Rattle.device_abi.specs.port.Steps.{KnowsOrNot, Passes, PassesOrNot, StartsOrNot, Takes, Ticks};
@@ -17,9 +17,9 @@ ghost use Rattle.frame_codec.specs.Outbox.{boxed};
 
 use crate::port::{Refusal, Stage};
 use crate::{
-    Recorded, RecordedFlash, leap, skip, step, step_call, step_cyclic, step_frame, step_input, unit,
+    Recorded, RecordedFlash, leap, skip, step, step_cyclic, step_input, unit,
 };
-use device_core::{Caller, Device, Event, Note};
+use device_core::{Device, Event, Note};
 use flash_model::Sector;
 use frame_codec::{Frame, Outbox};
 use pn_values::{Identity, Real};
@@ -357,7 +357,7 @@ impl DevicePort {
     }
 
     // Handles an event. All work of the step before is fetched.
-    pub(crate) fn take(&mut self, event: &Event) -> Note
+    pub(crate) fn take(&mut self, event: &Event<'_>) -> Note
         requires { barred self.old ≡ None }
         ensures { Takes self.old event.now result self.new }
     {
@@ -366,34 +366,6 @@ impl DevicePort {
         self.calls_past = older(before, self.device.flash());
         self.frames_past = 0;
         self.due = None; // the event may change it
-        note
-    }
-
-    // The same with a received frame, which is only read.
-    pub(crate) fn take_frame(&mut self, octets: &[u8]) -> Note
-        requires { barred self.old ≡ None }
-        ensures { Takes self.old (Framed (record { items = octets.now })) result self.new }
-    {
-        let before = counted(self.device.flash());
-        let note = step_frame(&mut self.device, octets, &mut self.outbox);
-        let past = older(before, self.device.flash());
-        self.calls_past = past;
-        self.frames_past = 0;
-        self.due = None; // the frame may change it
-        note
-    }
-
-    // The same with a joined call, whose octets are only read.
-    pub(crate) fn take_call(&mut self, caller: &Caller, address: [u8; 4], octets: &[u8]) -> Note
-        requires { barred self.old ≡ None }
-        ensures { Takes self.old (Joined caller.now address (record { items = octets.now })) result self.new }
-    {
-        let before = counted(self.device.flash());
-        let note = step_call(&mut self.device, caller, address, octets, &mut self.outbox);
-        let past = older(before, self.device.flash());
-        self.calls_past = past;
-        self.frames_past = 0;
-        self.due = None; // the call may change it
         note
     }
 

@@ -15,9 +15,9 @@ use crate::port::beside::{
 use crate::port::device::{DevicePort, Passed, Work};
 use crate::port::{Refusal, Stage};
 use crate::{Recorded, RecordedFlash};
-use device_core::{Device, Event, Note};
+use device_core::{Device, Event, Note, Octets};
 use flash_model::Sector;
-use frame_codec::{Bytes, Frame, Outbox};
+use frame_codec::{Frame, Outbox};
 use lldp::Link;
 use pn_values::{Identity, Real};
 use relations::DeviceOptions;
@@ -207,7 +207,7 @@ impl Port {
             Some(refusal) => Err(refusal),
             None => {
                 self.tell();
-                Ok(self.take_frame(at_most(octets, 1519)))
+                Ok(self.take_frame(octets))
             }
         }
     }
@@ -215,13 +215,14 @@ impl Port {
     // The same once the device was told of its neighbour.
     fn take_frame(&mut self, octets: &[u8]) -> Note
         requires { barred_both self.old ≡ None }
-        ensures { StepsBoth self.old (Framed (record { items = octets.now })) result self.new }
+        ensures { StepsBoth self.old (Framed (record { items = take 1519 octets.now })) result self.new }
     {
         conflicts_are_noticed();
         catch_up(&mut self.services, self.limit - self.rest);
         self.rest = 0;
         self.limit = 0;
-        let note = self.port.take_frame(octets);
+        let octets = at_most(octets, 1519);
+        let note = self.port.take(&Event::Frame(Octets::of(octets)));
         self.frames_past = 0;
         follow(
             &mut self.port,
@@ -275,7 +276,7 @@ impl Port {
     fn get_input(&mut self, slot: u16, subslot: u16, octets: &[u8]) -> Result<Note, Refusal>
         ensures { AnswersBoth self.old (Input slot subslot (record { items = take 1519 octets.now })) result self.new }
     {
-        self.apply(&Event::Input(slot, subslot, first_of(octets)))
+        self.apply(&Event::Input(slot, subslot, Octets::of(octets)))
     }
 
     /// Raises an alarm of a submodule.
@@ -283,7 +284,7 @@ impl Port {
     pub fn alarm(&mut self, slot: u16, subslot: u16, octets: &[u8]) -> Result<Note, Refusal>
         ensures { AnswersBoth self.old (Alarm slot subslot (record { items = take 1519 octets.now })) result self.new }
     {
-        self.apply(&Event::Alarm(slot, subslot, first_of(octets)))
+        self.apply(&Event::Alarm(slot, subslot, Octets::of(octets)))
     }
 
     /// Sets the status of the inputs of a submodule.
@@ -319,7 +320,7 @@ impl Port {
 
     // Any event but a frame and a unit of time: of the services it only lets them see the running settings.
     #[inline(never)]
-    pub(crate) fn apply(&mut self, event: &Event) -> Result<Note, Refusal>
+    pub(crate) fn apply(&mut self, event: &Event<'_>) -> Result<Note, Refusal>
         requires { IsOfApplication event.now }
         ensures { AnswersBoth self.old event.now result self.new }
     {
@@ -333,7 +334,7 @@ impl Port {
     }
 
     // The same once the device was told of its neighbour.
-    fn take(&mut self, event: &Event) -> Note
+    fn take(&mut self, event: &Event<'_>) -> Note
         requires free { barred_both self.old ≡ None }
         requires kind { IsOfApplication event.now }
         ensures { StepsBoth self.old event.now result self.new }
@@ -772,15 +773,6 @@ impl Port {
         tell_neighbour(&mut self.port, &mut self.services);
         pass_both(&mut self.port, &mut self.services, most, &mut self.outbox)
     }
-}
-
-// The given octets, cut to the most that an event has.
-fn first_of(octets: &[u8]) -> Bytes
-    ensures { result ≡ record { items = take 1519 octets.now } }
-{
-    let mut bytes = Bytes::new();
-    let _ = bytes.try_extend_from_slice(at_most(octets, 1519));
-    bytes
 }
 
 // The kind of the piece after one of a port, if this is the kind of the next one of the services.

@@ -12,30 +12,30 @@ use Rattle.device_abi.proofs.ServedComposed.{dropped_free, frame_steps, noticed_
 use Rattle.device_abi.proofs.ServedTicking.{at}
 use Rattle.device_abi.proofs.port.served.Port.take_frame.Goals as goal
 
-pub take_frame-note-requires : goal.take_frame-note-requires
-take_frame-note-requires c =
+pub take-note-requires : goal.take-note-requires
+take-note-requires c =
     let all = c.self.inside in
     let served = at all.serves all.port (caught_up (all.limit - all.rest) all.services) (drop all.frames_past (boxed all.outbox)) in
     free_port served (subst (λ (s : Served). barred_both s ≡ None) (sym c.self.view_is) c.requires)
 
 pub follow-requires-clause-known : goal.follow-requires-clause-known
 follow-requires-clause-known c =
-    noticed_of c.conflicts_are_noticed.ensures c.self.inside.port c.take_frame-note.new.self (record { items = c.args.octets.now }) c.take_frame-note.result c.catch_up.new.services c.take_frame-note.ensures
+    noticed_of c.conflicts_are_noticed.ensures c.self.inside.port c.take-note.new.self (record { items = c.at_most-octets.result.now }) c.take-note.result c.catch_up.new.services c.take-note.ensures
 
 -- A frame that was dropped leaves no work.
 pub follow-requires-clause-dropped : goal.follow-requires-clause-dropped
 follow-requires-clause-dropped c =
-    dropped_free c.self.inside.port c.take_frame-note.new.self (Frame (record { items = c.args.octets.now })) c.take_frame-note.result c.take_frame-note.ensures
+    dropped_free c.self.inside.port c.take-note.new.self (Frame (record { items = c.at_most-octets.result.now })) c.take-note.result c.take-note.ensures
 
 pub returns : goal.returns
 returns c =
     let all = c.self.inside in
-    let middle = c.take_frame-note.new.self in
+    let middle = c.take-note.new.self in
     let new = c.follow.new.port in
-    let event : Event = Frame (record { items = c.args.octets.now }) in
-    let note = c.take_frame-note.result in
+    let event : Event = Frame (record { items = c.at_most-octets.result.now }) in
+    let note = c.take-note.result in
     let after = c.follow.new.services in
     let sent = boxed c.follow.new.outbox in
     let beside = subst (λ (o : Option Serving). IsBeside o middle.device.station.identity middle.device.live.values note event after sent c.follow.result) c.catch_up.ensures c.follow.ensures.beside in
     let gives = subst (λ (o : Option Serving). GivesAny o middle.device.live.values note event middle new) c.catch_up.ensures c.follow.ensures.gives in
-    rw (← c.self.view_is) (frame_steps (all.limit - all.rest) all.serves all.port middle new all.services after (drop all.frames_past (boxed all.outbox)) sent event note c.follow.result c.take_frame-note.ensures beside gives)
+    rw (← c.self.view_is) (frame_steps (all.limit - all.rest) all.serves all.port middle new all.services after (drop all.frames_past (boxed all.outbox)) sent event note c.follow.result c.take-note.ensures beside gives)
