@@ -104,6 +104,7 @@ only_in index bytes command (Some named.Im4) is e =
     (im.Im4 a.0, sym (ok_is {F = RecordFault} (SetIm (im.Im4 a.0)) command a.2), (is, f.0, f.1 ∙ sym (im4_bytes a.0 f.0)))
 only_in index bytes command None is e = absurd cc
 only_in index bytes command (Some named.Im0) is e = absurd cc
+only_in index bytes command (Some named.Im5) is e = absurd cc
 only_in index bytes command (Some named.FilterData) is e = absurd cc
 only_in index bytes command (Some named.ModuleDiff) is e = absurd cc
 

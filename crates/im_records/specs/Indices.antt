@@ -1,7 +1,7 @@
 -- The record of a device that an index names (IEC 61158-6-10, 5.2.3.22 and 5.2.4).
 use Rattle.std.specs.Prelude.{◌==◌, ℕ, Bool, true, false, Option, Some, None, if◌then◌else◌}
 use Rattle.im_records.specs.declared.record.Record.{Record}
-use Rattle.im_records.specs.declared.record.Record.TheVariants.{Im0, Im1, Im2, Im3, Im4, FilterData, ModuleDiff}
+use Rattle.im_records.specs.declared.record.Record.TheVariants.{Im0, Im1, Im2, Im3, Im4, Im5, FilterData, ModuleDiff}
 
 -- The record with an index, if it is one of a device.
 unfoldable pub record_with : ℕ → Option Record
@@ -11,6 +11,7 @@ record_with index =
     else if index == 0xAFF2 then Some Im2
     else if index == 0xAFF3 then Some Im3
     else if index == 0xAFF4 then Some Im4
+    else if index == 0xAFF5 then Some Im5
     else if index == 0xF840 then Some FilterData
     else if index == 0xE002 then Some ModuleDiff
     else None
@@ -23,6 +24,7 @@ is_text (Some Im1) = true
 is_text (Some Im2) = true
 is_text (Some Im3) = true
 is_text (Some Im4) = true
+is_text (Some Im5) = false
 is_text (Some FilterData) = false
 is_text (Some ModuleDiff) = false
 
@@ -34,6 +36,7 @@ is_anywhere (Some Im1) = false
 is_anywhere (Some Im2) = false
 is_anywhere (Some Im3) = false
 is_anywhere (Some Im4) = false
+is_anywhere (Some Im5) = false
 is_anywhere (Some FilterData) = true
 is_anywhere (Some ModuleDiff) = true
 
@@ -45,6 +48,7 @@ is_read_only (Some Im1) = false
 is_read_only (Some Im2) = false
 is_read_only (Some Im3) = false
 is_read_only (Some Im4) = false
+is_read_only (Some Im5) = true
 is_read_only (Some FilterData) = true
 is_read_only (Some ModuleDiff) = true
 

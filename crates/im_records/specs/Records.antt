@@ -1,5 +1,6 @@
 -- The records of identification and maintenance (IEC 61158-6-10, 5.2.3.22).
-use Rattle.std.specs.Prelude.{◌==◌, ◌&&◌, ℕ, Bool, true, false, List, take, drop, Option, Some, None}
+use Rattle.std.specs.Prelude.{◌==◌, ◌&&◌, ◌++◌, ℕ, Bool, true, false, List, [], ◌∷◌, replicate, take, drop, Option, Some, None}
+use Rattle.wire.specs.Formats.{big_bytes}
 use Rattle.pn_values.specs.declared.identity.Identity.{Identity}
 use Rattle.std.specs.List.{list_any}
 use Rattle.pn_values.specs.declared.real.Real.{Real}
@@ -47,6 +48,12 @@ im3_record text = block_bytes (is.Im3 (record { im_descriptor = text }))
 abbrev pub im4_record : List ℕ → List ℕ
 im4_record text = block_bytes (is.Im4 (record { im_signature = text }))
 
+-- I&M5 of a device: one entry, the product itself, with an annotation of spaces.
+abbrev pub im5_record : Identity → List ℕ
+im5_record identity =
+    0x00 ∷ 0x25 ∷ 0x00 ∷ 0xA2 ∷ 1 ∷ 0 ∷ 0 ∷ 1 ∷ 0x00 ∷ 0x34 ∷ 0x00 ∷ 0x9A ∷ 1 ∷ 0 ∷ [] ++ replicate 64 32 ++ identity.order_id ++ replicate 44 32
+    ++ big_bytes 2 identity.vendor_id ++ identity.serial_number ++ big_bytes 2 identity.hardware_revision ++ identity.software_revision
+
 -- Whether this is the submodule that represents the device: slot 0, subslot 1.
 abbrev pub is_device : ℕ → ℕ → Bool
 is_device slot subslot = slot == 0 && subslot == 1
@@ -73,6 +80,7 @@ record_in (Some named.Im1) slot subslot identity real settings = where_holds (is
 record_in (Some named.Im2) slot subslot identity real settings = where_holds (is_device slot subslot) (im2_record settings.im2)
 record_in (Some named.Im3) slot subslot identity real settings = where_holds (is_device slot subslot) (im3_record settings.im3)
 record_in (Some named.Im4) slot subslot identity real settings = where_holds (is_device slot subslot) (im4_record settings.im4)
+record_in (Some named.Im5) slot subslot identity real settings = where_holds (is_device slot subslot) (im5_record identity)
 record_in (Some named.FilterData) slot subslot identity real settings = Some (filter_record real)
 record_in (Some named.ModuleDiff) slot subslot identity real settings = None
 

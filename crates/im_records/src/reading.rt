@@ -1,7 +1,7 @@
 //! The records that are read.
 ghost use Rattle.std.specs.Prelude.{◌≡◌, [], None, Some, if◌then◌else◌};
 ghost use Rattle.std.specs.Option.{option_map};
-ghost use Rattle.im_records.specs.Records.{has_subslot, im0_record, im1_record, im2_record, im3_record, im4_record, is_device, is_real};
+ghost use Rattle.im_records.specs.Records.{has_subslot, im0_record, im1_record, im2_record, im3_record, im4_record, im5_record, is_device, is_real};
 ghost use Rattle.im_records.specs.Records.{record_in, record_of};
 ghost use Rattle.im_records.specs.Writable.{is_writable};
 
@@ -12,6 +12,7 @@ use arrayvec::ArrayVec;
 use block_codec::{Block, Im0, Im1, Im2, Im3, Im4, write_block};
 use pn_values::{Identity, Padded, Real, RealModule, Settings};
 use record_blocks::im0_len;
+use wire::{append, append_u16};
 
 /// Room for a record.
 pub(crate) type Octets = ArrayVec<u8, 1024>;
@@ -59,6 +60,7 @@ fn put_record(
         Record::Im2 if is_device(slot, subslot) => put_im2(out, &settings.im2),
         Record::Im3 if is_device(slot, subslot) => put_im3(out, &settings.im3),
         Record::Im4 if is_device(slot, subslot) => put_im4(out, &settings.im4),
+        Record::Im5 if is_device(slot, subslot) => put_im5(out, identity),
         Record::FilterData => put_filter(out, real),
         // The ModuleDiffBlock belongs to a relation, so a reader without a relation gets none.
         _ => return false,
@@ -173,4 +175,20 @@ fn put_im4(out: &mut Octets, text: &Padded<54>)
     };
     im4.im_signature.copy_from_slice(text.as_bytes());
     write_block(out, &Block::Im4(im4));
+}
+
+/// Puts I&M5 of a device into an empty list: one entry, the product itself, with an annotation of spaces.
+fn put_im5(out: &mut Octets, identity: &Identity)
+    requires { out.old.items ≡ [] }
+    ensures { out.new.items ≡ im5_record identity.now }
+{
+    append(out, &[0x00, 0x25, 0x00, 0xA2, 1, 0, 0, 1]);
+    append(out, &[0x00, 0x34, 0x00, 0x9A, 1, 0]);
+    append(out, &[b' '; 64]);
+    append(out, &identity.order_id);
+    append(out, &[b' '; 44]);
+    append_u16(out, identity.vendor_id);
+    append(out, &identity.serial_number);
+    append_u16(out, identity.hardware_revision);
+    append(out, &identity.software_revision);
 }

@@ -12,6 +12,8 @@ pub enum Record {
     Im2,
     Im3,
     Im4,
+    /// I&M5, of the submodule that represents the device: its communication module. Read-only.
+    Im5,
     /// I&M0FilterData, at any slot and subslot.
     FilterData,
     /// The ModuleDiffBlock of a relation, at any slot and subslot.
@@ -30,6 +32,7 @@ impl Record {
             0xAFF2 => Some(Record::Im2),
             0xAFF3 => Some(Record::Im3),
             0xAFF4 => Some(Record::Im4),
+            0xAFF5 => Some(Record::Im5),
             0xF840 => Some(Record::FilterData),
             0xE002 => Some(Record::ModuleDiff),
             _ => None,
@@ -43,7 +46,7 @@ pub(crate) fn is_text(index: u16) -> bool
 {
     match Record::of(index) {
         Some(Record::Im1 | Record::Im2 | Record::Im3 | Record::Im4) => true,
-        Some(Record::Im0 | Record::FilterData | Record::ModuleDiff) | None => false,
+        Some(Record::Im0 | Record::Im5 | Record::FilterData | Record::ModuleDiff) | None => false,
     }
 }
 
@@ -53,7 +56,7 @@ pub fn is_anywhere(index: u16) -> bool
 {
     match Record::of(index) {
         Some(Record::FilterData | Record::ModuleDiff) => true,
-        Some(Record::Im0 | Record::Im1 | Record::Im2 | Record::Im3 | Record::Im4) | None => false,
+        Some(Record::Im0 | Record::Im1 | Record::Im2 | Record::Im3 | Record::Im4 | Record::Im5) | None => false,
     }
 }
 
@@ -62,7 +65,7 @@ pub fn is_read_only(index: u16) -> bool
     ensures { result ≡ is_read_only (record_with index) }
 {
     match Record::of(index) {
-        Some(Record::Im0 | Record::FilterData | Record::ModuleDiff) => true,
+        Some(Record::Im0 | Record::Im5 | Record::FilterData | Record::ModuleDiff) => true,
         Some(Record::Im1 | Record::Im2 | Record::Im3 | Record::Im4) | None => false,
     }
 }

@@ -21,7 +21,7 @@ im0_revision = seen
       revision.im_hardware_revision,
       (revision.im_software_revision, (tt, (revision.im_profile_id, (revision.im_profile_specific_type, (tt, tt))))),
     ))
-    (two ⨾ octets 4 ⨾ fixed 9 0 ⨾ two ⨾ two ⨾ fixed 12 0x0101 ⨾ fixed 13 0x001E)
+    (two ⨾ octets 4 ⨾ fixed 9 0 ⨾ two ⨾ two ⨾ fixed 12 0x0101 ⨾ fixed 13 0x003E)
 
 -- The fields of an I&M0.
 unfoldable pub im0 : Codec BlockFault Im0

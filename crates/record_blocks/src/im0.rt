@@ -64,7 +64,7 @@ macro_rules! im0_revision_fields {
             im_profile_id: u16,
             im_profile_specific_type: u16,
             _: fixed 0x0101 12,
-            _: fixed 0x001E 13,
+            _: fixed 0x003E 13,
         } }
     };
 }

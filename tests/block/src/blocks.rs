@@ -280,7 +280,7 @@ fn ranges_of_modules() {
 fn ranges_of_identification() {
     assert!(is_ranged(&IM0, 50, 0, 0, 9));
     assert!(is_ranged(&IM0, 56, 0x0101, 0x0101, 12));
-    assert!(is_ranged(&IM0, 58, 0x001E, 0x001E, 13));
+    assert!(is_ranged(&IM0, 58, 0x003E, 0x003E, 13));
 }
 
 /// Numbers at places that are refused by the number of their field.

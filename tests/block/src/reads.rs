@@ -176,7 +176,7 @@ impl Wrong {
             Wrong::Api => Asked { api: 1, ..asked },
             Wrong::Slot => Asked { slot: 3, ..asked },
             Wrong::Index => Asked {
-                index: 0xAFF5,
+                index: 0xAFF6,
                 ..asked
             },
         }

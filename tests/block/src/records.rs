@@ -23,7 +23,7 @@ const FILTER_OF_ONE: [u8; 42] = [
 
 /// I&M0 of the station below.
 const IM0: [u8; 60] =
-    *b"\x00\x20\x00\x38\x01\x00\x01\x23order number 0123456serial number 01\x0A\x0BV\x01\x02\x03\x00\x00\x0C\x0D\x0E\x0F\x01\x01\x00\x1E";
+    *b"\x00\x20\x00\x38\x01\x00\x01\x23order number 0123456serial number 01\x0A\x0BV\x01\x02\x03\x00\x00\x0C\x0D\x0E\x0F\x01\x01\x00\x3E";
 
 /// I&M1 to I&M3 of the settings below.
 const IM1: [u8; 60] =
@@ -55,6 +55,9 @@ fn identity() -> Identity {
         profile_specific_type: 0x0E0F,
     }
 }
+
+/// I&M5 of the station: an entry with an annotation of spaces.
+const IM5: [u8; 166] = *b"\x00\x25\x00\xA2\x01\x00\x00\x01\x00\x34\x00\x9A\x01\x00                                                                order number 0123456                                            \x01\x23serial number 01\x0A\x0BV\x01\x02\x03";
 
 /// Settings whose texts all differ.
 pub(crate) fn settings() -> Settings {
@@ -125,6 +128,7 @@ fn reads_each_text() {
     assert!(reads(0xAFF2, 0, 1, &IM2));
     assert!(reads(0xAFF3, 0, 1, &IM3));
     assert!(reads(0xAFF4, 0, 1, &IM4));
+    assert!(reads(0xAFF5, 0, 1, &IM5));
 }
 
 /// I&M2 as it leaves the factory: spaces.
@@ -164,13 +168,14 @@ fn reads_none(index: u16, slot: u16, subslot: u16) -> bool {
 }
 
 /// Records that are not there: the index, the slot and the subslot.
-const OTHERS: [(u16, u16, u16); 7] = [
+const OTHERS: [(u16, u16, u16); 8] = [
     (0xAFF0, 3, 1),
     (0xAFF0, 1, 2),
     (0xAFF1, 1, 1),
     (0xAFF3, 0, 0x8000),
     (0xAFF4, 0, 2),
-    (0xAFF5, 0, 1),
+    (0xAFF5, 0, 2),
+    (0xAFF6, 0, 1),
     (0x0001, 0, 1),
 ];
 
@@ -231,6 +236,7 @@ fn takes_no_block_of_another_kind() {
 fn takes_no_other_index() {
     assert_eq!(fault_of(0xAFF0, &IM0), Some(1));
     assert_eq!(fault_of(0xF840, &[]), Some(1));
-    let fault = read_write(0xAFF5, &IM3).err();
+    assert_eq!(fault_of(0xAFF5, &IM5), Some(1));
+    let fault = read_write(0xAFF6, &IM3).err();
     assert_eq!(fault, Some(RecordFault::Index));
 }
