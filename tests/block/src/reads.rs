@@ -9,7 +9,7 @@ use records::{Blocks, CallFault, Operation};
 
 /// I&M0 of the demo station.
 pub(crate) const IM0: [u8; 60] =
-    *b"\x00\x20\x00\x38\x01\x00\x01\x23                                    \x00\x00V\x00\x00\x00\x00\x00\x00\x00\x00\x00\x01\x01\x00\x1E";
+    *b"\x00\x20\x00\x38\x01\x00\x01\x23                                    \x00\x00V\x00\x00\x00\x00\x00\x00\x00\x00\x00\x01\x01\x00\x3E";
 
 /// A submodule with parameter records 1 and 700.
 fn with_parameters() -> RealSubmodule {
