@@ -103,7 +103,7 @@ fn a_level_says_what_has_to_be_plugged() {
         assert_eq!(read(&real, 3, 1, index).err(), Some(NO_PLACE), "{index:04X}");
         assert!(read(&real, 2, 9, index).is_ok(), "{index:04X}");
     }
-    for index in [0xF000, 0xF821, 0xF00A, 0xF00C, 0xF010, 0xF013, 0xF80C] {
+    for index in [0xF000, 0xF001, 0xF821, 0xF00A, 0xF00C, 0xF010, 0xF013, 0xF80C] {
         assert!(read(&real, 9, 9, index).is_ok(), "{index:04X}");
     }
 }

@@ -50,6 +50,7 @@ kind_of index =
     if index == 0x8001 then Some Identification
     else if index == 0xC001 then Some Identification
     else if index == 0xF000 then Some Identification
+    else if index == 0xF001 then Some Identification
     else if index == 0xF821 then Some Apis
     else if index == 0x8000 then Some Expected
     else if index == 0xC000 then Some Expected

@@ -156,7 +156,7 @@ fn kind_of(index: u16) -> Option<Listing>
     ensures { result ≡ kind_of index }
 {
     match index {
-        0x8001 | 0xC001 | 0xF000 => Some(Listing::Identification),
+        0x8001 | 0xC001 | 0xF000 | 0xF001 => Some(Listing::Identification),
         0xF821 => Some(Listing::Apis),
         0x8000 | 0xC000 | 0xE000 => Some(Listing::Expected),
         0xE001 => Some(Listing::Found),
