@@ -103,7 +103,8 @@ enum {
     PN_OP_PASSED = 22,
     PN_OP_PASSED_ON = 23,
     PN_OP_FRAME_AFTER = 24,
-    PN_OP_RECEIVED = 25
+    PN_OP_RECEIVED = 25,
+    PN_OP_BLINK = 26,
 };
 
 /* A parameter record that a submodule accepts: its index, 0 to 32,767 and no other record's of the submodule, and its exact length, 1 to
@@ -405,6 +406,12 @@ static inline uint32_t pn_diagnosis(pn_device *device, pn_op *op, uint16_t slot,
 static inline uint32_t pn_ready(pn_device *device, pn_op *op)
 {
     return pn_ask(device, op, PN_OP_READY, NULL, 0);
+}
+
+/* The lamp flashes for three seconds, as after a Signal. */
+static inline uint32_t pn_blink(pn_device *device, pn_op *op)
+{
+    return pn_ask(device, op, PN_OP_BLINK, NULL, 0);
 }
 
 /* What the host knows of the link, for the LLDP of the device. */

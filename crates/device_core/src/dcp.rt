@@ -231,6 +231,16 @@ fn end_if(
     Some(farewell)
 }
 
+impl<F: Flash<S>, const S: usize> Device<F, S> {
+    // The application asks that the lamp flashes.
+    pub(crate) fn blink(&mut self) -> Note
+        ensures { Steps F.Flash self.old IsBlink [] result self.new }
+    {
+        self.lamp = LAMP_UNITS;
+        Note::Done
+    }
+}
+
 // The number of units for which the lamp flashes after these items; before them it was `lamp`.
 fn lamp_after(lamp: u32, items: &[SetItem]) -> u32
     ensures { result ≡ lamp_of lamp items.now }

@@ -191,6 +191,7 @@ impl<F: Flash<S>, const S: usize> Device<F, S> {
             Event::Status(slot, subslot, is_good) => self.rate(*slot, *subslot, *is_good),
             Event::Neighbour(neighbour) => self.meet(neighbour),
             Event::Ready => self.get_ready(outbox),
+            Event::Blink => self.blink(),
             Event::Diagnosis(slot, subslot, channel, error, appears) => self.diagnose(
                 &Change {
                     diagnosis: Diagnosis {

@@ -30,4 +30,6 @@ pub enum Event {
     /// The application is ready. It counts once in a relation: after PrmEnd, at a device whose application says when it is
     /// ready.
     Ready,
+    /// The application asks that the lamp flashes for three seconds, as after a Signal.
+    Blink,
 }

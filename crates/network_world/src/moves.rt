@@ -26,6 +26,8 @@ pub enum Move {
     Status(u16, u16, bool),
     /// The device's application says that it is ready.
     Ready,
+    /// The device's application asks that the lamp flashes.
+    Blink,
     /// The services beside the device tell it its neighbour, or that it has none.
     Neighbour(Option<Neighbour>),
     /// A diagnosis of the submodule in this slot and subslot, of this channel and with this ChannelErrorType, appears or

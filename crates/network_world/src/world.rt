@@ -201,6 +201,7 @@ fn happen<F: Flash<S>, const S: usize>(
             let status = DeviceEvent::Status(*slot, *subslot, *is_good);
             happen_at_device(device, sent, &status);
         }
+        Move::Blink => happen_at_device(device, sent, &DeviceEvent::Blink),
         Move::Ready => happen_at_device(device, sent, &DeviceEvent::Ready),
         Move::Neighbour(neighbour) => {
             let met = DeviceEvent::Neighbour(copied(neighbour));

@@ -45,6 +45,8 @@ pub enum Command<'a> {
     Choose(Choice),
     /// The device's application says that its parameters are checked and its data is valid.
     Ready,
+    /// The device's application asks that the lamp flashes.
+    Blink,
     /// Orders the flash to fail at a later call.
     Arm(Order),
     /// A diagnosis of the submodule in this slot and subslot, of this channel and error, appears or disappears.
@@ -286,6 +288,8 @@ fn bare(word: &[u8]) -> Option<Command<'static>>
         Some(Command::Due)
     } else if word == b"ready".as_slice() {
         Some(Command::Ready)
+    } else if word == b"blink".as_slice() {
+        Some(Command::Blink)
     } else {
         bare_of_both(word)
     }

@@ -34,7 +34,8 @@ pub(crate) fn receive(received: &mut Event, bytes: &[u8])
         | Event::Status(..)
         | Event::Neighbour(..)
         | Event::Diagnosis(..)
-        | Event::Ready => *received = Event::Frame(copied(bytes)),
+        | Event::Ready
+        | Event::Blink => *received = Event::Frame(copied(bytes)),
     }
 }
 

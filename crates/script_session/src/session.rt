@@ -161,6 +161,7 @@ impl<'a> Session<'a> {
                 always(Ok(()))
             }
             Command::Ready => always(self.ready(text)),
+            Command::Blink => always(self.blink(text)),
             Command::Diagnosis(slot, subslot, channel, error, appears) => {
                 always(self.diagnose(slot, subslot, channel, error, appears, text))
             }
@@ -320,6 +321,17 @@ impl<'a> Session<'a> {
         answered(
             &mut self.power,
             &Event::Ready,
+            &mut self.outbox,
+            &mut self.other,
+            text,
+        )
+    }
+
+    /// The device's application asks that the lamp flashes.
+    fn blink(&mut self, text: &mut Vec<u8>) -> Result<(), AllocError> {
+        answered(
+            &mut self.power,
+            &Event::Blink,
             &mut self.outbox,
             &mut self.other,
             text,

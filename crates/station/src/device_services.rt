@@ -210,7 +210,8 @@ impl DeviceServices {
             | Event::Status(..)
             | Event::Neighbour(..)
             | Event::Diagnosis(..)
-            | Event::Ready => Attended::Noted(note),
+            | Event::Ready
+            | Event::Blink => Attended::Noted(note),
         }
     }
 

@@ -29,6 +29,7 @@ pub enum Operation {
     PassedOn,
     FrameAfter,
     Received,
+    Blink,
 }
 
 // The operation of this number, if it exists.
@@ -60,6 +61,7 @@ pub(crate) fn operation_of(what: u32) -> Option<Operation>
         23 => Some(Operation::PassedOn),
         24 => Some(Operation::FrameAfter),
         25 => Some(Operation::Received),
+        26 => Some(Operation::Blink),
         _ => None,
     }
 }

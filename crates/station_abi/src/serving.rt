@@ -89,6 +89,7 @@ fn perform(operation: Operation, port: &mut ServedPort, op: &mut Op, given: &[u8
         Operation::Due => tell_number(port.due(), &mut op.units),
         Operation::Status => status(port, op),
         Operation::Ready => ready(port, op),
+        Operation::Blink => blink(port, op),
         Operation::Provider => provider(port.port(), op),
         Operation::Diagnosis => diagnosis(port, op),
         Operation::Conflicts => tell_number(conflicts(port), &mut op.units),
@@ -267,6 +268,15 @@ fn ready(port: &mut ServedPort, op: &mut Op) -> u32
     ensures { IsEvent port.old IsReady op.old result port.new op.new }
 {
     let outcome = port.ready();
+    noted(outcome, port, op)
+}
+
+// The application asks that the lamp flashes.
+#[inline(never)]
+fn blink(port: &mut ServedPort, op: &mut Op) -> u32
+    ensures { IsEvent port.old IsBlink op.old result port.new op.new }
+{
+    let outcome = port.blink();
     noted(outcome, port, op)
 }
 

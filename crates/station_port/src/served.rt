@@ -328,6 +328,16 @@ impl ServedPort {
         self.settle(outcome)
     }
 
+    /// The application asks that the lamp flashes.
+    #[inline(never)]
+    pub fn blink(&mut self) -> Result<Note, Refusal>
+        ensures { AnswersBoth self.old Blink result self.new }
+    {
+        self.prepare()?;
+        let outcome = self.port.blink();
+        self.settle(outcome)
+    }
+
     /// The application is ready.
     #[inline(never)]
     pub fn ready(&mut self) -> Result<Note, Refusal>

@@ -329,6 +329,14 @@ impl Port {
         self.offer(&Event::Ready)
     }
 
+    /// The application asks that the lamp flashes.
+    #[inline(never)]
+    pub fn blink(&mut self) -> Result<Note, Refusal>
+        ensures { Answers self.old Blink result self.new }
+    {
+        self.offer(&Event::Blink)
+    }
+
     /// Lets units of time pass, up to the first that sends something. Returns how many remain, and what is due then.
     #[inline(always)]
     pub fn tick(&mut self, units: u32) -> Result<Passed, Refusal>
