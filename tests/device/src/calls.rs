@@ -38,7 +38,7 @@ const ANSWER: [u8; 266] = *b"\x02\x00\x00\x00\x00\x02\x02\x00\x00\x00\x00\x01\x0
         \x80\x09\x00\x3c\x01\x00\x00\x00\x00\x00\x00\x00\x00\x00\x00\x00\x00\x00\x00\x00\x00\x00\x00\x00\x00\x00\x00\x00\x00\x00\x00\x01\
         \x00\x00\xaf\xf0\x00\x00\x00\x3c\x00\x00\x00\x00\x00\x00\x00\x00\x00\x00\x00\x00\x00\x00\x00\x00\x00\x00\x00\x00\x00\x00\x00\x00\
         \x00\x20\x00\x38\x01\x00\x01\x23\x20\x20\x20\x20\x20\x20\x20\x20\x20\x20\x20\x20\x20\x20\x20\x20\x20\x20\x20\x20\x20\x20\x20\x20\
-        \x20\x20\x20\x20\x20\x20\x20\x20\x20\x20\x20\x20\x00\x00\x56\x00\x00\x00\x00\x00\x00\x00\x00\x00\x01\x01\x00\x1e";
+        \x20\x20\x20\x20\x20\x20\x20\x20\x20\x20\x20\x20\x00\x00\x56\x00\x00\x00\x00\x00\x00\x00\x00\x00\x01\x01\x00\x3e";
 
 // The answer where the index is 0xAFF5.
 const NO_RECORD: [u8; 142] = *b"\x02\x00\x00\x00\x00\x02\x02\x00\x00\x00\x00\x01\x08\x00\
@@ -145,7 +145,7 @@ fn as_much_of_a_record_is_read_as_is_asked_for() {
 #[test]
 fn a_record_that_there_is_not() {
     let mut device = Tried::new(addressed());
-    device.answers(&changed(&[(INDEX, 0xF5)]), &NO_RECORD);
+    device.answers(&changed(&[(INDEX, 0xF6)]), &NO_RECORD);
 }
 
 #[test]
@@ -168,7 +168,7 @@ fn a_call_again_gets_the_same_frame() {
     let mut device = Tried::new(addressed());
     device.answers(&CALL, &ANSWER);
     // from another station, another port, and for another record
-    let again = changed(&[(11, 9), (34, 1), (INDEX, 0xF5)]);
+    let again = changed(&[(11, 9), (34, 1), (INDEX, 0xF6)]);
     device.answers(&again, &ANSWER);
 }
 
@@ -187,7 +187,7 @@ fn four_other_activities_later_a_call_is_new() {
         let call = changed(&[(ACTIVITY, other)]);
         device.hears(&call, Note::Done, 1);
     }
-    let again = changed(&[(INDEX, 0xF5)]);
+    let again = changed(&[(INDEX, 0xF6)]);
     device.answers(&again, &NO_RECORD);
 }
 
