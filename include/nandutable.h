@@ -19,7 +19,7 @@
  * from the contents of the chip.
  *
  * Every function returns a number of nandutable_numbers.h: PN_OK, or the reason why it did nothing (pn_strerror has its text). After any
- * other number than PN_OK the device is unchanged, and the operation holds only the request. Numbers of two or four octets have the byte
+ * other number than PN_OK the device is unchanged, and the operation holds only the request; after PN_REFUSED also the reason. Numbers of two or four octets have the byte
  * order of the machine; octets of frames and values are as on the wire.
  *
  * Under the MIT licence or the Apache License 2.0, as you choose. */
@@ -37,41 +37,86 @@ extern "C" {
 #endif
 
 /* Octets of the room of a device; its address is a multiple of 16. */
-#define PN_DEVICE_SIZE 88064u
+#define PN_DEVICE_SIZE 79872u
 /* Octets of each of the two flash sectors. An erased sector is all ones; a program call turns ones to zeros. */
 #define PN_SECTOR_SIZE 4096u
 /* The longest sent frame, without its check sequence. A received frame may be longer; it is refused. */
 #define PN_FRAME_SIZE 1518u
 /* The maximum number of octets of one operation, and the octets of an operation up to `data`. */
 #define PN_OP_SIZE 1520u
-#define PN_OP_LENGTH 1568u
+#define PN_OP_LENGTH 1664u
 /* A unit of time, in nanoseconds: 32 of them are a millisecond. */
 #define PN_UNIT_NS 31250u
 /* How many units a host may be late and still catch up. After a longer stall, drop the units beyond this; otherwise repeats and error
  * frames would go out in one burst. */
 #define PN_MOST_DEBT 64u
-/* Modules, submodules of a module, and parameter records of a submodule. */
+/* What can be plugged, at most: 16 modules, one of them the access point, 4 submodules of a module, and 2 parameter records of a submodule. A
+ * Connect may expect more: 64 modules and 64 submodules in all. What is not plugged is then in its ModuleDiffBlock. */
 #define PN_MODULES 16u
 #define PN_SUBMODULES 4u
 #define PN_PARAMETERS 2u
 
-/* The result of an event (pn_op.note). None of them is a fault of the host. */
-enum {
+/* The result of an event that was accepted (pn_op.note). None of them is a fault of the host. Only a frame has another one than PN_DONE: what
+ * the application says is done, or PN_REFUSED is returned. */
+enum pn_note {
     PN_DONE = 0,        /* it was executed or answered, also by a negative answer */
     PN_NOT_MINE = 1,    /* the frame is for another station, or of a kind that a device does not accept */
     PN_FAULT = 2,       /* the frame cannot be read */
     PN_FILTER = 3,      /* an Identify request that does not match */
     PN_OLD_CALL = 4,    /* an outdated call: a later call of the same activity was already answered; no answer is sent */
     PN_NO_RELATION = 5, /* the frame belongs to no existing relation */
-    PN_STALE_CYCLE = 6, /* a cyclic frame with invalid data, or with a counter that is not newer */
-    PN_REFUSED = 7      /* an input with a wrong length or place, a status of what is not plugged, or an alarm or pn_ready that has no place now */
+    PN_STALE_CYCLE = 6  /* a cyclic frame with invalid data, or with a counter that is not newer */
 };
 
+/* Why the device refused what its application said (pn_op.reason, if a function returned PN_REFUSED). Nothing has changed then. Each function
+ * names its reasons in their order: of several that hold it is the first one. */
+enum pn_reason {
+    PN_WHY_NOT_PLUGGED = 1,   /* no submodule is plugged in this slot and subslot */
+    PN_WHY_NO_RELATION = 2,   /* no controller has a relation with the device */
+    PN_WHY_BAD_LENGTH = 3,    /* pn_input: the input of the submodule has another length; pn_alarm: more than 32 octets */
+    PN_WHY_NO_PLACE = 4,      /* pn_input: the relation has no input of this submodule with this length */
+    PN_WHY_NO_EXCHANGE = 5,   /* pn_alarm: there is a relation, but data is not exchanged yet */
+    PN_WHY_ALARM_OPEN = 6,    /* pn_alarm: the controller has not confirmed the alarm before this one yet */
+    PN_WHY_BAD_NUMBER = 7,    /* pn_diagnosis: a channel after 0x8000, or the error 0 */
+    PN_WHY_EXISTS = 8,        /* pn_diagnosis, one that appears: it exists already */
+    PN_WHY_ABSENT = 9,        /* pn_diagnosis, one that disappears: it does not exist */
+    PN_WHY_FULL = 10,         /* pn_diagnosis, one that appears: 32 exist */
+    PN_WHY_CHANGES_WAIT = 11, /* pn_diagnosis: 32 changes wait for their alarms */
+    PN_WHY_TOO_EARLY = 12,    /* pn_ready: PrmEnd was not accepted yet */
+    PN_WHY_TOO_LATE = 13      /* pn_ready: ApplicationReady was sent; so always after PrmEnd without `ready_by_application` */
+};
+
+/* The text of a reason, for a message. It is never null, and lasts as long as the program. */
+static inline const char *pn_strreason(uint32_t reason)
+{
+    switch (reason) {
+    case PN_WHY_NOT_PLUGGED: return "nothing is plugged there";
+    case PN_WHY_NO_RELATION: return "there is no relation";
+    case PN_WHY_BAD_LENGTH: return "another number of octets is expected";
+    case PN_WHY_NO_PLACE: return "the relation has no such input";
+    case PN_WHY_NO_EXCHANGE: return "no data is exchanged";
+    case PN_WHY_ALARM_OPEN: return "the alarm before it is not acknowledged yet";
+    case PN_WHY_BAD_NUMBER: return "a channel is 0 to 32767, or 32768 for the submodule itself, and an error is 1 to 65535";
+    case PN_WHY_EXISTS: return "it exists already";
+    case PN_WHY_ABSENT: return "it does not exist";
+    case PN_WHY_FULL: return "32 diagnoses exist";
+    case PN_WHY_CHANGES_WAIT: return "32 changes wait for their alarms";
+    case PN_WHY_TOO_EARLY: return "the parameters have not ended";
+    case PN_WHY_TOO_LATE: return "ApplicationReady was sent";
+    default: return "no reason";
+    }
+}
+
 /* What the application relation waits for (pn_op.phase). */
-enum { PN_NONE = 0, PN_STARTED = 1, PN_AWAITING = 2, PN_EXCHANGING = 3 };
+enum pn_phase {
+    PN_NONE = 0,      /* there is no relation */
+    PN_STARTED = 1,   /* for the end of its parameters, PrmEnd */
+    PN_AWAITING = 2,  /* for pn_ready, or for the answer to ApplicationReady */
+    PN_EXCHANGING = 3 /* data is exchanged */
+};
 
 /* A piece of work (pn_op.work and pn_op.more). */
-enum {
+enum pn_work {
     PN_NOTHING = 0, /* no work of the step remains */
     PN_PROGRAM = 1, /* program the `length` octets at `data` into `sector`, from `place` on */
     PN_ERASE = 2,   /* erase `sector` */
@@ -79,7 +124,7 @@ enum {
 };
 
 /* What pn_step is asked to do (pn_op.what). The functions below set it. */
-enum {
+enum pn_what {
     PN_OP_SECTOR = 1,
     PN_OP_BOOT = 2,
     PN_OP_FRAME = 3,
@@ -171,25 +216,73 @@ typedef struct pn_station {
     pn_module modules[PN_MODULES];
 } pn_station;
 
-/* One operation. A host keeps one and reuses it; it needs no initial value. A function writes its arguments into it, and then only the
- * fields that it names as set: every other field keeps its value, and so do the octets after the first `length`. */
+/* One operation. A host keeps one and reuses it; it needs no initial value. Each field has one meaning, whichever function uses it. A function
+ * writes its arguments into those that it reads, and then only those that it sets: every other field keeps its value, and so do the octets
+ * after the first `length`.
+ *
+ *   function                      reads                                   sets
+ *   pn_boot                       sector                                  nothing
+ *   pn_frame                      nothing                                 note, work
+ *   pn_frame_after                units                                   units, note, work
+ *   pn_tick                       units                                   units, due, note, work
+ *   pn_input, pn_alarm            slot, subslot                           note, work; with PN_REFUSED only reason
+ *   pn_status                     slot, subslot, is_good                  note, work; with PN_REFUSED only reason
+ *   pn_diagnosis                  slot, subslot, channel, error, appears  note, work; with PN_REFUSED only reason
+ *   pn_ready                      nothing                                 note, work; with PN_REFUSED only reason
+ *   pn_tell_link                  is_up                                   nothing
+ *   pn_next                       nothing                                 work, more, length, data; of a flash call sector and place
+ *   pn_carry_out                  work                                    what pn_next sets
+ *   pn_lose                       nothing                                 nothing
+ *   pn_output                     slot, subslot                           length, octets
+ *   pn_provider                   slot, subslot                           iops, data_status
+ *   pn_received                   slot, subslot                           length, octets, iops, data_status
+ *   pn_state, pn_parameters_end   nothing                                 phase, lamp
+ *   pn_due                        nothing                                 due
+ *   pn_left                       nothing                                 commits
+ *   pn_conflicts, pn_passed_on    nothing                                 count
+ *   pn_taken, pn_passed           number                                  slot, subslot, index, length, octets
+ *   pn_running, pn_stored         nothing                                 length, octets
+ *
+ * nandutable_controller.h has those of a controller and of a tool. */
 typedef struct pn_op {
-    uint32_t what;    /* PN_OP_SECTOR ..; the functions below set it */
-    uint32_t slot;
-    uint32_t subslot;
-    uint32_t units;   /* pn_tick, pn_frame_after: remaining units; pn_due: units until something is due; pn_state: units for which the lamp still flashes;
-                       * pn_diagnosis: the channel */
-    uint32_t note;    /* PN_DONE .. */
-    uint32_t phase;   /* PN_NONE .. */
-    uint32_t work;    /* PN_NOTHING ..: after an event the next piece of work, after pn_next the one that it handed out */
-    uint32_t more;    /* PN_NOTHING ..: after pn_next the piece of work after the one that it handed out */
-    uint32_t sector;  /* 0 or 1; pn_diagnosis: the ChannelErrorType; pn_received: IOPS */
-    uint32_t place;   /* the first octet of a program call in its sector; pn_taken: a number, then the record's index; pn_left; pn_status: 0 is bad; pn_diagnosis: 0 disappears;
-                       * pn_received: DataStatus */
-    uint32_t length;  /* how many of `octets` are valid; pn_next: how many octets lie at `data` */
-    uint32_t due;     /* pn_tick: units until something is due after it, as pn_due says */
+    uint32_t what;           /* enum pn_what; the functions below set it */
+    uint32_t slot;           /* of a submodule: 0 to 65,535 */
+    uint32_t subslot;        /* of a submodule: 0 to 65,535 */
+    uint32_t index;          /* of a record: 0 to 65,535 */
+    uint32_t number;         /* the place of an item in a list, from 0 on */
+    uint32_t channel;        /* ChannelNumber of a diagnosis: 0 to 0x7FFF, or 0x8000 for the submodule itself */
+    uint32_t error;          /* ChannelErrorType of a diagnosis: 1 to 0xFFFF */
+    uint32_t appears;        /* 0: the diagnosis disappears */
+    uint32_t is_good;        /* 0: the data of the submodule is bad */
+    uint32_t is_up;          /* 0: the link is down */
+    uint32_t is_low;         /* 0: the priority of the alarm is high */
+    uint32_t units;          /* units of time (PN_UNIT_NS): how many pass, and then how many remain */
+    uint32_t due;            /* units of time until something is due: at least 1; 4,294,967,295 if nothing ever is */
+    uint32_t note;           /* enum pn_note: the result of an event */
+    uint32_t reason;         /* enum pn_reason: why the device refused an event */
+    uint32_t phase;          /* enum pn_phase; of a controller enum pn_controller_phase */
+    uint32_t cause;          /* enum pn_cause: why a controller ended; 0 if it did not */
+    uint32_t lamp;           /* units of time for which the lamp still flashes */
+    uint32_t iops;           /* IOPS of the data of a submodule: an octet, PN_IOPS_GOOD if it is good */
+    uint32_t data_status;    /* DataStatus of the frame that it came in: an octet, with the bit PN_PROVIDER_RUNS */
+    uint32_t count;          /* how many there are of what the function counts */
+    uint32_t left_out;       /* how many diagnoses the list of a controller had no room for */
+    uint32_t commits;        /* how many commits the flash still accepts */
+    uint32_t status;         /* PNIOStatus of an answer, ErrorCode first (0xDF80B200); 0 if the request succeeded */
+    uint32_t block_error;    /* BlockError of an answer of DCP; 0 if the request succeeded */
+    uint32_t alarm_type;     /* AlarmType of an alarm */
+    uint32_t specifier;      /* AlarmSpecifier of an alarm */
+    uint32_t structure;      /* UserStructureIdentifier of an alarm; 65,536 if it has none */
+    uint32_t sequence;       /* SendSeqNum of an alarm */
+    uint32_t port_length;    /* octets of the PortID of a neighbour: at most 255 */
+    uint32_t chassis_length; /* octets of the ChassisID of a neighbour: at most 255 */
+    uint32_t work;           /* enum pn_work: after an event the next piece of work, after pn_next the one that it handed out */
+    uint32_t more;           /* enum pn_work: after pn_next the piece of work after the one that it handed out */
+    uint32_t sector;         /* a sector of the flash: 0 or 1 */
+    uint32_t place;          /* the first octet of a program call in its sector: 0 to 4,095 */
+    uint32_t length;         /* how many octets are handed out: of `octets`, or after pn_next those at `data` */
     uint8_t octets[PN_OP_SIZE];
-    const uint8_t *data; /* pn_next: the octets of the piece of work, in the memory of the device */
+    const uint8_t *data;     /* pn_next: the octets of the piece of work, in the memory of the device */
 } pn_op;
 
 /* `made` of a pn_device or a pn_controller that was made. */
@@ -313,7 +406,8 @@ static inline uint32_t pn_boot(pn_device *device, pn_op *op, const uint8_t first
 /* --- Events. Each needs a booted device without remaining work, and sets `note` and `work`. If `work` is not PN_NOTHING, call
  * pn_carry_out, or pn_next while work remains. ---
  * They may return PN_NULL, PN_NOT_MADE, PN_NOT_BOOTED, PN_LOST, PN_HAS_WORK, and what each names. After such a number nothing was done:
- * `units` of pn_tick, for one, is still the number that was handed in. A loop must end on it. */
+ * `units` of pn_tick, for one, is still the number that was handed in. A loop must end on it. What the application says (pn_input, pn_alarm,
+ * pn_status, pn_diagnosis, pn_ready) may be refused: PN_REFUSED, with `reason`. Then nothing changed, and no work remains. */
 
 /* Hands in a received frame: its octets from the destination address on, without the check sequence. They are only read during the call.
  * The interface must accept the device's address, the broadcast address, the group address 01-0E-CF-00-00-00, and for LLDP
@@ -347,8 +441,9 @@ static inline uint32_t pn_tick(pn_device *device, pn_op *op, uint32_t units)
     return pn_ask(device, op, PN_OP_TICK, NULL, 0);
 }
 
-/* The application sets the input of a submodule; the cyclic frames contain it from now on. It must have exactly the submodule's length,
- * and the active relation must contain it; otherwise `note` is PN_REFUSED. After a new Connect inputs are zeros until they are set. */
+/* The application sets the input of a submodule; the cyclic frames contain it from now on. `length` is the length of the submodule's input,
+ * 1 to 1,439. After a new Connect inputs are zeros until they are set. May return PN_REFUSED: PN_WHY_NOT_PLUGGED, PN_WHY_BAD_LENGTH,
+ * PN_WHY_NO_RELATION, PN_WHY_NO_PLACE. */
 static inline uint32_t pn_input(pn_device *device, pn_op *op, uint16_t slot, uint16_t subslot, const uint8_t *octets, size_t length)
 {
     if (op == NULL)
@@ -359,7 +454,7 @@ static inline uint32_t pn_input(pn_device *device, pn_op *op, uint16_t slot, uin
 }
 
 /* The application raises a process alarm of a submodule, with at most 32 octets, while data is exchanged and after the previous alarm is
- * over; otherwise `note` is PN_REFUSED. */
+ * over. May return PN_REFUSED: PN_WHY_NOT_PLUGGED, PN_WHY_BAD_LENGTH, PN_WHY_NO_RELATION, PN_WHY_NO_EXCHANGE, PN_WHY_ALARM_OPEN. */
 static inline uint32_t pn_alarm(pn_device *device, pn_op *op, uint16_t slot, uint16_t subslot, const uint8_t *octets, size_t length)
 {
     if (op == NULL)
@@ -370,23 +465,23 @@ static inline uint32_t pn_alarm(pn_device *device, pn_op *op, uint16_t slot, uin
 }
 
 /* The application says whether the inputs of a submodule are good (for a submodule without inputs: the submodule itself): its IOPS in the cyclic frames.
- * Good at first; kept until it is said again, also over relations, and forgotten at a start. `note` is PN_REFUSED if nothing is plugged
- * there. A sensor that fails: its inputs stay as they are, and their status is bad. May also return PN_NO_SLOT (no number of 16 bits). */
+ * Good at first; kept until it is said again, also over relations, and forgotten at a start. A sensor that fails: its inputs stay as they
+ * are, and their status is bad. May return PN_REFUSED: PN_WHY_NOT_PLUGGED. */
 static inline uint32_t pn_status(pn_device *device, pn_op *op, uint16_t slot, uint16_t subslot, int is_good)
 {
     if (op == NULL)
         return PN_NULL;
     op->slot = slot;
     op->subslot = subslot;
-    op->place = is_good != 0;
+    op->is_good = is_good != 0;
     return pn_ask(device, op, PN_OP_STATUS, NULL, 0);
 }
 
 /* A diagnosis of a submodule appears or disappears: of a channel, 0 to 0x7FFF, or 0x8000 for the submodule itself, and with this
  * ChannelErrorType, 1 to 0xFFFF (IEC 61158-6-10: 1 is a short circuit, 6 a line break). While data is exchanged the controller gets an alarm
  * of low priority, and while a submodule of the relation has a diagnosis, the problem bit of the cyclic frames tells it. It is kept over
- * relations, and forgotten at a start. `note` is PN_REFUSED for a number out of its range, if nothing is plugged there, if it exists already
- * or does not exist, if 32 exist, or if 32 changes wait for their alarms. May also return PN_NO_SLOT (no number of 16 bits). */
+ * relations, and forgotten at a start. At most 32 exist. May return PN_REFUSED: PN_WHY_NOT_PLUGGED, PN_WHY_BAD_NUMBER; if it appears
+ * PN_WHY_EXISTS, PN_WHY_FULL; if it disappears PN_WHY_ABSENT; PN_WHY_CHANGES_WAIT. */
 static inline uint32_t pn_diagnosis(pn_device *device, pn_op *op, uint16_t slot, uint16_t subslot, uint16_t channel, uint16_t error,
                                     int appears)
 {
@@ -394,14 +489,14 @@ static inline uint32_t pn_diagnosis(pn_device *device, pn_op *op, uint16_t slot,
         return PN_NULL;
     op->slot = slot;
     op->subslot = subslot;
-    op->units = channel;
-    op->sector = error;
-    op->place = appears != 0;
+    op->channel = channel;
+    op->error = error;
+    op->appears = appears != 0;
     return pn_ask(device, op, PN_OP_DIAGNOSIS, NULL, 0);
 }
 
 /* The application of a station with `ready_by_application` has applied its parameters: ApplicationReady is sent. Once in each relation, after
- * PrmEnd (pn_parameters_end); otherwise `note` is PN_REFUSED, and always without the option. */
+ * PrmEnd (pn_parameters_end). May return PN_REFUSED: PN_WHY_NO_RELATION, PN_WHY_TOO_EARLY, PN_WHY_TOO_LATE. */
 static inline uint32_t pn_ready(pn_device *device, pn_op *op)
 {
     return pn_ask(device, op, PN_OP_READY, NULL, 0);
@@ -426,7 +521,7 @@ static inline uint32_t pn_tell_link(pn_device *device, pn_op *op, int is_up, con
     uint8_t octets[5];
     if (op == NULL)
         return PN_NULL;
-    op->place = is_up != 0;
+    op->is_up = is_up != 0;
     if (link == NULL)
         return pn_ask(device, op, PN_OP_LINK, NULL, 0);
     octets[0] = link->support;
@@ -549,14 +644,14 @@ static inline uint32_t pn_provider(const pn_device *device, pn_op *op, uint16_t 
     op->subslot = subslot;
     answer = pn_read(device, op, PN_OP_PROVIDER);
     if (answer == PN_OK) {
-        *iops = op->octets[0];
-        *data_status = op->octets[1];
+        *iops = (uint8_t)op->iops;
+        *data_status = (uint8_t)op->data_status;
     }
     return answer;
 }
 
 /* The output of a submodule in the last accepted cyclic frame, in `length` and `octets`, and what the controller says of it, as pn_provider: pn_output and
- * pn_provider in one call. IOPS and DataStatus are in `sector` and `place` of the operation too. May return PN_NO_FRAME. */
+ * pn_provider in one call. May return PN_NO_FRAME. */
 static inline uint32_t pn_received(const pn_device *device, pn_op *op, uint16_t slot, uint16_t subslot, uint8_t *iops, uint8_t *data_status)
 {
     uint32_t answer;
@@ -566,14 +661,14 @@ static inline uint32_t pn_received(const pn_device *device, pn_op *op, uint16_t 
     op->subslot = subslot;
     answer = pn_read(device, op, PN_OP_RECEIVED);
     if (answer == PN_OK) {
-        *iops = (uint8_t)op->sector;
-        *data_status = (uint8_t)op->place;
+        *iops = (uint8_t)op->iops;
+        *data_status = (uint8_t)op->data_status;
     }
     return answer;
 }
 
 /* How many units may pass until something is due: with the last of them, and with none before it, the device or its services send a frame, or
- * it gives up an alarm, ends the relation, or turns the lamp off. It is at least 1, and also in `units` of the operation. 4,294,967,295 if no unit ever does any of these.
+ * it gives up an alarm, ends the relation, or turns the lamp off. It is at least 1, and also in `due` of the operation. 4,294,967,295 if no unit ever does any of these.
  * An event may change it. So a host sleeps until that unit is over, or until the next event. */
 static inline uint32_t pn_due(const pn_device *device, pn_op *op, uint32_t *due)
 {
@@ -582,11 +677,11 @@ static inline uint32_t pn_due(const pn_device *device, pn_op *op, uint32_t *due)
         return PN_NULL;
     answer = pn_read(device, op, PN_OP_DUE);
     if (answer == PN_OK)
-        *due = op->units;
+        *due = op->due;
     return answer;
 }
 
-/* How many ARP frames came from another station that uses the running IP address, at most 4,294,967,295: also in `units` of the operation.
+/* How many ARP frames came from another station that uses the running IP address, at most 4,294,967,295: also in `count` of the operation.
  * 0 without services. After each of them the device announces its address once more, at most once in 10 seconds. */
 static inline uint32_t pn_conflicts(const pn_device *device, pn_op *op, uint32_t *conflicts)
 {
@@ -595,11 +690,11 @@ static inline uint32_t pn_conflicts(const pn_device *device, pn_op *op, uint32_t
         return PN_NULL;
     answer = pn_read(device, op, PN_OP_CONFLICTS);
     if (answer == PN_OK)
-        *conflicts = op->units;
+        *conflicts = op->count;
     return answer;
 }
 
-/* What the application relation waits for (`phase`), and the number of units for which the lamp still flashes (`units`). */
+/* What the application relation waits for (`phase`), and the number of units for which the lamp still flashes (`lamp`). */
 static inline uint32_t pn_state(const pn_device *device, pn_op *op)
 {
     return pn_read(device, op, PN_OP_STATE);
@@ -617,13 +712,13 @@ static inline uint32_t pn_parameters_end(const pn_device *device, pn_op *op, int
     return answer;
 }
 
-/* A parameter record that the relation accepted, by its number from 0 on, in the order of arrival: `slot`, `subslot`, its index in
- * `place`, and its octets in `length` and `octets`. May return PN_NO_RECORD. */
+/* A parameter record that the relation accepted, by its number from 0 on, in the order of arrival: `slot`, `subslot`, `index`, and its
+ * octets in `length` and `octets`. May return PN_NO_RECORD. */
 static inline uint32_t pn_taken(const pn_device *device, pn_op *op, uint32_t number)
 {
     if (op == NULL)
         return PN_NULL;
-    op->place = number;
+    op->number = number;
     return pn_read(device, op, PN_OP_RECORD);
 }
 
@@ -636,7 +731,7 @@ static inline uint32_t pn_passed_on(const pn_device *device, pn_op *op, uint32_t
         return PN_NULL;
     answer = pn_read(device, op, PN_OP_PASSED_ON);
     if (answer == PN_OK)
-        *count = op->units;
+        *count = op->count;
     return answer;
 }
 
@@ -646,7 +741,7 @@ static inline uint32_t pn_passed(const pn_device *device, pn_op *op, uint32_t ba
 {
     if (op == NULL)
         return PN_NULL;
-    op->place = back;
+    op->number = back;
     return pn_read(device, op, PN_OP_PASSED);
 }
 
@@ -697,7 +792,7 @@ static inline uint32_t pn_stored(const pn_device *device, pn_op *op, pn_settings
     return answer == PN_OK ? pn_settings_of(op, settings) : answer;
 }
 
-/* How many commits the flash still accepts once all work has been fetched and done (`place` of the operation): that many further commands
+/* How many commits the flash still accepts once all work has been fetched and done (`commits` of the operation): that many further commands
  * that change settings are accepted. At 0 each is refused, and the device continues with its present settings. */
 static inline uint32_t pn_left(const pn_device *device, pn_op *op, uint32_t *left)
 {
@@ -706,7 +801,7 @@ static inline uint32_t pn_left(const pn_device *device, pn_op *op, uint32_t *lef
         return PN_NULL;
     answer = pn_read(device, op, PN_OP_LEFT);
     if (answer == PN_OK)
-        *left = op->place;
+        *left = op->commits;
     return answer;
 }
 
@@ -715,7 +810,7 @@ static inline uint32_t pn_left(const pn_device *device, pn_op *op, uint32_t *lef
  * How a host learns of a parameter record, of PrmEnd, of a reset, and of another name or address. Only frames that are not cyclic change
  * these, and units of time that end the relation. So keep one pn_watch for each device, all zeros at first, show it each frame
  * (pn_watch_frame) before pn_frame, and call pn_news when the work of such an event is done. */
-enum {
+enum pn_change {
     PN_NEW_PHASE = 1,      /* the phase of the relation (`phase` of the watch) */
     PN_NEW_RELATION = 2,   /* a Connect was accepted: the records before it are no longer valid */
     PN_NEW_RECORDS = 4,    /* parameter records were accepted: those from `first_record` on, before `records` (pn_taken) */

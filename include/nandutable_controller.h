@@ -39,7 +39,7 @@ extern "C" {
 #define PN_DIAGNOSES 256u
 
 /* The state of a controller (pn_op.phase). */
-enum {
+enum pn_controller_phase {
     PN_LOOKING = 1,       /* looks for the station, by its name */
     PN_ADDRESSING = 2,    /* sets its IP suite */
     PN_CONNECTING = 3,    /* asks for the relation */
@@ -47,11 +47,11 @@ enum {
     PN_ENDING = 5,        /* ends the parameters, by PrmEnd */
     PN_WAITING = 6,       /* waits for ApplicationReady */
     PN_DATA_EXCHANGE = 7, /* exchanges data */
-    PN_ENDED = 8          /* has ended; pn_op.note is the cause */
+    PN_ENDED = 8          /* has ended; pn_op.cause says why */
 };
 
-/* Why a controller ended (pn_op.note). */
-enum {
+/* Why a controller ended (pn_op.cause). */
+enum pn_cause {
     PN_WRONG_DEVICE = 1,  /* the station has another VendorID or DeviceID */
     PN_WAS_REFUSED = 2,   /* the device refused a request */
     PN_MODULE_DIFF = 3,   /* the plugged modules are not those that the plan expects */
@@ -291,6 +291,34 @@ static inline uint32_t pn_controller_read(const pn_controller *controller, pn_op
     return pn_controller_ask((pn_controller *)(uintptr_t)controller, op, what, NULL, 0);
 }
 
+/* --- What each function reads and sets of the operation, beside `what` (nandutable.h has the fields) ---
+ *
+ *   function                                         reads                          sets
+ *   pn_controller_frame                              nothing                        nothing
+ *   pn_controller_tick                               units                          units
+ *   pn_controller_give                               slot, subslot                  nothing
+ *   pn_controller_status                             slot, subslot, is_good         nothing
+ *   pn_controller_read_record, .._write_record       slot, subslot, index           nothing
+ *   pn_controller_stop                               nothing                        nothing
+ *   pn_controller_next, .._send                      nothing                        work, length, octets
+ *   pn_controller_value                              slot, subslot                  length, octets
+ *   pn_controller_state                              nothing                        phase, cause
+ *   pn_controller_provider                           slot, subslot                  iops, data_status
+ *   pn_controller_due                                nothing                        due
+ *   pn_controller_conflicts                          nothing                        count
+ *   pn_controller_neighbour                          nothing                        port_length, chassis_length, length, octets
+ *   pn_controller_refusal                            nothing                        status
+ *   pn_controller_refused_record                     nothing                        number, status
+ *   pn_controller_answer                             nothing                        status, length, octets
+ *   pn_controller_alarm                              nothing                        slot, subslot, alarm_type, specifier, length, octets
+ *   pn_controller_report                             is_low                         the same, structure, sequence
+ *   pn_controller_diagnoses                          nothing                        count, left_out
+ *   pn_controller_diagnosis                          number                         slot, subslot, channel, error
+ *   pn_tool_ask, pn_tool_give                        nothing                        length, octets
+ *   pn_tool_given                                    nothing                        block_error
+ *   pn_tool_ask_record                               slot, subslot, index           length, octets
+ *   pn_tool_record_in                                nothing                        status, length, octets */
+
 /* --- Events. Before each, all frames of the previous one must be fetched, otherwise PN_HAS_WORK. They may also return PN_NULL, PN_NOT_MADE,
  * and what each names. What a function does not name as set keeps its value in the operation. --- */
 
@@ -332,7 +360,7 @@ static inline uint32_t pn_controller_status(pn_controller *controller, pn_op *op
         return PN_NULL;
     op->slot = slot;
     op->subslot = subslot;
-    op->place = is_good != 0;
+    op->is_good = is_good != 0;
     return pn_controller_ask(controller, op, 16, NULL, 0);
 }
 
@@ -344,7 +372,7 @@ static inline uint32_t pn_controller_read_record(pn_controller *controller, pn_o
         return PN_NULL;
     op->slot = slot;
     op->subslot = subslot;
-    op->place = index;
+    op->index = index;
     return pn_controller_ask(controller, op, 30, NULL, 0);
 }
 
@@ -356,7 +384,7 @@ static inline uint32_t pn_controller_write_record(pn_controller *controller, pn_
         return PN_NULL;
     op->slot = slot;
     op->subslot = subslot;
-    op->place = index;
+    op->index = index;
     return pn_controller_ask(controller, op, 31, octets, length);
 }
 
@@ -404,7 +432,7 @@ static inline uint32_t pn_controller_value(const pn_controller *controller, pn_o
     return pn_controller_read(controller, op, 8);
 }
 
-/* Its state (`phase`), and the cause of its end (`note`). */
+/* Its state (`phase`), and the cause of its end (`cause`). */
 static inline uint32_t pn_controller_state(const pn_controller *controller, pn_op *op)
 {
     return pn_controller_read(controller, op, 9);
@@ -423,14 +451,14 @@ static inline uint32_t pn_controller_provider(const pn_controller *controller, p
     op->subslot = subslot;
     answer = pn_controller_read(controller, op, 18);
     if (answer == PN_OK) {
-        *iops = op->octets[0];
-        *data_status = op->octets[1];
+        *iops = (uint8_t)op->iops;
+        *data_status = (uint8_t)op->data_status;
     }
     return answer;
 }
 
 /* How many units may pass until something is due: with the last of them, and with none before it, the controller sends a frame, sends a
- * request again, announces its address or itself, forgets its neighbour, or ends. It is also in `units` of the operation. 4,294,967,295 if no unit ever does any of these. An event may change it.
+ * request again, announces its address or itself, forgets its neighbour, or ends. It is also in `due` of the operation. 4,294,967,295 if no unit ever does any of these. An event may change it.
  * So a host sleeps until that unit is over, or until the next event. */
 static inline uint32_t pn_controller_due(const pn_controller *controller, pn_op *op, uint32_t *due)
 {
@@ -439,11 +467,11 @@ static inline uint32_t pn_controller_due(const pn_controller *controller, pn_op 
         return PN_NULL;
     answer = pn_controller_read(controller, op, 15);
     if (answer == PN_OK)
-        *due = op->units;
+        *due = op->due;
     return answer;
 }
 
-/* How many ARP frames came from another station that uses the controller's address, at most 4,294,967,295: also in `units` of the operation.
+/* How many ARP frames came from another station that uses the controller's address, at most 4,294,967,295: also in `count` of the operation.
  * After each of them the controller announces its address once more, at most once in 10 seconds. */
 static inline uint32_t pn_controller_conflicts(const pn_controller *controller, pn_op *op, uint32_t *conflicts)
 {
@@ -452,7 +480,7 @@ static inline uint32_t pn_controller_conflicts(const pn_controller *controller, 
         return PN_NULL;
     answer = pn_controller_read(controller, op, 19);
     if (answer == PN_OK)
-        *conflicts = op->units;
+        *conflicts = op->count;
     return answer;
 }
 
@@ -466,16 +494,16 @@ static inline uint32_t pn_controller_neighbour(const pn_controller *controller, 
     answer = pn_controller_read(controller, op, 37);
     if (answer == PN_OK) {
         memcpy(neighbour->mac, op->octets, sizeof neighbour->mac);
-        neighbour->port_length = (uint16_t)op->units;
-        neighbour->chassis_length = (uint16_t)op->more;
-        memcpy(neighbour->port, op->octets + 6, op->units);
-        memcpy(neighbour->chassis, op->octets + 6 + op->units, op->more);
+        neighbour->port_length = (uint16_t)op->port_length;
+        neighbour->chassis_length = (uint16_t)op->chassis_length;
+        memcpy(neighbour->port, op->octets + 6, op->port_length);
+        memcpy(neighbour->chassis, op->octets + 6 + op->port_length, op->chassis_length);
     }
     return answer;
 }
 
 /* The status with which the device refused a call last: the PNIOStatus of its response (the first octet, ErrorCode, is the highest:
- * 0xDF80B200), or the status of a reject or a fault of DCE RPC. Also in `units` of the operation. May return PN_NO_REFUSAL. */
+ * 0xDF80B200), or the status of a reject or a fault of DCE RPC. Also in `status` of the operation. May return PN_NO_REFUSAL. */
 static inline uint32_t pn_controller_refusal(const pn_controller *controller, pn_op *op, uint32_t *status)
 {
     uint32_t answer;
@@ -483,12 +511,12 @@ static inline uint32_t pn_controller_refusal(const pn_controller *controller, pn
         return PN_NULL;
     answer = pn_controller_read(controller, op, 20);
     if (answer == PN_OK)
-        *status = op->units;
+        *status = op->status;
     return answer;
 }
 
 /* The last record of the plan that the device refused: its place in `records` of the plan, from 0 on, and its PNIOStatus as above. Also in
- * `place` and `units` of the operation. Records are written in the order of the plan, so a later one has a greater place. Of the records of
+ * `number` and `status` of the operation. Records are written in the order of the plan, so a later one has a greater place. Of the records of
  * one Write (multiple_write) it is the first one that was refused. May return PN_NO_REFUSAL. */
 static inline uint32_t pn_controller_refused_record(const pn_controller *controller, pn_op *op, uint32_t *place, uint32_t *status)
 {
@@ -497,14 +525,14 @@ static inline uint32_t pn_controller_refused_record(const pn_controller *control
         return PN_NULL;
     answer = pn_controller_read(controller, op, 33);
     if (answer == PN_OK) {
-        *place = op->place;
-        *status = op->units;
+        *place = op->number;
+        *status = op->status;
     }
     return answer;
 }
 
 /* The answer to the last pn_controller_read_record or pn_controller_write_record: its status, 0 if it succeeded, otherwise as that of
- * pn_controller_refusal, also in `units` of the operation; the record that was read in `length` and `octets`. May return PN_NO_ANSWER. */
+ * pn_controller_refusal, also in `status` of the operation; the record that was read in `length` and `octets`. May return PN_NO_ANSWER. */
 static inline uint32_t pn_controller_answer(const pn_controller *controller, pn_op *op, uint32_t *status)
 {
     uint32_t answer;
@@ -512,11 +540,11 @@ static inline uint32_t pn_controller_answer(const pn_controller *controller, pn_
         return PN_NULL;
     answer = pn_controller_read(controller, op, 32);
     if (answer == PN_OK)
-        *status = op->units;
+        *status = op->status;
     return answer;
 }
 
-/* The last accepted alarm of high priority: `slot`, `subslot`, its type in `note`, its AlarmSpecifier in `units`, and the octets that follow its
+/* The last accepted alarm of high priority: `slot`, `subslot`, `alarm_type`, `specifier` (AlarmSpecifier), and the octets that follow its
  * UserStructureIdentifier in `length` and `octets`. PN_NO_SLOT if none was accepted. */
 static inline uint32_t pn_controller_alarm(const pn_controller *controller, pn_op *op)
 {
@@ -524,19 +552,19 @@ static inline uint32_t pn_controller_alarm(const pn_controller *controller, pn_o
 }
 
 /* The last accepted alarm of low priority if `is_low` is not 0, otherwise of high priority: as pn_controller_alarm, with its
- * UserStructureIdentifier in `more` (65,536 if the alarm ends with its AlarmSpecifier), and its SendSeqNum in `sector`. That number differs
+ * UserStructureIdentifier in `structure` (65,536 if the alarm ends with its AlarmSpecifier), and its SendSeqNum in `sequence`. That number differs
  * from the number of the alarm before it, so look after each event to see each alarm. PN_NO_SLOT if none was accepted. */
 static inline uint32_t pn_controller_report(const pn_controller *controller, pn_op *op, int is_low)
 {
     if (op == NULL)
         return PN_NULL;
-    op->place = is_low != 0;
+    op->is_low = is_low != 0;
     return pn_controller_read(controller, op, 34);
 }
 
 /* How many diagnoses exist at the device, as its alarms reported them in this relation: `count`, at most PN_DIAGNOSES; and for how many more
- * the list had no room: `left_out`. If that is not 0, a read of the record 0xF80C shows all. Both are also in `units` and `more` of the
- * operation. Both are 0 before the relation and after its end. */
+ * the list had no room: `left_out`. If that is not 0, a read of the record 0xF80C shows all. Both are also in `count` and `left_out` of
+ * the operation. Both are 0 before the relation and after its end. */
 static inline uint32_t pn_controller_diagnoses(const pn_controller *controller, pn_op *op, uint32_t *count, uint32_t *left_out)
 {
     uint32_t answer;
@@ -544,19 +572,19 @@ static inline uint32_t pn_controller_diagnoses(const pn_controller *controller, 
         return PN_NULL;
     answer = pn_controller_read(controller, op, 35);
     if (answer == PN_OK) {
-        *count = op->units;
-        *left_out = op->more;
+        *count = op->count;
+        *left_out = op->left_out;
     }
     return answer;
 }
 
 /* One of these diagnoses, by its place in the list from 0 on, in the order in which they appeared: its `slot` and `subslot`, its ChannelNumber
- * in `more` (0x8000: the submodule itself) and its ChannelErrorType in `note`. PN_NO_SLOT if the list is shorter. */
+ * in `channel` (0x8000: the submodule itself) and its ChannelErrorType in `error`. PN_NO_SLOT if the list is shorter. */
 static inline uint32_t pn_controller_diagnosis(const pn_controller *controller, pn_op *op, uint32_t number)
 {
     if (op == NULL)
         return PN_NULL;
-    op->place = number;
+    op->number = number;
     return pn_controller_read(controller, op, 36);
 }
 
@@ -589,7 +617,7 @@ static inline uint32_t pn_tool_give(pn_tool *tool, const pn_search *search, pn_o
     return tool == NULL || search == NULL || op == NULL || text == NULL ? (uint32_t)PN_NULL : pn_tool_name(tool, search, op, text, length);
 }
 
-/* Reads what a received frame answers to that Set, the last request of the tool: its BlockError in `note` of the operation, 0 if the station has
+/* Reads what a received frame answers to that Set, the last request of the tool: its BlockError in `block_error` of the operation, 0 if the station has
  * the name. Only an answer of that station with the Xid of the tool counts. May return PN_NULL, PN_NO_ANSWER. */
 static inline uint32_t pn_tool_given(const pn_tool *tool, const pn_search *search, pn_op *op, const uint8_t *octets, size_t length)
 {
@@ -606,11 +634,11 @@ static inline uint32_t pn_tool_ask_record(const pn_tool *tool, const pn_target *
         return PN_NULL;
     op->slot = slot;
     op->subslot = subslot;
-    op->place = index;
+    op->index = index;
     return pn_tool_read(tool, target, activity, op);
 }
 
-/* Reads what a received frame answers to that call: its status in `units` of the operation, 0 if it succeeded, otherwise as that of
+/* Reads what a received frame answers to that call: its status in `status` of the operation, 0 if it succeeded, otherwise as that of
  * pn_controller_refusal; the record in `length` and `octets`. May return PN_NULL, PN_NO_ANSWER. */
 static inline uint32_t pn_tool_record_in(const pn_tool *tool, const uint8_t activity[16], pn_op *op, const uint8_t *octets, size_t length)
 {

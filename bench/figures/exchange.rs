@@ -39,14 +39,14 @@ impl<const N: usize> Octets<N> {
     }
 }
 
-type Bytes = Octets<1519>;
 type Frame = Octets<1518>;
 
-enum Event {
-    Frame(Bytes),
+/// What happens. It borrows its octets.
+enum Event<'a> {
+    Frame(&'a [u8]),
     Tick,
-    Input(u16, u16, Bytes),
-    Alarm(u16, u16, Bytes),
+    Input(u16, u16, &'a [u8]),
+    Alarm(u16, u16, &'a [u8]),
 }
 
 #[derive(PartialEq, Eq)]
@@ -216,13 +216,13 @@ impl Station {
         self.phase = Some(Phase::Exchanging);
     }
 
-    fn step(&mut self, event: &Event, outbox: &mut Outbox) -> Note {
+    fn step(&mut self, event: &Event<'_>, outbox: &mut Outbox) -> Note {
         outbox.len = 0;
         match event {
-            Event::Frame(bytes) => self.hear(bytes.as_slice(), outbox),
+            Event::Frame(bytes) => self.hear(bytes, outbox),
             Event::Tick => self.tick(outbox),
-            Event::Input(slot, subslot, value) => self.give(*slot, *subslot, value.as_slice()),
-            Event::Alarm(slot, subslot, value) => self.raise(*slot, *subslot, value.as_slice(), outbox),
+            Event::Input(slot, subslot, value) => self.give(*slot, *subslot, value),
+            Event::Alarm(slot, subslot, value) => self.raise(*slot, *subslot, value, outbox),
         }
     }
 
@@ -434,7 +434,7 @@ impl Station {
 
 /// One step. It is no part of its caller, so that it can be counted by itself.
 #[inline(never)]
-fn turn(device: &mut Station, event: &Event, outbox: &mut Outbox) -> Note {
+fn turn(device: &mut Station, event: &Event<'_>, outbox: &mut Outbox) -> Note {
     device.step(event, outbox)
 }
 
@@ -448,7 +448,7 @@ struct Count {
 }
 
 impl Count {
-    fn take(&mut self, device: &mut Station, event: &Event, outbox: &mut Outbox) {
+    fn take(&mut self, device: &mut Station, event: &Event<'_>, outbox: &mut Outbox) {
         if turn(device, event, outbox) == Note::Done {
             self.done += 1;
         }
@@ -460,21 +460,19 @@ impl Count {
     }
 }
 
-fn octets_of(hex: &str) -> Option<Bytes> {
-    let mut bytes = Octets::new();
-    for place in (0..hex.len()).step_by(2) {
-        bytes.put(&[u8::from_str_radix(hex.get(place..place + 2)?, 16).ok()?]);
-    }
-    Some(bytes)
+fn octets_of(hex: &str) -> Option<Vec<u8>> {
+    (0..hex.len()).step_by(2).map(|place| u8::from_str_radix(hex.get(place..place + 2)?, 16).ok()).collect()
 }
 
-fn event_of(line: &str) -> Option<(u16, Event)> {
+/// How many times an event of a line happens, and the event. Its octets are put into the room.
+fn event_of<'a>(line: &str, room: &'a mut Vec<u8>) -> Option<(u16, Event<'a>)> {
     let words: Vec<&str> = line.split(' ').collect();
+    *room = octets_of(words.last()?).unwrap_or_default();
     match words.as_slice() {
-        ["frame", hex] => Some((1, Event::Frame(octets_of(hex)?))),
+        ["frame", _] => Some((1, Event::Frame(room))),
         ["tick", units] => Some((units.parse().ok()?, Event::Tick)),
-        ["input", slot, hex] => Some((1, Event::Input(slot.parse().ok()?, 1, octets_of(hex)?))),
-        ["alarm", slot, hex] => Some((1, Event::Alarm(slot.parse().ok()?, 1, octets_of(hex)?))),
+        ["input", slot, _] => Some((1, Event::Input(slot.parse().ok()?, 1, room))),
+        ["alarm", slot, _] => Some((1, Event::Alarm(slot.parse().ok()?, 1, room))),
         _ => None,
     }
 }
@@ -487,8 +485,10 @@ fn main() -> io::Result<()> {
     device.begin();
     let mut outbox = Outbox { frames: [const { Octets::new() }; 4], len: 0 };
     let mut count = Count::default();
-    for (times, event) in text.lines().filter_map(event_of) {
-        if matches!(&event, Event::Frame(bytes) if bytes.octets[12] != 0x81) {
+    let mut room = Vec::new();
+    for line in text.lines() {
+        let Some((times, event)) = event_of(line, &mut room) else { continue };
+        if matches!(&event, Event::Frame(bytes) if bytes[12] != 0x81) {
             continue;
         }
         for _ in 0..times {

@@ -213,12 +213,16 @@ void pn_fetch(void *room, pn_op *op, uint32_t *answer, const uint8_t **octets)
     *answer = PN_OK;
 }
 
-static uint32_t input(struct device *device, const uint8_t *given, size_t length)
+static uint32_t input(struct device *device, pn_op *op, const uint8_t *given, size_t length)
 {
-    if (length != device->data - 3)
+    if (length != device->data - 3) {
+        op->reason = PN_WHY_BAD_LENGTH;
         return PN_REFUSED;
+    }
     memcpy(device->inputs + 1, given, length);
-    return PN_DONE;
+    op->note = PN_DONE;
+    op->work = waiting(device);
+    return PN_OK;
 }
 
 uint32_t pn_step(void *room, pn_op *op, const uint8_t *given, size_t length)
@@ -232,9 +236,9 @@ uint32_t pn_step(void *room, pn_op *op, const uint8_t *given, size_t length)
     case PN_OP_BOOT: device->phase = PN_EXCHANGING; return PN_OK;
     case PN_OP_FRAME: op->note = hear(device, given, length); break;
     case PN_OP_TICK: op->units = pass(device, op->units); op->due = due(device); op->note = PN_DONE; break;
-    case PN_OP_INPUT: op->note = input(device, given, length); break;
-    case PN_OP_STATE: op->phase = device->phase, op->units = device->lamp; return PN_OK;
-    case PN_OP_DUE: op->units = due(device); return PN_OK;
+    case PN_OP_INPUT: return input(device, op, given, length);
+    case PN_OP_STATE: op->phase = device->phase, op->lamp = device->lamp; return PN_OK;
+    case PN_OP_DUE: op->due = due(device); return PN_OK;
     default: return PN_UNKNOWN;
     }
     op->work = waiting(device);

@@ -167,20 +167,25 @@ static void carry_out(void)
 
 static int is_done(uint32_t answer, const char *call)
 {
-    int is_accepted = op.note == PN_DONE;
+    if (answer == PN_REFUSED)
+        return 0;
     must(answer, call);
     carry_out();
     ask_due();
-    return is_accepted;
+    return 1;
 }
 
 /* An input makes nothing due, and no work. */
 int host_input(uint16_t slot, uint16_t subslot, const uint8_t *octets, uint32_t length)
 {
+    uint32_t answer;
     if (own.phase == PN_NONE)
         return 0;
-    must(pn_input(&device, &op, slot, subslot, octets, length), "pn_input");
-    return op.note == PN_DONE;
+    answer = pn_input(&device, &op, slot, subslot, octets, length);
+    if (answer == PN_REFUSED)
+        return 0;
+    must(answer, "pn_input");
+    return 1;
 }
 
 const uint8_t *host_output(uint16_t slot, uint16_t subslot, uint32_t length)
@@ -224,10 +229,10 @@ static void take_records(uint32_t changed)
 {
     for (uint32_t number = watch.first_record; (changed & PN_NEW_RECORDS) != 0 && number < watch.records; number++)
         if (pn_taken(&device, &op, number) == PN_OK)
-            application_record(op.slot, op.subslot, op.place, op.octets, op.length);
+            application_record(op.slot, op.subslot, op.index, op.octets, op.length);
     for (uint32_t back = watch.new_passed; (changed & PN_NEW_PASSED) != 0 && back > 0; back--)
         if (pn_passed(&device, &op, back - 1) == PN_OK)
-            application_record(op.slot, op.subslot, op.place, op.octets, op.length);
+            application_record(op.slot, op.subslot, op.index, op.octets, op.length);
 }
 
 /* What an event changed beside the process data. */

@@ -31,16 +31,21 @@ static void keep(uint32_t answer)
     memcpy(&before, &device, sizeof device);
 }
 
-/* Each operation, and some that do not exist, directly to the library: a refused one leaves the whole operation unchanged. */
+/* Each operation, and some that do not exist, directly to the library: one that does nothing leaves the whole operation unchanged, but for the
+ * reason why the device refused it. */
 static void ask_all(const char *when)
 {
     static pn_op asked, told;
     for (uint32_t what = 0; what < 26; what++) {
+        uint32_t answer;
         memset(&asked, 0xA5, sizeof asked);
         asked.what = what, asked.units = 5;
         told = asked;
         memcpy(&device, &before, sizeof device);
-        if (pn_step(device.room, &told, octets, 0) != PN_OK && memcmp(&asked, &told, sizeof asked) != 0) {
+        answer = pn_step(device.room, &told, octets, 0);
+        if (answer == PN_REFUSED)
+            asked.reason = told.reason;
+        if (answer != PN_OK && memcmp(&asked, &told, sizeof asked) != 0) {
             printf("%s: operation %u is refused and writes into the operation\n", when, (unsigned)what);
             exit(1);
         }
@@ -149,6 +154,44 @@ static void bend_stations(void)
     bent.modules[2].submodule_count = 1, bent.modules[2].submodules[1].subslot = 1, takes("a submodule that is not counted");
 }
 
+/* The device refuses what its application says, for this reason. */
+static void reasons(const char *what, uint32_t answer, uint32_t wanted)
+{
+    wants(what, answer, PN_REFUSED);
+    if (op.reason != wanted) {
+        printf("%s: the reason is %u (%s), and should be %u\n", what, (unsigned)op.reason, pn_strreason(op.reason), (unsigned)wanted);
+        exit(1);
+    }
+}
+
+/* Why a device without a relation refuses what its application says. */
+static void refuse_events(void)
+{
+    bend_again();
+    bent.without_services = 1;
+    bent.modules[1].submodules[0].input = 2;
+    keep(pn_make(&device, &bent));
+    keep(pn_boot(&device, &op, erased, erased));
+    reasons("an input of an empty slot", pn_input(&device, &op, 9, 1, octets, 2), PN_WHY_NOT_PLUGGED);
+    reasons("an input of an empty subslot", pn_input(&device, &op, 1, 3, octets, 2), PN_WHY_NOT_PLUGGED);
+    reasons("a short input", pn_input(&device, &op, 1, 1, octets, 1), PN_WHY_BAD_LENGTH);
+    reasons("a long input", pn_input(&device, &op, 1, 1, octets, sizeof octets), PN_WHY_BAD_LENGTH);
+    reasons("an input without a relation", pn_input(&device, &op, 1, 1, octets, 2), PN_WHY_NO_RELATION);
+    reasons("an alarm of an empty slot", pn_alarm(&device, &op, 9, 1, octets, 1), PN_WHY_NOT_PLUGGED);
+    reasons("a long alarm", pn_alarm(&device, &op, 1, 1, octets, 33), PN_WHY_BAD_LENGTH);
+    reasons("an alarm without a relation", pn_alarm(&device, &op, 1, 1, octets, 32), PN_WHY_NO_RELATION);
+    reasons("a status of an empty slot", pn_status(&device, &op, 9, 1, 1), PN_WHY_NOT_PLUGGED);
+    reasons("ready without a relation", pn_ready(&device, &op), PN_WHY_NO_RELATION);
+    reasons("a diagnosis of an empty slot", pn_diagnosis(&device, &op, 9, 1, 0, 0, 1), PN_WHY_NOT_PLUGGED);
+    reasons("a diagnosis of the channel 0x8001", pn_diagnosis(&device, &op, 1, 1, 0x8001, 1, 1), PN_WHY_BAD_NUMBER);
+    reasons("a diagnosis with the error 0", pn_diagnosis(&device, &op, 1, 1, 0, 0, 0), PN_WHY_BAD_NUMBER);
+    reasons("a diagnosis that does not exist", pn_diagnosis(&device, &op, 1, 1, 0, 1, 0), PN_WHY_ABSENT);
+    for (uint16_t channel = 0; channel < 32; channel++)
+        keep(pn_diagnosis(&device, &op, 1, 1, channel, 1, 1));
+    reasons("a diagnosis that exists", pn_diagnosis(&device, &op, 1, 1, 31, 1, 1), PN_WHY_EXISTS);
+    reasons("a 33rd diagnosis", pn_diagnosis(&device, &op, 1, 1, 32, 1, 1), PN_WHY_FULL);
+}
+
 int main(void)
 {
     memset(erased, 0xFF, sizeof erased);
@@ -174,6 +217,7 @@ int main(void)
     bent.station_type_length = 26;
     wants("a long station type", pn_make(&device, &bent), PN_BAD_STATION);
     bend_stations();
+    refuse_events();
     station.without_services = 1; /* else they would have something due below */
     keep(pn_make(&device, &station));
 
@@ -211,7 +255,7 @@ int main(void)
     ask_all("after the start");
     /* A chip that was never written: 65,535 generations, each a base and 14 slots. */
     keep(pn_left(&device, &op, &left));
-    if (left != 65535u * 15u || op.place != left)
+    if (left != 65535u * 15u || op.commits != left)
         return 1;
     wants("a second start", pn_boot(&device, &op, erased, erased), PN_IS_BOOTED);
     wants("no operation", pn_ask(&device, &op, 0, NULL, 0), PN_UNKNOWN);
@@ -268,7 +312,6 @@ int main(void)
         return 1;
     keep(pn_frame(&device, &op, octets, sizeof octets));
     keep(pn_frame(&device, &op, octets, 0));
-    keep(pn_input(&device, &op, 0, 1, octets, sizeof octets));
 
     keep(pn_news(&device, &op, &watch, &left));
     if (left != 0)

@@ -116,8 +116,12 @@ static int carry_out(void)
 
 static void end_of(uint32_t answer)
 {
-    static const char *const notes[] = {"done", "not-mine", "fault", "filter", "old-call", "no-relation", "stale-cycle", "refused"};
+    static const char *const notes[] = {"done", "not-mine", "fault", "filter", "old-call", "no-relation", "stale-cycle"};
     uint32_t note = op.note;
+    if (answer == PN_REFUSED) {
+        puts("note refused");
+        return;
+    }
     if (answer != PN_OK)
         stop("an event", answer);
     sent_length = 0;
@@ -214,7 +218,7 @@ static void show(void)
     hex("im4 ", running.im4, sizeof running.im4);
     if (pn_state(&device, &op) != PN_OK)
         stop("pn_state", 0);
-    printf("phase %s\nlamp %u\n", phases[op.phase], (unsigned)op.units);
+    printf("phase %s\nlamp %u\n", phases[op.phase], (unsigned)op.lamp);
     for (uint32_t i = 0; i < station.module_count; i++)
         for (uint16_t k = 0; k < station.modules[i].submodule_count; k++) {
             const pn_submodule *submodule = &station.modules[i].submodules[k];

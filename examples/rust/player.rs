@@ -2,9 +2,9 @@
 //! station over a chip in memory. It is also an example of a host in Rust: it boots the device, hands events in, sends the frames in
 //! the box, and reads outputs.
 
-use device_core::{Device, Event, Note};
+use device_core::{Device, Event, Note, Octets};
 use flash_model::{MemoryFlash, Order};
-use frame_codec::{Bytes, Outbox};
+use frame_codec::Outbox;
 use pn_values::{Identity, IpSuite, Mac, Real, RealModule, RealSubmodule, Settings, StationName};
 use relations::Phase;
 use settings_journal::BootFault;
@@ -89,11 +89,6 @@ fn octets_of(text: &str) -> Option<Vec<u8>> {
         .collect()
 }
 
-/// The first octets, up to the size of an event.
-fn bytes_of(octets: &[u8]) -> Bytes {
-    octets.iter().copied().take(1519).collect()
-}
-
 fn number<T: std::str::FromStr>(text: &str) -> Option<T> {
     text.bytes()
         .all(|digit| digit.is_ascii_digit())
@@ -169,7 +164,7 @@ impl Player {
     }
 
     /// Hands in this many equal events, and prints the frames sent. If power is lost, prints only that.
-    fn step(&mut self, event: &Event, times: u32, out: &mut impl Write) -> io::Result<()> {
+    fn step(&mut self, event: &Event<'_>, times: u32, out: &mut impl Write) -> io::Result<()> {
         let mut sent = Vec::new();
         let mut note = Note::Done;
         for _ in 0..times {
@@ -253,6 +248,8 @@ impl Player {
             writeln!(out, "off")?;
             return Ok(true);
         };
+        // What the last word says in hex. The event borrows it.
+        let octets = words.last().and_then(|text| octets_of(text));
         let event = match words.as_slice() {
             ["show"] => {
                 self.show(out)?;
@@ -272,14 +269,14 @@ impl Player {
                 }
                 _ => None,
             },
-            ["frame", octets] => octets_of(octets).map(|octets| Event::Frame(bytes_of(&octets))),
-            [word @ ("input" | "alarm"), slot, subslot, octets] => {
-                match (number(slot), number(subslot), octets_of(octets)) {
+            ["frame", _] => octets.as_deref().map(|octets| Event::Frame(Octets::of(octets))),
+            [word @ ("input" | "alarm"), slot, subslot, _] => {
+                match (number(slot), number(subslot), &octets) {
                     (Some(slot), Some(subslot), Some(octets)) if *word == "input" => {
-                        Some(Event::Input(slot, subslot, bytes_of(&octets)))
+                        Some(Event::input(slot, subslot, octets))
                     }
                     (Some(slot), Some(subslot), Some(octets)) => {
-                        Some(Event::Alarm(slot, subslot, bytes_of(&octets)))
+                        Some(Event::alarm(slot, subslot, octets))
                     }
                     _ => None,
                 }

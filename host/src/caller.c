@@ -55,8 +55,8 @@ int caller_hear(const struct caller *caller, const uint8_t activity[16], const u
 {
     if (pn_tool_record_in(&caller->tool, activity, &op, octets, size) != PN_OK)
         return 0;
-    *answer = (struct access_answer){.is_refused = op.units != 0, .octets = op.octets, .length = op.length};
-    access_spell(answer->status, op.units);
+    *answer = (struct access_answer){.is_refused = op.status != 0, .octets = op.octets, .length = op.length};
+    access_spell(answer->status, op.status);
     return 1;
 }
 

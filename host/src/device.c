@@ -59,8 +59,7 @@ struct diagnosis {
 };
 
 #define DIAGNOSES 32
-#define SUBMODULE_ITSELF 0x8000u /* as a channel */
-#define ALARM_LONGEST 32u        /* octets of an alarm */
+#define REFUSED 7 /* among the notes: what the application said and the device refused */
 
 struct device {
     pn_device room;
@@ -226,7 +225,7 @@ static void tell_record(struct device *device)
 {
     char label[64], text[320];
     const pn_op *op = &device->op;
-    snprintf(label, sizeof label, "record %u %u %u", (unsigned)op->slot, (unsigned)op->subslot, (unsigned)op->place);
+    snprintf(label, sizeof label, "record %u %u %u", (unsigned)op->slot, (unsigned)op->subslot, (unsigned)op->index);
     words_labelled(text, sizeof text, label, op->octets, op->length);
     lines_tell(&device->loop.lines, "%s", text);
 }
@@ -285,14 +284,23 @@ static void look_at_outputs(struct device *device)
     }
 }
 
+/* Does the work of what the application said to the device. Returns whether the device accepted it; otherwise `reason` of the operation says
+ * why not, and there is no work. */
+static int is_accepted(struct device *device, uint32_t answer, const char *call)
+{
+    if (answer == PN_REFUSED) {
+        device->notes[REFUSED]++;
+        return 0;
+    }
+    loop_must(answer, call);
+    carry_out(device);
+    return 1;
+}
+
 /* Sets a kept input for the relation. Returns whether a relation has it. */
 static int give(struct device *device, const struct place *place)
 {
-    uint32_t note;
-    loop_must(pn_input(&device->room, &device->op, place->slot, place->subslot, place->octets, place->length), "pn_input");
-    note = device->op.note;
-    carry_out(device);
-    return note == PN_DONE;
+    return is_accepted(device, pn_input(&device->room, &device->op, place->slot, place->subslot, place->octets, place->length), "pn_input");
 }
 
 /* The inputs of a new relation are zeros until they are set. So the earlier values are set again. */
@@ -308,7 +316,7 @@ static void look_at_state(void *context)
     struct device *device = context;
     int is_lamp_on;
     loop_must(pn_state(&device->room, &device->op), "pn_state");
-    is_lamp_on = device->op.units != 0;
+    is_lamp_on = device->op.lamp != 0;
     if (is_lamp_on != device->is_lamp_on)
         lines_tell(&device->loop.lines, "lamp %s", is_lamp_on ? "on" : "off");
     device->is_lamp_on = is_lamp_on;
@@ -487,7 +495,7 @@ static void show(void *context, char *words[])
     lines_answer(&device->loop.lines, "%s", text);
     lines_answer(&device->loop.lines, "commits-left %" PRIu32, left);
     lines_answer(&device->loop.lines, "phase %s", phases[device->op.phase]);
-    lines_answer(&device->loop.lines, "lamp %u", (unsigned)device->op.units);
+    lines_answer(&device->loop.lines, "lamp %u", (unsigned)device->op.lamp);
     loop_answer_places(&device->loop, "input", &device->inputs);
     loop_answer_places(&device->loop, "output", &device->outputs);
     (void)words;
@@ -527,48 +535,26 @@ static void take_input(struct device *device, uint16_t slot, uint16_t subslot, c
     }
 }
 
-/* Whether a submodule is plugged. */
-static int is_plugged(const struct device *device, unsigned slot, unsigned subslot)
-{
-    const pn_station *station = &device->station;
-    for (uint32_t i = 0; i < station->module_count; i++)
-        for (unsigned k = 0; station->modules[i].slot == slot && k < station->modules[i].submodule_count; k++)
-            if (station->modules[i].submodules[k].subslot == subslot)
-                return 1;
-    return 0;
-}
-
 /* Why the device refused an alarm. */
-static const char *why_no_alarm(struct device *device, unsigned slot, unsigned subslot, size_t length)
+static const char *why_no_alarm(uint32_t reason)
 {
-    if (!is_plugged(device, slot, subslot))
-        return "nothing is plugged there";
-    if (length > ALARM_LONGEST)
+    if (reason == PN_WHY_BAD_LENGTH)
         return "an alarm has at most 32 octets";
-    loop_must(pn_state(&device->room, &device->op), "pn_state");
-    return device->op.phase != PN_EXCHANGING ? "no data is exchanged" : "the alarm before it is not acknowledged yet";
+    return pn_strreason(reason == PN_WHY_NO_RELATION ? PN_WHY_NO_EXCHANGE : reason);
 }
 
 static void take_alarm(struct device *device, uint16_t slot, uint16_t subslot, const uint8_t *octets, size_t length)
 {
-    uint32_t note;
-    loop_must(pn_alarm(&device->room, &device->op, slot, subslot, octets, length), "pn_alarm");
-    note = device->op.note;
-    carry_out(device);
-    if (note == PN_DONE)
+    if (is_accepted(device, pn_alarm(&device->room, &device->op, slot, subslot, octets, length), "pn_alarm"))
         lines_answer(&device->loop.lines, "note done");
     else
-        lines_answer(&device->loop.lines, "note refused: %s", why_no_alarm(device, slot, subslot, length));
+        lines_answer(&device->loop.lines, "note refused: %s", why_no_alarm(device->op.reason));
 }
 
 /* Hands in a status. Returns whether it is that of a submodule that is plugged. */
 static int rate(struct device *device, const struct status *status)
 {
-    uint32_t note;
-    loop_must(pn_status(&device->room, &device->op, status->slot, status->subslot, status->is_good), "pn_status");
-    note = device->op.note;
-    carry_out(device);
-    return note == PN_DONE;
+    return is_accepted(device, pn_status(&device->room, &device->op, status->slot, status->subslot, status->is_good), "pn_status");
 }
 
 /* Keeps a status for the next start of the device. */
@@ -601,12 +587,8 @@ static void take_status(void *context, char *words[])
 /* Hands in a diagnosis that appears or disappears. Returns whether it is accepted. */
 static int diagnose(struct device *device, const struct diagnosis *diagnosis, int appears)
 {
-    uint32_t note;
-    loop_must(pn_diagnosis(&device->room, &device->op, diagnosis->slot, diagnosis->subslot, diagnosis->channel, diagnosis->error, appears),
-              "pn_diagnosis");
-    note = device->op.note;
-    carry_out(device);
-    return note == PN_DONE;
+    return is_accepted(device, pn_diagnosis(&device->room, &device->op, diagnosis->slot, diagnosis->subslot, diagnosis->channel,
+                                            diagnosis->error, appears), "pn_diagnosis");
 }
 
 /* The place of a diagnosis among those that exist; their number if it does not. */
@@ -632,22 +614,11 @@ static void keep_diagnosis(struct device *device, const struct diagnosis *diagno
 }
 
 /* Why the device refused a diagnosis. */
-static const char *why_no_diagnosis(const struct device *device, const struct diagnosis *diagnosis, int appears)
+static const char *why_no_diagnosis(uint32_t reason, const struct diagnosis *diagnosis)
 {
-    int exists = find_diagnosis(device, diagnosis) < device->diagnosis_count;
-    if (!is_plugged(device, diagnosis->slot, diagnosis->subslot))
-        return "nothing is plugged there";
-    if (diagnosis->channel > SUBMODULE_ITSELF)
-        return "a channel is 0 to 32767, or 32768 for the submodule itself";
-    if (diagnosis->error == 0)
-        return "an error is 1 to 65535";
-    if (appears && exists)
-        return "it exists already";
-    if (!appears && !exists)
-        return "it does not exist";
-    if (appears && device->diagnosis_count == DIAGNOSES)
-        return "32 diagnoses exist";
-    return "32 changes wait for their alarms";
+    if (reason != PN_WHY_BAD_NUMBER)
+        return pn_strreason(reason);
+    return diagnosis->error == 0 ? "an error is 1 to 65535" : "a channel is 0 to 32767, or 32768 for the submodule itself";
 }
 
 static void take_diagnosis(void *context, char *words[])
@@ -665,20 +636,17 @@ static void take_diagnosis(void *context, char *words[])
         keep_diagnosis(device, &diagnosis, appears);
         lines_answer(&device->loop.lines, "note done");
     } else {
-        lines_answer(&device->loop.lines, "note refused: %s", why_no_diagnosis(device, &diagnosis, appears));
+        lines_answer(&device->loop.lines, "note refused: %s", why_no_diagnosis(device->op.reason, &diagnosis));
     }
 }
 
 static void take_ready(void *context, char *words[])
 {
     struct device *device = context;
-    uint32_t note;
+    int is_done = is_accepted(device, pn_ready(&device->room, &device->op), "pn_ready");
     (void)words;
-    loop_must(pn_ready(&device->room, &device->op), "pn_ready");
-    note = device->op.note;
-    carry_out(device);
     lines_answer(&device->loop.lines,
-                 note == PN_DONE ? "note done" : "note refused: no relation waits for the application (--ready-by-application, and after `parameters end`)");
+                 is_done ? "note done" : "note refused: no relation waits for the application (--ready-by-application, and after `parameters end`)");
     look_at_state(device);
 }
 

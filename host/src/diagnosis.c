@@ -109,7 +109,7 @@ static uint32_t reported(struct relation *relation, struct diagnoses *diagnoses)
     for (uint32_t i = 0; i < count; i++) {
         loop_must(pn_controller_diagnosis(&relation->room, op, i), "pn_controller_diagnosis");
         diagnoses->list[diagnoses->count++] =
-            (struct diagnosis){(uint16_t)op->slot, (uint16_t)op->subslot, (uint16_t)op->more, (uint16_t)op->note};
+            (struct diagnosis){(uint16_t)op->slot, (uint16_t)op->subslot, (uint16_t)op->channel, (uint16_t)op->error};
     }
     return left_out;
 }

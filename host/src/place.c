@@ -37,7 +37,7 @@ int place_name(struct wire *wire, pn_tool *tool, const pn_search *search, const 
         wire_send(wire, op.octets, op.length);
         while (wire_wait(wire, until, octets, &size))
             if (pn_tool_given(tool, search, &op, octets, size) == PN_OK)
-                return (int)op.note;
+                return (int)op.block_error;
     }
     return -1;
 }

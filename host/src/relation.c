@@ -251,12 +251,12 @@ static void look_at_alarm(struct relation *relation, int is_low)
     int number;
     if (pn_controller_report(&relation->room, op, is_low) != PN_OK)
         return;
-    number = (int)op->sector;
+    number = (int)op->sequence;
     if (number == relation->alarms[is_low])
         return;
     relation->alarms[is_low] = number;
-    alarm = (struct alarm){.is_low = is_low, .type = op->note, .slot = op->slot, .subslot = op->subslot, .specifier = op->units,
-                           .structure = op->more > 65535 ? -1 : (long)op->more, .octets = op->octets, .length = op->length};
+    alarm = (struct alarm){.is_low = is_low, .type = op->alarm_type, .slot = op->slot, .subslot = op->subslot, .specifier = op->specifier,
+                           .structure = op->structure > 65535 ? -1 : (long)op->structure, .octets = op->octets, .length = op->length};
     alarms_line(&alarm, text, sizeof text);
     lines_tell(&relation->loop->lines, "%s", text);
     if (alarms_wants_parameters(alarm.type))
@@ -486,7 +486,7 @@ int relation_is_changed(struct relation *relation)
     if (relation->op.phase == PN_ENDED)
         waiting_words(&relation->waiting, &relation->loop->wire, relation->stuck, sizeof relation->stuck);
     relation->state = relation->op.phase;
-    relation->cause = relation->op.note;
+    relation->cause = relation->op.cause;
     waiting_state(&relation->waiting, relation->state);
     return 1;
 }

@@ -23,13 +23,13 @@ use Rattle.relations.specs.Diagnosed.{diagnosing, is_full_in}
 use Rattle.relations.specs.RelationState.{RelationState, is_exchanging}
 use Rattle.relations.specs.Phases.{exchanging_from, made_of, updated, with_flow}
 use Rattle.relations.specs.Timers.{unit_later}
-use Rattle.device_frames.specs.Heard.{Heard, Diagnosed}
+use Rattle.device_frames.specs.Heard.{Heard}
 use Rattle.device_frames.specs.Sent.{Sent}
 use Rattle.diagnosis.specs.reported.Followed.{Reports, at_places}
 use Rattle.diagnosis.specs.reported.Reported.{Reported, after_report}
 use Rattle.end_laws.specs.turns.Alarms.{after_reports, report_as}
 use Rattle.diagnosis.specs.declared.reports.priority.Priority.TheVariants.{Low as low_priority}
-use Rattle.end_laws.specs.device.Turn.{Begins, Diagnoses, HearsLowData, Makes}
+use Rattle.end_laws.specs.device.Turn.{Begins, Diagnoses, HearsLowData, Makes, change_heard}
 use Rattle.both_ends.specs.exchange.Over.{number_in, reported_by}
 use Rattle.both_ends.specs.exchange.Told.{AreKnown, AreReports, IsStep, IsTold, Leads, change_in}
 use Rattle.both_ends.proofs.ExchangeKnown.{ElsewhereSo, changed_channel, changed_known, one_more, rebuilt}
@@ -288,7 +288,7 @@ module _ (elsewhere : ElsewhereSo) (real : List RealModule) (before : Option Rel
   waited changes ws one = ap (λ (xs : List Change). changes ++ xs) (map-append change_in ws (one ∷ [])) ∙ sym (append_assoc changes (map change_in ws) (one.change ∷ []))
 
   module _ (heard : Heard) (after : Option RelationState) (later : List Diagnosis) (sent : List Sent) (changes : Diagnoses real diagnoses later before heard after sent)
-      (small : (change : Change) → heard ≡ Diagnosed change → change.diagnosis.error < 65536) where
+      (small : (change : Change) → heard ≡ change_heard change → change.diagnosis.error < 65536) where
     known_so : AreKnown later
     known_so = changed_known changes.change diagnoses later changes.changes (small changes.change changes.is) knows.known
 
@@ -373,7 +373,7 @@ module _ (elsewhere : ElsewhereSo) (real : List RealModule) (before : Option Rel
 
   -- any turn that leaves the diagnoses as they are
   turn_so : (calls : List Answer) (heard : Heard) (after : Option RelationState) (later : List Diagnosis) (sent : List Sent) → later ≡ diagnoses
-      → ((change : Change) → heard ≡ Diagnosed change → change.diagnosis.error < 65536) → (Makes calls before heard after sent → (before ≡ None) × (raised ≡ []))
+      → ((change : Change) → heard ≡ change_heard change → change.diagnosis.error < 65536) → (Makes calls before heard after sent → (before ≡ None) × (raised ≡ []))
       → IsTurn real calls diagnoses later before heard after sent → Knows after later (raised ++ reported_by before after)
   turn_so calls heard after later sent same small alone turn = subst (λ (xs : List Diagnosis). Knows after xs (raised ++ reported_by before after)) (sym same) (by_turn turn)
     where
@@ -395,7 +395,7 @@ module _ (elsewhere : ElsewhereSo) (real : List RealModule) (before : Option Rel
           subst (λ (xs : List Diagnosis). Knows after xs (raised ++ reported_by before after)) same (changes_so heard after later sent changes small)
 
   pub knows_on : (calls : List Answer) (heard : Heard) (after : Option RelationState) (later : List Diagnosis) (sent : List Sent)
-      → ((change : Change) → heard ≡ Diagnosed change → change.diagnosis.error < 65536) → (Makes calls before heard after sent → (before ≡ None) × (raised ≡ []))
+      → ((change : Change) → heard ≡ change_heard change → change.diagnosis.error < 65536) → (Makes calls before heard after sent → (before ≡ None) × (raised ≡ []))
       → IsTurn real calls diagnoses later before heard after sent → (later ≡ diagnoses) ⊎ Diagnoses real diagnoses later before heard after sent
       → Knows after later (raised ++ reported_by before after)
   knows_on calls heard after later sent small alone turn (inl same) = turn_so calls heard after later sent same small alone turn

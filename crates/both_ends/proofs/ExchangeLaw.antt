@@ -37,7 +37,8 @@ use Rattle.frame_codec.specs.declared.udp.Caller.{Caller}
 use Rattle.rpc_core.specs.Call.{Asked as Call}
 use Rattle.both_ends.specs.startup.request.Request.{request_for}
 use Rattle.device_frames.specs.Sent.{Sent as DeviceSent}
-use Rattle.device_frames.specs.Heard.{Heard, Ticks, Elsewhere, Asks, Resolves, Reported, Calls, Cyclic, Given, Raised, Rated, Met, Readied, Diagnosed, diagnosed, broadcast, heard_alarm, heard_content, heard_frame, heard_of, heard_request, is_own, is_taken}
+use Rattle.device_frames.specs.declared.local.Local.TheVariants as local
+use Rattle.device_frames.specs.Heard.{Heard, Ticks, Elsewhere, Asks, Resolves, Reported, Calls, Cyclic, Applied, Met, broadcast, heard_alarm, heard_content, heard_frame, heard_of, heard_request, is_own, is_taken}
 use Rattle.device_core.specs.State.{State, Station, Live}
 use Rattle.device_core.specs.Machine.{heard_step}
 use Rattle.controller_messages.specs.declared.request.Request.TheVariants as asks
@@ -61,7 +62,7 @@ use Rattle.network_world.specs.World.{AreMade, at_controller, AtDevice, Comes, D
 use Rattle.end_laws.specs.both.Small as small
 use Rattle.end_laws.specs.both.Small.{Rules}
 use Rattle.end_laws.specs.both.Steps.{DeviceSteps}
-use Rattle.end_laws.specs.device.Turn.{IsRaise, Makes, Turn}
+use Rattle.end_laws.specs.device.Turn.{IsRaise, Makes, Turn, alarm_heard}
 use Rattle.end_laws.specs.device.Small.{IsHeardAs, IsPlanned, Planned, heard_as, kept_in, link_of, small_of}
 use Rattle.both_ends.specs.startup.Played.{AreMeant, Begins, CanMeet}
 use Rattle.end_laws.specs.controller.Small.{said_to}
@@ -113,11 +114,10 @@ module _ (goes_sized : (setup : Setup) (live : ControllerLive) (one : Event) →
   heard_right octets controller.Nothing e is fit = right_by octets controller.Nothing e tt
   heard_right octets (controller.Cyclic source frame_id body) e is fit = right_by octets (controller.Cyclic source frame_id body) e tt
 
--- ---- a frame raises no alarm, and is no diagnosis
+-- ---- a frame is nothing that the application says
 
 abbrev pub IsOfFrame : Heard → Type 0
-IsOfFrame (Raised slot subslot octets) = ⊥
-IsOfFrame (Diagnosed change) = ⊥
+IsOfFrame (Applied local) = ⊥
 IsOfFrame other = Unit {0}
 
 framed_request : (source : Mac) (read : Result Asked DcpFault) → IsOfFrame (heard_request source read)
@@ -146,7 +146,7 @@ unfolding heard_of
 of_frame identity octets = framed_read identity (frame_of octets)
 
 unraised : (heard : Heard) → IsOfFrame heard → IsUnraised heard
-unraised (Raised slot subslot octets) is = absurd is
+unraised (Applied local) is = absurd is
 unraised other is = tt
 
 -- ---- the laws of the crates below
@@ -164,8 +164,8 @@ pub record DeviceSo : Type 0 where
       → IsPlanned rules activity station.real heard
       → Turn station live heard (heard_step outcomes station live heard).live.rest (heard_step outcomes station live heard).sent
   pub raises : (outcomes : List Outcome) (station : Station) (live : Live) (slot subslot : ℕ) (octets : List ℕ)
-      → IsRaise station.real.modules.items live.rest.link slot subslot octets (heard_step outcomes station live (Raised slot subslot octets)).live.rest.link
-      (heard_step outcomes station live (Raised slot subslot octets)).sent
+      → IsRaise station.real.modules.items live.rest.link slot subslot octets (heard_step outcomes station live (alarm_heard slot subslot octets)).live.rest.link
+      (heard_step outcomes station live (alarm_heard slot subslot octets)).sent
 
 -- a step of the controller
 controller_is : (old : Controlling) (one : Event) → (step_of old one).controller ≡ with_live old (turn_of old.setup old.live one).live
@@ -204,12 +204,12 @@ alarm_told High real slot subslot octets before after = raised_in (raised_to rea
 alarm_told Low real slot subslot octets before after = reported_by before after
 
 alarm_goes : (priority : Priority) (setup : Setup) (r : Relation) (real : List RealModule) (calls : List Answer) (diagnoses later : List Diagnosis) (before : Option RelationState) (slot subslot : ℕ) (octets : List ℕ) (after : Option RelationState) (messages : List DeviceSent)
-    → IsTied priority r before → IsFresh priority setup r calls before (Raised slot subslot octets) after messages → (Makes calls before (Raised slot subslot octets) after messages → before ≡ None)
-    → IsTurn real calls diagnoses later before (Raised slot subslot octets) after messages → IsRaise real before slot subslot octets after messages
+    → IsTied priority r before → IsFresh priority setup r calls before (alarm_heard slot subslot octets) after messages → (Makes calls before (alarm_heard slot subslot octets) after messages → before ≡ None)
+    → IsTurn real calls diagnoses later before (alarm_heard slot subslot octets) after messages → IsRaise real before slot subslot octets after messages
     → Goes priority setup r before after messages (alarm_told priority real slot subslot octets before after)
 alarm_goes High setup r real calls diagnoses later before slot subslot octets after messages tied fresh alone turn raise = raise_on setup r real before tied slot subslot octets after messages raise
 alarm_goes Low setup r real calls diagnoses later before slot subslot octets after messages tied fresh alone turn raise =
-    low_turn_on setup r real before tied calls diagnoses later (Raised slot subslot octets) after messages tt fresh alone turn
+    low_turn_on setup r real before tied calls diagnoses later (alarm_heard slot subslot octets) after messages tt fresh alone turn
 
 module _ {F : Type 0} where
   -- the alarms of a priority that are raised with a move
@@ -339,10 +339,10 @@ module _ {F : Type 0} where
     never_late sequence e none = absurd cc
 
     device_raises : (one : Move) (slot subslot : ℕ) (octets : List ℕ) → raised_with before one ≡ raised_in (raised_to station.real.modules.items slot subslot octets live.rest.link)
-        → AtDevice as_flash before (Raised slot subslot octets) after → IsMeantAtDevice before (Raised slot subslot octets)
+        → AtDevice as_flash before (alarm_heard slot subslot octets) after → IsMeantAtDevice before (alarm_heard slot subslot octets)
         → FollowsAt priority after (raised ++ now_at priority before one after) taken
     device_raises one slot subslot octets raises made meant =
-        let heard = Raised slot subslot octets in
+        let heard = alarm_heard slot subslot octets in
         let real = station.real.modules.items in
         subst (λ (now : List AlarmNotification). FollowsAt priority after (raised ++ now) taken) (alarm_is priority before one slot subslot octets after raises)
         (device_on heard never_first never_late (λ caller address call e other. absurd (other refl)) made meant
@@ -473,17 +473,12 @@ module _ {F : Type 0} where
     one_follows (move.Tick Device) happens meant = device_event (move.Tick Device) refl refl Ticks tt refl (λ planned. refl) (λ caller address call e. absurd cc) happens meant
     one_follows (move.Tick Controller) happens meant =
         controller_event (move.Tick Controller) event.Tick refl refl tt refl meant (so.goes_sized setup before.controller.live event.Tick follows.good follows.lives tt, tt) happens
-    one_follows (move.Input slot subslot value) happens meant =
-        device_event (move.Input slot subslot value) refl refl (Given slot subslot value.items) tt refl (λ planned. refl) (λ caller address call e. absurd cc) happens meant
-    one_follows (move.Alarm slot subslot octets) happens meant =
-        taken_none priority after _ taken (device_raises (move.Alarm slot subslot octets) slot subslot octets.items refl happens meant)
-    one_follows (move.Status slot subslot is_good) happens meant =
-        device_event (move.Status slot subslot is_good) refl refl (Rated slot subslot is_good) tt refl (λ planned. refl) (λ caller address call e. absurd cc) happens meant
+    one_follows (move.Application (local.Alarm slot subslot octets)) happens meant =
+        taken_none priority after _ taken (device_raises (move.Application (local.Alarm slot subslot octets)) slot subslot octets.items refl happens meant)
+    one_follows (move.Application other) happens meant =
+        device_event (move.Application other) refl refl (Applied other) tt refl (λ planned. refl) (λ caller address call e. absurd cc) happens meant
     one_follows (move.Neighbour neighbour) happens meant =
         device_event (move.Neighbour neighbour) refl refl (Met (option_map peer_as neighbour)) tt refl (λ planned. refl) (λ caller address call e. absurd cc) happens meant
-    one_follows (move.Diagnosis slot subslot channel error appears) happens meant =
-        device_event (move.Diagnosis slot subslot channel error appears) refl refl (diagnosed slot subslot channel error appears) tt refl (λ planned. refl) (λ caller address call e. absurd cc) happens meant
-    one_follows move.Ready happens meant = device_event move.Ready refl refl Readied tt refl (λ planned. refl) (λ caller address call e. absurd cc) happens meant
     one_follows (move.Give slot subslot value) happens meant =
         controller_event (move.Give slot subslot value) (event.Give slot subslot value) refl refl tt refl meant
         (so.goes_sized setup before.controller.live (event.Give slot subslot value) follows.good follows.lives tt, tt) happens

@@ -140,17 +140,7 @@ given_more setup once moves live was (move.OutputStatus slot subslot is_good) =
     ∙ (rated_set setup once (values_of moves) slot subslot is_good
     ∙ sets_same setup (with_rated slot subslot is_good (values_of moves)) (values_of (moves ++ move.OutputStatus slot subslot is_good ∷ []))
     (λ place. sym (last_more place None moves (move.OutputStatus slot subslot is_good))) (λ place. sym (rated_more place true moves (move.OutputStatus slot subslot is_good))))
-given_more setup once moves live was (move.Deliver end number) = was ∙ still setup moves (move.Deliver end number) (λ place last. refl) (λ place last. refl)
-given_more setup once moves live was (move.Tick end) = was ∙ still setup moves (move.Tick end) (λ place last. refl) (λ place last. refl)
-given_more setup once moves live was (move.Input slot subslot value) = was ∙ still setup moves (move.Input slot subslot value) (λ place last. refl) (λ place last. refl)
-given_more setup once moves live was (move.Alarm slot subslot octets) = was ∙ still setup moves (move.Alarm slot subslot octets) (λ place last. refl) (λ place last. refl)
-given_more setup once moves live was (move.Status slot subslot is_good) = was ∙ still setup moves (move.Status slot subslot is_good) (λ place last. refl) (λ place last. refl)
-given_more setup once moves live was (move.Neighbour neighbour) = was ∙ still setup moves (move.Neighbour neighbour) (λ place last. refl) (λ place last. refl)
-given_more setup once moves live was (move.Diagnosis slot subslot channel error appears) = was ∙ still setup moves (move.Diagnosis slot subslot channel error appears) (λ place last. refl) (λ place last. refl)
-given_more setup once moves live was move.Ready = was ∙ still setup moves move.Ready (λ place last. refl) (λ place last. refl)
-given_more setup once moves live was (move.Read slot subslot index) = was ∙ still setup moves (move.Read slot subslot index) (λ place last. refl) (λ place last. refl)
-given_more setup once moves live was (move.Write slot subslot index octets) = was ∙ still setup moves (move.Write slot subslot index octets) (λ place last. refl) (λ place last. refl)
-given_more setup once moves live was move.Stop = was ∙ still setup moves move.Stop (λ place last. refl) (λ place last. refl)
+given_more setup once moves live was other = was ∙ still setup moves other (λ place last. refl) (λ place last. refl)
 
 -- before any move
 pub first_image : (setup : Setup) → sets_of (first_live setup.plan) ≡ sets_given setup []

@@ -65,40 +65,18 @@ seen one = (move_of one.0, shown_of one.1)
 
 by_controller : (one : Move) → small.IsByController (move_of one) → end_at one ≡ Controller
 by_controller (move.Deliver Device number) by = absurd by
-by_controller (move.Deliver Controller number) by = refl
 by_controller (move.Tick Device) by = absurd by
-by_controller (move.Tick Controller) by = refl
-by_controller (move.Input slot subslot value) by = absurd by
-by_controller (move.Alarm slot subslot octets) by = absurd by
-by_controller (move.Status slot subslot is_good) by = absurd by
+by_controller (move.Application local) by = absurd by
 by_controller (move.Neighbour neighbour) by = absurd by
-by_controller (move.Diagnosis slot subslot channel error appears) by = absurd by
-by_controller move.Ready by = absurd by
-by_controller (move.Give slot subslot value) by = refl
-by_controller (move.OutputStatus slot subslot is_good) by = refl
-by_controller (move.Read slot subslot index) by = refl
-by_controller (move.Write slot subslot index octets) by = refl
-by_controller move.Stop by = refl
+by_controller other by = refl
 
 came_to : (one : Move) (number : ℕ) → move_of one ≡ small.ComesToDevice number → one ≡ move.Deliver Device number
 came_to (move.Deliver Device other) number is = same other number is
   where
     same : (n m : ℕ) → small.ComesToDevice n ≡ small.ComesToDevice m → move.Deliver Device n ≡ move.Deliver Device m
     same n m e = cc
-came_to (move.Deliver Controller other) number is = absurd cc
 came_to (move.Tick Device) number is = absurd cc
-came_to (move.Tick Controller) number is = absurd cc
-came_to (move.Input slot subslot value) number is = absurd cc
-came_to (move.Alarm slot subslot octets) number is = absurd cc
-came_to (move.Status slot subslot is_good) number is = absurd cc
-came_to (move.Neighbour neighbour) number is = absurd cc
-came_to (move.Diagnosis slot subslot channel error appears) number is = absurd cc
-came_to move.Ready number is = absurd cc
-came_to (move.Give slot subslot value) number is = absurd cc
-came_to (move.OutputStatus slot subslot is_good) number is = absurd cc
-came_to (move.Read slot subslot index) number is = absurd cc
-came_to (move.Write slot subslot index octets) number is = absurd cc
-came_to move.Stop number is = absurd cc
+came_to other number is = absurd cc
 
 pub other_mac : (one other : Mac) → (one ≡ other → ⊥) → pointwise nat_eq one.octets other.octets ≡ false
 other_mac one other apart = by_test (pointwise nat_eq one.octets other.octets) refl

@@ -13,7 +13,7 @@ use Rattle.rpc_core.specs.Cache.{Kept as Answer, kept_of}
 use Rattle.cyclic_data.specs.Image.{Shown as Image}
 use Rattle.relations.specs.RelationState.{RelationState}
 use Rattle.device_frames.specs.declared.event.Event.TheVariants.{Frame}
-use Rattle.device_frames.specs.Heard.{Heard, Ticks, Given, Raised, Rated, Met, Readied, diagnosed, heard_of}
+use Rattle.device_frames.specs.Heard.{Heard, Ticks, Applied, Met, heard_of}
 use Rattle.device_core.specs.State.{Live, Station}
 use Rattle.device_core.specs.Machine.{heard_step}
 use Rattle.controller_messages.specs.declared.setup.Setup.{Setup}
@@ -232,12 +232,8 @@ module _ (turns : TurnsSo) (numbers : NumbersSo) (kinds : KindsSo) (sound : IsSo
       happens_shows (move.Deliver Controller number) meant happens = delivered_to_controller number (slice_get before.sent number) happens
       happens_shows (move.Tick Device) meant happens = does before after _ _ _ _ (λ steps. steps) (at_device_shows before after Ticks holds meant happens)
       happens_shows (move.Tick Controller) meant happens = does before after _ _ _ _ (λ steps. steps) (at_controller_gives before after controller.Tick holds happens)
-      happens_shows (move.Input slot subslot value) meant happens = does before after _ _ _ _ (λ steps. steps) (at_device_shows before after (Given slot subslot value.items) holds meant happens)
-      happens_shows (move.Alarm slot subslot octets) meant happens = does before after _ _ _ _ (λ steps. steps) (at_device_shows before after (Raised slot subslot octets.items) holds meant happens)
-      happens_shows (move.Status slot subslot is_good) meant happens = does before after _ _ _ _ (λ steps. steps) (at_device_shows before after (Rated slot subslot is_good) holds meant happens)
+      happens_shows (move.Application local) meant happens = does before after _ _ _ _ (λ steps. steps) (at_device_shows before after (Applied local) holds meant happens)
       happens_shows (move.Neighbour neighbour) meant happens = does before after _ _ _ _ (λ steps. steps) (at_device_shows before after (Met (option_map peer_as neighbour)) holds meant happens)
-      happens_shows (move.Diagnosis slot subslot channel error appears) meant happens = does before after _ _ _ _ (λ steps. steps) (at_device_shows before after (diagnosed slot subslot channel error appears) holds meant happens)
-      happens_shows move.Ready meant happens = does before after _ _ _ _ (λ steps. steps) (at_device_shows before after Readied holds meant happens)
       happens_shows (move.Give slot subslot value) meant happens =
           does before after _ _ _ _ (λ steps. steps) (at_controller_gives before after (controller.Give slot subslot value) holds happens)
       happens_shows (move.OutputStatus slot subslot is_good) meant happens =

@@ -15,7 +15,8 @@ use Rattle.diagnosis.specs.reported.Reported.{nothing_reported}
 use Rattle.relations.specs.RelationState.{RelationState, is_exchanging}
 use Rattle.diagnosis.specs.declared.reports.priority.Priority.TheVariants.{Low as low_priority}
 use Rattle.device_frames.specs.declared.event.Event.TheVariants.{Frame}
-use Rattle.device_frames.specs.Heard.{Heard, Ticks, Reported, Calls, Given, Raised, Rated, Met, Readied, Diagnosed, diagnosed, heard_of}
+use Rattle.device_frames.specs.declared.local.Local.TheVariants as local
+use Rattle.device_frames.specs.Heard.{Heard, Ticks, Reported, Calls, Applied, Met, heard_of}
 use Rattle.device_core.specs.State.{State, Live}
 use Rattle.device_core.specs.Machine.{heard_step}
 use Rattle.controller_messages.specs.declared.setup.Setup.{Setup}
@@ -25,6 +26,7 @@ use Rattle.network_world.specs.declared.moves.Move.TheVariants as move
 use Rattle.network_world.specs.World.{AreMade, AtDevice, Comes, Delivers, Happens, is_skipped, last_world, World}
 use Rattle.end_laws.specs.both.Small as small
 use Rattle.end_laws.specs.device.Small.{heard_as}
+use Rattle.end_laws.specs.device.Turn.{change_heard}
 use Rattle.end_laws.specs.hearing.Stations.{IsSetup}
 use Rattle.end_laws.specs.turns.Alarms.{AreAllTaken, ListsWhatIsReported, after_reports}
 use Rattle.both_ends.specs.startup.Played.{AreMeant, Begins, CanMeet}
@@ -44,18 +46,12 @@ use Rattle.both_ends.proofs.ExchangeReported.{IsCallIn}
 
 -- ---- a move
 
-same_change : (one other : Change) → Diagnosed one ≡ Diagnosed other → one ≡ other
-same_change one other e = cc
-
 -- the error of a change is that of the event
-error_is : (slot subslot channel error : ℕ) (appears : Bool) (change : Change) → diagnosed slot subslot channel error appears ≡ Diagnosed change → change.diagnosis.error ≡ error
-error_is slot subslot channel error appears change e = ap (λ (c : Change). c.diagnosis.error) (sym (same_change (record {
-  diagnosis = record { slot = slot; subslot = subslot; channel = channel; error = error };
-  appears = appears;
-}) change e))
+error_is : (slot subslot channel error : ℕ) (appears : Bool) (change : Change) → Applied (local.Diagnosis slot subslot channel error appears) ≡ change_heard change → change.diagnosis.error ≡ error
+error_is slot subslot channel error appears change e = cc
 
 abbrev IsSmall : Heard → Type 0
-IsSmall heard = (change : Change) → heard ≡ Diagnosed change → change.diagnosis.error < 65536
+IsSmall heard = (change : Change) → heard ≡ change_heard change → change.diagnosis.error < 65536
 
 framed_small : (heard : Heard) → IsOfFrame heard → IsSmall heard
 framed_small heard is change e = absurd (subst (λ (h : Heard). IsOfFrame h) e is)
@@ -129,20 +125,12 @@ module _ {F : Type 0} where
         (λ frame there. early_at low_priority so hears as_flash before after raised taken follows number frame there) meant happens
     one_knows (move.Deliver Controller number) happens meant sized = away_knows (slice_get before.sent number) happens
     one_knows (move.Tick Device) happens meant sized = idle_knows Ticks (λ change e. absurd cc) refl (λ caller address call e. absurd cc) happens meant
-    one_knows (move.Tick Controller) happens meant sized = rests_knows (ap (λ (w : World F). w.device) happens)
-    one_knows (move.Input slot subslot value) happens meant sized = idle_knows (Given slot subslot value.items) (λ change e. absurd cc) refl (λ caller address call e. absurd cc) happens meant
-    one_knows (move.Alarm slot subslot octets) happens meant sized = idle_knows (Raised slot subslot octets.items) (λ change e. absurd cc) refl (λ caller address call e. absurd cc) happens meant
-    one_knows (move.Status slot subslot is_good) happens meant sized = idle_knows (Rated slot subslot is_good) (λ change e. absurd cc) refl (λ caller address call e. absurd cc) happens meant
-    one_knows (move.Neighbour neighbour) happens meant sized = idle_knows (Met (option_map peer_as neighbour)) (λ change e. absurd cc) refl (λ caller address call e. absurd cc) happens meant
-    one_knows (move.Diagnosis slot subslot channel error appears) happens meant sized =
-        idle_knows (diagnosed slot subslot channel error appears)
+    one_knows (move.Application (local.Diagnosis slot subslot channel error appears)) happens meant sized =
+        idle_knows (Applied (local.Diagnosis slot subslot channel error appears))
         (λ change e. subst (λ (n : ℕ). n < 65536) (sym (error_is slot subslot channel error appears change e)) sized) refl (λ caller address call e. absurd cc) happens meant
-    one_knows move.Ready happens meant sized = idle_knows Readied (λ change e. absurd cc) refl (λ caller address call e. absurd cc) happens meant
-    one_knows (move.Give slot subslot value) happens meant sized = rests_knows (ap (λ (w : World F). w.device) happens)
-    one_knows (move.OutputStatus slot subslot is_good) happens meant sized = rests_knows (ap (λ (w : World F). w.device) happens)
-    one_knows (move.Read slot subslot index) happens meant sized = rests_knows (ap (λ (w : World F). w.device) happens)
-    one_knows (move.Write slot subslot index octets) happens meant sized = rests_knows (ap (λ (w : World F). w.device) happens)
-    one_knows move.Stop happens meant sized = rests_knows (ap (λ (w : World F). w.device) happens)
+    one_knows (move.Application other) happens meant sized = idle_knows (Applied other) (λ change e. absurd cc) refl (λ caller address call e. absurd cc) happens meant
+    one_knows (move.Neighbour neighbour) happens meant sized = idle_knows (Met (option_map peer_as neighbour)) (λ change e. absurd cc) refl (λ caller address call e. absurd cc) happens meant
+    one_knows other happens meant sized = rests_knows (ap (λ (w : World F). w.device) happens)
 
   -- ---- any run
 

@@ -35,7 +35,8 @@ use Rattle.relations.specs.Phases.{exchanging_from, made_of, updated, with_flow}
 use Rattle.relations.specs.Timers.{unit_later}
 use Rattle.diagnosis.specs.Line.{Line}
 use Rattle.diagnosis.specs.World.{line_after}
-use Rattle.device_frames.specs.Heard.{Heard, Raised}
+use Rattle.device_frames.specs.declared.local.Local.TheVariants as local
+use Rattle.device_frames.specs.Heard.{Heard, Applied}
 use Rattle.device_frames.specs.Relation.{alarms_of, frames_in, low_alarms_of, where_due}
 use Rattle.device_frames.specs.Sent.{Sent, Exchanges}
 use Rattle.controller_messages.specs.declared.setup.Setup.{Setup}
@@ -44,7 +45,7 @@ use Rattle.end_laws.specs.turns.Alarms.{IsQuiet, Relation, Move, Raises as raisi
 use Rattle.both_ends.proofs.ExchangeReported.{ack_in, data_in, reported_at}
 use Rattle.both_ends.specs.exchange.Over.{one_in, raised_in}
 use Rattle.both_ends.proofs.ExchangeLists.{Extends, at_end, each_behind, each_on, more_extends, none_some, some_is, unchanged}
-use Rattle.end_laws.specs.device.Turn.{AreCalm, Begins, Diagnoses, HearsAck, HearsData, HearsLowAck, HearsLowData, IsCalm, IsHigh, IsRaise, Makes, Passes, Raises, Refused}
+use Rattle.end_laws.specs.device.Turn.{AreCalm, Begins, Diagnoses, HearsAck, HearsData, HearsLowAck, HearsLowData, IsCalm, IsHigh, IsRaise, Makes, Passes, Raises, Refused, alarm_heard}
 use Rattle.both_ends.proofs.ExchangeTurns.{IsSameOr, IsTurn, Way, end_at, end_in, way_of}
 
 -- ---- what is said is among what was sent
@@ -153,7 +154,7 @@ IsTied priority r link = (l : RelationState) → link ≡ Some l → end_at prio
 
 -- no alarm is raised
 abbrev pub IsUnraised : Heard → Type 0
-IsUnraised (Raised slot subslot octets) = ⊥
+IsUnraised (Applied (local.Alarm slot subslot octets)) = ⊥
 IsUnraised other = Unit {0}
 
 pub way_before : (before : Option RelationState) (way : Way) → Some way ≡ option_map way_of before → (l : RelationState) × (before ≡ Some l) × (way ≡ way_of l)
@@ -462,7 +463,7 @@ module _ (setup : Setup) (r : Relation) (real : List RealModule) (before : Optio
 
   -- the effect of an alarm that is raised
   abbrev raised_for : Heard → RelationState → Option Flow
-  raised_for (Raised slot subslot octets) link = raised_at link.flow real slot subslot octets
+  raised_for (Applied (local.Alarm slot subslot octets)) link = raised_at link.flow real slot subslot octets.items
   raised_for other link = None
 
   pub raise_on : (slot subslot : ℕ) (octets : List ℕ) (after : Option RelationState) (sent : List Sent) → IsRaise real before slot subslot octets after sent
@@ -470,7 +471,7 @@ module _ (setup : Setup) (r : Relation) (real : List RealModule) (before : Optio
   raise_on slot subslot octets after sent (inl raises) =
       let raised : Some raises.flow ≡ raised_to real slot subslot octets before =
       sym raises.raised ∙ (ap (λ (h : Heard). raised_for h raises.link) (sym raises.is) ∙ ap (λ (l : Option RelationState). raised_to real slot subslot octets l) (sym raises.was)) in
-      subst (λ (o : Option Flow). Goes High setup r before after sent (raised_in o)) raised (raises_on (Raised slot subslot octets) after sent raises)
+      subst (λ (o : Option Flow). Goes High setup r before after sent (raised_in o)) raised (raises_on (alarm_heard slot subslot octets) after sent raises)
   raise_on slot subslot octets after sent (inr refused) =
       subst (λ (o : Option Flow). Goes High setup r before after sent (raised_in o)) (sym refused.unraised) (refused_on slot subslot octets after sent refused)
 

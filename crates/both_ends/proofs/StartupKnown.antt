@@ -15,7 +15,7 @@ use Rattle.records.specs.declared.writes.taken.TakenRecord.{TakenRecord}
 use Rattle.relations.specs.RelationState.{RelationState}
 use Rattle.both_ends.specs.startup.request.Request.{request_for}
 use Rattle.device_frames.specs.declared.event.Event.TheVariants.{Frame}
-use Rattle.device_frames.specs.Heard.{Heard, Ticks, Given, Raised, Rated, Met, Readied, diagnosed, heard_of}
+use Rattle.device_frames.specs.Heard.{Heard, Ticks, Applied, Met, heard_of}
 use Rattle.device_frames.specs.Sent.{Sent, Again, bytes_of}
 use Rattle.device_core.specs.State.{Station, Live}
 use Rattle.device_core.specs.Machine.{heard_step, handled_step}
@@ -200,12 +200,8 @@ module _ (so : HeardSo) (goes : GoesSo) where
       all_meant (move.Deliver Controller number) = λ octets there. meant_at_controller (controller.Frame (record { items = octets })) (known_at number octets there).at_controller
       all_meant (move.Tick Device) = meant_at_device plans Ticks tt
       all_meant (move.Tick Controller) = meant_at_controller controller.Tick tt
-      all_meant (move.Input slot subslot value) = meant_at_device plans (Given slot subslot value.items) tt
-      all_meant (move.Alarm slot subslot octets) = meant_at_device plans (Raised slot subslot octets.items) tt
-      all_meant (move.Status slot subslot is_good) = meant_at_device plans (Rated slot subslot is_good) tt
+      all_meant (move.Application local) = meant_at_device plans (Applied local) tt
       all_meant (move.Neighbour neighbour) = meant_at_device plans (Met (option_map peer_as neighbour)) tt
-      all_meant (move.Diagnosis slot subslot channel error appears) = meant_at_device plans (diagnosed slot subslot channel error appears) tt
-      all_meant move.Ready = meant_at_device plans Readied tt
       all_meant (move.Give slot subslot value) = meant_at_controller (controller.Give slot subslot value) tt
       all_meant (move.OutputStatus slot subslot is_good) = meant_at_controller (controller.Status slot subslot is_good) tt
       all_meant (move.Read slot subslot index) = meant_at_controller (controller.Read slot subslot index) tt
@@ -225,12 +221,8 @@ module _ (so : HeardSo) (goes : GoesSo) where
             (λ frame there comes. holds_behind_controller (controller.Frame (record { items = frame })) (known_at number frame there).at_controller after comes)
         holds_behind (move.Tick Device) happens = holds_behind_device plans Ticks tt as_flash after happens
         holds_behind (move.Tick Controller) happens = holds_behind_controller controller.Tick tt after happens
-        holds_behind (move.Input slot subslot value) happens = holds_behind_device plans (Given slot subslot value.items) tt as_flash after happens
-        holds_behind (move.Alarm slot subslot octets) happens = holds_behind_device plans (Raised slot subslot octets.items) tt as_flash after happens
-        holds_behind (move.Status slot subslot is_good) happens = holds_behind_device plans (Rated slot subslot is_good) tt as_flash after happens
+        holds_behind (move.Application local) happens = holds_behind_device plans (Applied local) tt as_flash after happens
         holds_behind (move.Neighbour neighbour) happens = holds_behind_device plans (Met (option_map peer_as neighbour)) tt as_flash after happens
-        holds_behind (move.Diagnosis slot subslot channel error appears) happens = holds_behind_device plans (diagnosed slot subslot channel error appears) tt as_flash after happens
-        holds_behind move.Ready happens = holds_behind_device plans Readied tt as_flash after happens
         holds_behind (move.Give slot subslot value) happens = holds_behind_controller (controller.Give slot subslot value) tt after happens
         holds_behind (move.OutputStatus slot subslot is_good) happens = holds_behind_controller (controller.Status slot subslot is_good) tt after happens
         holds_behind (move.Read slot subslot index) happens = holds_behind_controller (controller.Read slot subslot index) tt after happens

@@ -1,15 +1,13 @@
 -- What a run leaves at the device for the next controller: its fixed properties, and of other activities no response that it did
 -- not have before.
-use Rattle.std.proofs.Common.{◌≡◌, ◌⊎◌, inl, inr, ℕ, Bool, true, List, [], ◌∷◌, Option, Some, None, refl, sym, ap, subst, ◌∙◌}
-use Rattle.std.specs.Prelude.{nat_eq, slice_get}
-use Rattle.std.specs.Cmp.Lexicographic.{pointwise, same_text}
+use Rattle.std.proofs.Common.{◌≡◌, inl, inr, ℕ, List, [], ◌∷◌, Option, Some, None, refl, sym, ap, subst, ◌∙◌}
+use Rattle.std.specs.Prelude.{slice_get}
+use Rattle.std.specs.Cmp.Lexicographic.{same_text}
 use Rattle.lldp.specs.Views.{peer_as}
 use Rattle.std.specs.Option.{option_map}
 use Rattle.flash_model.specs.declared.flash.Flash.{Ghosts as Flash}
-use Rattle.pn_values.specs.declared.identity.Identity.{Identity}
-use Rattle.settings_journal.specs.settings_store.Machine.{Outcome}
-use Rattle.rpc_core.specs.Cache.{Kept as Answer, is_of, kept_more, kept_of}
-use Rattle.device_frames.specs.Heard.{Heard, Ticks, Given, Raised, Rated, Met, Readied, Reported, Calls, diagnosed}
+use Rattle.rpc_core.specs.Cache.{Kept as Answer, kept_more, kept_of}
+use Rattle.device_frames.specs.Heard.{Heard, Ticks, Applied, Met}
 use Rattle.device_frames.specs.Sent.{Sent}
 use Rattle.device_core.specs.State.{Live, Rest, Station}
 use Rattle.device_core.specs.Machine.{heard_step}
@@ -22,7 +20,6 @@ use Rattle.network_world.specs.declared.moves.Move.TheVariants as move
 use Rattle.network_world.specs.World.{AreMade, at_controller, AtDevice, Happens, last_world, World}
 use Rattle.end_laws.specs.device.Does.{Does}
 use Rattle.end_laws.specs.device.Small.{IsPlanned, IsPlannedCall}
-use Rattle.end_laws.specs.device.Turn.{Turn}
 use Rattle.both_ends.specs.startup.Played.{AreMeant}
 use Rattle.both_ends.specs.startup.View.{IsMeant, IsMeantAtDevice, rules_of}
 use Rattle.both_ends.proofs.ExchangeOutputsShows.{AreKept, kept_at, more_kept, none_kept}
@@ -106,18 +103,9 @@ module _ (activity : List ℕ) where
       leaves before after (move.Deliver Controller number) meant happens =
           delivered as_flash before after Controller (Leaves before after) (slice_get before.sent number) happens (same_leaves before after) (λ frame there comes. controller_leaves before after _ comes)
       leaves before after (move.Tick Device) meant happens = device_leaves before after Ticks meant happens
-      leaves before after (move.Tick Controller) meant happens = controller_leaves before after _ happens
-      leaves before after (move.Input slot subslot value) meant happens = device_leaves before after (Given slot subslot value.items) meant happens
-      leaves before after (move.Alarm slot subslot octets) meant happens = device_leaves before after (Raised slot subslot octets.items) meant happens
-      leaves before after (move.Status slot subslot is_good) meant happens = device_leaves before after (Rated slot subslot is_good) meant happens
+      leaves before after (move.Application local) meant happens = device_leaves before after (Applied local) meant happens
       leaves before after (move.Neighbour neighbour) meant happens = device_leaves before after (Met (option_map peer_as neighbour)) meant happens
-      leaves before after (move.Diagnosis slot subslot channel error appears) meant happens = device_leaves before after (diagnosed slot subslot channel error appears) meant happens
-      leaves before after move.Ready meant happens = device_leaves before after Readied meant happens
-      leaves before after (move.Give slot subslot value) meant happens = controller_leaves before after _ happens
-      leaves before after (move.OutputStatus slot subslot is_good) meant happens = controller_leaves before after _ happens
-      leaves before after (move.Read slot subslot index) meant happens = controller_leaves before after _ happens
-      leaves before after (move.Write slot subslot index octets) meant happens = controller_leaves before after _ happens
-      leaves before after move.Stop meant happens = controller_leaves before after _ happens
+      leaves before after other meant happens = controller_leaves before after _ happens
 
       pub run_leaves : (before : World F) (run : List (Move × World F)) → AreMade as_flash before run → AreMeant before run → Leaves before (last_world before run)
       run_leaves before [] made meant = same_leaves before before refl

@@ -8,7 +8,7 @@ use Rattle.settings_journal.specs.settings_store.Machine.{Outcome}
 use Rattle.connects.specs.requests.Request.{Request}
 use Rattle.records.specs.declared.writes.taken.TakenRecord.{TakenRecord}
 use Rattle.relations.specs.RelationState.{RelationState}
-use Rattle.device_frames.specs.Heard.{Heard, Ticks, Given, Raised, Rated, Met, Readied, diagnosed}
+use Rattle.device_frames.specs.Heard.{Heard, Ticks, Applied, Met}
 use Rattle.device_core.specs.State.{Station, Live}
 use Rattle.device_core.specs.Machine.{heard_step}
 use Rattle.controller_messages.specs.Requests.{write_count}
@@ -221,12 +221,8 @@ module _ {F : Type 0} where
           (at_controller_steps on frames_are before after (controller.Frame (record { items = frame })) in_step (meant frame there) comes))
       happens_steps (move.Tick Device) meant happens = does before after _ _ _ (λ steps. steps) (at_device_steps before after Ticks in_step meant happens)
       happens_steps (move.Tick Controller) meant happens = does before after _ _ _ (λ steps. steps) (at_controller_steps on frames_are before after controller.Tick in_step meant happens)
-      happens_steps (move.Input slot subslot value) meant happens = does before after _ _ _ (λ steps. steps) (at_device_steps before after (Given slot subslot value.items) in_step meant happens)
-      happens_steps (move.Alarm slot subslot octets) meant happens = does before after _ _ _ (λ steps. steps) (at_device_steps before after (Raised slot subslot octets.items) in_step meant happens)
-      happens_steps (move.Status slot subslot is_good) meant happens = does before after _ _ _ (λ steps. steps) (at_device_steps before after (Rated slot subslot is_good) in_step meant happens)
+      happens_steps (move.Application local) meant happens = does before after _ _ _ (λ steps. steps) (at_device_steps before after (Applied local) in_step meant happens)
       happens_steps (move.Neighbour neighbour) meant happens = does before after _ _ _ (λ steps. steps) (at_device_steps before after (Met (option_map peer_as neighbour)) in_step meant happens)
-      happens_steps (move.Diagnosis slot subslot channel error appears) meant happens = does before after _ _ _ (λ steps. steps) (at_device_steps before after (diagnosed slot subslot channel error appears) in_step meant happens)
-      happens_steps move.Ready meant happens = does before after _ _ _ (λ steps. steps) (at_device_steps before after Readied in_step meant happens)
       happens_steps (move.Give slot subslot value) meant happens =
           does before after _ _ _ (λ steps. steps) (at_controller_steps on frames_are before after (controller.Give slot subslot value) in_step meant happens)
       happens_steps (move.OutputStatus slot subslot is_good) meant happens =

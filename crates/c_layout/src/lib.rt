@@ -8,8 +8,8 @@ mod plugged;
 
 pub use number::{
     BAD_ABI, BAD_DATA, BAD_LENGTH, BAD_MAC, BAD_OPTION, BAD_PARAMETER, BAD_PLAN, BAD_SLOT,
-    BAD_STATION, BAD_SUBSLOT, HAS_WORK, NO_FRAME, NO_RECORD, NO_SLOT, PLAN_FAULT, SMALL_ROOM,
-    UNKNOWN,
+    BAD_STATION, BAD_SUBSLOT, HAS_WORK, NO_FRAME, NO_RECORD, NO_SLOT, PLAN_FAULT, REFUSED,
+    SMALL_ROOM, UNKNOWN,
 };
 pub use op::{Op, pair_of, place_of, put, put_more};
 pub use plugged::{

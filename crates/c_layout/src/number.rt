@@ -48,5 +48,8 @@ pub const BAD_OPTION: u32 = 23;
 /// No cyclic frame with data of this submodule was accepted.
 pub const NO_FRAME: u32 = 24;
 
+/// The device refused what its application said; nothing changed.
+pub const REFUSED: u32 = 44;
+
 /// The number of a fault of a catalogue or a plan is that of the fault, plus this.
 pub const PLAN_FAULT: u32 = 32;

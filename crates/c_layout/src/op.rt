@@ -3,7 +3,8 @@ ghost use Rattle.std.specs.Prelude.{◌≡◌, ◌+◌, ◌≤◌, ◌++◌, ℕ
 ghost use Rattle.c_layout.specs.Places.{place_in};
 ghost use Rattle.c_layout.specs.Reported.{with_octets};
 
-/// One operation: what is asked, and what is returned.
+/// One operation: what is asked, and what is returned. Each field has one meaning, whichever operation uses it;
+/// `include/nandutable.h` has the table of the operations with the fields of each.
 #[repr(C)]
 #[derive(Drop)]
 pub struct Op {
@@ -11,25 +12,71 @@ pub struct Op {
     pub what: u32,
     pub slot: u32,
     pub subslot: u32,
-    /// Units of time: the number that must pass, then the number that remains; or the number for which the lamp still
-    /// flashes.
+    /// The index of a record.
+    pub index: u32,
+    /// The place of an item in a list, from 0 on.
+    pub number: u32,
+    /// ChannelNumber of a diagnosis.
+    pub channel: u32,
+    /// ChannelErrorType of a diagnosis.
+    pub error: u32,
+    /// 0: the diagnosis disappears.
+    pub appears: u32,
+    /// 0: the inputs or the output of a submodule are bad.
+    pub is_good: u32,
+    /// 0: the link is down.
+    pub is_up: u32,
+    /// 0: the priority of an alarm is high.
+    pub is_low: u32,
+    /// Units of time: the number that must pass, then the number that remains.
     pub units: u32,
+    /// Units of time up to and including the next one with which anything is due.
+    pub due: u32,
     /// The outcome of an event.
     pub note: u32,
-    /// The phase of the application relation, 0 without a relation.
+    /// Why an event of the application was refused.
+    pub reason: u32,
+    /// The phase of the application relation, 0 without a relation; or the state of a controller.
     pub phase: u32,
+    /// Why a controller ended.
+    pub cause: u32,
+    /// The number of units for which the lamp still flashes.
+    pub lamp: u32,
+    /// The IOPS of the data of a submodule.
+    pub iops: u32,
+    /// The DataStatus of the frame that it came in.
+    pub data_status: u32,
+    /// The number of items that there are.
+    pub count: u32,
+    /// The number of diagnoses for which the list had no room.
+    pub left_out: u32,
+    /// The number of commits that the flash still accepts.
+    pub commits: u32,
+    /// The status of an answer, 0 if the request succeeded.
+    pub status: u32,
+    /// The BlockError of an answer of DCP, 0 if the request succeeded.
+    pub block_error: u32,
+    pub alarm_type: u32,
+    /// AlarmSpecifier of an alarm.
+    pub specifier: u32,
+    /// UserStructureIdentifier of an alarm, 65,536 if it has none.
+    pub structure: u32,
+    /// SendSeqNum of an alarm.
+    pub sequence: u32,
+    /// The number of octets of a PortID.
+    pub port_length: u32,
+    /// The number of octets of a ChassisID.
+    pub chassis_length: u32,
     /// The kind of a piece of work: after an event the next one, otherwise the one that was handed out.
     pub work: u32,
     /// The kind of the piece of work after the one that was handed out.
     pub more: u32,
-    /// The sector, 0 or 1.
+    /// A sector of the flash, 0 or 1.
     pub sector: u32,
     /// The first octet of a program call in its sector.
     pub place: u32,
-    /// The number of octets of what is handed out.
+    /// The number of octets that are returned.
     pub length: u32,
-    /// Units of time up to and including the next one with which anything is due: a number that a tick reports.
-    pub due: u32,
     pub octets: [u8; 1520],
 }
 

@@ -199,30 +199,30 @@ module _ (old : State) (entry : Entry) (new : State) (as_was : entry.reported �
   gives None is gift = nowhere (Some operation.Give) old entry new gift.0 gift.1 as_was
 
   rates : (place : Option (ℕ × ℕ)) → place_in entry.asked.slot entry.asked.subslot ≡ place
-      → IsStatus place old (not (entry.asked.place == 0)) entry.answer new → Turned (Some operation.Status) old entry new
+      → IsStatus place old (not (entry.asked.is_good == 0)) entry.answer new → Turned (Some operation.Status) old entry new
   rates (Some place) is status =
       sets (Some operation.Status) old entry new _ (why_rated (has_frames old.frames) (planned_output old place.0 place.1))
-      (event.Status place.0 place.1 (not (entry.asked.place == 0)))
-      (ap (λ (p : ℕ × ℕ). event.Status p.0 p.1 (not (entry.asked.place == 0)) ∷ []) (placed entry.asked.slot entry.asked.subslot place is)) refl as_was status
+      (event.Status place.0 place.1 (not (entry.asked.is_good == 0)))
+      (ap (λ (p : ℕ × ℕ). event.Status p.0 p.1 (not (entry.asked.is_good == 0)) ∷ []) (placed entry.asked.slot entry.asked.subslot place is)) refl as_was status
   rates None is status = nowhere (Some operation.Status) old entry new status.0 status.1 as_was
 
-  asks : (place : Option (ℕ × ℕ)) (index : Option ℕ) → place_in entry.asked.slot entry.asked.subslot ≡ place → index_in entry.asked.place ≡ index
+  asks : (place : Option (ℕ × ℕ)) (index : Option ℕ) → place_in entry.asked.slot entry.asked.subslot ≡ place → index_in entry.asked.index ≡ index
       → IsRead place index old entry.answer new → Turned (Some operation.ReadRecord) old entry new
   asks (Some place) (Some index) is at read =
       sets (Some operation.ReadRecord) old entry new _ (why_read (has_frames old.frames) (can_request old.controller.live))
       (event.Read place.0 place.1 index)
-      (ap (λ (p : ℕ × ℕ). event.Read p.0 p.1 entry.asked.place ∷ []) (placed entry.asked.slot entry.asked.subslot place is)
-      ∙ ap (λ (n : ℕ). event.Read place.0 place.1 n ∷ []) (indexed entry.asked.place index at)) refl as_was read
+      (ap (λ (p : ℕ × ℕ). event.Read p.0 p.1 entry.asked.index ∷ []) (placed entry.asked.slot entry.asked.subslot place is)
+      ∙ ap (λ (n : ℕ). event.Read place.0 place.1 n ∷ []) (indexed entry.asked.index index at)) refl as_was read
   asks (Some place) None is at read = nowhere (Some operation.ReadRecord) old entry new read.0 read.1 as_was
   asks None index is at read = nowhere (Some operation.ReadRecord) old entry new read.0 read.1 as_was
 
-  writes : (place : Option (ℕ × ℕ)) (index : Option ℕ) → place_in entry.asked.slot entry.asked.subslot ≡ place → index_in entry.asked.place ≡ index
+  writes : (place : Option (ℕ × ℕ)) (index : Option ℕ) → place_in entry.asked.slot entry.asked.subslot ≡ place → index_in entry.asked.index ≡ index
       → IsWrite place index old entry.given entry.answer new → Turned (Some operation.WriteRecord) old entry new
   writes (Some place) (Some index) is at write =
       sets (Some operation.WriteRecord) old entry new _ (why_written (has_frames old.frames) (can_request old.controller.live) (length entry.given))
       (event.Write place.0 place.1 index (bytes_in entry.given))
-      (ap (λ (p : ℕ × ℕ). event.Write p.0 p.1 entry.asked.place (bytes_in entry.given) ∷ []) (placed entry.asked.slot entry.asked.subslot place is)
-      ∙ ap (λ (n : ℕ). event.Write place.0 place.1 n (bytes_in entry.given) ∷ []) (indexed entry.asked.place index at)) refl as_was write
+      (ap (λ (p : ℕ × ℕ). event.Write p.0 p.1 entry.asked.index (bytes_in entry.given) ∷ []) (placed entry.asked.slot entry.asked.subslot place is)
+      ∙ ap (λ (n : ℕ). event.Write place.0 place.1 n (bytes_in entry.given) ∷ []) (indexed entry.asked.index index at)) refl as_was write
   writes (Some place) None is at write = nowhere (Some operation.WriteRecord) old entry new write.0 write.1 as_was
   writes None index is at write = nowhere (Some operation.WriteRecord) old entry new write.0 write.1 as_was
 
@@ -353,14 +353,14 @@ performed (Some operation.Status) old entry new is = rates old entry new is.0 (p
 performed (Some operation.Provider) old entry new is = reads _ old entry new refl refl is.0 (told_provider entry old (place_in entry.asked.slot entry.asked.subslot) is.1)
 performed (Some operation.Conflicts) old entry new is = reads _ old entry new refl refl is.0 (inl is.1)
 performed (Some operation.Refusal) old entry new is = reads _ old entry new refl refl is.0 (told_refusal entry old.controller.live.refusal is.1)
-performed (Some operation.ReadRecord) old entry new is = asks old entry new is.0 (place_in entry.asked.slot entry.asked.subslot) (index_in entry.asked.place) refl refl is.1
-performed (Some operation.WriteRecord) old entry new is = writes old entry new is.0 (place_in entry.asked.slot entry.asked.subslot) (index_in entry.asked.place) refl refl is.1
+performed (Some operation.ReadRecord) old entry new is = asks old entry new is.0 (place_in entry.asked.slot entry.asked.subslot) (index_in entry.asked.index) refl refl is.1
+performed (Some operation.WriteRecord) old entry new is = writes old entry new is.0 (place_in entry.asked.slot entry.asked.subslot) (index_in entry.asked.index) refl refl is.1
 performed (Some operation.Answer) old entry new is = reads _ old entry new refl refl is.0 (told_answer entry old.controller.live.access.answer (record_of old.controller.live.access) is.1)
 performed (Some operation.RefusedRecord) old entry new is = reads _ old entry new refl refl is.0 (told_record entry old.controller.live.refused_record is.1)
 performed (Some operation.Report) old entry new is =
-    reads _ old entry new refl refl is.0 (told_report entry (report_in old.controller.live (priority_in entry.asked.place)) (end_of old.controller.live (priority_in entry.asked.place)).seen is.1)
+    reads _ old entry new refl refl is.0 (told_report entry (report_in old.controller.live (priority_in entry.asked.is_low)) (end_of old.controller.live (priority_in entry.asked.is_low)).seen is.1)
 performed (Some operation.Diagnoses) old entry new is = reads _ old entry new refl refl is.0 (inl is.1)
-performed (Some operation.Diagnosis) old entry new is = reads _ old entry new refl refl is.0 (told_diagnosis entry (slice_get old.controller.live.diagnosis.existing entry.asked.place) is.1)
+performed (Some operation.Diagnosis) old entry new is = reads _ old entry new refl refl is.0 (told_diagnosis entry (slice_get old.controller.live.diagnosis.existing entry.asked.number) is.1)
 performed (Some operation.Neighbour) old entry new is = reads _ old entry new refl refl is.0 (told_neighbour entry (option_map (λ (k : Known). k.peer) old.services.near.known) is.1)
 performed None old entry new is =
     refuses None old entry new (λ none. absurd (let ten = is.0 in omega (arith, none, ten))) (λ seven. absurd (let ten = is.0 in omega (arith, seven, ten))) is.1 is.2

@@ -41,10 +41,10 @@ abbrev pub handed_in : Option Operation → Entry → List Event
 handed_in (Some operation.Frame) entry = event.Frame (bytes_in entry.given) ∷ []
 handed_in (Some operation.Tick) entry = replicate (entry.asked.units - entry.reported.units) event.Tick
 handed_in (Some operation.Give) entry = event.Give entry.asked.slot entry.asked.subslot (bytes_in entry.given) ∷ []
-handed_in (Some operation.Status) entry = event.Status entry.asked.slot entry.asked.subslot (not (entry.asked.place == 0)) ∷ []
-handed_in (Some operation.ReadRecord) entry = event.Read entry.asked.slot entry.asked.subslot entry.asked.place ∷ []
+handed_in (Some operation.Status) entry = event.Status entry.asked.slot entry.asked.subslot (not (entry.asked.is_good == 0)) ∷ []
+handed_in (Some operation.ReadRecord) entry = event.Read entry.asked.slot entry.asked.subslot entry.asked.index ∷ []
 handed_in (Some operation.WriteRecord) entry =
-    event.Write entry.asked.slot entry.asked.subslot entry.asked.place (bytes_in entry.given) ∷ []
+    event.Write entry.asked.slot entry.asked.subslot entry.asked.index (bytes_in entry.given) ∷ []
 handed_in (Some operation.Stop) entry = event.Stop ∷ []
 handed_in what entry = []
 
@@ -121,7 +121,7 @@ Shows (Some operation.State) controller entry = entry.reported ≡ with_state co
 Shows (Some operation.Alarm) controller entry = IsAlarm controller.live.alarm entry.asked entry.answer entry.reported
 Shows (Some operation.Diagnoses) controller entry = entry.reported ≡ with_diagnoses controller.live.diagnosis entry.asked
 Shows (Some operation.Diagnosis) controller entry =
-    IsDiagnosis (slice_get controller.live.diagnosis.existing entry.asked.place) entry.asked entry.answer entry.reported
+    IsDiagnosis (slice_get controller.live.diagnosis.existing entry.asked.number) entry.asked entry.answer entry.reported
 Shows (Some operation.Value) controller entry =
     (place : ℕ × ℕ) → place_in entry.asked.slot entry.asked.subslot ≡ Some place
     → IsValue (value_at controller.live.cyclic place.0 place.1) entry.asked entry.answer entry.reported

@@ -149,9 +149,9 @@ abbrev pub IsInput : Option (ℕ × ℕ) → State → Op → ℕ → Op → Typ
 IsInput (Some place) port asked answer reported = IsValue (value_at port.controller.live.cyclic place.0 place.1) asked answer reported
 IsInput None port asked answer reported = (answer ≡ 9) × (reported ≡ asked)
 
--- What the device says of the input of a submodule: IOPS, then DataStatus; 24 if no frame with it was accepted.
+-- What the device says of the input of a submodule: its IOPS, and the DataStatus of the frame; 24 if no frame with it was accepted.
 abbrev pub with_statuses : ProviderStatus → Op → Op
-with_statuses status asked = with_octets (status.iops ∷ status.data_status.0 ∷ []) asked
+with_statuses status asked = record asked { iops = status.iops; data_status = status.data_status.0 }
 
 -- What the operation Provider returns of a status, if there is one.
 abbrev pub IsProviderAt : Option ProviderStatus → Op → ℕ → Op → Type 0
@@ -187,12 +187,12 @@ cause_number (Ended cause) = number_of cause
 
 -- Its phase, and why it ended.
 abbrev pub with_state : phase.State → Op → Op
-with_state reached asked = record asked { phase = phase_number reached; note = cause_number reached }
+with_state reached asked = record asked { phase = phase_number reached; cause = cause_number reached }
 
 -- An alarm: its type, its submodule, its AlarmSpecifier and the first 1,520 octets of its data.
 abbrev pub with_alarm : AlarmNotification → Op → Op
 with_alarm alarm asked = with_octets (take 1520 alarm.alarm_data)
-    (record asked { note = alarm.alarm_type; slot = alarm.slot_number; subslot = alarm.subslot_number; units = alarm.alarm_specifier })
+    (record asked { alarm_type = alarm.alarm_type; slot = alarm.slot_number; subslot = alarm.subslot_number; specifier = alarm.alarm_specifier })
 
 -- The last alarm that was accepted; 9 if none was.
 abbrev pub IsAlarm : Option AlarmNotification → Op → ℕ → Op → Type 0
@@ -201,7 +201,7 @@ IsAlarm None asked answer reported = (answer ≡ 9) × (reported ≡ asked)
 
 -- How many conflicts of the controller's address were heard, at most the maximum of 32 bits.
 abbrev pub with_conflicts : ℕ → Op → Op
-with_conflicts conflicts asked = record asked { units = min conflicts 4294967295 }
+with_conflicts conflicts asked = record asked { count = min conflicts 4294967295 }
 
 -- A status as a number: its first octet is the highest.
 abbrev pub status_number : Status → ℕ
@@ -209,25 +209,25 @@ status_number status = ((status.code * 256 + status.decode) * 256 + status.code1
 
 -- The last status with which the device refused a call; 25 if it refused none.
 abbrev pub IsRefusal : Option Status → Op → ℕ → Op → Type 0
-IsRefusal (Some status) asked answer reported = (answer ≡ 0) × (reported ≡ record asked { units = status_number status })
+IsRefusal (Some status) asked answer reported = (answer ≡ 0) × (reported ≡ record asked { status = status_number status })
 IsRefusal None asked answer reported = (answer ≡ 25) × (reported ≡ asked)
 
 -- The last record of the plan that the device refused: its place in the plan, and the status; 25 if it refused none.
 abbrev pub IsRefusedRecord : Option RefusedRecord → Op → ℕ → Op → Type 0
 IsRefusedRecord (Some refused) asked answer reported =
-    (answer ≡ 0) × (reported ≡ record asked { place = refused.number; units = status_number refused.status })
+    (answer ≡ 0) × (reported ≡ record asked { number = refused.number; status = status_number refused.status })
 IsRefusedRecord None asked answer reported = (answer ≡ 25) × (reported ≡ asked)
 
 -- What the last request of the application was answered with: its status, 0 if it succeeded, and the record that it read;
 -- 27 if no request was made, if it waits, or if the relation ended before its answer.
 abbrev pub IsAnswered : Option Answer → List ℕ → Op → ℕ → Op → Type 0
 IsAnswered (Some said) octets asked answer reported =
-    (answer ≡ 0) × (reported ≡ with_octets (take 1520 octets) (record asked { units = status_number said.status }))
+    (answer ≡ 0) × (reported ≡ with_octets (take 1520 octets) (record asked { status = status_number said.status }))
 IsAnswered None octets asked answer reported = (answer ≡ 27) × (reported ≡ asked)
 
 -- The priority that is asked for: 0 for high.
 abbrev pub priority_in : ℕ → Priority
-priority_in place = if place == 0 then High else Low
+priority_in is_low = if is_low == 0 then High else Low
 
 -- The UserStructureIdentifier of an alarm; 65,536 if it has none.
 abbrev pub structure_number : Option ℕ → ℕ
@@ -237,7 +237,7 @@ structure_number None = 65536
 -- The last alarm of a priority, its UserStructureIdentifier and its SendSeqNum; 9 if none was accepted.
 abbrev pub with_report : Report → ℕ → Op → Op
 with_report report number asked =
-    with_alarm report.notification (record asked { more = structure_number report.user_structure; sector = number })
+    with_alarm report.notification (record asked { structure = structure_number report.user_structure; sequence = number })
 
 -- What the operation Alarm returns of the last alarm, if one was accepted.
 abbrev pub IsReported : Option Report → Option ℕ → Op → ℕ → Op → Type 0
@@ -247,12 +247,12 @@ IsReported None number asked answer reported = (answer ≡ 9) × (reported ≡ a
 
 -- How many diagnoses exist, as the device's alarms reported them, and how many found no room in the list.
 abbrev pub with_diagnoses : Reported → Op → Op
-with_diagnoses diagnosis asked = record asked { units = length diagnosis.existing; more = diagnosis.left_out }
+with_diagnoses diagnosis asked = record asked { count = length diagnosis.existing; left_out = diagnosis.left_out }
 
 -- One of them by its place in the list: its submodule, its ChannelNumber and its ChannelErrorType; 9 if the list is shorter.
 abbrev pub with_diagnosis : Diagnosis → Op → Op
 with_diagnosis diagnosis asked =
-    record asked { slot = diagnosis.slot; subslot = diagnosis.subslot; more = diagnosis.channel; note = diagnosis.error }
+    record asked { slot = diagnosis.slot; subslot = diagnosis.subslot; channel = diagnosis.channel; error = diagnosis.error }
 
 -- What the operation Diagnosis returns, if there is a diagnosis at its place.
 abbrev pub IsDiagnosis : Option Diagnosis → Op → ℕ → Op → Type 0
@@ -263,7 +263,7 @@ IsDiagnosis None asked answer reported = (answer ≡ 9) × (reported ≡ asked)
 -- ChassisID; 9 if none is known.
 abbrev pub with_neighbour : Peer → Op → Op
 with_neighbour peer asked =
-    with_octets (peer.mac.octets ++ peer.port ++ peer.chassis) (record asked { units = length peer.port; more = length peer.chassis })
+    with_octets (peer.mac.octets ++ peer.port ++ peer.chassis) (record asked { port_length = length peer.port; chassis_length = length peer.chassis })
 
 -- What the operation Neighbour returns, if one is known.
 abbrev pub IsNeighbour : Option Peer → Op → ℕ → Op → Type 0
@@ -288,9 +288,9 @@ Performs (Some operation.Alarm) old asked given answer new reported = (new ≡ o
 Performs (Some operation.Stop) old asked given answer new reported =
     (reported ≡ asked) × IsEvent (has_frames old.frames) old event.Stop answer new
 Performs (Some operation.Due) old asked given answer new reported =
-    (new ≡ old) × (answer ≡ 0) × (reported ≡ record asked { units = port_due_in old })
+    (new ≡ old) × (answer ≡ 0) × (reported ≡ record asked { due = port_due_in old })
 Performs (Some operation.Status) old asked given answer new reported =
-    (reported ≡ asked) × IsStatus (place_in asked.slot asked.subslot) old (not (asked.place == 0)) answer new
+    (reported ≡ asked) × IsStatus (place_in asked.slot asked.subslot) old (not (asked.is_good == 0)) answer new
 Performs (Some operation.Provider) old asked given answer new reported =
     (new ≡ old) × IsProvider (place_in asked.slot asked.subslot) old asked answer reported
 Performs (Some operation.Conflicts) old asked given answer new reported =
@@ -298,20 +298,20 @@ Performs (Some operation.Conflicts) old asked given answer new reported =
 Performs (Some operation.Refusal) old asked given answer new reported =
     (new ≡ old) × IsRefusal old.controller.live.refusal asked answer reported
 Performs (Some operation.ReadRecord) old asked given answer new reported =
-    (reported ≡ asked) × IsRead (place_in asked.slot asked.subslot) (index_in asked.place) old answer new
+    (reported ≡ asked) × IsRead (place_in asked.slot asked.subslot) (index_in asked.index) old answer new
 Performs (Some operation.WriteRecord) old asked given answer new reported =
-    (reported ≡ asked) × IsWrite (place_in asked.slot asked.subslot) (index_in asked.place) old given answer new
+    (reported ≡ asked) × IsWrite (place_in asked.slot asked.subslot) (index_in asked.index) old given answer new
 Performs (Some operation.Answer) old asked given answer new reported =
     (new ≡ old) × IsAnswered old.controller.live.access.answer (record_of old.controller.live.access) asked answer reported
 Performs (Some operation.RefusedRecord) old asked given answer new reported =
     (new ≡ old) × IsRefusedRecord old.controller.live.refused_record asked answer reported
 Performs (Some operation.Report) old asked given answer new reported =
-    (new ≡ old) × IsReported (report_in old.controller.live (priority_in asked.place))
-    (end_of old.controller.live (priority_in asked.place)).seen asked answer reported
+    (new ≡ old) × IsReported (report_in old.controller.live (priority_in asked.is_low))
+    (end_of old.controller.live (priority_in asked.is_low)).seen asked answer reported
 Performs (Some operation.Diagnoses) old asked given answer new reported =
     (new ≡ old) × (answer ≡ 0) × (reported ≡ with_diagnoses old.controller.live.diagnosis asked)
 Performs (Some operation.Diagnosis) old asked given answer new reported =
-    (new ≡ old) × IsDiagnosis (slice_get old.controller.live.diagnosis.existing asked.place) asked answer reported
+    (new ≡ old) × IsDiagnosis (slice_get old.controller.live.diagnosis.existing asked.number) asked answer reported
 Performs (Some operation.Neighbour) old asked given answer new reported =
     (new ≡ old) × IsNeighbour (option_map (λ (k : Known). k.peer) old.services.near.known) asked answer reported
 Performs None old asked given answer new reported = (answer ≡ 10) × (new ≡ old) × (reported ≡ asked)

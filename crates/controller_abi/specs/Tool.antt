@@ -98,7 +98,7 @@ IsName written place text asked answer next reported = IsNameIf (is_station_name
 
 -- What the station answered: its BlockError; 27 if the frame is no answer of it.
 abbrev pub IsOutcome : Option ℕ → Op → ℕ → Op → Type 0
-IsOutcome (Some error) asked answer reported = (answer ≡ 0) × (reported ≡ record asked { note = error })
+IsOutcome (Some error) asked answer reported = (answer ≡ 0) × (reported ≡ record asked { block_error = error })
 IsOutcome None asked answer reported = (answer ≡ 27) × (reported ≡ asked)
 
 -- ---- records
@@ -126,8 +126,8 @@ status_number status = ((status.code * 256 + status.decode) * 256 + status.code1
 
 -- The record, or the status with which it was refused.
 abbrev pub with_record : Result (List ℕ) Status → Op → Op
-with_record (Ok octets) asked = with_octets octets (record asked { units = 0 })
-with_record (Err status) asked = record asked { units = status_number status }
+with_record (Ok octets) asked = with_octets octets (record asked { status = 0 })
+with_record (Err status) asked = record asked { status = status_number status }
 
 -- What the station answered; 27 if the frame is no answer to this read.
 abbrev pub IsRecord : Option (Result (List ℕ) Status) → Op → ℕ → Op → Type 0

@@ -84,14 +84,14 @@ fn number_of(why: Unnamed) -> u32
     }
 }
 
-/// What a received frame answers to that Set, which was the tool's last request: the BlockError in `note`, 0 if the station has the name. Returns 0, or that it
+/// What a received frame answers to that Set, which was the tool's last request: the BlockError in `block_error`, 0 if the station has the name. Returns 0, or that it
 /// answers nothing.
 pub fn outcome(tool: &WrittenTool, search: &Search, given: &[u8], op: &mut Op) -> u32
     ensures { IsOutcome (named_by (tool_in tool.now) tool.now.xid (place_of search.now) (take 1519 given.now)) op.old result op.new }
 {
     match search.outcome(&tool_of(tool), tool.xid, &first_of(given)) {
         Some(error) => {
-            op.note = u32::from(error);
+            op.block_error = u32::from(error);
             0
         }
         None => NO_ANSWER,

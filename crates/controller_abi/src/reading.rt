@@ -36,10 +36,10 @@ fn target_of(written: &WrittenTarget) -> Target
     }
 }
 
-/// Writes the frame that reads a record of a station: that of the slot, the subslot and, in `place`, the index of the
+/// Writes the frame that reads a record of a station: that of the slot, the subslot and the index of the
 /// operation. Returns 0, or that these are no numbers of 16 bits.
 pub fn read(tool: &WrittenTool, target: &WrittenTarget, activity: &[u8; 16], op: &mut Op) -> u32
-    ensures { IsRead (place_in op.old.slot op.old.subslot) (index_in op.old.place) tool.now target.now activity.now op.old result op.new }
+    ensures { IsRead (place_in op.old.slot op.old.subslot) (index_in op.old.index) tool.now target.now activity.now op.old result op.new }
 {
     match (place_of(op), index_of(op)) {
         (Some(place), Some(index)) => {
@@ -76,17 +76,16 @@ fn write_read(
 
 // The index of a record that is asked for, if it is a number of 16 bits.
 fn index_of(op: &Op) -> Option<u16>
-    ensures { result ≡ index_in op.now.place }
+    ensures { result ≡ index_in op.now.index }
 {
-    if op.place < 65536 {
-        Some(op.place as u16)
+    if op.index < 65536 {
+        Some(op.index as u16)
     } else {
         None
     }
 }
 
-/// What a received frame answers to the read with this activity: the record, with 0 in `units`, or the status of the refusal in
-/// `units`. Returns 0, or that it answers nothing.
+/// What a received frame answers to the read with this activity: the record, with 0 in `status`, or the status of the refusal. Returns 0, or that it answers nothing.
 pub fn record(tool: &WrittenTool, activity: &[u8; 16], given: &[u8], op: &mut Op) -> u32
     ensures { IsRecord (record_heard (tool_in tool.now) activity.now (take 1519 given.now)) op.old result op.new }
 {
@@ -110,10 +109,10 @@ fn tell(told: &RecordTold<'_>, op: &mut Op)
 {
     match told {
         RecordTold::Record(octets) => {
-            op.units = 0;
+            op.status = 0;
             put(op, octets);
         }
-        RecordTold::Refused(status) => op.units = status_number(*status),
+        RecordTold::Refused(status) => op.status = status_number(*status),
     }
 }
 

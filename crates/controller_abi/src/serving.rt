@@ -201,12 +201,12 @@ fn why_not_in(output: u16, size: usize) -> Option<u32>
     None
 }
 
-// The status of the output of a submodule: `place` is 0 if it is bad.
+// The status of the output of a submodule: `is_good` is 0 if it is bad.
 fn status(port: &mut Port, op: &Op) -> u32
-    ensures { IsStatus (place_in op.now.slot op.now.subslot) port.old (not (op.now.place == 0)) result port.new }
+    ensures { IsStatus (place_in op.now.slot op.now.subslot) port.old (not (op.now.is_good == 0)) result port.new }
 {
     match place_of(op) {
-        Some(place) => rate(port, place.0, place.1, op.place != 0),
+        Some(place) => rate(port, place.0, place.1, op.is_good != 0),
         None => no_place(port),
     }
 }
@@ -240,7 +240,7 @@ fn why_unrated(port: &Port, slot: u16, subslot: u16) -> Option<u32>
 
 // The application reads a record.
 fn read_record(port: &mut Port, op: &Op) -> u32
-    ensures { IsRead (place_in op.now.slot op.now.subslot) (index_in op.now.place) port.old result port.new }
+    ensures { IsRead (place_in op.now.slot op.now.subslot) (index_in op.now.index) port.old result port.new }
 {
     match (place_of(op), index_of(op)) {
         (Some(place), Some(index)) => read_at(port, place.0, place.1, index),
@@ -278,7 +278,7 @@ fn why_unread(port: &Port) -> Option<u32>
 
 // The application writes a record.
 fn write_record(port: &mut Port, op: &Op, given: &[u8]) -> u32
-    ensures { IsWrite (place_in op.now.slot op.now.subslot) (index_in op.now.place) port.old given.now result port.new }
+    ensures { IsWrite (place_in op.now.slot op.now.subslot) (index_in op.now.index) port.old given.now result port.new }
 {
     match (place_of(op), index_of(op)) {
         (Some(place), Some(index)) => write_at(port, place.0, place.1, index, given),
@@ -315,10 +315,10 @@ fn why_unwritten(port: &Port, size: usize) -> Option<u32>
 
 // The index of a record that is asked for, if it is a number of 16 bits.
 fn index_of(op: &Op) -> Option<u16>
-    ensures { result ≡ index_in op.now.place }
+    ensures { result ≡ index_in op.now.index }
 {
-    if op.place < 65536 {
-        Some(op.place as u16)
+    if op.index < 65536 {
+        Some(op.index as u16)
     } else {
         None
     }
@@ -423,7 +423,7 @@ fn state(port: &Port, op: &mut Op) -> u32
 {
     let reached = port.controller().state();
     op.phase = number_of_phase(reached);
-    op.note = number_of_cause(reached);
+    op.cause = number_of_cause(reached);
     0
 }
 
@@ -454,9 +454,9 @@ fn number_of_cause(reached: State) -> u32
 // The number of units up to and including the next one with which anything is due.
 fn due(port: &Port, op: &mut Op) -> u32
     ensures answer { result ≡ 0 }
-    ensures reported { op.new ≡ record op.old { units = port_due_in port.now } }
+    ensures reported { op.new ≡ record op.old { due = port_due_in port.now } }
 {
-    op.units = port.due();
+    op.due = port.due();
     0
 }
 
@@ -465,7 +465,7 @@ fn conflicts(port: &Port, op: &mut Op) -> u32
     ensures answer { result ≡ 0 }
     ensures reported { op.new ≡ with_conflicts port.now.services.ip.conflicts op.old }
 {
-    op.units = port.conflicts().min(0xFFFF_FFFF) as u32;
+    op.count = port.conflicts().min(0xFFFF_FFFF) as u32;
     0
 }
 
@@ -488,7 +488,8 @@ fn tell_statuses(status: Option<ProviderStatus>, op: &mut Op) -> u32
 {
     match status {
         Some(status) => {
-            put(op, &[status.iops, status.data_status.0]);
+            op.iops = u32::from(status.iops);
+            op.data_status = u32::from(status.data_status.0);
             0
         }
         None => NO_FRAME,
@@ -512,18 +513,18 @@ fn alarm(port: &Port, op: &mut Op) -> u32
 fn tell_alarm(alarm: &AlarmNotification<'_>, op: &mut Op)
     ensures { op.new ≡ with_alarm alarm.now op.old }
 {
-    op.note = u32::from(alarm.alarm_type);
+    op.alarm_type = u32::from(alarm.alarm_type);
     op.slot = u32::from(alarm.slot_number);
     op.subslot = u32::from(alarm.subslot_number);
-    op.units = u32::from(alarm.alarm_specifier);
+    op.specifier = u32::from(alarm.alarm_specifier);
     put(op, at_most(alarm.alarm_data.octets(), 1520));
 }
 
-// The last alarm of a priority that was accepted: `place` is 0 for high.
+// The last alarm of a priority that was accepted: `is_low` is 0 for high.
 fn report(port: &Port, op: &mut Op) -> u32
-    ensures { IsReported (report_in port.now.controller.live (priority_in op.old.place)) (end_of port.now.controller.live (priority_in op.old.place)).seen op.old result op.new }
+    ensures { IsReported (report_in port.now.controller.live (priority_in op.old.is_low)) (end_of port.now.controller.live (priority_in op.old.is_low)).seen op.old result op.new }
 {
-    let priority = priority_of(op.place);
+    let priority = priority_of(op.is_low);
     let number = port.controller().accepted(priority);
     match port.controller().report(priority) {
         Some(report) => tell_report(&report, number, op),
@@ -532,10 +533,10 @@ fn report(port: &Port, op: &mut Op) -> u32
 }
 
 // The priority of this number.
-fn priority_of(place: u32) -> Priority
-    ensures { result ≡ priority_in place }
+fn priority_of(is_low: u32) -> Priority
+    ensures { result ≡ priority_in is_low }
 {
-    if place == 0 {
+    if is_low == 0 {
         Priority::High
     } else {
         Priority::Low
@@ -548,8 +549,8 @@ fn tell_report(report: &Report<'_>, number: Option<u16>, op: &mut Op) -> u32
 {
     match number {
         Some(number) => {
-            op.more = structure_number(report.user_structure);
-            op.sector = u32::from(number);
+            op.structure = structure_number(report.user_structure);
+            op.sequence = u32::from(number);
             tell_alarm(&report.notification, op);
             0
         }
@@ -574,21 +575,21 @@ fn diagnoses(port: &Port, op: &mut Op) -> u32
     ensures answer { result ≡ 0 }
     ensures reported { op.new ≡ with_diagnoses port.now.controller.live.diagnosis op.old }
 {
-    op.units = port.controller().diagnoses().len() as u32;
-    op.more = port.controller().diagnoses_left_out();
+    op.count = port.controller().diagnoses().len() as u32;
+    op.left_out = port.controller().diagnoses_left_out();
     0
 }
 
 // The diagnosis at a place of the list.
 fn diagnosis(port: &Port, op: &mut Op) -> u32
-    ensures { IsDiagnosis (slice_get port.now.controller.live.diagnosis.existing op.old.place) op.old result op.new }
+    ensures { IsDiagnosis (slice_get port.now.controller.live.diagnosis.existing op.old.number) op.old result op.new }
 {
-    match port.controller().diagnoses().get(op.place as usize) {
+    match port.controller().diagnoses().get(op.number as usize) {
         Some(diagnosis) => {
             op.slot = u32::from(diagnosis.slot);
             op.subslot = u32::from(diagnosis.subslot);
-            op.more = u32::from(diagnosis.channel);
-            op.note = u32::from(diagnosis.error);
+            op.channel = u32::from(diagnosis.channel);
+            op.error = u32::from(diagnosis.error);
             0
         }
         None => NO_SLOT,
@@ -618,8 +619,8 @@ fn tell_neighbour(neighbour: &Neighbour, op: &mut Op)
     append(&mut octets, &neighbour.mac.octets);
     append(&mut octets, neighbour.port.as_slice());
     append(&mut octets, neighbour.chassis.as_slice());
-    op.units = neighbour.port.len() as u32;
-    op.more = neighbour.chassis.len() as u32;
+    op.port_length = neighbour.port.len() as u32;
+    op.chassis_length = neighbour.chassis.len() as u32;
     put(op, octets.as_slice());
 }
 
@@ -639,7 +640,7 @@ fn refusal(port: &Port, op: &mut Op) -> u32
 {
     match port.controller().refusal() {
         Some(status) => {
-            op.units = status_number(status);
+            op.status = status_number(status);
             0
         }
         None => NO_REFUSAL,
@@ -652,8 +653,8 @@ fn refused_record(port: &Port, op: &mut Op) -> u32
 {
     match port.controller().refused_record() {
         Some(refused) => {
-            op.place = refused.number;
-            op.units = status_number(refused.status);
+            op.number = refused.number;
+            op.status = status_number(refused.status);
             0
         }
         None => NO_REFUSAL,
@@ -666,7 +667,7 @@ fn answer(port: &Port, op: &mut Op) -> u32
 {
     match port.controller().answer() {
         Some(answer) => {
-            op.units = status_number(answer.status);
+            op.status = status_number(answer.status);
             put(op, at_most(port.controller().record(), 1520));
             0
         }

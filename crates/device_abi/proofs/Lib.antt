@@ -1,5 +1,8 @@
-pub mod RecordedPushed
-pub mod RecordedStored
+pub mod RecordedEntries
+pub mod RecordingBytes
+pub mod RecordingPositions
+pub mod RecordingReading
+pub mod RecordingHeld
 pub mod RecordingFew
 pub mod RecordingLegal
 pub mod RecordingPlaced

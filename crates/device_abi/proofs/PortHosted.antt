@@ -29,7 +29,8 @@ use Rattle.device_abi.specs.declared.port.host.Operation.TheVariants as operatio
 use Rattle.device_abi.specs.declared.port.stage.Stage.TheVariants.{Booted}
 use Rattle.device_abi.proofs.HostDevice.{Goes, goes_none, goes_on, live_of, not_begun, run_append, whole}
 use Rattle.device_abi.proofs.HostDevice.{frames_of as frames_ran}
-use Rattle.device_abi.proofs.ServedBarring.{free_parts, port_parts}
+use Rattle.device_abi.proofs.PortStages.{is_free}
+use Rattle.device_abi.proofs.ServedBarring.{free_fetched}
 
 -- ---- one event after others
 
@@ -289,7 +290,7 @@ module _ (begun : Begun) (told : List Event) (port : Served) (chip : Image) (k :
   given_goes : (joined : Option Event) (heard : List Event) (middle new : State) → Goes begun told heard middle chip → GivesPort joined middle new → Goes begun told (heard ++ call_of joined) new chip
   given_goes None heard middle new goes gives =
       subst (λ h. Goes begun told h new chip) (sym (append-nil heard)) (subst (λ p. Goes begun told heard p chip) (sym gives) goes)
-  given_goes (Some call) heard middle new goes gives = goes_on begun told heard middle chip goes (port_parts middle gives.0) call gives.1 new gives.2
+  given_goes (Some call) heard middle new goes gives = goes_on begun told heard middle chip goes (let free = is_free middle gives.0 in (free.calls, free.frames)) call gives.1 new gives.2
 
   -- The step of an event after that, and the services beside it.
   event_goes : (state : Serving) (ready : Leapt) (news : List Event) (event : Event) (note : Note) (between new : Served) → Goes begun told news between.port chip → between.services ≡ Some ready.services
@@ -303,7 +304,7 @@ module _ (begun : Begun) (told : List Event) (port : Served) (chip : Image) (k :
       ap (λ t. step_of [] t between.port.device.live event) goes.keeps.station ∙ ap (λ l. step_of [] begun.station l event) live in
       let values : steps.middle.device.live.values ≡ step.live.values = ap (λ l. l.values) (steps.alone.exact.live ∙ ap (λ x. x.live) same) in
       let said : steps.said ≡ step.note = steps.alone.exact.note ∙ ap (λ x. x.note) same in
-      let one = goes_on begun told news between.port chip goes (let parts = free_parts between free in (parts.0, parts.1)) event steps.said steps.middle steps.alone in
+      let one = goes_on begun told news between.port chip goes (free_fetched between free).0 event steps.said steps.middle steps.alone in
       let gives : GivesAny (Some ready.services) step.live.values step.note event steps.middle new.port =
       subst (λ n. GivesAny (Some ready.services) step.live.values n event steps.middle new.port) said
       (subst (λ v. GivesAny (Some ready.services) v steps.said event steps.middle new.port) values (subst (λ o. GivesAny o steps.middle.device.live.values steps.said event steps.middle new.port) services steps.gives)) in
@@ -421,16 +422,6 @@ events_more so_far operations operation low is =
 pub ends_in : (begun : Begun) (so_far : ℕ) (operations : List Operation) (now : List (List ℕ)) (chip : Image) → Ends begun (events_of (take so_far operations)) now chip → Ends begun (events_of operations) now chip
 ends_in begun so_far operations now chip ends =
     subst (λ e. Ends begun e now chip) (sym (events_split so_far operations)) (ends_more begun (events_of (take so_far operations)) (events_of (drop so_far operations)) now chip ends)
-
--- No work remains.
-idle_by : (calls : List Call) (frames own : List (List ℕ)) → has_work calls (frames ++ own) ≡ false → ((calls ≡ []) × (frames ≡ [])) × (own ≡ [])
-idle_by [] [] [] none = ((refl, refl), refl)
-idle_by [] [] (one ∷ own) none = cc none
-idle_by [] (frame ∷ frames) own none = cc none
-idle_by (call ∷ calls) frames own none = cc none
-
-pub idle_of : (port : Served) → has_work port.port.calls (frames_of port) ≡ false → IsFetched port
-idle_of port none = idle_by port.port.calls port.port.frames port.frames none
 
 -- No work remains.
 pub rests : {E : Type 0} (port : Served) (chip : Image) (sent : List (List ℕ)) (result : Result (Unit {0}) E) → IsFetched port → IsOk result

@@ -1,5 +1,5 @@
 -- A port while units of time pass at once.
-use Rattle.std.proofs.Common.{◌≡◌, ◌+◌, ◌-◌, ◌<◌, ◌≤◌, ℕ, Bool, true, false, zero, suc, List, [], ◌∷◌, Option, Some, None, option_map, refl, sym, ap, subst, ◌∙◌, arith}
+use Rattle.std.proofs.Common.{◌≡◌, ◌+◌, ◌-◌, ◌<◌, ◌≤◌, ℕ, zero, suc, List, [], Option, Some, None, option_map, refl, sym, ap, subst, ◌∙◌, arith}
 use Rattle.std.specs.Prelude.{max}
 use Rattle.flash_model.specs.Calls.{Call}
 use Rattle.device_frames.specs.declared.event.Event.{Event}
@@ -11,22 +11,10 @@ use Rattle.device_core.specs.State.{Live}
 use Rattle.device_core.specs.Steps.{IsExactStep}
 use Rattle.device_abi.specs.declared.recorded.flash.RecordedFlash.{RecordedFlash}
 use Rattle.device_abi.specs.declared.port.stage.Stage.{Stage}
-use Rattle.device_abi.specs.declared.port.stage.Stage.TheVariants.{Made, Booted, Lost}
-use Rattle.device_abi.specs.port.State.{State, IsCounted, barred_by, has_work}
+use Rattle.device_abi.specs.declared.port.stage.Stage.TheVariants.{Booted}
+use Rattle.device_abi.specs.port.State.{State, IsCounted}
 use Rattle.device_abi.specs.port.Steps.{Takes, Ticks}
 use Rattle.device_abi.specs.recording.Leaps.{PassesAll, StepsAlone}
-
--- A port that accepts an event has no work.
-pub idle_of : (stage : Stage) (is_left : Bool) → barred_by stage is_left ≡ None → is_left ≡ false
-idle_of Made is_left free = cc free
-idle_of Booted true free = cc free
-idle_of Booted false free = refl
-idle_of Lost is_left free = cc free
-
-pub none_left : (calls : List Call) (frames : List (List ℕ)) → has_work calls frames ≡ false → (calls ≡ []) × (frames ≡ [])
-none_left [] [] none = (refl, refl)
-none_left [] (frame ∷ frames) none = cc none
-none_left (call ∷ calls) frames none = cc none
 
 abbrev at : device.State (RecordedFlash 4096) → Stage → List Call → List (List ℕ) → State
 at now stage calls frames = record { device = now; stage = stage; calls = calls; frames = frames }

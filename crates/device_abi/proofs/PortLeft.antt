@@ -11,27 +11,16 @@ use Rattle.device_abi.specs.declared.port.stage.Stage.TheVariants.{Made, Booted,
 use Rattle.device_core.specs.State.{Live}
 use Rattle.device_abi.specs.port.State.{State, IsCounted, IsSteady, has_some, has_work, advanced_by}
 
-pub frame_left : (n m : ℕ) (calls : List Call) (frames : List (List ℕ)) → length calls ≤ n → m < length frames → has_work (drop n calls) (drop m frames) ≡ true
-frame_left n m calls frames none some =
-    ap (λ c. has_work c (drop m frames)) (drop_all n calls none) ∙ ap (λ f. has_work [] f) (drop_more frames m [] some)
-
-pub none_left : (n m : ℕ) (calls : List Call) (frames : List (List ℕ)) → length calls ≤ n → length frames ≤ m → has_work (drop n calls) (drop m frames) ≡ false
-none_left n m calls frames no_call no_frame =
-    ap (λ c. has_work c (drop m frames)) (drop_all n calls no_call) ∙ ap (λ f. has_work [] f) (drop_all m frames no_frame)
-
 -- Whether any item remains after a position.
-is_left : {T : Type 0} (n : ℕ) (all : List T) → n < length all → has_some (drop n all) ≡ true
+pub is_left : {T : Type 0} (n : ℕ) (all : List T) → n < length all → has_some (drop n all) ≡ true
 is_left n [] some = absurd (omega (arith, some))
 is_left zero (one ∷ others) some = refl
 is_left (suc n) (one ∷ others) some = is_left n others (omega (arith, some))
 
-is_gone : {T : Type 0} (n : ℕ) (all : List T) → length all ≤ n → has_some (drop n all) ≡ false
-is_gone n all none = ap has_some (drop_all n all none)
-
 pub some_left : {T : Type 0} (n : ℕ) (all : List T) → has_some (drop n all) ≡ nat_lt n (length all)
 some_left n all = elim (cases_Bool (nat_lt n (length all))) [
   | inl there ↦ is_left n all (ltb-true n (length all) there) ∙ sym there
-  | inr gone ↦ is_gone n all (ltb-false n (length all) gone) ∙ sym gone
+  | inr gone ↦ ap has_some (drop_all n all (ltb-false n (length all) gone)) ∙ sym gone
 ]
 
 pub calls_left : (calls : List Call) (frames : List (List ℕ)) → has_some calls ≡ true → true ≡ has_work calls frames

@@ -1,19 +1,40 @@
 -- What a port's stage says.
-use Rattle.std.proofs.Common.{◌≡◌, ℕ, Bool, true, false, List, [], Some, None, refl, sym, ap, ◌∙◌}
+use Rattle.std.proofs.Common.{◌≡◌, ℕ, Bool, true, false, List, [], ◌∷◌, Some, None, refl, sym, ap, ◌∙◌}
 use Rattle.flash_model.specs.Calls.{Call}
 use Rattle.settings_journal.specs.declared.journal.BootFault.{BootFault}
 use Rattle.settings_journal.specs.declared.journal.BootFault.TheVariants.{Foreign, FlashFault}
 use Rattle.device_abi.specs.declared.port.refusal.Refusal.TheVariants as refusal
 use Rattle.device_abi.specs.declared.port.stage.Stage.{Stage}
 use Rattle.device_abi.specs.declared.port.stage.Stage.TheVariants.{Made, Booted, Lost}
-use Rattle.device_abi.specs.port.State.{IsSteady, barred_by, closed, has_some, has_work, past_start}
+use Rattle.device_abi.specs.port.State.{State, IsSteady, barred, barred_by, closed, has_some, has_work, past_start}
 use Rattle.device_abi.proofs.PortLeft.{only_frames}
 
--- A port that accepts events has started, and no commit failed.
-pub booted_of : (stage : Stage) (is_left : Bool) → barred_by stage is_left ≡ None → stage ≡ Booted
-booted_of Made is_left free = cc free
-booted_of Booted is_left free = refl
-booted_of Lost is_left free = cc free
+-- A port that accepts events has started, and no work remains.
+pub record IsFree (port : State) : Type 0 where
+  pub booted : port.stage ≡ Booted
+  pub calls : port.calls ≡ []
+  pub frames : port.frames ≡ []
+
+pub by_stage : (stage : Stage) (is_left : Bool) → barred_by stage is_left ≡ None → (stage ≡ Booted) × (is_left ≡ false)
+by_stage Made is_left free = cc free
+by_stage Booted true free = cc free
+by_stage Booted false free = (refl, refl)
+by_stage Lost is_left free = cc free
+
+pub idle_of : (calls : List Call) (frames : List (List ℕ)) → has_work calls frames ≡ false → (calls ≡ []) × (frames ≡ [])
+idle_of [] [] none = (refl, refl)
+idle_of [] (frame ∷ frames) none = cc none
+idle_of (call ∷ calls) frames none = cc none
+
+pub is_free : (port : State) → barred port ≡ None → IsFree port
+is_free port free =
+    let by = by_stage port.stage (has_work port.calls port.frames) free in
+    let idle = idle_of port.calls port.frames by.1 in
+    record { booted = by.0; calls = idle.0; frames = idle.1 }
+
+-- The same of a port that is seen as this one.
+pub free_in : (view now : State) → view ≡ now → barred now ≡ None → IsFree view
+free_in view now is free = is_free view (ap barred is ∙ free)
 
 pub going_of : (stage : Stage) (has_failed : Bool) (calls : List Call) (frames : List (List ℕ)) → stage ≡ Booted → IsSteady stage has_failed calls frames → has_failed ≡ false
 going_of Made has_failed calls frames is steady = cc is

@@ -1,6 +1,6 @@
 -- No step makes more than 48 calls: it asks for at most 16 commits, and a commit makes at most three calls. It programs at most
 -- 438 octets, those of a base and of its gate.
-use Rattle.std.proofs.Common.{◌==◌, ◌*◌, ◌-◌, ◌≤◌, ℕ, Bool, true, false, zero, suc, List, [], ◌∷◌, length, sym, subst, Option, Some, None, arith}
+use Rattle.std.proofs.Common.{◌≡◌, ◌==◌, ◌+◌, ◌*◌, ◌-◌, ◌≤◌, ℕ, Bool, true, false, zero, suc, List, [], ◌∷◌, ◌++◌, length, sym, subst, Option, Some, None, arith}
 use Rattle.std.specs.Prelude.{if◌then◌else◌}
 use Rattle.std.proofs.lemmas.List.{length-append}
 use Rattle.pn_values.specs.Command.{apply}
@@ -15,9 +15,7 @@ use Rattle.settings_journal.specs.Calls.{CommitCalls, calls_of}
 use Rattle.settings_journal.specs.Cut.{AreWrites, all_carried_out}
 use Rattle.settings_journal.specs.settings_store.Machine.{Accepted, Carried, Pass, carried_one, carried}
 use Rattle.settings_journal.specs.settings_store.State.{Values}
-use Rattle.device_abi.specs.recorded.Pushed.{sum_of}
-use Rattle.device_abi.specs.recording.Calls.{CallsOf}
-use Rattle.device_abi.proofs.RecordedPushed.{sum_append}
+use Rattle.device_abi.specs.recording.Calls.{CallsOf, sum_of}
 
 -- ---- the calls of commands
 
@@ -38,6 +36,10 @@ few_of_commands image stored room (one ∷ more) calls of =
     subst (λ c. length c ≤ 3 * length (one ∷ more)) (sym of.5) (omega (arith, here, later, both))
 
 -- ---- their octets
+
+sum_append : (front back : List Call) → sum_of (front ++ back) ≡ sum_of front + sum_of back
+sum_append [] back = omega arith
+sum_append (call ∷ front) back = let later = sum_append front back in omega (arith, later)
 
 short_calls_of : (slots : ℕ) (active : Option Sector) (generation free : ℕ) (settings : Settings) (command : Command) → AreWrites (calls_of slots active generation free settings command)
     → sum_of (calls_of slots active generation free settings command) ≤ 438

@@ -13,7 +13,7 @@ use Rattle.device_core.specs.Leaps.{NoneSends, OnlyTheLastSends, ticks_of}
 use Rattle.device_core.specs.Machine.{handled_step, heard_step, step_of}
 use Rattle.device_core.specs.State.{Live, State, Station}
 use Rattle.device_core.specs.Steps.{IsQuietStep}
-use Rattle.device_abi.specs.recorded.Record.{image_of, record_of}
+use Rattle.device_abi.specs.recorded.Record.{image_of, recalled, record_of}
 use Rattle.device_abi.specs.recorded.Laws.{IsImage-of}
 use Rattle.device_abi.specs.declared.recorded.flash.RecordedFlash.{RecordedFlash}
 use Rattle.device_abi.specs.recording.Calls.{AreLegal, CallsOf}
@@ -36,7 +36,7 @@ quiet_alone {S} old new event said starts quiet =
         record_is = ap record_of quiet.flash;
         few = omega arith;
         short = omega arith;
-        last = ((record_of new.flash).recent, sym (append-nil (record_of new.flash).recent));
+        last = (recalled new.flash, sym (append-nil (recalled new.flash)));
         image = ap image_of quiet.flash;
         made = ap (λ (v : Values). v.stored) quiet.values ∙ ap (λ (a : List Accepted). made_of a stored) (sym quiet.none);
         starts = subst (λ (v : Values). StartsWith (image_of new.flash) v.stored v.room) (sym quiet.values) there;
@@ -74,7 +74,7 @@ passes_one old sent starts frames = record {
     record_is = refl;
     few = omega arith;
     short = omega arith;
-    last = ((record_of old.flash).recent, sym (append-nil (record_of old.flash).recent));
+    last = (recalled old.flash, sym (append-nil (recalled old.flash)));
     image = refl;
     made = refl;
     starts = starts;

@@ -1,10 +1,10 @@
 -- If the calls of accepted commands are cut off anywhere, the chip is a legal end.
-use Rattle.std.proofs.Common.{◌≡◌, ◌⊎◌, ◌-◌, ℕ, suc, List, [], ◌∷◌, ◌++◌, length, take, drop, refl, sym, ap, subst, ◌∙◌, inl, inr, arith}
-use Rattle.std.proofs.lemmas.List.{length-append, length-take, length-drop, length-replicate, append_assoc}
+use Rattle.std.proofs.Common.{◌≡◌, ◌⊎◌, ◌-◌, ℕ, List, [], ◌∷◌, ◌++◌, length, refl, sym, ap, subst, ◌∙◌, inl, inr}
+use Rattle.std.proofs.lemmas.List.{length-replicate, append_assoc}
 use Rattle.pn_values.specs.Command.{apply}
 use Rattle.pn_values.specs.declared.settings.Settings.{Settings}
 use Rattle.flash_model.specs.Calls.{Call, Programs, Erases, Arms}
-use Rattle.flash_model.specs.Image.{Image, IsImage, programmed, anded}
+use Rattle.flash_model.specs.Image.{Image, IsImage}
 use Rattle.flash_model.specs.declared.flash.Sector.TheVariants.{First, Second}
 use Rattle.settings_journal.specs.Commit.{IsKept}
 use Rattle.settings_journal.specs.Cut.{CutOff, carried_out, all_carried_out}
@@ -12,21 +12,9 @@ use Rattle.settings_journal.specs.Image.{BootsTo, LeftByDevice}
 use Rattle.settings_journal.specs.settings_store.Legal.{LegalEnd, made_of}
 use Rattle.settings_journal.specs.settings_store.Machine.{Accepted}
 use Rattle.device_abi.specs.recording.Calls.{CallsOf, AcceptedOf, AreLegal, unanswered}
+use Rattle.device_abi.proofs.RecordingBytes.{programmed_length}
 
 -- ---- lengths do not change
-
-anded_length : (xs ys : List ℕ) → length (anded xs ys) ≡ length xs
-anded_length [] ys = refl
-anded_length (x ∷ xs) [] = refl
-anded_length (x ∷ xs) (y ∷ ys) = ap suc (anded_length xs ys)
-
-programmed_length : (sector : List ℕ) (place : ℕ) (bytes : List ℕ) → length (programmed sector place bytes) ≡ length sector
-programmed_length sector place bytes =
-    let parts = length-append (take place sector) (anded (drop place sector) bytes) in
-    let front = length-take place sector in
-    let back = anded_length (drop place sector) bytes in
-    let left = length-drop place sector in
-    parts ∙ omega (arith, front, back, left)
 
 call_length : (image : Image) (call : Call) → length (carried_out image call).first ≡ length image.first
 call_length image (Programs First place bytes) = programmed_length image.first place bytes

@@ -1,12 +1,12 @@
 -- What the functions of a port with services do, put together from their parts.
 use Rattle.std.proofs.Common.{◌≡◌, ◌-◌, ◌<◌, ◌≤◌, ℕ, zero, suc, Bool, true, false, List, [], Option, Some, None, Ok, refl, sym, ap, subst, ◌∙◌, arith, inr}
 use Rattle.arrayvec.specs.ArrayVec.{ArrayVec}
-use Rattle.settings_journal.specs.settings_store.Machine.{Accepted}
 use Rattle.settings_journal.specs.settings_store.State.{Values}
 use Rattle.device_core.specs.Leaps.{live_due_in}
 use Rattle.device_core.specs.State.{Station}
 use Rattle.device_frames.specs.declared.event.Event.{Event}
-use Rattle.device_frames.specs.declared.event.Event.TheVariants.{Frame, Input}
+use Rattle.device_frames.specs.declared.event.Event.TheVariants.{Application, Frame}
+use Rattle.device_frames.specs.declared.local.Local.TheVariants.{Input}
 use Rattle.device_frames.specs.declared.note.Note.{Note}
 use Rattle.device_frames.specs.declared.note.Note.TheVariants.{Done}
 use Rattle.station.specs.Beside.{ConflictsAreNoticed, has_any, is_dropped}
@@ -16,20 +16,17 @@ use Rattle.pn_values.specs.declared.settings.Settings.{Settings}
 use Rattle.std.specs.Cmp.Lexicographic.{pointwise}
 use Rattle.std.specs.Prelude.{◌≢◌, ◌&&◌, nat_eq}
 use Rattle.device_abi.specs.declared.port.refusal.Refusal.TheVariants.{HasWork}
-use Rattle.device_abi.specs.recorded.Record.{image_of}
-use Rattle.device_abi.specs.recording.Calls.{CallsOf}
-use Rattle.device_abi.specs.declared.port.stage.Stage.TheVariants.{Booted}
-use Rattle.device_abi.specs.port.State.{State, barred, barred_by, has_work}
+use Rattle.device_abi.specs.port.State.{State, barred}
 use Rattle.device_abi.specs.port.Steps.{Passes, Takes, Ticks}
 use Rattle.device_abi.specs.port.Pace.{AreCalm, HasNoNews, IsPaced, TicksBesideAny, caught_up, soonest}
 use Rattle.device_abi.specs.port.Served.{Served, barred_both, due_with}
 use Rattle.device_abi.specs.port.ServedSteps.{AnswersBoth, GivesAny, IsBeside, IsNoticed, PassesBoth, StepsBoth, TellsBoth, TellsPortAny, TicksBoth}
-use Rattle.device_abi.proofs.ServedBarring.{barred_alone, free_parts}
+use Rattle.device_abi.proofs.ServedBarring.{barred_alone, free_fetched}
 use Rattle.device_abi.proofs.ServedHearing.{KnowsOf, OnlyConflicts, app_steps, seen_same, silent_values, steps_silent}
 use Rattle.device_abi.proofs.ServedLeft.{same_address}
 use Rattle.device_abi.proofs.ServedPacing.{calm_both, calm_news, caught_zero, due_soonest, resting_of}
 use Rattle.device_abi.proofs.ServedSilent.{dropped_step, input_step}
-use Rattle.device_abi.proofs.ServedTelling.{tells_first, tells_none, tells_whole}
+use Rattle.device_abi.proofs.ServedTelling.{quiet_free, tells_first, tells_none, tells_whole}
 use Rattle.device_abi.proofs.ServedTicking.{at, ticks_any, ticks_kept}
 
 -- ---- units of time in which the services have no part
@@ -102,7 +99,7 @@ pub leapt_both : (units : ℕ) (serves : Bool) (old told new : State) (services 
     → TellsPortAny services old told now → HasNoNews now → Ticks units told new → TicksBesideAny units new.device.station.identity new.device.live.values now after sent
     → TicksBoth units (at serves old services frames) (at serves new (caught_up 0 after) sent)
 leapt_both units serves old told new services now after frames sent some free tells none ticks beside =
-    let fetched = (free_parts (at serves old services frames) free).2 in
+    let fetched = (free_fetched (at serves old services frames) free).1 in
     let count : units ≡ suc (units - 1) = omega (arith, some) in
     let whole : TellsBoth (at serves old services frames) (at serves told now frames) = tells_whole (at serves old services frames) told now tells in
     let own : TicksBoth units (at serves told now frames) (at serves new after sent) =
@@ -135,14 +132,14 @@ knows_paced rest limit values services frames some paced = knows_calm (limit - r
 -- ---- an input, in which services that rest have no part
 
 pub input_paced : (rest limit : ℕ) (old new : State) (services : Option Serving) (frames : List (List ℕ)) (slot subslot : ℕ) (value : ArrayVec ℕ) (note : Note)
-    → Takes old (Input slot subslot value) note new → IsPaced rest limit old.device.live.values services frames → IsPaced rest limit new.device.live.values services frames
+    → Takes old (Application (Input slot subslot value)) note new → IsPaced rest limit old.device.live.values services frames → IsPaced rest limit new.device.live.values services frames
 input_paced rest limit old new services frames slot subslot value note takes paced =
     subst (λ (v : Values). IsPaced rest limit v services frames)
     (sym (ap (λ l. l.values) takes.exact.live ∙ input_step old.device.station old.device.live slot subslot value)) paced
 
 pub input_calm : QuietUnitsCount → QuietUnitsBringNoNews → (rest limit : ℕ) (serves : Bool) (old new : State) (services : Option Serving) (frames : List (List ℕ)) (slot subslot : ℕ) (value : ArrayVec ℕ) (note : Note)
-    → 0 < rest → IsPaced rest limit old.device.live.values services frames → barred old ≡ None → Takes old (Input slot subslot value) note new
-    → AnswersBoth (at serves old (caught_up (limit - rest) services) frames) (Input slot subslot value) (Ok note) (at serves new (caught_up (limit - rest) services) frames)
+    → 0 < rest → IsPaced rest limit old.device.live.values services frames → barred old ≡ None → Takes old (Application (Input slot subslot value)) note new
+    → AnswersBoth (at serves old (caught_up (limit - rest) services) frames) (Application (Input slot subslot value)) (Ok note) (at serves new (caught_up (limit - rest) services) frames)
 input_calm counts news rest limit serves old new services frames slot subslot value note some paced free takes =
     let now = caught_up (limit - rest) services in
     let mid = at serves old now frames in
@@ -154,7 +151,7 @@ input_calm counts news rest limit serves old new services frames slot subslot va
         between = mid;
         tells = tells_calm counts news rest limit serves old services frames some paced;
         free = ready;
-        steps = app_steps serves old new now now frames (Input slot subslot value) note tt fetched takes (seen_same now new.device.live.values known);
+        steps = app_steps serves old new now now frames (Application (Input slot subslot value)) note tt fetched takes (seen_same now new.device.live.values known);
       },
     )
 
@@ -185,11 +182,7 @@ silent_answers counts news noticed counted rest limit serves old new services fr
 pub dropped_free : (old new : State) (event : Event) (note : Note) → Takes old event note new → is_dropped note ≡ true → barred new ≡ None
 dropped_free old new event note takes dropped =
     let none = dropped_step old.device.station old.device.live event (sym (ap is_dropped takes.exact.note) ∙ dropped) in
-    let calls : CallsOf (image_of old.device.flash) old.device.live.values.stored old.device.live.values.room [] takes.records.calls =
-    subst (λ (a : List Accepted). CallsOf (image_of old.device.flash) old.device.live.values.stored old.device.live.values.room a takes.records.calls) none.1 takes.records.of_commands in
-    let no_calls : new.calls ≡ [] = takes.calls ∙ calls.0 in
-    ap (λ s. barred_by s (has_work new.calls new.frames)) takes.stage
-    ∙ (ap (λ c. barred_by Booted (has_work c new.frames)) no_calls ∙ ap (λ f. barred_by Booted (has_work [] f)) (takes.exact.frames ∙ none.0))
+    quiet_free old new event note takes none.1 none.0
 
 -- Cyclic data that is accepted in silence, or not, and then nothing changes.
 pub cyclic_paced : (taken : Bool) (rest limit : ℕ) (old new : State) (services : Option Serving) (frames : List (List ℕ)) (bytes : ArrayVec ℕ)

@@ -9,7 +9,7 @@ use Rattle.settings_journal.specs.settings_store.State.{Values}
 use Rattle.services.specs.State as ip
 use Rattle.services.specs.Answer as ip_answer
 use Rattle.device_frames.specs.declared.event.Event.{Event}
-use Rattle.device_frames.specs.declared.event.Event.TheVariants.{Frame, Call, Tick, Input, Alarm, Status, Neighbour, Diagnosis, Ready}
+use Rattle.device_frames.specs.declared.event.Event.TheVariants.{Frame, Call, Tick, Neighbour, Application}
 use Rattle.device_frames.specs.declared.note.Note.{Note}
 use Rattle.device_frames.specs.declared.note.Note.TheVariants.{Done}
 use Rattle.device_core.specs.Machine.{step_of}
@@ -117,24 +117,16 @@ idle_event : (identity : Identity) (state : Serving) (note : Note) (event : Even
 idle_event identity state note (Frame bytes) wrong = absurd wrong
 idle_event identity state note (Call caller address octets) is = refl
 idle_event identity state note Tick wrong = absurd wrong
-idle_event identity state note (Input slot subslot value) is = refl
-idle_event identity state note (Alarm slot subslot octets) is = refl
-idle_event identity state note (Status slot subslot is_good) is = refl
+idle_event identity state note (Application local) is = refl
 idle_event identity state note (Neighbour peer) is = refl
-idle_event identity state note (Diagnosis slot subslot channel error appears) is = refl
-idle_event identity state note Ready is = refl
 
 gives_app : (services : Option Serving) (values : Values) (note : Note) (event : Event) (port : State) → IsOfApplication event → GivesAny services values note event port port
 gives_app None values note event port is = refl
 gives_app (Some state) values note (Frame bytes) port wrong = absurd wrong
 gives_app (Some state) values note (Call caller address octets) port is = refl
 gives_app (Some state) values note Tick port wrong = absurd wrong
-gives_app (Some state) values note (Input slot subslot value) port is = refl
-gives_app (Some state) values note (Alarm slot subslot octets) port is = refl
-gives_app (Some state) values note (Status slot subslot is_good) port is = refl
+gives_app (Some state) values note (Application local) port is = refl
 gives_app (Some state) values note (Neighbour peer) port is = refl
-gives_app (Some state) values note (Diagnosis slot subslot channel error appears) port is = refl
-gives_app (Some state) values note Ready port is = refl
 
 abbrev seen_one : Bool → Settings → Serving → Serving
 seen_one is_lost running state = if is_lost then state else observed state running

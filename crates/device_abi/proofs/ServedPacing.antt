@@ -44,16 +44,6 @@ pub calm_behind : (rest limit : ℕ) (values : Values) (services : Option Servin
 calm_behind rest limit values None some inside calm = tt
 calm_behind rest limit values (Some state) some inside calm = inr (omega (arith, some, inside, calm.due))
 
-pub paced_behind : (rest limit : ℕ) (values : Values) (services : Option Serving) (frames : List (List ℕ)) → IsPaced rest limit values services frames → IsBehind (limit - rest) services
-paced_behind rest limit values None frames paced = tt
-paced_behind rest limit values (Some state) frames (inl none) = inl (omega (arith, none.0, none.1))
-paced_behind rest limit values (Some state) frames (inr resting) = calm_behind rest limit values (Some state) resting.some resting.inside resting.calm
-
--- The rest is at most the limit.
-pub paced_inside : (rest limit : ℕ) (values : Values) (services : Option Serving) (frames : List (List ℕ)) → IsPaced rest limit values services frames → rest ≤ limit
-paced_inside rest limit values services frames (inl none) = omega (arith, none.0, none.1)
-paced_inside rest limit values services frames (inr resting) = resting.inside
-
 -- If the rest is known, it is this.
 pub resting_of : (rest limit : ℕ) (values : Values) (services : Option Serving) (frames : List (List ℕ)) → 0 < rest → IsPaced rest limit values services frames
     → Resting rest limit values services frames
@@ -134,10 +124,6 @@ few_soonest units due rest (Some state) few inside = omega (arith, few, inside)
 pub caught_zero : (behind : ℕ) (services : Option Serving) → behind ≡ 0 → services ≡ caught_up behind services
 caught_zero behind None none = refl
 caught_zero behind (Some state) none = ap (λ (n : ℕ). let o : Option Serving = Some (serving_ticks n state) in o) (sym none)
-
-pub behind_few : (behind : ℕ) (state : Serving) → IsBehind behind (Some state) → ¬ (behind ≡ 0) → behind < due_in state
-behind_few behind state (inl none) some = absurd (some none)
-behind_few behind state (inr few) some = few
 
 -- ---- frames of theirs that remain
 

@@ -8,7 +8,8 @@ use Rattle.relations.specs.exchange.Flow.{Flow}
 use Rattle.device_frames.specs.Heard.{heard_of}
 use Rattle.device_frames.specs.Sent.{Sent, bytes_of}
 use Rattle.device_frames.specs.declared.event.Event.{Event}
-use Rattle.device_frames.specs.declared.event.Event.TheVariants.{Input, Neighbour}
+use Rattle.device_frames.specs.declared.event.Event.TheVariants.{Application, Neighbour}
+use Rattle.device_frames.specs.declared.local.Local.TheVariants.{Input}
 use Rattle.device_frames.specs.declared.note.Note.TheVariants.{Done}
 use Rattle.device_core.specs.Handled.{Handled, Refuses, Sets, Writes, WritesEach, Moves, handled, handled_input}
 use Rattle.device_core.specs.Machine.{handled_step, heard_step, items_in, step_of}
@@ -59,10 +60,10 @@ input_items : (live : Live) (flow : Option Flow) → items_in (handled_input liv
 input_items live (Some flow) = refl
 input_items live None = refl
 
-pub input_step : (station : Station) (live : Live) (slot subslot : ℕ) (value : ArrayVec ℕ) → (step_of [] station live (Input slot subslot value)).live.values ≡ live.values
+pub input_step : (station : Station) (live : Live) (slot subslot : ℕ) (value : ArrayVec ℕ) → (step_of [] station live (Application (Input slot subslot value))).live.values ≡ live.values
 unfolding heard_step heard_of
 input_step station live slot subslot value =
-    no_items station live (handled station live (heard_of station.identity (Input slot subslot value))) (input_items live (given_to slot subslot value.items live.rest.link))
+    no_items station live (handled station live (heard_of station.identity (Application (Input slot subslot value)))) (input_items live (given_to slot subslot value.items live.rest.link))
 
 -- ---- the event that reports its neighbour to a device
 

@@ -8,32 +8,27 @@ use Rattle.device_frames.specs.declared.event.Event.{Event}
 use Rattle.device_frames.specs.declared.event.Event.TheVariants.{Neighbour, Tick}
 use Rattle.device_frames.specs.declared.note.Note.{Note}
 use Rattle.device_frames.specs.declared.note.Note.TheVariants.{Done}
+use Rattle.device_core.specs.Machine.{step_of}
 use Rattle.station.specs.Serving.{Serving, as_neighbour, news_in, told}
 use Rattle.device_abi.specs.recorded.Record.{image_of}
 use Rattle.device_abi.specs.recording.Calls.{CallsOf}
-use Rattle.device_abi.specs.declared.port.stage.Stage.TheVariants.{Booted}
-use Rattle.device_abi.specs.port.State.{State, barred, barred_by, has_work}
+use Rattle.device_abi.specs.port.State.{State, barred, has_some}
 use Rattle.device_abi.specs.port.Steps.{Takes}
 use Rattle.device_abi.specs.port.Pace.{HasNoNews}
 use Rattle.device_abi.specs.port.Served.{Served, barred_both}
 use Rattle.device_abi.specs.port.ServedSteps.{StepsBoth, TakesBoth, TellsBoth, TellsIf, TellsOf, TellsPort, TellsPortAny, TicksBoth}
+use Rattle.device_abi.proofs.PortStages.{free_at}
 use Rattle.device_abi.proofs.ServedSilent.{met_accepted, met_frames, met_note}
 
 -- ---- the step of the port
 
--- It sends nothing and makes no call.
-met_calls : (old new : State) (peer : Option Peer) (note : Note) → Takes old (Neighbour peer) note new → new.calls ≡ []
-met_calls old new peer note takes =
+-- A step that accepts no command and sends nothing leaves no work.
+pub quiet_free : (old new : State) (event : Event) (note : Note) → Takes old event note new → (step_of [] old.device.station old.device.live event).accepted ≡ []
+    → (step_of [] old.device.station old.device.live event).frames ≡ [] → barred new ≡ None
+quiet_free old new event note takes quiet silent =
     let none : CallsOf (image_of old.device.flash) old.device.live.values.stored old.device.live.values.room [] takes.records.calls =
-    subst (λ (a : List Accepted). CallsOf (image_of old.device.flash) old.device.live.values.stored old.device.live.values.room a takes.records.calls)
-    (met_accepted old.device.station old.device.live peer) takes.records.of_commands in
-    takes.calls ∙ none.0
-
-pub met_free : (old new : State) (peer : Option Peer) (note : Note) → Takes old (Neighbour peer) note new → barred new ≡ None
-met_free old new peer note takes =
-    let frames = takes.exact.frames ∙ met_frames old.device.station old.device.live peer in
-    ap (λ s. barred_by s (has_work new.calls new.frames)) takes.stage
-    ∙ (ap (λ c. barred_by Booted (has_work c new.frames)) (met_calls old new peer note takes) ∙ ap (λ f. barred_by Booted (has_work [] f)) frames)
+    subst (λ (a : List Accepted). CallsOf (image_of old.device.flash) old.device.live.values.stored old.device.live.values.room a takes.records.calls) quiet takes.records.of_commands in
+    free_at new.stage new.calls new.frames takes.stage (takes.calls ∙ none.0) (ap has_some (takes.exact.frames ∙ silent))
 
 pub met_done : (old new : State) (peer : Option Peer) (note : Note) → Takes old (Neighbour peer) note new → Takes old (Neighbour peer) Done new
 met_done old new peer note takes = subst (λ n. Takes old (Neighbour peer) n new) (takes.exact.note ∙ met_note old.device.station old.device.live peer) takes
@@ -120,7 +115,8 @@ pub tells_from : (old new : State) (state now : Serving) (event : Event) (note :
     → Takes old event note new → now ≡ told state → TellsPort state.has_news old state new now × (barred new ≡ None)
 tells_from old new state now event note news takes after =
     let is = news_is state.has_news event (news_in state) news in
+    let peer = option_map as_neighbour state.near.known in
     let meets : Takes old (news_in state) note new = subst (λ (e : Event). Takes old e note new) is.1 takes in (
-      subst (λ (b : Bool). TellsPort b old state new now) (sym is.0) (met_done old new (option_map as_neighbour state.near.known) note meets, after),
-      met_free old new (option_map as_neighbour state.near.known) note meets,
+      subst (λ (b : Bool). TellsPort b old state new now) (sym is.0) (met_done old new peer note meets, after),
+      quiet_free old new (news_in state) note meets (met_accepted old.device.station old.device.live peer) (met_frames old.device.station old.device.live peer),
     )

@@ -43,25 +43,17 @@ ticks_kept (suc units) old new ticks =
 abbrev tick_by : Bool → Identity → Serving → Settings → Note → Beside
 tick_by is_lost identity state running note = if is_lost then idle state note else observing running (event_beside identity state note Tick)
 
-any_services : (is_lost : Bool) (identity : Identity) (state : Serving) (running : Settings) (note : Note) → (tick_by is_lost identity state running Done).services ≡ (tick_by is_lost identity state running note).services
-any_services true identity state running note = refl
-any_services false identity state running note = refl
-
-any_sent : (is_lost : Bool) (identity : Identity) (state : Serving) (running : Settings) (note : Note) → (tick_by is_lost identity state running Done).sent ≡ (tick_by is_lost identity state running note).sent
-any_sent true identity state running note = refl
-any_sent false identity state running note = refl
-
-same_note : (is_lost : Bool) (identity : Identity) (state : Serving) (running : Settings) (note : Note) → note ≡ (tick_by is_lost identity state running note).note
-same_note true identity state running note = refl
-same_note false identity state running note = refl
+any_note : (is_lost : Bool) (identity : Identity) (state : Serving) (running : Settings) (note : Note)
+    → ((tick_by is_lost identity state running Done).services ≡ (tick_by is_lost identity state running note).services)
+    × ((tick_by is_lost identity state running Done).sent ≡ (tick_by is_lost identity state running note).sent) × (note ≡ (tick_by is_lost identity state running note).note)
+any_note true identity state running note = (refl, refl, refl)
+any_note false identity state running note = (refl, refl, refl)
 
 ticks_beside : (identity : Identity) (values : Values) (state after : Serving) (sent : List (List ℕ)) (note : Note) → after ≡ (tick_beside identity values state).services → sent ≡ (tick_beside identity values state).sent
     → IsBeside (Some state) identity values note Tick (Some after) sent note
-ticks_beside identity values state after sent note is frames = (
-  ap (λ (s : Serving). let o : Option Serving = Some s in o) (is ∙ any_services values.is_lost identity state values.running note),
-  frames ∙ any_sent values.is_lost identity state values.running note,
-  same_note values.is_lost identity state values.running note,
-)
+ticks_beside identity values state after sent note is frames =
+    let any = any_note values.is_lost identity state values.running note in
+    (ap (λ (s : Serving). let o : Option Serving = Some s in o) (is ∙ any.0), frames ∙ any.1, any.2)
 
 takes_both : (serves : Bool) (old new : State) (state after : Serving) (sent : List (List ℕ)) (note : Note) → state.has_news ≡ false → barred old ≡ None → Takes old Tick note new
     → after ≡ (tick_beside old.device.station.identity new.device.live.values state).services → sent ≡ (tick_beside old.device.station.identity new.device.live.values state).sent

@@ -3,4 +3,3 @@ pub mod Fits
 pub mod Laws
 pub mod Pushed
 pub mod Record
-pub mod Stored

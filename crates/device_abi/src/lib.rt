@@ -9,5 +9,5 @@ mod recorded;
 mod recording;
 
 pub use port::{Operation, Passed, Port, Refusal, SECTOR_SIZE, Stage, Work, play};
-pub use recorded::{MOST_BYTES, MOST_CALLS, MOST_OCTETS, Recorded, RecordedFlash};
-pub use recording::{leap, skip, step, step_call, step_cyclic, step_frame, step_input, unit};
+pub use recorded::{MOST_BYTES, MOST_CALLS, Recorded, RecordedFlash};
+pub use recording::{leap, skip, step, step_cyclic, step_input, unit};

@@ -1,8 +1,9 @@
-//! A flash in memory that records its program and erase calls, for a host that carries them out on a chip of its own.
+//! A flash in memory that records its program and erase calls, for a host that carries them out on a chip of its own. It records where
+//! each call was, and for how many bytes: the bytes are in the sector.
 
-mod calls;
+mod entries;
 mod entry;
 mod flash;
 
-pub use entry::{MOST_BYTES, MOST_CALLS, MOST_OCTETS, Recorded};
+pub use entry::{MOST_BYTES, MOST_CALLS, Recorded};
 pub use flash::RecordedFlash;

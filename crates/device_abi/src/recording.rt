@@ -5,4 +5,4 @@ mod recorded_leap;
 mod recorded_step;
 
 pub use recorded_leap::{leap, skip, unit};
-pub use recorded_step::{step, step_call, step_cyclic, step_frame, step_input};
+pub use recorded_step::{step, step_cyclic, step_input};

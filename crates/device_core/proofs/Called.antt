@@ -38,7 +38,7 @@ use Rattle.relations.specs.Connect.{connect_answer}
 use Rattle.relations.specs.Ready.{answer_of as ready_answer}
 use Rattle.device_frames.specs.declared.event.Event.{Event}
 use Rattle.frame_codec.specs.declared.udp.Caller.{Caller}
-use Rattle.device_core.specs.State.{Station, Live, alias_in}
+use Rattle.device_core.specs.State.{Station, Live, Rest, alias_in}
 use Rattle.device_frames.specs.Sent.{Sent}
 use Rattle.pn_alarms.specs.declared.pdu.Header.{Header}
 use Rattle.pn_alarms.specs.Message.{ToDevice}
@@ -47,11 +47,12 @@ use Rattle.diagnosis.specs.Existing.{changed}
 use Rattle.diagnosis.specs.declared.diagnosis.Change.{Change}
 use Rattle.diagnosis.specs.declared.diagnosis.Diagnosis.{Diagnosis}
 use Rattle.relations.specs.Diagnosed.{has_sent_low, heard_low, hearing_low, is_full_in}
-use Rattle.device_frames.specs.Heard.{Heard, Ticks, Unreadable, Elsewhere, Asks, Resolves, Reported, Cyclic, Alarms, LowReplies, LowConfirms, Given, Raised, Rated, Met, Diagnosed, Readied, Said, Calls, Responds, Garbled, heard_of}
+use Rattle.device_frames.specs.Heard.{Heard, Ticks, Unreadable, Elsewhere, Asks, Resolves, Reported, Cyclic, Alarms, LowReplies, LowConfirms, Met, Applied, Said, Calls, Responds, Garbled, heard_of}
 use Rattle.device_core.specs.Handled.{Handled, is_running, is_request, answer_from, kept_for, kept_answer, handled_request, handled_effect, handled_write, handled_new, handled_looked, handled_blocks, handled_call, handled_answer, handled_said, handled_pdu, handled_received, handled_input, handled_notice, kept_status, handled, known_of, number_now, handled_alarm, handled_change, handled_low, handled_low_pdu}
 use Rattle.device_core.specs.Several.{judged_each}
 use Rattle.device_core.specs.Machine.{items_in, first_answer, several_answer, written_as, finished, heard_step, handled_step, step_of, first_step, later_steps, run_of}
 use Rattle.device_core.specs.Steps.{IsBehindCalls}
+use Rattle.device_core.proofs.Applied.{local_is}
 
 calls_then : (first later : List Kept) (cache : List Kept) → behind_calls 4 (first ++ later) cache ≡ behind_calls 4 later (behind_calls 4 first cache)
 calls_then [] later cache = refl
@@ -158,28 +159,11 @@ low_called station live answers source header message =
     cond_both (is_alarm_of source header.destination header.source live.rest.link) _ _ (IsKept station live answers)
     (λ _. low_pdu_called station live answers (heard_low message live.rest.link) (updated (hearing_low message live.rest.link) live.rest.link)) (λ _. ([], refl))
 
-change_called : (station : Station) (live : Live) (answers : List BlockError) (change : Change) (diagnoses : Option (List Diagnosis)) → IsKept station live answers (handled_change station live change diagnoses)
-change_called station live answers change (Some diagnoses) = ([], refl)
-change_called station live answers change None = ([], refl)
-
 received_called : (station : Station) (live : Live) (answers : List BlockError) (came : Received) (link : Option RelationState) → IsKept station live answers (handled_received live came link)
 received_called station live answers received.Foreign link = ([], refl)
 received_called station live answers received.Short link = ([], refl)
 received_called station live answers received.Stale link = ([], refl)
 received_called station live answers received.Taken link = ([], refl)
-
-input_called : (station : Station) (live : Live) (answers : List BlockError) (flow : Option Flow) → IsKept station live answers (handled_input live flow)
-input_called station live answers (Some flow) = ([], refl)
-input_called station live answers None = ([], refl)
-
-notice_called : (station : Station) (live : Live) (answers : List BlockError) (flow : Option Flow) → IsKept station live answers (handled_notice live flow)
-notice_called station live answers (Some flow) = ([], refl)
-notice_called station live answers None = ([], refl)
-
-status_called : (station : Station) (live : Live) (answers : List BlockError) (slot subslot : ℕ) (is_good : Bool) (statuses : Option (List InputStatus))
-    → IsKept station live answers (kept_status live slot subslot is_good statuses)
-status_called station live answers slot subslot is_good (Some statuses) = ([], refl)
-status_called station live answers slot subslot is_good None = ([], refl)
 
 handled_called : (station : Station) (live : Live) (answers : List BlockError) (heard : Heard) → IsKept station live answers (handled station live heard)
 handled_called station live answers (Asks asker request) = request_called station live answers asker request.service request
@@ -195,15 +179,8 @@ handled_called station live answers (LowConfirms source header message) =
     cond_both (has_sent_low live.rest.link) _ _ (IsKept station live answers) (λ _. low_called station live answers source header message) (λ _. ([], refl))
 handled_called station live answers (Cyclic source frame_id body) =
     received_called station live answers (received_by source frame_id body live.rest.link) (updated (receiving source frame_id body live.rest.link) live.rest.link)
-handled_called station live answers (Given slot subslot value) = input_called station live answers (given_to slot subslot value live.rest.link)
-handled_called station live answers (Raised slot subslot octets) = notice_called station live answers (raised_to station.real.modules.items slot subslot octets live.rest.link)
-handled_called station live answers (Rated slot subslot is_good) =
-    status_called station live answers slot subslot is_good (statuses_at station.real.modules.items (record { slot = slot; subslot = subslot; is_good = is_good }) live.rest.statuses)
 handled_called station live answers (Met peer) = ([], refl)
-handled_called station live answers (Diagnosed change) =
-    cond_both (is_some (submodule_ident station.real.modules.items change.diagnosis.slot change.diagnosis.subslot) && not (is_full_in live.rest.link)) _ _
-    (IsKept station live answers) (λ _. change_called station live answers change (changed change live.rest.diagnoses)) (λ _. ([], refl))
-handled_called station live answers Readied = cond_both (is_preparing (phase_of live.rest.link)) _ _ (IsKept station live answers) (λ _. ([], refl)) (λ _. ([], refl))
+handled_called station live answers (Applied said) = ([], ap (λ (rest : Rest). rest.calls) ((local_is station live said).keeps answers))
 handled_called station live answers Ticks = ([], refl)
 handled_called station live answers Unreadable = ([], refl)
 handled_called station live answers Elsewhere = ([], refl)

@@ -18,11 +18,15 @@ use Rattle.diagnosis.specs.Existing.{changed}
 use Rattle.diagnosis.specs.declared.diagnosis.Change.{Change}
 use Rattle.diagnosis.specs.declared.diagnosis.Diagnosis.{Diagnosis}
 use Rattle.relations.specs.Diagnosed.{has_sent_low, heard_low, hearing_low, is_full_in}
-use Rattle.relations.specs.Exchanged.{heard_by, hearing, received_by, receiving}
+use Rattle.relations.specs.Exchanged.{given_to, heard_by, hearing, raised_to, received_by, receiving}
 use Rattle.relations.specs.declared.hearing.ReadyAnswer.{ReadyAnswer}
 use Rattle.relations.specs.declared.hearing.ReadyAnswer.TheVariants as to_ready
+use Rattle.arrayvec.specs.ArrayVec.{ArrayVec}
+use Rattle.relations.specs.exchange.Statuses.{statuses_at}
+use Rattle.device_frames.specs.declared.local.Local.{Local}
+use Rattle.device_frames.specs.declared.local.Local.TheVariants as local
 use Rattle.device_core.specs.State.{Station, Live}
-use Rattle.device_core.specs.Handled.{is_running, is_request, handled_arp, handled_answer, handled_alarm, handled_pdu, handled_received, handled_cyclic, handled_input, handled_notice, handled_ready, handled_change, handled_diagnosed, handled_low, handled_low_pdu, handled_low_reply, kept_status}
+use Rattle.device_core.specs.Handled.{change_of, is_running, is_request, handled_arp, handled_answer, handled_alarm, handled_pdu, handled_received, handled_cyclic, handled_input, handled_local, handled_notice, handled_ready, handled_change, handled_diagnosed, handled_low, handled_low_pdu, handled_low_reply, kept_status}
 use Rattle.device_core.specs.Machine.{end_of}
 use Rattle.device_core.proofs.Machine.{is_asking}
 
@@ -126,3 +130,15 @@ pub diagnosed_asks_nothing : (station : Station) (live : Live) (change : Change)
 diagnosed_asks_nothing station live change =
     cond_both (is_some (submodule_ident station.real.modules.items change.diagnosis.slot change.diagnosis.subslot) && not (is_full_in live.rest.link)) _ _
     (λ what. is_asking what ≡ false) (λ _. change_asks_nothing station live change (changed change live.rest.diagnoses)) (λ _. refl)
+
+-- Whatever the application says.
+pub local_asks_nothing : (station : Station) (live : Live) (said : Local (ArrayVec ℕ)) → is_asking (handled_local station live said) ≡ false
+local_asks_nothing station live (local.Input slot subslot value) = input_asks_nothing live (given_to slot subslot value.items live.rest.link)
+local_asks_nothing station live (local.Alarm slot subslot octets) =
+    notice_asks_nothing live (raised_to station.real.modules.items slot subslot octets.items live.rest.link)
+local_asks_nothing station live (local.Status slot subslot is_good) =
+    status_asks_nothing live slot subslot is_good
+    (statuses_at station.real.modules.items (record { slot = slot; subslot = subslot; is_good = is_good }) live.rest.statuses)
+local_asks_nothing station live (local.Diagnosis slot subslot channel error appears) =
+    diagnosed_asks_nothing station live (change_of slot subslot channel error appears)
+local_asks_nothing station live local.Ready = ready_asks_nothing live

@@ -1,6 +1,7 @@
 pub mod Machine
 pub mod Faults
 pub mod Handled
+pub mod Applied
 pub mod OfKind
 pub mod Sendable
 pub mod Served

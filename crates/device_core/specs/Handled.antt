@@ -1,6 +1,7 @@
 -- The outcome of an event, from the state before it.
 use Rattle.std.specs.Prelude.{◌+◌, ◌++◌, ◌%◌, ◌-◌, ◌&&◌, ℕ, Bool, true, false, not, nat_eq, List, [], ◌∷◌, if◌then◌else◌, Option, Some, None, is_some, Result, Ok, Err}
 use Rattle.std.specs.Cmp.Lexicographic.{pointwise}
+use Rattle.arrayvec.specs.ArrayVec.{ArrayVec}
 use Rattle.pn_values.specs.declared.mac.Mac.{Mac}
 use Rattle.pn_values.specs.declared.identity.Identity.{Identity}
 use Rattle.pn_values.specs.declared.settings.Settings.{Settings}
@@ -60,6 +61,8 @@ use Rattle.relations.specs.Numbers.{made_after, number_of}
 use Rattle.relations.specs.Ready.{answer_of as ready_answer, handled_by}
 use Rattle.relations.specs.Timers.{due_of}
 use Rattle.relations.specs.Phases.{Handled as Moving, Records, Parameterized, Prepared, Named, Ended, Exchanged, Unmoved, answered, keeping, updated, passing, taking}
+use Rattle.device_frames.specs.declared.local.Local.{Local}
+use Rattle.device_frames.specs.declared.local.Local.TheVariants as local
 use Rattle.device_frames.specs.declared.note.Note.{Note}
 use Rattle.device_frames.specs.declared.note.Note.TheVariants as note
 use Rattle.frame_codec.specs.declared.udp.Caller.{Caller}
@@ -69,7 +72,7 @@ use Rattle.device_core.specs.Several.{Judged, judged_each}
 use Rattle.device_core.specs.Log.{arguments_log, but_rest, connect_log, end_log, err_log, release_log, with_log}
 use Rattle.device_frames.specs.Relation.{alarms_of, due_frames, low_alarms_of, low_replies_of, ready_calls, replies_of, where_due}
 use Rattle.device_frames.specs.Sent.{Sent, IdentifyAnswer, GetAnswer, ArpReply, CallAnswer, Again, Ends, bytes_of}
-use Rattle.device_frames.specs.Heard.{Heard, Ticks, Unreadable, Elsewhere, Asks, Resolves, Reported, Cyclic, Alarms, LowReplies, LowConfirms, Given, Raised, Rated, Met, Diagnosed, Readied, Said, Calls, Responds, Garbled}
+use Rattle.device_frames.specs.Heard.{Heard, Ticks, Unreadable, Elsewhere, Asks, Resolves, Reported, Cyclic, Alarms, LowReplies, LowConfirms, Met, Applied, Said, Calls, Responds, Garbled}
 
 -- The outcome of an event: it is refused, with the note that says why; a Set, whose blocks are asked of the settings; a
 -- Write of an I&M text, which is asked of the settings, with the caller, the address that was called, the call, its
@@ -369,6 +372,20 @@ handled_ready live =
     then (let link = updated Prepared live.rest.link in goes_on_with live link (ready_calls live.values.running.suite.address link))
     else Refuses note.Refused
 
+-- A change of diagnosis, as the application says it.
+abbrev pub change_of : (slot subslot channel error : ℕ) → Bool → Change
+change_of slot subslot channel error appears =
+    record { diagnosis = record { slot = slot; subslot = subslot; channel = channel; error = error }; appears = appears }
+
+-- What the application says, by its cases.
+abbrev pub handled_local : Station → Live → Local (ArrayVec ℕ) → Handled
+handled_local station live (local.Input slot subslot value) = handled_given live slot subslot value.items
+handled_local station live (local.Alarm slot subslot octets) = handled_raised station live slot subslot octets.items
+handled_local station live (local.Status slot subslot is_good) = handled_rated station live slot subslot is_good
+handled_local station live (local.Diagnosis slot subslot channel error appears) =
+    handled_diagnosed station live (change_of slot subslot channel error appears)
+handled_local station live local.Ready = handled_ready live
+
 -- A PDU of the partner, by what happens to it: data is answered, an ACK counts or does not, and an ERR ends the
 -- relation, which is logged.
 abbrev pub handled_pdu : Live → PduFate → Option RelationState → Handled
@@ -439,12 +456,8 @@ handled station live (Alarms source header message) = handled_alarm live source 
 handled station live (LowReplies source header message) = handled_low_reply station live source header message
 handled station live (LowConfirms source header message) = handled_low_confirm station live source header message
 handled station live (Cyclic source frame_id body) = handled_cyclic live source frame_id body
-handled station live (Given slot subslot value) = handled_given live slot subslot value
-handled station live (Raised slot subslot octets) = handled_raised station live slot subslot octets
-handled station live (Rated slot subslot is_good) = handled_rated station live slot subslot is_good
 handled station live (Met peer) = handled_met live peer
-handled station live (Diagnosed change) = handled_diagnosed station live change
-handled station live Readied = handled_ready live
+handled station live (Applied said) = handled_local station live said
 handled station live Ticks = ticked live
 handled station live Unreadable = Refuses note.Fault
 handled station live Elsewhere = Refuses note.NotMine

@@ -4,6 +4,7 @@ pub mod Log
 pub mod Handled
 pub mod Machine
 pub mod Faults
+pub mod Local
 pub mod Behind
 pub mod Steps
 pub mod Cycle

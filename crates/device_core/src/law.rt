@@ -4,6 +4,7 @@ ghost use Rattle.settings_journal.specs.settings_store.Carries.{Holds};
 ghost use Rattle.device_frames.specs.Heard.{heard_of};
 ghost use Rattle.device_frames.specs.declared.event.Event.{Event};
 ghost use Rattle.device_core.specs.Faults.{RunGoesOn};
+ghost use Rattle.device_core.specs.Local.{ApplicationIsLocal};
 ghost use Rattle.device_core.specs.State.{State};
 ghost use Rattle.device_core.specs.Steps.{HandsOn, IsBehindCalls, IsExactRun, Runs, TakesRoom};
 
@@ -36,4 +37,11 @@ pub fn steps_make_runs<F: Flash<S>, const S: usize>()
         IsBehindCalls old.live.rest.calls new.live.rest.calls }
     ensures room { (old new : State F) (events : List Event) (before now : List (List ℕ)) → Runs F.Flash old events before now new →
         new.live.values.has_failed ≡ false → TakesRoom old events new }
+{}
+
+/// What an application says asks nothing of the settings, keeps the stored answers, the neighbour and the count of relations,
+/// leaves the relation with the time that it has, and sends only frames of the relation. This is a law of the definitions that
+/// specify `Device::step`; the function has no code.
+pub fn application_is_local()
+    ensures { ApplicationIsLocal }
 {}

@@ -18,8 +18,8 @@ mod start;
 mod step;
 
 pub use device::Device;
-pub use device_frames::{Caller, Event, LongCall, Note};
+pub use device_frames::{Caller, Event, Local, Note, Octets};
 pub use headline::{cycle, cycle_with, restart};
-pub use law::steps_make_runs;
+pub use law::{application_is_local, steps_make_runs};
 pub use leaps::leaps_are_ticks;
 pub use sink::Sink;

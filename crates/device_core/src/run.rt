@@ -11,7 +11,7 @@ use frame_codec::Outbox;
 
 impl<F: Flash<S>, const S: usize> Device<F, S> {
     /// Handles the events in order, and hands on the frames, up to the event in which power is lost.
-    pub fn run<K: Sink>(&mut self, events: &[Event], sink: &mut K)
+    pub fn run<K: Sink>(&mut self, events: &[Event<'_>], sink: &mut K)
         ensures runs { Runs F.Flash self.old events.now (K.taken sink.old) (K.taken sink.new) self.new }
 
         // If the failure counter of the flash, below 2^64 - 1, does not rise, the run is exactly the specified one. Over a
@@ -38,7 +38,7 @@ impl<F: Flash<S>, const S: usize> Device<F, S> {
     }
 
     // One event of a run.
-    fn take<K: Sink>(&mut self, event: &Event, outbox: &mut Outbox, sink: &mut K)
+    fn take<K: Sink>(&mut self, event: &Event<'_>, outbox: &mut Outbox, sink: &mut K)
         ensures steps { HandsOn F.Flash self.old (heard_of self.old.station.identity event.now) (K.taken sink.old)
             (K.taken sink.new) self.new }
         ensures reliable { F.is_reliable self.old.flash → self.old.live.values.has_failed ≡ false →

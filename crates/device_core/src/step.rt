@@ -6,7 +6,8 @@ ghost use Rattle.device_frames.specs.Heard.{Asks, heard_alarm, heard_by, heard_c
 ghost use Rattle.frame_codec.specs.Frame.{arp, datagram, frame_of};
 ghost use Rattle.frame_codec.specs.Meaning.{IsNoRealTime, RealTime};
 ghost use Rattle.pn_alarms.specs.Message.{message_of};
-ghost use Rattle.device_frames.specs.declared.event.Event.TheVariants.{Frame, Call as Joined, Input};
+ghost use Rattle.device_frames.specs.declared.event.Event.TheVariants.{Application, Frame};
+ghost use Rattle.device_frames.specs.declared.local.Local.TheVariants.{Input};
 ghost use Rattle.relations.specs.Farewells.{farewell_of};
 ghost use Rattle.relations.specs.RelationState.{RelationState, flow_of};
 ghost use Rattle.relations.specs.Timers.{farewell_for, left_behind};
@@ -14,7 +15,7 @@ ghost use Rattle.device_core.specs.Log.{err_log, with_log};
 ghost use Rattle.device_core.specs.State.{Live, Station, counter_of, with_rest};
 ghost use Rattle.device_frames.specs.Sendable.{AreSendable};
 ghost use Rattle.device_frames.specs.Sent.{bytes_of};
-ghost use Rattle.device_core.specs.Handled.{handled_alarm, handled_message, handled_cyclic, handled_given, handled_raised, handled_rated, handled_received};
+ghost use Rattle.device_core.specs.Handled.{handled_alarm, handled_message, handled_cyclic, handled_given, handled_local, handled_raised, handled_rated, handled_received};
 ghost use Rattle.device_core.specs.Handled.{handled_ready, ticked};
 ghost use Rattle.device_core.specs.Behind.{is_low_reply};
 ghost use Rattle.device_frames.specs.Relation.{farewells_in, inputs_of};
@@ -28,7 +29,7 @@ ghost use Rattle.device_core.specs.Steps.{Steps, Identifies, IsServed, IsAgain, 
 ghost use Rattle.frame_codec.specs.Outbox.{boxed};
 
 use crate::logging::{log_err, log_fate, uuid_of};
-use crate::{Device, Event, Note};
+use crate::{Device, Event, Local, Note, Octets};
 use cyclic_data::Received;
 use dcp_core::Service;
 use device_frames::{
@@ -45,7 +46,7 @@ use relations::{DataExchange, Elapsed, InputStatus, Repeated, put_status};
 
 impl<F: Flash<S>, const S: usize> Device<F, S> {
     /// Handles an event, and replaces the content of the outbox by the frames to be sent.
-    pub fn step(&mut self, event: &Event, outbox: &mut Outbox) -> Note
+    pub fn step(&mut self, event: &Event<'_>, outbox: &mut Outbox) -> Note
         ensures steps { Steps F.Flash self.old (heard_of self.old.station.identity event.now) (boxed outbox.new) result self.new }
 
         // If the failure counter of the flash, below 2^64 - 1, does not rise, the step is exactly the specified one. Over a
@@ -76,66 +77,9 @@ impl<F: Flash<S>, const S: usize> Device<F, S> {
         self.respond(event, outbox)
     }
 
-    /// Handles a received frame, which is only read and not kept: it does what `step` does with the event of these octets.
-    pub fn step_frame(&mut self, octets: &[u8], outbox: &mut Outbox) -> Note
-        ensures steps { Steps F.Flash self.old (heard_of self.old.station.identity (Frame (record { items = octets.now }))) (boxed outbox.new)
-            result self.new }
-
-        // If the failure counter of the flash, below 2^64 - 1, does not rise, the step is exactly the specified one. Over a
-        // reliable flash with no failed commit it always is, the flash stays reliable, and no commit fails.
-        ensures exact { F.failures self.new.flash ≡ F.failures self.old.flash → F.failures self.old.flash < 2 ^ 64 - 1 →
-            IsExactStep self.old (Frame (record { items = octets.now })) (boxed outbox.new) result self.new }
-        ensures reliable { F.is_reliable self.old.flash → self.old.live.values.has_failed ≡ false →
-            F.is_reliable self.new.flash × (self.new.live.values.has_failed ≡ false)
-            × IsExactStep self.old (Frame (record { items = octets.now })) (boxed outbox.new) result self.new }
-    {
-        // Using a field makes the invariant known here.
-        let _ = &self.identity;
-        outbox.clear(); // as `step` does
-        self.hear(octets, outbox)
-    }
-
-    /// Handles a call that came in fragments and was joined, from this caller to this IP address. Its octets are only read and
-    /// not kept: it does what `step` does with the event of these octets.
-    pub fn step_call(
-        &mut self,
-        caller: &Caller,
-        address: [u8; 4],
-        octets: &[u8],
-        outbox: &mut Outbox,
-    ) -> Note
-        ensures steps { Steps F.Flash self.old (heard_of self.old.station.identity (Joined caller.now address (record { items = octets.now })))
-            (boxed outbox.new) result self.new }
-
-        // If the failure counter of the flash, below 2^64 - 1, does not rise, the step is exactly the specified one. Over a
-        // reliable flash with no failed commit it always is, the flash stays reliable, and no commit fails.
-        ensures exact { F.failures self.new.flash ≡ F.failures self.old.flash → F.failures self.old.flash < 2 ^ 64 - 1 →
-            IsExactStep self.old (Joined caller.now address (record { items = octets.now })) (boxed outbox.new) result self.new }
-        ensures reliable { F.is_reliable self.old.flash → self.old.live.values.has_failed ≡ false →
-            F.is_reliable self.new.flash × (self.new.live.values.has_failed ≡ false)
-            × IsExactStep self.old (Joined caller.now address (record { items = octets.now })) (boxed outbox.new) result self.new }
-
-        // A call that is not `Done` changes nothing and sends nothing. One that was answered gets the same frame again, while
-        // that frame is kept.
-        ensures refused { result ≢ Note.Done → (self.new ≡ self.old) × (outbox.new.items ≡ []) }
-        ensures identify { (asker : Mac) (request : Asked) →
-            heard_of self.old.station.identity (Joined caller.now address (record { items = octets.now })) ≡ Asks asker request →
-            request.service ≡ Service.Identify →
-            Identifies self.old asker request (boxed outbox.new) result self.new }
-        ensures again { (call : Called) (frame : List ℕ) →
-            IsServed self.old.live (heard_of self.old.station.identity (Joined caller.now address (record { items = octets.now }))) call →
-            looked call.header.activity call.header.sequence self.old.live.rest.calls ≡ again frame →
-            IsAgain self.old frame (boxed outbox.new) result self.new }
-    {
-        // Using a field makes the invariant known here.
-        let _ = &self.identity;
-        outbox.clear(); // as `step` does
-        self.hear_datagram(caller, address, octets, outbox)
-    }
-
     /// Sets the input of a submodule, which is only read and not kept: it does what `step` does with that event, and sends nothing.
     pub fn give_input(&mut self, slot: u16, subslot: u16, value: &[u8]) -> Note
-        ensures quiet { IsQuietStep self.old (Input slot subslot (record { items = value.now })) result self.new }
+        ensures quiet { IsQuietStep self.old (Application (Input slot subslot (record { items = value.now }))) result self.new }
         // It changes nothing that is due.
         ensures due { live_due_in self.new.live ≡ live_due_in self.old.live }
     {
@@ -175,7 +119,7 @@ impl<F: Flash<S>, const S: usize> Device<F, S> {
     }
 
     // The outcome of an event.
-    fn respond(&mut self, event: &Event, outbox: &mut Outbox) -> Note
+    fn respond(&mut self, event: &Event<'_>, outbox: &mut Outbox) -> Note
         requires empty { outbox.old.items ≡ [] }
         ensures steps { Steps F.Flash self.old (heard_of self.old.station.identity event.now) (boxed outbox.new) result self.new }
         ensures reliable { StaysReliable F.Flash self.old self.new }
@@ -184,14 +128,30 @@ impl<F: Flash<S>, const S: usize> Device<F, S> {
         let _ = &self.identity;
         match event {
             Event::Tick => self.tick(outbox),
-            Event::Input(slot, subslot, value) => self.give(*slot, *subslot, value.as_slice()),
-            Event::Alarm(slot, subslot, octets) => {
+            Event::Application(local) => self.apply(local, outbox),
+            Event::Neighbour(neighbour) => self.meet(neighbour),
+            Event::Frame(bytes) => self.hear(bytes.as_slice(), outbox),
+            Event::Call(caller, address, octets) => {
+                self.hear_datagram(caller, *address, octets.as_slice(), outbox)
+            }
+        }
+    }
+
+    // What the application says.
+    fn apply(&mut self, local: &Local<Octets<'_, 1519>>, outbox: &mut Outbox) -> Note
+        requires empty { outbox.old.items ≡ [] }
+        ensures state { self.new ≡ behind self.old (handled_local self.old.station self.old.live local.now) }
+        ensures frames { boxed outbox.new ≡ frames_of self.old (handled_local self.old.station self.old.live local.now) }
+        ensures sendable { CanSend self.old (handled_local self.old.station self.old.live local.now) }
+        ensures note { result ≡ (end_of self.old.station self.old.live (handled_local self.old.station self.old.live local.now)).note }
+    {
+        match local {
+            Local::Input(slot, subslot, value) => self.give(*slot, *subslot, value.as_slice()),
+            Local::Alarm(slot, subslot, octets) => {
                 self.raise(*slot, *subslot, octets.as_slice(), outbox)
             }
-            Event::Status(slot, subslot, is_good) => self.rate(*slot, *subslot, *is_good),
-            Event::Neighbour(neighbour) => self.meet(neighbour),
-            Event::Ready => self.get_ready(outbox),
-            Event::Diagnosis(slot, subslot, channel, error, appears) => self.diagnose(
+            Local::Status(slot, subslot, is_good) => self.rate(*slot, *subslot, *is_good),
+            Local::Diagnosis(slot, subslot, channel, error, appears) => self.diagnose(
                 &Change {
                     diagnosis: Diagnosis {
                         slot: *slot,
@@ -203,10 +163,7 @@ impl<F: Flash<S>, const S: usize> Device<F, S> {
                 },
                 outbox,
             ),
-            Event::Frame(bytes) => self.hear(bytes.as_slice(), outbox),
-            Event::Call(caller, address, octets) => {
-                self.hear_datagram(caller, *address, octets.as_slice(), outbox)
-            }
+            Local::Ready => self.get_ready(outbox),
         }
     }
 

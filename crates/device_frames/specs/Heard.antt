@@ -2,6 +2,7 @@
 use Rattle.std.specs.Prelude.{◌==◌, ◌&&◌, ◌||◌, ℕ, Bool, nat_eq, nat_le, List, [], ◌∷◌, if◌then◌else◌, Option, Result, Ok, Err}
 use Rattle.std.specs.Option.{option_map}
 use Rattle.std.specs.Cmp.Lexicographic.{pointwise}
+use Rattle.arrayvec.specs.ArrayVec.{ArrayVec}
 use Rattle.pn_values.specs.declared.mac.Mac.{Mac}
 use Rattle.pn_values.specs.declared.identity.Identity.{Identity}
 use Rattle.frame_codec.specs.declared.arp.Arp.{Arp}
@@ -14,7 +15,6 @@ use Rattle.frame_codec.specs.Frame.{frame_of}
 use Rattle.dcp_core.specs.declared.request.DcpFault.{DcpFault}
 use Rattle.dcp_core.specs.Request.{Asked}
 use Rattle.dcp_core.specs.Reading.{request_of}
-use Rattle.diagnosis.specs.declared.diagnosis.Change.{Change}
 use Rattle.rpc_core.specs.declared.fault.RpcFault.{RpcFault}
 use Rattle.rpc_core.specs.declared.interface.Interface.TheVariants.{Device}
 use Rattle.rpc_core.specs.Call.{Asked as Call, call_of}
@@ -30,7 +30,8 @@ use Rattle.diagnosis.specs.reports.Priority.{priority_of}
 use Rattle.pn_alarms.specs.Message.{ToDevice, message_of}
 use Rattle.diagnosis.specs.reports.Message.{low_message_of}
 use Rattle.device_frames.specs.declared.event.Event.{Event}
-use Rattle.device_frames.specs.declared.event.Event.TheVariants.{Frame, Call as Joined, Tick, Input, Alarm, Status, Diagnosis, Neighbour, Ready}
+use Rattle.device_frames.specs.declared.event.Event.TheVariants.{Frame, Call as Joined, Tick, Neighbour, Application}
+use Rattle.device_frames.specs.declared.local.Local.{Local}
 
 -- What the body of a datagram says: a call to the device, else a response, else neither.
 pub data Said : Type 0 where
@@ -40,9 +41,8 @@ pub data Said : Type 0 where
 
 -- What an event is: a unit of time, a frame that cannot be read, a frame for another station, a DCP request and who
 -- sends it, an ARP packet and who sends it, a datagram: who sends it, to which address, and what it says; a cyclic
--- frame; an alarm frame: who sends it, between which endpoints, and what it says; or, from the application, the input
--- of a submodule, an alarm of one, whether its inputs are good, a diagnosis of one that appears or disappears, or that it is
--- ready; or which neighbour it has. Of alarm frames those that may be of low priority stand apart: an ACK under the FrameID of
+-- frame; an alarm frame: who sends it, between which endpoints, and what it says; which neighbour the station has; or what
+-- the application says. Of alarm frames those that may be of low priority are cases of their own: an ACK under the FrameID of
 -- low priority, and data that carries an AlarmAck of low priority.
 pub data Heard : Type 0 where
   Ticks : Heard
@@ -55,12 +55,8 @@ pub data Heard : Type 0 where
   Alarms : (source : Mac) → (header : Header) → (message : ToDevice) → Heard
   LowReplies : (source : Mac) → (header : Header) → (message : ToDevice) → Heard
   LowConfirms : (source : Mac) → (header : Header) → (message : ToDevice) → Heard
-  Given : (slot : ℕ) → (subslot : ℕ) → (value : List ℕ) → Heard
-  Raised : (slot : ℕ) → (subslot : ℕ) → (octets : List ℕ) → Heard
-  Rated : (slot : ℕ) → (subslot : ℕ) → (is_good : Bool) → Heard
   Met : (peer : Option Peer) → Heard
-  Diagnosed : (change : Change) → Heard
-  Readied : Heard
+  Applied : (local : Local (ArrayVec ℕ)) → Heard
 
 -- The multicast address of Identify requests.
 abbrev pub identify_multicast : List ℕ
@@ -141,21 +137,10 @@ abbrev pub heard_frame : Identity → Result Meaning FrameFault → Heard
 heard_frame identity (Ok meaning) = heard_content identity meaning.destination meaning.source meaning.content
 heard_frame identity (Err fault) = Unreadable
 
--- A change of diagnosis.
-abbrev pub diagnosed : (slot subslot channel error : ℕ) → Bool → Heard
-diagnosed slot subslot channel error appears = Diagnosed (record {
-  diagnosis = record { slot = slot; subslot = subslot; channel = channel; error = error };
-  appears = appears;
-})
-
 -- What each event is to a device.
 unfoldable pub heard_of : Identity → Event → Heard
 heard_of identity (Frame bytes) = heard_frame identity (frame_of bytes.items)
 heard_of identity (Joined caller address octets) = Reported caller address (said_by octets.items)
 heard_of identity Tick = Ticks
-heard_of identity (Input slot subslot value) = Given slot subslot value.items
-heard_of identity (Alarm slot subslot octets) = Raised slot subslot octets.items
-heard_of identity (Status slot subslot is_good) = Rated slot subslot is_good
 heard_of identity (Neighbour neighbour) = Met (option_map peer_as neighbour)
-heard_of identity (Diagnosis slot subslot channel error appears) = diagnosed slot subslot channel error appears
-heard_of identity Ready = Readied
+heard_of identity (Application local) = Applied local

@@ -1,33 +1,72 @@
-use arrayvec::ArrayVec;
-use frame_codec::{Bytes, Caller};
+//! What happens to a device.
+ghost use Rattle.std.specs.Prelude.{◌≡◌, take};
+ghost use Rattle.device_frames.specs.declared.event.Event.TheVariants.{Application};
+ghost use Rattle.device_frames.specs.declared.local.Local.TheVariants as local;
+
+use crate::{Local, Octets};
+use frame_codec::Caller;
 use lldp::Neighbour;
 
-/// A call that is longer than a datagram: its header, and a body of at most 4,152 octets.
-pub type LongCall = ArrayVec<u8, 4232>;
-
-/// What happens to a device.
+/// What happens to a device. It borrows its octets.
+// The tag is an octet of its own: in an unused value of `Neighbour`, where the compiler puts it, it costs each step 3 instructions.
 #[derive(Drop)]
-pub enum Event {
+#[repr(u8)]
+pub enum Event<'a> {
     /// These octets came from the network. Of a longer frame only the first 1,519 octets are given, which are refused
     /// in the same way.
-    Frame(Bytes),
-    /// A call came in fragments, from this caller to this IP address, and was joined.
-    Call(Caller, [u8; 4], LongCall),
+    Frame(Octets<'a, 1519>),
+    /// A call came in fragments, from this caller to this IP address, and was joined: its header, and a body of at most 4,152
+    /// octets.
+    Call(Caller, [u8; 4], Octets<'a, 4232>),
     /// A unit of 31.25 microseconds is over.
     Tick,
-    /// The application sets the input of the submodule in this slot and subslot.
-    Input(u16, u16, Bytes),
-    /// The application raises a process alarm of the submodule in this slot and subslot, with these octets.
-    Alarm(u16, u16, Bytes),
-    /// The application says whether the inputs of the submodule in this slot and subslot are good. Without data, it is the
-    /// IOPS of the submodule.
-    Status(u16, u16, bool),
     /// This is the neighbour of the station from now on: what its port leads to, or nothing that is known.
     Neighbour(Option<Neighbour>),
-    /// A diagnosis of the submodule in this slot and subslot, of this channel (0 to 0x7FFF, or 0x8000 for the submodule
-    /// itself) and with this ChannelErrorType, appears or disappears.
-    Diagnosis(u16, u16, u16, u16, bool),
-    /// The application is ready. It counts once in a relation: after PrmEnd, at a device whose application says when it is
-    /// ready.
-    Ready,
+    /// The application says this.
+    Application(Local<Octets<'a, 1519>>),
+}
+
+impl<'a> Event<'a> {
+    /// The application sets the input of the submodule in this slot and subslot. Of longer data only the first 1,519 octets are
+    /// given, which are refused in the same way.
+    #[inline(always)]
+    pub fn input(slot: u16, subslot: u16, octets: &'a [u8]) -> Event<'a>
+        ensures { result ≡ Application (local.Input slot subslot (record { items = take 1519 octets.now })) }
+    {
+        Event::Application(Local::Input(slot, subslot, Octets::of(octets)))
+    }
+
+    /// The application raises a process alarm of the submodule in this slot and subslot. Of more data only the first 1,519
+    /// octets are given, which are refused in the same way.
+    #[inline(always)]
+    pub fn alarm(slot: u16, subslot: u16, octets: &'a [u8]) -> Event<'a>
+        ensures { result ≡ Application (local.Alarm slot subslot (record { items = take 1519 octets.now })) }
+    {
+        Event::Application(Local::Alarm(slot, subslot, Octets::of(octets)))
+    }
+
+    /// The application says whether the inputs of the submodule in this slot and subslot are good.
+    #[inline(always)]
+    pub fn status(slot: u16, subslot: u16, is_good: bool) -> Event<'a>
+        ensures { result ≡ Application (local.Status slot subslot is_good) }
+    {
+        Event::Application(Local::Status(slot, subslot, is_good))
+    }
+
+    /// A diagnosis of the submodule in this slot and subslot, of this channel and with this ChannelErrorType, appears or
+    /// disappears.
+    #[inline(always)]
+    pub fn diagnosis(slot: u16, subslot: u16, channel: u16, error: u16, appears: bool) -> Event<'a>
+        ensures { result ≡ Application (local.Diagnosis slot subslot channel error appears) }
+    {
+        Event::Application(Local::Diagnosis(slot, subslot, channel, error, appears))
+    }
+
+    /// The application is ready.
+    #[inline(always)]
+    pub fn ready() -> Event<'a>
+        ensures { result ≡ Application local.Ready }
+    {
+        Event::Application(Local::Ready)
+    }
 }

@@ -9,17 +9,21 @@ mod answers;
 mod event;
 mod exchange;
 mod hearing;
+mod local;
 mod note;
+mod octets;
 mod relation;
 mod sizes;
 
 pub use answers::{send_arp_reply, send_dcp_answer, send_response};
-pub use event::{Event, LongCall};
+pub use event::Event;
 pub use exchange::{
     send_alarm, send_alarm_again, send_alarm_reply, send_inputs, send_inputs_of, send_low_alarm,
     send_low_reply, send_ready_again,
 };
 pub use frame_codec::Caller;
 pub use hearing::{RealTimeKind, is_asked, is_called, kind_of, open_frame, real_time_in};
+pub use local::Local;
 pub use note::Note;
+pub use octets::Octets;
 pub use relation::{send_farewell, send_ready};

@@ -1,5 +1,5 @@
 -- What a device sends and stores in each step.
-use Rattle.std.proofs.Common.{◌≡◌, ◌&&◌, ℕ, Bool, true, false, not, List, [], ◌∷◌, ◌++◌, Option, Some, None, is_some, Result, Ok, Err, refl}
+use Rattle.std.proofs.Common.{◌≡◌, ◌&&◌, ℕ, Bool, true, false, List, [], ◌∷◌, ◌++◌, Option, Some, None, is_some, Result, Ok, Err, refl, sym, subst}
 use Rattle.std.specs.List.{AllByRecursion}
 use Rattle.std.proofs.lemmas.Bool.{cond_both}
 use Rattle.pn_values.specs.declared.mac.Mac.{Mac}
@@ -25,10 +25,8 @@ use Rattle.pn_alarms.specs.declared.device.PduFate.{PduFate}
 use Rattle.pn_alarms.specs.declared.device.PduFate.TheVariants as fate
 use Rattle.cyclic_data.specs.declared.exchange.received.Received.{Received}
 use Rattle.cyclic_data.specs.declared.exchange.received.Received.TheVariants as received
-use Rattle.relations.specs.declared.exchange.statuses.InputStatus.{InputStatus}
-use Rattle.relations.specs.exchange.Statuses.{statuses_at}
 use Rattle.relations.specs.exchange.Flow.{Flow}
-use Rattle.relations.specs.Exchanged.{given_to, heard_by, hearing, raised_to, received_by, receiving}
+use Rattle.relations.specs.Exchanged.{heard_by, hearing, received_by, receiving}
 use Rattle.relations.specs.declared.hearing.ReadyAnswer.{ReadyAnswer}
 use Rattle.relations.specs.declared.hearing.ReadyAnswer.TheVariants as to_ready
 use Rattle.device_records.specs.Reading.{implicit_read, relation_read}
@@ -37,11 +35,8 @@ use Rattle.relations.specs.Ready.{answer_of as ready_answer}
 use Rattle.frame_codec.specs.declared.udp.Caller.{Caller}
 use Rattle.pn_alarms.specs.declared.pdu.Header.{Header}
 use Rattle.pn_alarms.specs.Message.{ToDevice}
-use Rattle.module_diff.specs.Plugged.{submodule_ident}
-use Rattle.diagnosis.specs.Existing.{changed}
-use Rattle.diagnosis.specs.declared.diagnosis.Change.{Change}
-use Rattle.diagnosis.specs.declared.diagnosis.Diagnosis.{Diagnosis}
-use Rattle.device_frames.specs.Heard.{Heard, Ticks, Unreadable, Elsewhere, Asks, Resolves, Reported, Cyclic, Alarms, LowReplies, LowConfirms, Given, Raised, Rated, Met, Diagnosed, Readied, Said, Calls, Responds, Garbled}
+use Rattle.device_frames.specs.Heard.{Heard, Ticks, Unreadable, Elsewhere, Asks, Resolves, Reported, Cyclic, Alarms, LowReplies, LowConfirms, Applied, Met, Said, Calls, Responds, Garbled}
+use Rattle.device_core.specs.Local.{ApplicationIsLocal, IsOfRelation}
 use Rattle.device_core.specs.Several.{judged_each}
 use Rattle.pn_values.specs.declared.identity.Identity.{Identity}
 use Rattle.connect_blocks.specs.declared.control.ControlBlock.{ControlBlock}
@@ -50,20 +45,21 @@ use Rattle.pn_alarms.specs.declared.receiver.Taken.{Taken}
 use Rattle.rpc_core.specs.Cache.{Reported as Looked, new, again, old, looked, kept_more}
 use Rattle.relations.specs.declared.farewell.Farewell.{Farewell}
 use Rattle.relations.specs.Timers.{Due, due_of}
-use Rattle.relations.specs.RelationState.{RelationState, uuid_of, flow_of, is_alarm_of, is_preparing, phase_of}
+use Rattle.relations.specs.RelationState.{RelationState, uuid_of, flow_of, is_alarm_of}
 use Rattle.relations.specs.exchange.Frames.{Frame, alarm_frame, low_alarm_frame}
-use Rattle.relations.specs.Phases.{Named, Parameterized, Prepared, Exchanged, answered, keeping, passing, updated}
+use Rattle.relations.specs.Phases.{Named, Parameterized, answered, keeping, passing, updated}
 use Rattle.relations.specs.Calls.{prm_end_of, prm_end_answer, release_answer}
-use Rattle.relations.specs.Diagnosed.{begin_one, beginning, diagnose_one, diagnosing, has_sent_low, heard_low, hearing_low, is_full_in, report_one, reporting}
+use Rattle.relations.specs.Diagnosed.{begin_one, beginning, has_sent_low, heard_low, hearing_low, report_one, reporting}
 use Rattle.relations.specs.Ready.{handled_by}
 use Rattle.device_frames.specs.Relation.{alarms_of, due_frames, farewells_in, frames_in, inputs_of, low_alarms_of, low_replies_of, ready_calls, replies_of, where_due}
 use Rattle.device_frames.specs.Sendable.{AreSendable}
 use Rattle.device_frames.specs.Sent.{Sent, IdentifyAnswer, GetAnswer, SetAnswer, ArpReply, CallAnswer, Again, Ends}
 use Rattle.rpc_core.specs.Response.{answer_to}
-use Rattle.device_core.specs.State.{Station, Live, alias_in, counter_of, units_after}
+use Rattle.device_core.specs.State.{Station, Live, Rest, alias_in, counter_of, units_after}
+use Rattle.device_core.specs.Local.{ApplicationIsLocal, IsOfRelation}
 use Rattle.device_core.specs.Several.{judged_each}
 use Rattle.device_core.specs.Log.{but_rest, connect_log, with_log}
-use Rattle.device_core.specs.Handled.{counted_by, number_now, starting_of, served as served_by, Handled, is_running, is_request, answer_from, kept_for, kept_answer, outcome_of, partner_of, ready_behind, handled_request, handled_effect, handled_write, handled_new, handled_looked, handled_blocks, handled_call, handled_answer, handled_said, handled_pdu, handled_received, handled_input, handled_notice, kept_status, handled, known_of, handled_alarm, handled_change, handled_low, handled_low_pdu}
+use Rattle.device_core.specs.Handled.{counted_by, number_now, starting_of, served as served_by, Handled, is_running, is_request, answer_from, kept_for, kept_answer, outcome_of, partner_of, ready_behind, handled_request, handled_effect, handled_write, handled_new, handled_looked, handled_blocks, handled_call, handled_answer, handled_said, handled_pdu, handled_received, handled, known_of, handled_alarm, handled_low, handled_low_pdu}
 use Rattle.device_core.specs.Machine.{farewells_at, items_in, first_answer, resets, several_answer, written_as, finished, heard_step, handled_step}
 use Rattle.dcp_core.specs.Set.{plan_of}
 use Rattle.end_laws.specs.answers.Whole.{AreStoredWhole, IsAnsweredWhole, IsOneDatagram}
@@ -147,9 +143,18 @@ others_whole : (identity : Identity) (messages : List Sent) → AreOthers messag
 others_whole identity [] others = tt
 others_whole identity (message ∷ messages) others = (other_whole identity message others.0, others_whole identity messages others.1)
 
+relation_other : (message : Sent) → IsOfRelation message → IsOther message
+relation_other (CallAnswer caller address answer) is = absurd is
+relation_other (Again frame) is = absurd is
+relation_other message is = tt
+
+relation_others : (messages : List Sent) → AllByRecursion IsOfRelation messages → AreOthers messages
+relation_others [] are = tt
+relation_others (message ∷ messages) are = (relation_other message are.0, relation_others messages are.1)
+
 -- ---- outcomes
 
-module _ (datagrams : DatagramsAreRead) (reads : ResponsesAreRead) (station : Station) (live : Live) (answers : List BlockError) where
+module _ (datagrams : DatagramsAreRead) (reads : ResponsesAreRead) (local_is : ApplicationIsLocal) (station : Station) (live : Live) (answers : List BlockError) where
   -- What is sent and stored after an outcome is whole, if what is sent can be sent and what was stored is whole.
   abbrev IsGood : Handled → Type 0
   IsGood what =
@@ -281,33 +286,11 @@ module _ (datagrams : DatagramsAreRead) (reads : ResponsesAreRead) (station : St
       cond_both (is_alarm_of source header.destination header.source live.rest.link) _ _ IsGood
       (λ _. low_pdu_good (heard_low message live.rest.link) (updated (hearing_low message live.rest.link) live.rest.link)) (λ _. silent)
 
-  change_good : (change : Change) (diagnoses : Option (List Diagnosis)) → IsGood (handled_change station live change diagnoses)
-  change_good change (Some diagnoses) =
-      let real = station.real.modules.items in
-      let link = updated (diagnosing real change diagnoses live.rest.link) live.rest.link in
-      let is_sent = diagnose_one real change diagnoses live.rest.link in
-      quiet (where_due is_sent (low_alarms_of (flow_of link))) (due_other is_sent _ (low_alarms_other (flow_of link)))
-  change_good change None = silent
-
   received_good : (came : Received) (link : Option RelationState) → IsGood (handled_received live came link)
   received_good received.Foreign link = silent
   received_good received.Short link = silent
   received_good received.Stale link = silent
   received_good received.Taken link = silent
-
-  input_good : (flow : Option Flow) → IsGood (handled_input live flow)
-  input_good (Some flow) = silent
-  input_good None = silent
-
-  notice_good : (flow : Option Flow) → IsGood (handled_notice live flow)
-  notice_good (Some flow) =
-      let link = updated (Exchanged flow) live.rest.link in
-      quiet (alarms_of (flow_of link)) (alarms_other (flow_of link))
-  notice_good None = silent
-
-  status_good : (slot subslot : ℕ) (is_good : Bool) (statuses : Option (List InputStatus)) → IsGood (kept_status live slot subslot is_good statuses)
-  status_good slot subslot is_good (Some statuses) = silent
-  status_good slot subslot is_good None = silent
 
   handled_good : (heard : Heard) → IsGood (handled station live heard)
   handled_good (Asks asker request) = request_good asker request.service request
@@ -321,18 +304,12 @@ module _ (datagrams : DatagramsAreRead) (reads : ResponsesAreRead) (station : St
   handled_good (LowConfirms source header message) = cond_both (has_sent_low live.rest.link) _ _ IsGood (λ _. low_good source header message) (λ _. silent)
   handled_good (Cyclic source frame_id body) =
       received_good (received_by source frame_id body live.rest.link) (updated (receiving source frame_id body live.rest.link) live.rest.link)
-  handled_good (Given slot subslot value) = input_good (given_to slot subslot value live.rest.link)
-  handled_good (Raised slot subslot octets) = notice_good (raised_to station.real.modules.items slot subslot octets live.rest.link)
-  handled_good (Rated slot subslot is_good) =
-      status_good slot subslot is_good (statuses_at station.real.modules.items (record { slot = slot; subslot = subslot; is_good = is_good }) live.rest.statuses)
   handled_good (Met peer) = silent
-  handled_good (Diagnosed change) =
-      cond_both (is_some (submodule_ident station.real.modules.items change.diagnosis.slot change.diagnosis.subslot) && not (is_full_in live.rest.link)) _ _ IsGood
-      (λ _. change_good change (changed change live.rest.diagnoses)) (λ _. silent)
-  handled_good Readied =
-      let address = live.values.running.suite.address in
-      let link = updated Prepared live.rest.link in
-      cond_both (is_preparing (phase_of live.rest.link)) _ _ IsGood (λ _. quiet (ready_calls address link) (calls_other address link)) (λ _. silent)
+  handled_good (Applied local) = λ can stored.
+      let is = local_is station live local in (
+        others_whole station.identity _ (relation_others _ (is.sends answers)),
+        subst (λ (rest : Rest). AreStoredWhole rest.calls) (sym (is.keeps answers)) stored,
+      )
   handled_good Ticks =
       let due = due_of live.rest.link in
       let link = updated (passing live.rest.link) live.rest.link in
@@ -341,9 +318,9 @@ module _ (datagrams : DatagramsAreRead) (reads : ResponsesAreRead) (station : St
   handled_good Unreadable = silent
   handled_good Elsewhere = silent
 
-pub step_good : DatagramsAreRead → ResponsesAreRead → (outcomes : List Outcome) (station : Station) (live : Live) (heard : Heard)
+pub step_good : DatagramsAreRead → ResponsesAreRead → ApplicationIsLocal → (outcomes : List Outcome) (station : Station) (live : Live) (heard : Heard)
     → AreSendable station.identity (heard_step outcomes station live heard).sent → AreStoredWhole live.rest.calls
     → AllByRecursion (IsAnsweredWhole station.identity) (heard_step outcomes station live heard).sent × AreStoredWhole (heard_step outcomes station live heard).live.rest.calls
 unfolding heard_step handled_step
-step_good datagrams reads outcomes station live heard =
-    handled_good datagrams reads station live (carried outcomes live.values (items_in (handled station live heard))).answers heard
+step_good datagrams reads local_is outcomes station live heard =
+    handled_good datagrams reads local_is station live (carried outcomes live.values (items_in (handled station live heard))).answers heard

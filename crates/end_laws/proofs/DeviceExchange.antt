@@ -81,17 +81,19 @@ use Rattle.relations.specs.Diagnosed.{begin_one, diagnose_one, has_sent_low, hea
 use Rattle.relations.specs.Exchanged.{heard_by, hearing_as, receiving_as}
 use Rattle.relations.specs.Ready.{answer_of as ready_answer, confirmed_block, confirmed_by, is_answer_to}
 use Rattle.relations.specs.Timers.{ending_of, unit_later}
-use Rattle.device_frames.specs.Heard.{Heard, Ticks, Unreadable, Elsewhere, Asks, Resolves, Reported, Cyclic, Alarms, LowReplies, LowConfirms, Diagnosed, Given, Raised, Rated, Met, Readied, Said, Calls, Responds, Garbled}
+use Rattle.device_frames.specs.declared.local.Local.TheVariants as local
+use Rattle.device_frames.specs.Heard.{Heard, Ticks, Unreadable, Elsewhere, Asks, Resolves, Reported, Cyclic, Alarms, LowReplies, LowConfirms, Applied, Met, Said, Calls, Responds, Garbled}
 use Rattle.device_frames.specs.Relation.{alarms_of, frames_in, low_alarms_of, low_replies_of, ready_calls, replies_of, where_due}
 use Rattle.device_frames.specs.Sent.{Sent, IdentifyAnswer, SetAnswer, ArpReply}
 use Rattle.device_frames.specs.declared.note.Note.{Note}
 use Rattle.device_frames.specs.declared.note.Note.TheVariants as note
 use Rattle.settings_journal.specs.settings_store.Machine.{Outcome, carried}
 use Rattle.device_core.specs.State.{Station, Live, alias_in}
-use Rattle.device_core.specs.Handled.{counted_by, number_now, Handled, Refuses, Sets, Moves, handled, handled_alarm, handled_answer, handled_blocks, handled_call, handled_change, handled_effect, handled_input, handled_looked, handled_low, handled_low_message, handled_low_pdu, handled_message, handled_new, handled_notice, handled_pdu, handled_received, handled_request, handled_said, handled_write, implicitly, is_request, is_running, kept_answer, kept_status, known_of, may_be_diagnosed, partner_of, ready_behind, served, starting_of, ticked}
+use Rattle.device_core.specs.Handled.{change_of, counted_by, number_now, Handled, Refuses, Sets, Moves, handled, handled_alarm, handled_answer, handled_blocks, handled_call, handled_change, handled_effect, handled_input, handled_looked, handled_low, handled_low_message, handled_low_pdu, handled_message, handled_new, handled_notice, handled_pdu, handled_received, handled_request, handled_said, handled_write, implicitly, is_request, is_running, kept_answer, kept_status, known_of, may_be_diagnosed, partner_of, ready_behind, served, starting_of, ticked}
 use Rattle.device_core.specs.Several.{Judged, judged_each}
 use Rattle.device_core.specs.Machine.{Stepped, Finished, effect_link, farewells_at, finished, first_answer, handled_step, heard_step, items_in, link_after, link_behind, one_link, resets, written_as}
 use Rattle.end_laws.specs.device.Exchange.{IsUnaccepted, given_with, is_inputs, is_unit, sends_inputs}
+use Rattle.end_laws.specs.device.Turn.{alarm_heard, change_heard, input_heard}
 use Rattle.end_laws.proofs.DeviceConnects.{unlimited}
 
 -- ---- what is sent
@@ -540,7 +542,8 @@ module _ (station : Station) (before : Live) (link : RelationState) where
       input_hearing slot subslot (record link.flow.cyclic { shown = changed at_data slot subslot (with_value value) link.flow.cyclic.shown }) (awaits slot subslot link.flow.marks)
   given_hearing slot subslot value false = refl
 
-  gives_on : (slot subslot : ℕ) (value : List ℕ) (next : RelationState) → next.flow ≡ unwrap_or (given_at link.flow slot subslot value) link.flow → Follows link (Given slot subslot value) next
+  gives_on : (slot subslot : ℕ) (value : List ℕ) (next : RelationState) → next.flow ≡ unwrap_or (given_at link.flow slot subslot value) link.flow
+      → Follows link (input_heard slot subslot value) next
   gives_on slot subslot value next same = record {
     events = runs.Gives slot subslot value ∷ [];
     goes = same;
@@ -550,26 +553,26 @@ module _ (station : Station) (before : Live) (link : RelationState) where
         ∙ given_hearing slot subslot value (has_size (length value) (cell_at at_data slot subslot link.flow.cyclic.shown.cells));
   }
 
-  gives : (slot subslot : ℕ) (value : List ℕ) (given : Option Flow) → given_at link.flow slot subslot value ≡ given → Done (Given slot subslot value) (handled_input live given)
+  gives : (slot subslot : ℕ) (value : List ℕ) (given : Option Flow) → given_at link.flow slot subslot value ≡ given → Done (input_heard slot subslot value) (handled_input live given)
   gives slot subslot value (Some flow) is = λ answers.
       becomes _ _ (with_flow flow link) (gives_on slot subslot value (with_flow flow link) (sym (ap (λ (o : Option Flow). unwrap_or o link.flow) is))) refl (λ unit. refl)
   gives slot subslot value None is =
       refuses _ note.Refused (gives_on slot subslot value link (sym (ap (λ (o : Option Flow). unwrap_or o link.flow) is)))
 
-  quiet_rated : (slot subslot : ℕ) (is_good : Bool) → IsQuiet (Rated slot subslot is_good)
+  quiet_rated : (slot subslot : ℕ) (is_good : Bool) → IsQuiet (Applied (local.Status slot subslot is_good))
   quiet_rated slot subslot is_good = record { unit = refl; value = λ s ss size. refl }
 
-  rates_as : (slot subslot : ℕ) (is_good : Bool) (statuses : Option (List InputStatus)) → Done (Rated slot subslot is_good) (kept_status live slot subslot is_good statuses)
+  rates_as : (slot subslot : ℕ) (is_good : Bool) (statuses : Option (List InputStatus)) → Done (Applied (local.Status slot subslot is_good)) (kept_status live slot subslot is_good statuses)
   rates_as slot subslot is_good (Some statuses) = λ answers.
       becomes _ _ (with_flow (rated_at link.flow slot subslot is_good) link) (rates link _ (quiet_rated slot subslot is_good) _ slot subslot is_good refl) refl (λ unit. refl)
   rates_as slot subslot is_good None = refuses _ note.Refused (calm link _ (quiet_rated slot subslot is_good) link refl)
 
   -- alarms
-  quiet_raised : (slot subslot : ℕ) (octets : List ℕ) → IsQuiet (Raised slot subslot octets)
+  quiet_raised : (slot subslot : ℕ) (octets : List ℕ) → IsQuiet (alarm_heard slot subslot octets)
   quiet_raised slot subslot octets = record { unit = refl; value = λ s ss size. refl }
 
   notices : (slot subslot : ℕ) (octets : List ℕ) (raised : Option Flow) → raised_at link.flow station.real.modules.items slot subslot octets ≡ raised
-      → Done (Raised slot subslot octets) (handled_notice live raised)
+      → Done (alarm_heard slot subslot octets) (handled_notice live raised)
   notices slot subslot octets (Some flow) is = λ answers.
       becomes _ _ (with_flow flow link)
       (raises link _ (quiet_raised slot subslot octets) station.real.modules.items _ slot subslot octets (sym (ap (λ (o : Option Flow). unwrap_or o link.flow) is))) refl
@@ -613,24 +616,24 @@ module _ (station : Station) (before : Live) (link : RelationState) where
     low_confirm source header message false = refuses heard note.Fault (calm link heard quiet link refl)
 
   -- diagnosis
-  quiet_change : (change : Change) → IsQuiet (Diagnosed change)
+  quiet_change : (change : Change) → IsQuiet (change_heard change)
   quiet_change change = record { unit = refl; value = λ s ss size. refl }
 
-  changes : (change : Change) (later : Option (List Diagnosis)) → Done (Diagnosed change) (handled_change station live change later)
+  changes : (change : Change) (later : Option (List Diagnosis)) → Done (change_heard change) (handled_change station live change later)
   changes change (Some later) = λ answers.
       becomes _ _ (with_flow (diagnosed station.real.modules.items change later link.flow) link) (lowers link _ (quiet_change change) _ _ refl) refl
       (λ unit. low_due (diagnose_one station.real.modules.items change later (Some link)) (Some (diagnosed station.real.modules.items change later link.flow)))
   changes change None = refuses _ note.Refused (calm link _ (quiet_change change) link refl)
 
-  diagnoses : (change : Change) (may : Bool) → Done (Diagnosed change) (if may then handled_change station live change (changed_list change live.rest.diagnoses) else Refuses note.Refused)
+  diagnoses : (change : Change) (may : Bool) → Done (change_heard change) (if may then handled_change station live change (changed_list change live.rest.diagnoses) else Refuses note.Refused)
   diagnoses change true = changes change (changed_list change live.rest.diagnoses)
   diagnoses change false = refuses _ note.Refused (calm link _ (quiet_change change) link refl)
 
   -- the application is ready
-  readies : (preparing : Bool) → Done Readied (if preparing
+  readies : (preparing : Bool) → Done (Applied local.Ready) (if preparing
       then (let after = updated Prepared live.rest.link in Moves (record live.rest { link = after }) (ready_calls live.values.running.suite.address after)) else Refuses note.Refused)
   readies true = λ answers.
-      calms Readied (record { unit = refl; value = λ s ss size. refl }) _ (calm_map (λ l. prepared_from l) prepared_same live.rest.link calm_stands) (ready_none live.values.running.suite.address (updated Prepared live.rest.link))
+      calms (Applied local.Ready) (record { unit = refl; value = λ s ss size. refl }) _ (calm_map (λ l. prepared_from l) prepared_same live.rest.link calm_stands) (ready_none live.values.running.suite.address (updated Prepared live.rest.link))
     where
       prepared_same : (l : RelationState) → (prepared_from l).flow ≡ l.flow
       prepared_same l = by_phase (is_preparing (Some l.phase))
@@ -638,7 +641,7 @@ module _ (station : Station) (before : Live) (link : RelationState) where
           by_phase : (b : Bool) → (if b then record l { phase = Awaiting; waited = 0 } else l).flow ≡ l.flow
           by_phase true = refl
           by_phase false = refl
-  readies false = refuses Readied note.Refused (calm link Readied (record { unit = refl; value = λ s ss size. refl }) link refl)
+  readies false = refuses (Applied local.Ready) note.Refused (calm link (Applied local.Ready) (record { unit = refl; value = λ s ss size. refl }) link refl)
 
   -- a unit
   passes_on : Follows link Ticks (unit_later link)
@@ -662,13 +665,15 @@ module _ (station : Station) (before : Live) (link : RelationState) where
   does (LowReplies source header message) = low_reply _ (record { unit = refl; value = λ s ss size. refl }) source header message (has_sent_low live.rest.link)
   does (LowConfirms source header message) = low_confirm _ (record { unit = refl; value = λ s ss size. refl }) source header message (has_sent_low live.rest.link)
   does (Cyclic source frame_id body) = receives source frame_id body (received_as link.flow source frame_id body) refl
-  does (Given slot subslot value) = gives slot subslot value (given_at link.flow slot subslot value) refl
-  does (Raised slot subslot octets) = notices slot subslot octets (raised_at link.flow station.real.modules.items slot subslot octets) refl
-  does (Rated slot subslot is_good) =
+  does (Applied (local.Input slot subslot value)) = gives slot subslot value.items (given_at link.flow slot subslot value.items) refl
+  does (Applied (local.Alarm slot subslot octets)) = notices slot subslot octets.items (raised_at link.flow station.real.modules.items slot subslot octets.items) refl
+  does (Applied (local.Status slot subslot is_good)) =
       rates_as slot subslot is_good (statuses_at station.real.modules.items (record { slot = slot; subslot = subslot; is_good = is_good }) live.rest.statuses)
   does (Met peer) = λ answers. calms (Met peer) (record { unit = refl; value = λ s ss size. refl }) _ calm_stands refl
-  does (Diagnosed change) = diagnoses change (may_be_diagnosed station live change)
-  does Readied = readies (is_preparing (phase_of live.rest.link))
+  does (Applied (local.Diagnosis slot subslot channel error appears)) =
+      let change = change_of slot subslot channel error appears in
+      diagnoses change (may_be_diagnosed station live change)
+  does (Applied local.Ready) = readies (is_preparing (phase_of live.rest.link))
   does Ticks = ticks (ending_of link) refl
   does Unreadable = refuses Unreadable note.Fault (calm link Unreadable (record { unit = refl; value = λ s ss size. refl }) link refl)
   does Elsewhere = refuses Elsewhere note.NotMine (calm link Elsewhere (record { unit = refl; value = λ s ss size. refl }) link refl)

@@ -56,14 +56,15 @@ use Rattle.relations.specs.Diagnosed.{diagnose_one, diagnosing, has_sent_low, he
 use Rattle.relations.specs.Ready.{answer_of as ready_answer, confirmed_block, confirmed_by, is_wanted, is_answer_to, ready_of}
 use Rattle.relations.specs.Timers.{due_by, due_of, ending_of, is_again, unit_later}
 use Rattle.relations.specs.Exchanged.{given_to, heard_by, hearing, raised_to, rating, received_by, receiving, hearing_as, receiving_as}
-use Rattle.device_frames.specs.Heard.{Heard, Ticks, Unreadable, Elsewhere, Asks, Resolves, Reported, Cyclic, Alarms, LowReplies, LowConfirms, Diagnosed, Given, Raised, Rated, Met, Readied, Said, Calls, Responds, Garbled}
+use Rattle.device_frames.specs.declared.local.Local.TheVariants as local
+use Rattle.device_frames.specs.Heard.{Heard, Ticks, Unreadable, Elsewhere, Asks, Resolves, Reported, Cyclic, Alarms, LowReplies, LowConfirms, Applied, Met, Said, Calls, Responds, Garbled}
 use Rattle.device_frames.specs.Relation.{alarms_of, frames_in, inputs_of, low_alarms_of, low_replies_of, ready_calls, replies_of, where_due, due_frames}
 use Rattle.device_frames.specs.Sent.{Sent, IdentifyAnswer, GetAnswer, SetAnswer, ArpReply, Again, Ends, CallAnswer, ReadyCall}
 use Rattle.device_frames.specs.declared.note.Note.{Note}
 use Rattle.device_frames.specs.declared.note.Note.TheVariants as note
 use Rattle.settings_journal.specs.settings_store.Machine.{Outcome, carried}
 use Rattle.device_core.specs.State.{Station, Live, Rest, alias_in, counter_of, units_after}
-use Rattle.device_core.specs.Handled.{Handled, Refuses, Sets, Moves, is_running, is_request, outcome_of, served, ready_behind, partner_of, kept_answer, handled_effect, handled_write, handled_new, handled_looked, handled_blocks, handled_call, handled_alarm, handled_answer, handled_beginning, handled_change, handled_low, handled_low_message, handled_low_pdu, handled_said, handled_received, handled_input, handled_met, handled_notice, handled_pdu, handled_message, handled_request, goes_on_with, kept_status, starting_of, number_now, counted_by, handled, known_of}
+use Rattle.device_core.specs.Handled.{change_of, Handled, Refuses, Sets, Moves, is_running, is_request, outcome_of, served, ready_behind, partner_of, kept_answer, handled_effect, handled_write, handled_new, handled_looked, handled_blocks, handled_call, handled_alarm, handled_answer, handled_beginning, handled_change, handled_low, handled_low_message, handled_low_pdu, handled_said, handled_received, handled_input, handled_met, handled_notice, handled_pdu, handled_message, handled_request, goes_on_with, kept_status, starting_of, number_now, counted_by, handled, known_of}
 use Rattle.device_core.specs.Several.{Judged, judged_each}
 use Rattle.device_core.specs.Machine.{effect_link, first_answer, link_behind, one_link, several_answer, resets, farewells_at, finished, items_in, handled_step, heard_step, link_after, written_as}
 use Rattle.device_records.specs.declared.log_data.entry.LogEntry.{LogEntry}
@@ -109,7 +110,7 @@ use Rattle.relations.specs.declared.ready.Ready.{Ready}
 use Rattle.end_laws.specs.both.Small as small
 use Rattle.end_laws.specs.device.Small.{IsPlanned, IsPlannedAs, IsPlannedIn, Planned, confirms, heard_as, link_of, names_own, phase_in}
 use Rattle.end_laws.specs.device.Does.{AreReadied, GoesBy, IsEffect, IsExchange, IsOther, IsRestarted, readied_from, with_more}
-use Rattle.end_laws.specs.device.Turn.{AreCalm, BeginsNumbered, Diagnoses, IsCalm, IsHigh, IsLow, IsRaise, IsSameOr, IsTurn, Raises, Standing, Turn, standing_of}
+use Rattle.end_laws.specs.device.Turn.{AreCalm, BeginsNumbered, Diagnoses, IsCalm, IsHigh, IsLow, IsRaise, IsSameOr, IsTurn, Raises, Standing, Turn, alarm_heard, change_heard, input_heard, standing_of}
 
 -- ---- what is sent
 
@@ -184,7 +185,7 @@ preparing_is Awaiting e = absurd cc
 preparing_is Exchanging e = absurd cc
 
 raise_is : (real : List RealModule) (slot subslot : ℕ) (octets : List ℕ) (link : Option RelationState) (flow : Flow) → raised_to real slot subslot octets link ≡ Some flow
-    → Raises real link (Raised slot subslot octets) (updated (Exchanged flow) link) (alarms_of (flow_of (updated (Exchanged flow) link)))
+    → Raises real link (alarm_heard slot subslot octets) (updated (Exchanged flow) link) (alarms_of (flow_of (updated (Exchanged flow) link)))
 raise_is real slot subslot octets None flow e = absurd cc
 raise_is real slot subslot octets (Some link) flow e =
     record { slot = slot; subslot = subslot; octets = octets; is = refl; link = link; was = refl; flow = flow; raised = e; becomes = refl; sends = refl }
@@ -514,15 +515,15 @@ module _ (rules : Rules TakenRecord Request) (activity : List ℕ) (station : St
           (inr (inr (inr (inr (inr (inr (inl (record { source = source; frame_id = frame_id; body = body; is = refl; link = link; was = was; taken = e; becomes = refl; silent = refl }))))))))
           (flows link (behind_frame link.flow source frame_id body) was) tt
 
-  gives : (slot subslot : ℕ) (value : List ℕ) (flow : Option Flow) → given_to slot subslot value before ≡ flow → Comes_to (Given slot subslot value) (handled_input live flow)
+  gives : (slot subslot : ℕ) (value : List ℕ) (flow : Option Flow) → given_to slot subslot value before ≡ flow → Comes_to (input_heard slot subslot value) (handled_input live flow)
   gives slot subslot value (Some flow) is = λ answers.
-      stays (Given slot subslot value) (λ planned. refl) (record live.rest { link = updated (Exchanged flow) before }) [] refl refl (given_keeps slot subslot value before flow is) tt tt
-  gives slot subslot value None is = refuses (Given slot subslot value) note.Refused
+      stays (input_heard slot subslot value) (λ planned. refl) (record live.rest { link = updated (Exchanged flow) before }) [] refl refl (given_keeps slot subslot value before flow is) tt tt
+  gives slot subslot value None is = refuses (input_heard slot subslot value) note.Refused
 
-  rates : (slot subslot : ℕ) (is_good : Bool) (statuses : Option (List InputStatus)) → Comes_to (Rated slot subslot is_good) (kept_status live slot subslot is_good statuses)
+  rates : (slot subslot : ℕ) (is_good : Bool) (statuses : Option (List InputStatus)) → Comes_to (Applied (local.Status slot subslot is_good)) (kept_status live slot subslot is_good statuses)
   rates slot subslot is_good (Some statuses) = λ answers.
-      stays (Rated slot subslot is_good) (λ planned. refl) (record live.rest { link = updated (rating slot subslot is_good before) before; statuses = statuses }) [] refl refl (rated_keeps slot subslot is_good before) tt tt
-  rates slot subslot is_good None = refuses (Rated slot subslot is_good) note.Refused
+      stays (Applied (local.Status slot subslot is_good)) (λ planned. refl) (record live.rest { link = updated (rating slot subslot is_good before) before; statuses = statuses }) [] refl refl (rated_keeps slot subslot is_good before) tt tt
+  rates slot subslot is_good None = refuses (Applied (local.Status slot subslot is_good)) note.Refused
 
   meets : (peer : Option Peer) → Comes_to (Met peer) (handled_met live peer)
   meets peer = λ answers. stays (Met peer) (λ planned. refl) (record live.rest { peer = peer }) [] refl refl (inl refl, inl refl) tt tt
@@ -530,13 +531,13 @@ module _ (rules : Rules TakenRecord Request) (activity : List ℕ) (station : St
   -- ---- the application is ready
 
   readies : (link : Option RelationState) → before ≡ link
-      → Comes_to Readied (cond (is_preparing (phase_of link)) (goes_on_with live (updated Prepared link) (ready_calls from (updated Prepared link))) (Refuses note.Refused))
-  readies None was = refuses Readied note.Refused
+      → Comes_to (Applied local.Ready) (cond (is_preparing (phase_of link)) (goes_on_with live (updated Prepared link) (ready_calls from (updated Prepared link))) (Refuses note.Refused))
+  readies None was = refuses (Applied local.Ready) note.Refused
   readies (Some link) was = by_test (is_preparing (Some link.phase)) refl
     where
       by_test : (b : Bool) → is_preparing (Some link.phase) ≡ b
-          → Comes_to Readied (cond b (goes_on_with live (Some (cond b (readied link) link)) (ready_calls from (Some (cond b (readied link) link)))) (Refuses note.Refused))
-      by_test true is = becomes Readied (λ planned. refl) (Some (readied link)) (ready_calls from (Some (readied link)))
+          → Comes_to (Applied local.Ready) (cond b (goes_on_with live (Some (cond b (readied link) link)) (ready_calls from (Some (cond b (readied link) link)))) (Refuses note.Refused))
+      by_test true is = becomes (Applied local.Ready) (λ planned. refl) (Some (readied link)) (ready_calls from (Some (readied link)))
           (inl (record {
             link = inl (ap (λ (b : Bool). let o : Option Standing = Some (record (standing_of link) { exchanges = b }) in o) (sym (ap is_exchanging (preparing_is link.phase is)))
                 ∙ sym (ap (λ (l : Option RelationState). option_map standing_of l) was));
@@ -548,17 +549,17 @@ module _ (rules : Rules TakenRecord Request) (activity : List ℕ) (station : St
           ∙ sym (ap (λ (l : Option RelationState). option_map link_of l) was)
           )
           ((record { link = link; is = was; header = refl; block = refl }, record { link = readied link; is = refl; awaits = refl }), tt)
-      by_test false is = refuses Readied note.Refused
+      by_test false is = refuses (Applied local.Ready) note.Refused
 
   -- ---- alarms
 
   raises : (slot subslot : ℕ) (octets : List ℕ) (flow : Option Flow) → raised_to station.real.modules.items slot subslot octets before ≡ flow
-      → Comes_to (Raised slot subslot octets) (handled_notice live flow)
+      → Comes_to (alarm_heard slot subslot octets) (handled_notice live flow)
   raises slot subslot octets (Some flow) raised =
       let link = updated (Exchanged flow) before in
-      becomes (Raised slot subslot octets) (λ planned. refl) link (alarms_of (flow_of link)) (inr (inr (inl (raise_is station.real.modules.items slot subslot octets before flow raised))))
+      becomes (alarm_heard slot subslot octets) (λ planned. refl) link (alarms_of (flow_of link)) (inr (inr (inl (raise_is station.real.modules.items slot subslot octets before flow raised))))
       (exchanged_same before flow) (alarms_other link (flow_of link))
-  raises slot subslot octets None raised = refuses (Raised slot subslot octets) note.Refused
+  raises slot subslot octets None raised = refuses (alarm_heard slot subslot octets) note.Refused
 
   -- what is heard of high priority, in this way
   module _ (heard : Heard) (source : Mac) (header : Header) (idle : (planned : Planned) → heard_as planned heard ≡ small.Idle) where
@@ -638,13 +639,13 @@ module _ (rules : Rules TakenRecord Request) (activity : List ℕ) (station : St
   -- ---- diagnoses
 
   changes : (change : Change) (later : Option (List Diagnosis)) → is_full_in before ≡ false → changed_list change live.rest.diagnoses ≡ later
-      → Comes_to (Diagnosed change) (handled_change station live change later)
-  changes change None room is = refuses (Diagnosed change) note.Refused
+      → Comes_to (change_heard change) (handled_change station live change later)
+  changes change None room is = refuses (change_heard change) note.Refused
   changes change (Some later) room is = λ answers.
       let real = station.real.modules.items in
       let link = updated (diagnosing real change later before) before in
       let sent = where_due (diagnose_one real change later before) (low_alarms_of (flow_of link)) in
-      let how : Diagnoses real live.rest.diagnoses later before (Diagnosed change) link sent =
+      let how : Diagnoses real live.rest.diagnoses later before (change_heard change) link sent =
       record { change = change; is = refl; open_room = room; changes = is; becomes = refl; sends = refl } in
       let others = lows_other link (diagnose_one real change later before) link in
       record {
@@ -652,7 +653,7 @@ module _ (rules : Rules TakenRecord Request) (activity : List ℕ) (station : St
         is = inr (inr (inr (inr (inr (inr (inr (inr (inr (inr how)))))))));
         diagnoses = inr how;
         answers = inl refl;
-        owed = other_owed (Diagnosed change) link sent others;
+        owed = other_owed (change_heard change) link sent others;
       }
     where
       diagnosing_same : (real : List RealModule) (change : Change) (later : List Diagnosis) (link : Option RelationState)
@@ -661,10 +662,10 @@ module _ (rules : Rules TakenRecord Request) (activity : List ℕ) (station : St
       diagnosing_same real change later (Some link) = refl
 
   diagnoses_as : (change : Change) (b c : Bool) → is_full_in before ≡ c
-      → Comes_to (Diagnosed change) (cond (b && not c) (handled_change station live change (changed_list change live.rest.diagnoses)) (Refuses note.Refused))
-  diagnoses_as change true true room = refuses (Diagnosed change) note.Refused
+      → Comes_to (change_heard change) (cond (b && not c) (handled_change station live change (changed_list change live.rest.diagnoses)) (Refuses note.Refused))
+  diagnoses_as change true true room = refuses (change_heard change) note.Refused
   diagnoses_as change true false room = changes change (changed_list change live.rest.diagnoses) room refl
-  diagnoses_as change false c room = refuses (Diagnosed change) note.Refused
+  diagnoses_as change false c room = refuses (change_heard change) note.Refused
 
   -- ---- units
 
@@ -1029,15 +1030,16 @@ module _ (rules : Rules TakenRecord Request) (activity : List ℕ) (station : St
       alarms (Alarms source header message) source header (λ planned. refl) message (is_alarm_of source header.destination header.source before) (inl refl)
   turns (LowReplies source header message) plan = low_replies source header message (has_sent_low before)
   turns (LowConfirms source header message) plan = low_confirms source header message (has_sent_low before)
-  turns (Diagnosed change) plan =
+  turns (Applied (local.Diagnosis slot subslot channel error appears)) plan =
+      let change = change_of slot subslot channel error appears in
       diagnoses_as change (is_some (submodule_ident station.real.modules.items change.diagnosis.slot change.diagnosis.subslot)) (is_full_in before) refl
   turns (Cyclic source frame_id body) plan = receives source frame_id body before refl
-  turns (Given slot subslot value) plan = gives slot subslot value (given_to slot subslot value before) refl
-  turns (Raised slot subslot octets) plan = raises slot subslot octets (raised_to station.real.modules.items slot subslot octets before) refl
-  turns (Rated slot subslot is_good) plan =
+  turns (Applied (local.Input slot subslot value)) plan = gives slot subslot value.items (given_to slot subslot value.items before) refl
+  turns (Applied (local.Alarm slot subslot octets)) plan = raises slot subslot octets.items (raised_to station.real.modules.items slot subslot octets.items before) refl
+  turns (Applied (local.Status slot subslot is_good)) plan =
       rates slot subslot is_good (statuses_at station.real.modules.items (record { slot = slot; subslot = subslot; is_good = is_good }) live.rest.statuses)
   turns (Met peer) plan = meets peer
-  turns Readied plan = readies before refl
+  turns (Applied local.Ready) plan = readies before refl
   turns Ticks plan = ticks_with (live.rest.lamp - 1) (units_after 1 live.rest.units)
       (err_log (due_of before).farewell (units_after 1 live.rest.units) live.rest.log) before refl
   turns Unreadable plan = refuses Unreadable note.Fault
@@ -1057,9 +1059,9 @@ step_numbers rules activity outcomes station live heard plan =
     (step_turns rules activity outcomes station live heard plan).does
 
 pub step_raises : (outcomes : List Outcome) (station : Station) (live : Live) (slot subslot : ℕ) (octets : List ℕ)
-    → IsRaise station.real.modules.items live.rest.link slot subslot octets (heard_step outcomes station live (Raised slot subslot octets)).live.rest.link
-    (heard_step outcomes station live (Raised slot subslot octets)).sent
+    → IsRaise station.real.modules.items live.rest.link slot subslot octets (heard_step outcomes station live (alarm_heard slot subslot octets)).live.rest.link
+    (heard_step outcomes station live (alarm_heard slot subslot octets)).sent
 unfolding heard_step handled_step
 step_raises outcomes station live slot subslot octets =
     raise_as station live slot subslot octets (raised_to station.real.modules.items slot subslot octets live.rest.link)
-    (carried outcomes live.values (items_in (handled station live (Raised slot subslot octets)))).answers refl
+    (carried outcomes live.values (items_in (handled station live (alarm_heard slot subslot octets)))).answers refl

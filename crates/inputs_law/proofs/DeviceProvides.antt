@@ -68,17 +68,19 @@ use Rattle.relations.specs.Diagnosed.{heard_low, hearing_low, has_sent_low}
 use Rattle.relations.specs.Exchanged.{given_to, heard_by, hearing_as, raised_to, received_by, receiving_as}
 use Rattle.relations.specs.Ready.{answer_of as ready_answer}
 use Rattle.relations.specs.Timers.{ending_of, unit_later}
-use Rattle.device_frames.specs.Heard.{Heard, Ticks, Unreadable, Elsewhere, Asks, Resolves, Reported, Cyclic, Alarms, LowReplies, LowConfirms, Diagnosed, Given, Raised, Rated, Met, Readied, Said, Calls, Responds, Garbled}
+use Rattle.device_frames.specs.declared.local.Local.TheVariants as local
+use Rattle.device_frames.specs.Heard.{Heard, Ticks, Unreadable, Elsewhere, Asks, Resolves, Reported, Cyclic, Alarms, LowReplies, LowConfirms, Applied, Met, Said, Calls, Responds, Garbled}
 use Rattle.device_frames.specs.Relation.{ready_calls}
 use Rattle.device_frames.specs.Sent.{IdentifyAnswer, ArpReply}
 use Rattle.device_frames.specs.declared.note.Note.{Note}
 use Rattle.device_frames.specs.declared.note.Note.TheVariants as note
 use Rattle.settings_journal.specs.settings_store.Machine.{Outcome, carried}
 use Rattle.device_core.specs.State.{Station, Live, alias_in}
-use Rattle.device_core.specs.Handled.{Handled, Refuses, Moves, handled, handled_alarm, handled_answer, handled_blocks, handled_call, handled_change, handled_effect, handled_input, handled_looked, handled_low, handled_low_message, handled_low_pdu, handled_message, handled_new, handled_notice, handled_pdu, handled_received, handled_request, handled_said, handled_write, implicitly, is_request, is_running, kept_status, known_of, may_be_diagnosed, partner_of, starting_of, ticked}
+use Rattle.device_core.specs.Handled.{change_of, Handled, Refuses, Moves, handled, handled_alarm, handled_answer, handled_blocks, handled_call, handled_change, handled_effect, handled_input, handled_looked, handled_low, handled_low_message, handled_low_pdu, handled_message, handled_new, handled_notice, handled_pdu, handled_received, handled_request, handled_said, handled_write, implicitly, is_request, is_running, kept_status, known_of, may_be_diagnosed, partner_of, starting_of, ticked}
 use Rattle.device_core.specs.Several.{Judged, judged_each}
 use Rattle.device_core.specs.Machine.{Finished, effect_link, finished, first_answer, handled_step, heard_step, items_in, link_after, link_behind, one_link, resets, written_as}
 use Rattle.relations.specs.declared.options.DeviceOptions.{DeviceOptions}
+use Rattle.end_laws.specs.device.Turn.{input_heard}
 use Rattle.inputs_law.proofs.GivenCells.{Provided, give, give_is, provided_in, restate}
 
 some_is : {A : Type 0} (x y : A) → Some x ≡ Some y → x ≡ y
@@ -129,7 +131,7 @@ second_refused link options source blocks request e = refused_second link.reques
 
 -- the statuses that the application gave, after an event
 abbrev pub said_in : List RealModule → Heard → List InputStatus → List InputStatus
-said_in real (Rated slot subslot is_good) statuses = unwrap_or (statuses_at real (record { slot = slot; subslot = subslot; is_good = is_good }) statuses) statuses
+said_in real (Applied (local.Status slot subslot is_good)) statuses = unwrap_or (statuses_at real (record { slot = slot; subslot = subslot; is_good = is_good }) statuses) statuses
 said_in real heard statuses = statuses
 
 -- what a relation sends of its inputs, after an event
@@ -138,8 +140,8 @@ rated_if (Some statuses) slot subslot is_good now = restate slot subslot (Some i
 rated_if None slot subslot is_good now = now
 
 abbrev pub provided_by : List RealModule → List InputStatus → Heard → Provided → Provided
-provided_by real statuses (Given slot subslot value) now = give slot subslot value now
-provided_by real statuses (Rated slot subslot is_good) now = rated_if (statuses_at real (record { slot = slot; subslot = subslot; is_good = is_good }) statuses) slot subslot is_good now
+provided_by real statuses (Applied (local.Input slot subslot value)) now = give slot subslot value.items now
+provided_by real statuses (Applied (local.Status slot subslot is_good)) now = rated_if (statuses_at real (record { slot = slot; subslot = subslot; is_good = is_good }) statuses) slot subslot is_good now
 provided_by real statuses heard now = now
 
 -- ---- the statuses
@@ -250,13 +252,15 @@ module _ (station : Station) (live : Live) where
   all_said (LowReplies source header message) = kept_if (has_sent_low live.rest.link) _ _ (low_said source header message) (alarm_said source header message)
   all_said (LowConfirms source header message) = kept_if (has_sent_low live.rest.link) _ _ (low_said source header message) (λ answers. refl)
   all_said (Cyclic source frame_id body) = received_said (received_by source frame_id body live.rest.link) _
-  all_said (Given slot subslot value) = input_said (given_to slot subslot value live.rest.link)
-  all_said (Raised slot subslot octets) = notice_said (raised_to station.real.modules.items slot subslot octets live.rest.link)
-  all_said (Rated slot subslot is_good) =
+  all_said (Applied (local.Input slot subslot value)) = input_said (given_to slot subslot value.items live.rest.link)
+  all_said (Applied (local.Alarm slot subslot octets)) = notice_said (raised_to station.real.modules.items slot subslot octets.items live.rest.link)
+  all_said (Applied (local.Status slot subslot is_good)) =
       rated_said slot subslot is_good (statuses_at station.real.modules.items (record { slot = slot; subslot = subslot; is_good = is_good }) live.rest.statuses)
   all_said (Met peer) = λ answers. refl
-  all_said (Diagnosed change) = kept_if (may_be_diagnosed station live change) _ _ (change_said change (changed_list change live.rest.diagnoses)) (λ answers. refl)
-  all_said Readied = kept_if (is_preparing (phase_of live.rest.link)) _ _ (λ answers. refl) (λ answers. refl)
+  all_said (Applied (local.Diagnosis slot subslot channel error appears)) =
+      let change = change_of slot subslot channel error appears in
+      kept_if (may_be_diagnosed station live change) _ _ (change_said change (changed_list change live.rest.diagnoses)) (λ answers. refl)
+  all_said (Applied local.Ready) = kept_if (is_preparing (phase_of live.rest.link)) _ _ (λ answers. refl) (λ answers. refl)
   all_said Ticks = λ answers. refl
   all_said Unreadable = λ answers. refl
   all_said Elsewhere = λ answers. refl
@@ -451,7 +455,7 @@ module _ (station : Station) (before : Live) (link : RelationState) where
       (ap (λ (shown : Image). let p : Provided = record { shown = shown; marks = link.flow.marks } in p) (frame_same source frame_id body))
 
   -- an input is given
-  gives : (slot subslot : ℕ) (value : List ℕ) (given : Option Flow) → given_at link.flow slot subslot value ≡ given → Done (Given slot subslot value) (handled_input live given)
+  gives : (slot subslot : ℕ) (value : List ℕ) (given : Option Flow) → given_at link.flow slot subslot value ≡ given → Done (input_heard slot subslot value) (handled_input live given)
   gives slot subslot value (Some flow) is = λ answers next e.
       ap (λ (l : RelationState). provided_in l.flow) (sym (some_is (with_flow flow link) next e))
       ∙ (ap (λ (o : Option Flow). provided_in (unwrap_or o link.flow)) (sym is) ∙ give_is slot subslot value link.flow)
@@ -532,15 +536,16 @@ module _ (station : Station) (before : Live) (link : RelationState) where
   provides (LowConfirms source header message) =
       stays_if (has_sent_low live.rest.link) (handled_low station live source header message) (Refuses note.Fault) (low source header message) (refuses note.Fault)
   provides (Cyclic source frame_id body) = receives source frame_id body (received_as link.flow source frame_id body)
-  provides (Given slot subslot value) = gives slot subslot value (given_at link.flow slot subslot value) refl
-  provides (Raised slot subslot octets) = notices slot subslot octets (raised_at link.flow station.real.modules.items slot subslot octets) refl
-  provides (Rated slot subslot is_good) =
+  provides (Applied (local.Input slot subslot value)) = gives slot subslot value.items (given_at link.flow slot subslot value.items) refl
+  provides (Applied (local.Alarm slot subslot octets)) = notices slot subslot octets.items (raised_at link.flow station.real.modules.items slot subslot octets.items) refl
+  provides (Applied (local.Status slot subslot is_good)) =
       rates_as slot subslot is_good (statuses_at station.real.modules.items (record { slot = slot; subslot = subslot; is_good = is_good }) live.rest.statuses)
   provides (Met peer) = λ answers. calm_stands
-  provides (Diagnosed change) =
+  provides (Applied (local.Diagnosis slot subslot channel error appears)) =
+      let change = change_of slot subslot channel error appears in
       stays_if (may_be_diagnosed station live change) (handled_change station live change (changed_list change live.rest.diagnoses)) (Refuses note.Refused)
       (changes change (changed_list change live.rest.diagnoses)) (refuses note.Refused)
-  provides Readied =
+  provides (Applied local.Ready) =
       stays_if (is_preparing (phase_of live.rest.link))
       (let after = updated Prepared live.rest.link in Moves (record live.rest { link = after }) (ready_calls live.values.running.suite.address after)) (Refuses note.Refused)
       (λ answers. calm_map (λ l. prepared_from l) prepared_same live.rest.link calm_stands) (refuses note.Refused)

@@ -20,7 +20,8 @@ use Rattle.relations.specs.exchange.Marks.{Starting, first_mark, iops_by, iops_o
 use Rattle.relations.specs.exchange.Opening.{opened, statuses_of}
 use Rattle.relations.specs.exchange.Statuses.{is_bad, statuses_at}
 use Rattle.connects.specs.requests.Request.{Request}
-use Rattle.device_frames.specs.Heard.{Heard, Given, Rated}
+use Rattle.device_frames.specs.declared.local.Local.TheVariants as local
+use Rattle.device_frames.specs.Heard.{Heard, Applied}
 use Rattle.both_ends.proofs.ExchangeOutputsValues.{is_there, only_one}
 use Rattle.inputs_law.proofs.GivenCells.{Provided, Values, all_same, cell_of_kind, cell_with, cells_of, given_values, mark_found, mark_of_kind, mark_place, mark_with, marks_of, provided_in, with_given}
 use Rattle.inputs_law.proofs.GivenStatuses.{stated_values}
@@ -28,8 +29,9 @@ use Rattle.inputs_law.proofs.DeviceProvides.{provided_by, rated_if, said_in}
 
 -- what was given and said after an event at a device with a relation
 abbrev pub values_by : List RealModule → Heard → Values → Values
-values_by real (Given slot subslot value) values = with_given slot subslot value values
-values_by real (Rated slot subslot is_good) values = record { given = values.given; statuses = said_in real (Rated slot subslot is_good) values.statuses }
+values_by real (Applied (local.Input slot subslot value)) values = with_given slot subslot value.items values
+values_by real (Applied (local.Status slot subslot is_good)) values =
+    record { given = values.given; statuses = said_in real (Applied (local.Status slot subslot is_good)) values.statuses }
 values_by real heard values = values
 
 -- as a relation begins
@@ -72,8 +74,8 @@ module _ (rows : Listed DiffModule DiffSubmodule) (begin_bad : Bool) (many : ℕ
   rated_by real early values slot subslot is_good None is = refl
 
   pub sends_by : (real : List RealModule) (early : List InputStatus) (values : Values) (heard : Heard) → provided_by real values.statuses heard (sends early values) ≡ sends early (values_by real heard values)
-  sends_by real early values (Given slot subslot value) = given_values rows begin_bad early slot subslot value values many places (once slot subslot)
-  sends_by real early values (Rated slot subslot is_good) =
+  sends_by real early values (Applied (local.Input slot subslot value)) = given_values rows begin_bad early slot subslot value.items values many places (once slot subslot)
+  sends_by real early values (Applied (local.Status slot subslot is_good)) =
       rated_by real early values slot subslot is_good (statuses_at real (record { slot = slot; subslot = subslot; is_good = is_good }) values.statuses) refl
   sends_by real early values other = refl
 

@@ -23,6 +23,7 @@ use Rattle.controller_core.specs.stored.State.{Controlling, Live as ControllerLi
 use Rattle.controller_core.specs.Machine.{first as first_live, fresh_with, opening_of, step_of}
 use Rattle.diagnosis.specs.declared.reports.priority.Priority.TheVariants.{High}
 use Rattle.network_world.specs.declared.moves.End.TheVariants.{Device, Controller}
+use Rattle.device_frames.specs.declared.local.Local.TheVariants as local
 use Rattle.network_world.specs.declared.moves.Move.{Move}
 use Rattle.network_world.specs.declared.moves.Move.TheVariants as move
 use Rattle.network_world.specs.World.{AreMade, at_controller, end_at, Happens, last_world, World}
@@ -53,40 +54,18 @@ use Rattle.inputs_law.proofs.WorldSteps.{Holds, Provides, heard_with, image_with
 
 by_device : (one : Move) → small.IsByController (mirrored (move_of one)) → end_at one ≡ Device
 by_device (move.Deliver Device number) by = refl
-by_device (move.Deliver Controller number) by = absurd by
 by_device (move.Tick Device) by = refl
-by_device (move.Tick Controller) by = absurd by
-by_device (move.Input slot subslot value) by = refl
-by_device (move.Alarm slot subslot octets) by = refl
-by_device (move.Status slot subslot is_good) by = refl
+by_device (move.Application local) by = refl
 by_device (move.Neighbour neighbour) by = refl
-by_device (move.Diagnosis slot subslot channel error appears) by = refl
-by_device move.Ready by = refl
-by_device (move.Give slot subslot value) by = absurd by
-by_device (move.OutputStatus slot subslot is_good) by = absurd by
-by_device (move.Read slot subslot index) by = absurd by
-by_device (move.Write slot subslot index octets) by = absurd by
-by_device move.Stop by = absurd by
+by_device other by = absurd by
 
 came_to : (one : Move) (number : ℕ) → mirrored (move_of one) ≡ small.ComesToDevice number → one ≡ move.Deliver Controller number
 came_to (move.Deliver Controller other) number is = same other number is
   where
     same : (n m : ℕ) → small.ComesToDevice n ≡ small.ComesToDevice m → move.Deliver Controller n ≡ move.Deliver Controller m
     same n m e = cc
-came_to (move.Deliver Device other) number is = absurd cc
 came_to (move.Tick Device) number is = absurd cc
-came_to (move.Tick Controller) number is = absurd cc
-came_to (move.Input slot subslot value) number is = absurd cc
-came_to (move.Alarm slot subslot octets) number is = absurd cc
-came_to (move.Status slot subslot is_good) number is = absurd cc
-came_to (move.Neighbour neighbour) number is = absurd cc
-came_to (move.Diagnosis slot subslot channel error appears) number is = absurd cc
-came_to move.Ready number is = absurd cc
-came_to (move.Give slot subslot value) number is = absurd cc
-came_to (move.OutputStatus slot subslot is_good) number is = absurd cc
-came_to (move.Read slot subslot index) number is = absurd cc
-came_to (move.Write slot subslot index octets) number is = absurd cc
-came_to move.Stop number is = absurd cc
+came_to other number is = absurd cc
 
 opening_is : (controlling : Controlling) → opening_of controlling ≡ bytes_of controlling.setup (Requests controlling.live.device asks.Identify)
 unfolding opening_of
@@ -119,18 +98,9 @@ module _ {F : Type 0} {S : ℕ} (as_flash : Flash F S) (start : Controlling) (be
       delivered as_flash before after Controller (IsLed start after.controller) (slice_get before.sent number) happens (λ same. led_same (ap (λ (w : World F). w.controller) same))
       (λ frame is comes. led_by (controller.Frame (record { items = frame })) comes)
   led_on (move.Tick Device) happens = led_same happens.controller
-  led_on (move.Tick Controller) happens = led_by controller.Tick happens
-  led_on (move.Input slot subslot value) happens = led_same happens.controller
-  led_on (move.Alarm slot subslot octets) happens = led_same happens.controller
-  led_on (move.Status slot subslot is_good) happens = led_same happens.controller
+  led_on (move.Application local) happens = led_same happens.controller
   led_on (move.Neighbour neighbour) happens = led_same happens.controller
-  led_on (move.Diagnosis slot subslot channel error appears) happens = led_same happens.controller
-  led_on move.Ready happens = led_same happens.controller
-  led_on (move.Give slot subslot value) happens = led_by (controller.Give slot subslot value) happens
-  led_on (move.OutputStatus slot subslot is_good) happens = led_by (controller.Status slot subslot is_good) happens
-  led_on (move.Read slot subslot index) happens = led_by (controller.Read slot subslot index) happens
-  led_on (move.Write slot subslot index octets) happens = led_by (controller.Write slot subslot index octets) happens
-  led_on move.Stop happens = led_by controller.Stop happens
+  led_on other happens = led_by _ happens
 
 all_led : {F : Type 0} {S : ℕ} (as_flash : Flash F S) (start : Controlling) (w : World F) (run : List (Move × World F)) → IsLed start w.controller → AreMade as_flash w run → IsLed start (last_world w run).controller
 all_led as_flash start w [] led made = led
@@ -163,7 +133,7 @@ module _ (turns : TurnsSo) (kinds : KindsSo) (so : DeviceSo) (hears : HearsSo) (
   module _ {S : ℕ} (as_flash : Flash F S) where
     unmade_at : (before after : World F) (so_far : List (Move × World F)) → At so_far before → (one : Move) → IsMeant before one → Happens as_flash before one after
         → IsUnmade after.device.live.rest.link before.device.live.rest.link one
-    unmade_at before after so_far at (move.Input slot subslot value) meant happens =
+    unmade_at before after so_far at (move.Application (local.Input slot subslot value)) meant happens =
         unmade_by turns kinds so hears sound whole there before after at.holds (values_now so_far) at.provides at.unrelated as_flash slot subslot value.items meant happens
     unmade_at before after so_far at other meant happens = tt
 

@@ -18,6 +18,7 @@ use Rattle.device_core.specs.State.{Station}
 use Rattle.controller_messages.specs.declared.setup.Setup.{Setup}
 use Rattle.controller_core.specs.Machine.{provider_of}
 use Rattle.controller_core.specs.stored.State.{Live as ControllerLive}
+use Rattle.device_frames.specs.declared.local.Local.TheVariants as local
 use Rattle.network_world.specs.declared.moves.Move.{Move}
 use Rattle.network_world.specs.declared.moves.Move.TheVariants as move
 use Rattle.network_world.specs.World.{World}
@@ -44,7 +45,7 @@ said_more real statuses [] one = refl
 said_more real statuses (other ∷ so_far) one = said_more real (said_by real other.0 statuses) so_far one
 
 said_as : (real : List RealModule) (one : Move) (statuses : List InputStatus) → said_in real (heard_with one) statuses ≡ said_by real one statuses
-said_as real (move.Status slot subslot is_good) statuses = refl
+said_as real (move.Application (local.Status slot subslot is_good)) statuses = refl
 said_as real other statuses = refl
 
 none_related : (link : Option RelationState) → in_relation link None ≡ None
@@ -61,25 +62,23 @@ none_some y e = absurd (no_some e)
 pub values_statuses : (next before : Option RelationState) (real : List RealModule) (one : Move) (values : Values) → (values_after next before real (heard_with one) values).statuses ≡ said_by real one values.statuses
 values_statuses None before real one values = said_as real one values.statuses
 values_statuses (Some next) None real one values = said_as real one values.statuses
-values_statuses (Some next) (Some link) real (move.Status slot subslot is_good) values = refl
-values_statuses (Some next) (Some link) real (move.Input slot subslot value) values = refl
+values_statuses (Some next) (Some link) real (move.Application (local.Status slot subslot is_good)) values = refl
 values_statuses (Some next) (Some link) real other values = refl
 
 -- an input without a relation makes none
 abbrev pub IsUnmade : Option RelationState → Option RelationState → Move → Type 0
-IsUnmade next before (move.Input slot subslot value) = before ≡ None → next ≡ None
+IsUnmade next before (move.Application (local.Input slot subslot value)) = before ≡ None → next ≡ None
 IsUnmade next before other = Unit {0}
 
 given_first : (next : Option RelationState) (now : RelationState) (place : Place) (one : Move) (g : Option (List ℕ)) → next ≡ Some now → IsUnmade next None one → g ≡ None → None ≡ in_relation (Some now) (input_by place one g)
-given_first next now place (move.Input slot subslot value) g is unmade none = none_some now (sym (unmade refl) ∙ is)
+given_first next now place (move.Application (local.Input slot subslot value)) g is unmade none = none_some now (sym (unmade refl) ∙ is)
 given_first next now place other g is unmade none = sym none
 
 pub values_given : (next before : Option RelationState) (real : List RealModule) (one : Move) (values : Values) (place : Place) → IsUnmade next before one → (before ≡ None → values.given place ≡ None)
     → (values_after next before real (heard_with one) values).given place ≡ in_relation next (input_by place one (values.given place))
 values_given None before real one values place unmade unrelated = refl
 values_given (Some next) None real one values place unmade unrelated = given_first (Some next) next place one (values.given place) refl unmade (unrelated refl)
-values_given (Some next) (Some link) real (move.Input slot subslot value) values place unmade unrelated = refl
-values_given (Some next) (Some link) real (move.Status slot subslot is_good) values place unmade unrelated = refl
+values_given (Some next) (Some link) real (move.Application (local.Input slot subslot value)) values place unmade unrelated = refl
 values_given (Some next) (Some link) real other values place unmade unrelated = refl
 
 -- ---- what is read of images
@@ -118,7 +117,7 @@ IsFit place None = Unit {0}
 IsFit place (Some value) = (place.size == length value + 1) ≡ true
 
 fit_by : (place : Place) (one : Move) (last : Option (List ℕ)) → IsFit place last → IsFit place (input_by place one last)
-fit_by place (move.Input slot subslot value) last fit = by_test ((place.slot == slot) && (place.subslot == subslot)) (place.size == length value.items + 1) refl
+fit_by place (move.Application (local.Input slot subslot value)) last fit = by_test ((place.slot == slot) && (place.subslot == subslot)) (place.size == length value.items + 1) refl
   where
     by_test : (b c : Bool) → (place.size == length value.items + 1) ≡ c → IsFit place (cond (b && c) (Some value.items) last)
     by_test true true e = e

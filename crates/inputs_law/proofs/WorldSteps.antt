@@ -1,5 +1,5 @@
 -- Each move of a world gives and shows inputs as the small machines do, with the ends exchanged.
-use Rattle.std.proofs.Common.{◌≡◌, ◌⊎◌, inl, inr, ◌==◌, ◌&&◌, ◌||◌, ◌++◌, ℕ, Bool, true, false, List, [], ◌∷◌, map, Option, Some, None, option_map, Result, Ok, Err, refl, sym, ap, subst, ◌∙◌}
+use Rattle.std.proofs.Common.{◌≡◌, ◌⊎◌, inl, inr, ◌==◌, ◌&&◌, ◌||◌, ◌++◌, ℕ, false, List, [], ◌∷◌, map, Option, Some, None, option_map, Result, Ok, Err, refl, sym, ap, subst, ◌∙◌}
 use Rattle.std.specs.Prelude.{slice_get, nat_eq}
 use Rattle.std.specs.Cmp.Lexicographic.{pointwise}
 use Rattle.std.specs.List.{AllByRecursion}
@@ -40,7 +40,8 @@ use Rattle.relations.specs.Connect.{connect_of, rows_of}
 use Rattle.relations.specs.RelationState.{RelationState}
 use Rattle.settings_journal.specs.settings_store.Machine.{Outcome}
 use Rattle.device_frames.specs.declared.event.Event.TheVariants.{Frame}
-use Rattle.device_frames.specs.Heard.{Heard, Ticks, Given, Raised, Rated, Met, Readied, Elsewhere, Resolves, Reported, Calls, Cyclic, broadcast, diagnosed, heard_alarm, heard_content, heard_frame, heard_of, heard_request, is_own, is_taken}
+use Rattle.device_frames.specs.declared.local.Local.TheVariants as local
+use Rattle.device_frames.specs.Heard.{Heard, Ticks, Applied, Met, Elsewhere, Resolves, Reported, Calls, Cyclic, broadcast, heard_alarm, heard_content, heard_frame, heard_of, heard_request, is_own, is_taken}
 use Rattle.device_frames.specs.Sent.{Sent, CallAnswer, Again, Exchanges, bytes_of as bytes_sent}
 use Rattle.device_frames.specs.Sendable.{AreSendable}
 use Rattle.device_core.specs.State.{Live, Rest, Station}
@@ -61,7 +62,7 @@ use Rattle.end_laws.specs.both.Outputs.{BringsNone, GivesAtController, Outputs, 
 use Rattle.end_laws.specs.device.Owed.{IsOwed}
 use Rattle.end_laws.specs.hearing.Stations.{IsSetup}
 use Rattle.end_laws.specs.device.Small.{IsPlanned, IsPlannedAs, IsPlannedCall}
-use Rattle.end_laws.specs.device.Turn.{Answers, Makes, Turn}
+use Rattle.end_laws.specs.device.Turn.{Answers, Makes, Turn, input_heard}
 use Rattle.end_laws.specs.turns.Turns.{came_by}
 use Rattle.both_ends.specs.startup.request.Request.{request_for}
 use Rattle.both_ends.specs.startup.View.{IsMeant, IsMeantAtDevice, move_of, rules_of}
@@ -103,11 +104,10 @@ none_some y e = absurd (no_some e)
     no_some : None ≡ Some y → ⊥
     no_some e = cc
 
--- ---- a frame gives no input, and says no status
+-- ---- a frame is nothing that the application says
 
 abbrev IsOfFrame : Heard → Type 0
-IsOfFrame (Given slot subslot value) = ⊥
-IsOfFrame (Rated slot subslot is_good) = ⊥
+IsOfFrame (Applied local) = ⊥
 IsOfFrame other = Unit {0}
 
 framed_request : (source : Mac) (read : Result Asked DcpFault) → IsOfFrame (heard_request source read)
@@ -144,23 +144,19 @@ values_after (Some next) None real heard values = first_values (said_in real hea
 values_after (Some next) (Some link) real heard values = values_by real heard values
 
 abbrev pub heard_with : Move → Heard
-heard_with (move.Input slot subslot value) = Given slot subslot value.items
-heard_with (move.Status slot subslot is_good) = Rated slot subslot is_good
+heard_with (move.Application local) = Applied local
 heard_with other = Elsewhere
 
 said_same : (real : List RealModule) (heard : Heard) (values : Values) → (values_by real heard values).statuses ≡ said_in real heard values.statuses
-said_same real (Given slot subslot value) values = refl
-said_same real (Rated slot subslot is_good) values = refl
+said_same real (Applied (local.Input slot subslot value)) values = refl
 said_same real other values = refl
 
 frame_said : (real : List RealModule) (heard : Heard) (statuses : List InputStatus) → IsOfFrame heard → said_in real heard statuses ≡ statuses
-frame_said real (Given slot subslot value) statuses is = absurd is
-frame_said real (Rated slot subslot is_good) statuses is = absurd is
+frame_said real (Applied local) statuses is = absurd is
 frame_said real other statuses is = refl
 
 frame_values : (real : List RealModule) (heard : Heard) (values : Values) → IsOfFrame heard → values_by real heard values ≡ values
-frame_values real (Given slot subslot value) values is = absurd is
-frame_values real (Rated slot subslot is_good) values is = absurd is
+frame_values real (Applied local) values is = absurd is
 frame_values real other values is = refl
 
 pub frame_after : (next before : Option RelationState) (real : List RealModule) (heard : Heard) (values : Values) → IsOfFrame heard
@@ -319,12 +315,12 @@ module _ (sound : IsSound ethernet) (setup : Setup) (station : Station) (there :
         by_links (Some now) (Some link) there was = record { statuses = said ∙ sym (said_same real heard values); sends = λ next is. goes_on link next was is }
 
     -- an input makes no relation
-    pub input_makes_none : (slot subslot : ℕ) (value : List ℕ) → heard ≡ Given slot subslot value → live.rest.link ≡ None → (next : RelationState) → after.link ≡ Some next → ⊥
+    pub input_makes_none : (slot subslot : ℕ) (value : List ℕ) → heard ≡ input_heard slot subslot value → live.rest.link ≡ None → (next : RelationState) → after.link ≡ Some next → ⊥
     input_makes_none slot subslot value given none next is =
         let makes = (turn_alone real live.rest.calls live.rest.diagnoses after.diagnoses heard live.rest.link after.link sent none turn.is).1 next is in
         apart makes.caller makes.address makes.call (sym given ∙ makes.is)
       where
-        apart : (caller : _) (address : _) (call : _) → Given slot subslot value ≡ Reported caller address (Calls call) → ⊥
+        apart : (caller : _) (address : _) (call : _) → input_heard slot subslot value ≡ Reported caller address (Calls call) → ⊥
         apart caller address call e = cc
 
     -- ---- what is sent
@@ -524,11 +520,11 @@ module _ (turns : TurnsSo) (kinds : KindsSo) (so : DeviceSo) (hears : HearsSo) (
         }
 
     -- an input makes no relation
-    pub unmade_by : {S : ℕ} (as_flash : Flash F S) (slot subslot : ℕ) (value : List ℕ) → IsMeantAtDevice before (Given slot subslot value) → AtDevice as_flash before (Given slot subslot value) after
+    pub unmade_by : {S : ℕ} (as_flash : Flash F S) (slot subslot : ℕ) (value : List ℕ) → IsMeantAtDevice before (input_heard slot subslot value) → AtDevice as_flash before (input_heard slot subslot value) after
         → before.device.live.rest.link ≡ None → after.device.live.rest.link ≡ None
     unmade_by as_flash slot subslot value meant made none =
         let outcomes = made.hears.steps.outcomes in
-        let heard = Given slot subslot value in
+        let heard = input_heard slot subslot value in
         let turn = turns (rules_of setup station) setup.activity outcomes station before.device.live heard meant.planned in
         ap (λ (l : Live). l.rest.link) made.hears.steps.live
         ∙ by_link (heard_step outcomes station before.device.live heard).live.rest.link
@@ -594,12 +590,6 @@ module _ (turns : TurnsSo) (kinds : KindsSo) (so : DeviceSo) (hears : HearsSo) (
           (λ same. rests _ same)
           (λ frame is comes. does Elsewhere _ _ _ (λ steps. record { frame = frame; there = is; steps = steps }) (controller_steps (controller.Frame (record { items = frame })) comes))
 
-      at_device : (one : Move) (heard : Heard) → heard_with one ≡ heard → IsMeantAtDevice before heard → AtDevice as_flash before heard after
-          → Refines before after (heard_with one) values ((seen after (values_to after (heard_with one)) ≡ seen before values) ⊎ GivesAtController rules (seen before values) (seen after (values_to after (heard_with one))))
-      at_device one heard same meant happens =
-          subst (λ (h : Heard). Refines before after h values ((seen after (values_to after h) ≡ seen before values) ⊎ GivesAtController rules (seen before values) (seen after (values_to after h)))) (sym same)
-          (does heard _ _ _ (λ steps. steps) (device_steps as_flash heard meant happens))
-
       at_device_else : (heard : Heard) → IsOfFrame heard → IsMeantAtDevice before heard → AtDevice as_flash before heard after
           → Refines before after Elsewhere values ((seen after (values_to after Elsewhere) ≡ seen before values) ⊎ GivesAtController rules (seen before values) (seen after (values_to after Elsewhere)))
       at_device_else heard is meant happens = does Elsewhere _ _ _ (λ steps. steps) (framed heard is (device_steps as_flash heard meant happens))
@@ -613,12 +603,8 @@ module _ (turns : TurnsSo) (kinds : KindsSo) (so : DeviceSo) (hears : HearsSo) (
       happens_shows (move.Deliver Controller number) meant happens = to_controller number happens
       happens_shows (move.Tick Device) meant happens = at_device_else Ticks tt meant happens
       happens_shows (move.Tick Controller) meant happens = at_controller_so controller.Tick happens refl
-      happens_shows (move.Input slot subslot value) meant happens = at_device (move.Input slot subslot value) (Given slot subslot value.items) refl meant happens
-      happens_shows (move.Alarm slot subslot octets) meant happens = at_device_else (Raised slot subslot octets.items) tt meant happens
-      happens_shows (move.Status slot subslot is_good) meant happens = at_device (move.Status slot subslot is_good) (Rated slot subslot is_good) refl meant happens
+      happens_shows (move.Application local) meant happens = does (Applied local) _ _ _ (λ steps. steps) (device_steps as_flash (Applied local) meant happens)
       happens_shows (move.Neighbour neighbour) meant happens = at_device_else (Met (option_map peer_as neighbour)) tt meant happens
-      happens_shows (move.Diagnosis slot subslot channel error appears) meant happens = at_device_else (diagnosed slot subslot channel error appears) tt meant happens
-      happens_shows move.Ready meant happens = at_device_else Readied tt meant happens
       happens_shows (move.Give slot subslot value) meant happens = at_controller_so (controller.Give slot subslot value) happens refl
       happens_shows (move.OutputStatus slot subslot is_good) meant happens = at_controller_so (controller.Status slot subslot is_good) happens refl
       happens_shows (move.Read slot subslot index) meant happens = at_controller_so (controller.Read slot subslot index) happens refl

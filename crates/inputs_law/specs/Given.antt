@@ -25,6 +25,7 @@ use Rattle.controller_messages.specs.declared.setup.Setup.{Setup}
 use Rattle.controller_core.specs.stored.State.{Live}
 use Rattle.controller_core.specs.Machine.{provider_of}
 use Rattle.network_world.specs.declared.moves.End.TheVariants.{Device, Controller}
+use Rattle.device_frames.specs.declared.local.Local.TheVariants as local
 use Rattle.network_world.specs.declared.moves.Move.{Move}
 use Rattle.network_world.specs.declared.moves.Move.TheVariants as move
 use Rattle.network_world.specs.World.{end_at, last_world, World}
@@ -41,7 +42,7 @@ places_for setup = (iocr_for setup.plan Input).layout.places
 
 -- the value that a move gives for the input at a place, if it has the right length, else the one that was given last
 abbrev pub input_by : Place → Move → Option (List ℕ) → Option (List ℕ)
-input_by place (move.Input slot subslot value) last =
+input_by place (move.Application (local.Input slot subslot value)) last =
     if ((place.slot == slot) && (place.subslot == subslot)) && (place.size == length value.items + 1) then Some value.items else last
 input_by place one last = last
 
@@ -57,7 +58,7 @@ last_input place last (one ∷ run) = last_input place (in_relation one.1.device
 
 -- the statuses of inputs after a move: one that is said of a submodule that is plugged
 abbrev pub said_by : List RealModule → Move → List InputStatus → List InputStatus
-said_by real (move.Status slot subslot is_good) statuses =
+said_by real (move.Application (local.Status slot subslot is_good)) statuses =
     unwrap_or (statuses_at real (record { slot = slot; subslot = subslot; is_good = is_good }) statuses) statuses
 said_by real one statuses = statuses
 

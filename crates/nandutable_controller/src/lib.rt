@@ -147,7 +147,7 @@ pub extern "C" fn pn_tool_read(
     activity: &[u8; 16],
     op: &mut Op,
 ) -> u32
-    ensures { IsRead (place_in op.old.slot op.old.subslot) (index_in op.old.place) tool.now target.now activity.now op.old result op.new }
+    ensures { IsRead (place_in op.old.slot op.old.subslot) (index_in op.old.index) tool.now target.now activity.now op.old result op.new }
 {
     read(tool, target, activity, op)
 }

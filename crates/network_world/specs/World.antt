@@ -10,7 +10,7 @@ use Rattle.frame_codec.specs.Frame.{frame_of}
 use Rattle.records.specs.calls.Naming.{is_relation}
 use Rattle.relations.specs.RelationState.{uuid_of}
 use Rattle.device_frames.specs.declared.event.Event.TheVariants.{Frame}
-use Rattle.device_frames.specs.Heard.{Heard, Ticks, Given, Raised, Rated, Met, Readied, diagnosed, heard_of}
+use Rattle.device_frames.specs.Heard.{Heard, Ticks, Applied, Met, heard_of}
 use Rattle.device_frames.specs.declared.note.Note.{Note}
 use Rattle.device_core.specs.State.{State}
 use Rattle.device_core.specs.Steps.{Steps}
@@ -118,12 +118,8 @@ Passes as_flash before Controller after = after ≡ at_controller before control
 abbrev pub end_at : Move → End
 end_at (move.Deliver end number) = end
 end_at (move.Tick end) = end
-end_at (move.Input slot subslot value) = Device
-end_at (move.Alarm slot subslot octets) = Device
-end_at (move.Status slot subslot is_good) = Device
+end_at (move.Application local) = Device
 end_at (move.Neighbour neighbour) = Device
-end_at (move.Diagnosis slot subslot channel error appears) = Device
-end_at move.Ready = Device
 end_at (move.Give slot subslot value) = Controller
 end_at (move.OutputStatus slot subslot is_good) = Controller
 end_at (move.Read slot subslot index) = Controller
@@ -134,12 +130,8 @@ end_at move.Stop = Controller
 abbrev pub Happens : {F : Type 0} {S : ℕ} → Flash F S → World F → Move → World F → Type 0
 Happens as_flash before (move.Deliver end number) after = Delivers as_flash (slice_get before.sent number) before end after
 Happens as_flash before (move.Tick end) after = Passes as_flash before end after
-Happens as_flash before (move.Input slot subslot value) after = AtDevice as_flash before (Given slot subslot value.items) after
-Happens as_flash before (move.Alarm slot subslot octets) after = AtDevice as_flash before (Raised slot subslot octets.items) after
-Happens as_flash before (move.Status slot subslot is_good) after = AtDevice as_flash before (Rated slot subslot is_good) after
+Happens as_flash before (move.Application local) after = AtDevice as_flash before (Applied local) after
 Happens as_flash before (move.Neighbour neighbour) after = AtDevice as_flash before (Met (option_map peer_as neighbour)) after
-Happens as_flash before (move.Diagnosis slot subslot channel error appears) after = AtDevice as_flash before (diagnosed slot subslot channel error appears) after
-Happens as_flash before move.Ready after = AtDevice as_flash before Readied after
 Happens as_flash before (move.Give slot subslot value) after = after ≡ at_controller before (controller.Give slot subslot value)
 Happens as_flash before (move.OutputStatus slot subslot is_good) after = after ≡ at_controller before (controller.Status slot subslot is_good)
 Happens as_flash before (move.Read slot subslot index) after = after ≡ at_controller before (controller.Read slot subslot index)

@@ -1,3 +1,4 @@
+use device_core::Local;
 use frame_codec::Bytes;
 use lldp::Neighbour;
 
@@ -18,19 +19,10 @@ pub enum Move {
     Deliver(End, usize),
     /// A unit of 31.25 microseconds passes at this end.
     Tick(End),
-    /// The device's application sets the input of the submodule in this slot and subslot.
-    Input(u16, u16, Bytes),
-    /// The device's application raises a process alarm of the submodule in this slot and subslot, with these octets.
-    Alarm(u16, u16, Bytes),
-    /// The device's application says whether the inputs of the submodule in this slot and subslot are good.
-    Status(u16, u16, bool),
-    /// The device's application says that it is ready.
-    Ready,
+    /// The device's application says this to it.
+    Application(Local<Bytes>),
     /// The services beside the device tell it its neighbour, or that it has none.
     Neighbour(Option<Neighbour>),
-    /// A diagnosis of the submodule in this slot and subslot, of this channel and with this ChannelErrorType, appears or
-    /// disappears at the device.
-    Diagnosis(u16, u16, u16, u16, bool),
     /// The controller's application sets the output of the submodule in this slot and subslot.
     Give(u16, u16, Bytes),
     /// The controller's application says whether the output of the submodule in this slot and subslot is good.

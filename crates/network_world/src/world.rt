@@ -9,7 +9,7 @@ ghost use Rattle.network_world.specs.World.{world_of};
 use crate::sent::SentFrames;
 use crate::{End, Move};
 use controller_core::{Controller, Event as ControllerEvent, State};
-use device_core::{Device, Event as DeviceEvent};
+use device_core::{Device, Event as DeviceEvent, Local, Octets};
 use flash_model::Flash;
 use frame_codec::{Bytes, Frame, Outbox, is_cyclic, read_real_time};
 use lldp::Neighbour;
@@ -86,7 +86,7 @@ fn is_skipped<F: Flash<S>, const S: usize>(
 fn happen_at_device<F: Flash<S>, const S: usize>(
     device: &mut Device<F, S>,
     sent: &mut SentFrames,
-    event: &DeviceEvent,
+    event: &DeviceEvent<'_>,
 )
     requires room { 4 ≤ sent.old.room }
     ensures { IsHeard F.Flash device.old sent.old.frames (heard_of device.old.station.identity event.now) device.new
@@ -124,7 +124,11 @@ fn come<F: Flash<S>, const S: usize>(
         return;
     }
     match end {
-        End::Device => happen_at_device(device, sent, &DeviceEvent::Frame(bytes)),
+        End::Device => happen_at_device(
+            device,
+            sent,
+            &DeviceEvent::Frame(Octets::of(bytes.as_slice())),
+        ),
         End::Controller => happen_at_controller(controller, sent, &ControllerEvent::Frame(bytes)),
     }
 }
@@ -175,6 +179,25 @@ fn copied(neighbour: &Option<Neighbour>) -> Option<Neighbour>
     }
 }
 
+/// What the application says, with its octets borrowed.
+fn borrowed(local: &Local<Bytes>) -> Local<Octets<'_, 1519>>
+    ensures { result ≡ local.now }
+{
+    match local {
+        Local::Input(slot, subslot, value) => {
+            Local::Input(*slot, *subslot, Octets::of(value.as_slice()))
+        }
+        Local::Alarm(slot, subslot, octets) => {
+            Local::Alarm(*slot, *subslot, Octets::of(octets.as_slice()))
+        }
+        Local::Status(slot, subslot, is_good) => Local::Status(*slot, *subslot, *is_good),
+        Local::Diagnosis(slot, subslot, channel, error, appears) => {
+            Local::Diagnosis(*slot, *subslot, *channel, *error, *appears)
+        }
+        Local::Ready => Local::Ready,
+    }
+}
+
 /// Makes a move. There must be room for what it sends.
 fn happen<F: Flash<S>, const S: usize>(
     device: &mut Device<F, S>,
@@ -189,26 +212,13 @@ fn happen<F: Flash<S>, const S: usize>(
     match one {
         Move::Deliver(end, number) => deliver(device, controller, sent, *end, *number),
         Move::Tick(end) => pass(device, controller, sent, *end),
-        Move::Input(slot, subslot, value) => {
-            let input = DeviceEvent::Input(*slot, *subslot, bytes_of(value.as_slice()));
-            happen_at_device(device, sent, &input);
+        Move::Application(local) => {
+            let said = DeviceEvent::Application(borrowed(local));
+            happen_at_device(device, sent, &said);
         }
-        Move::Alarm(slot, subslot, octets) => {
-            let alarm = DeviceEvent::Alarm(*slot, *subslot, bytes_of(octets.as_slice()));
-            happen_at_device(device, sent, &alarm);
-        }
-        Move::Status(slot, subslot, is_good) => {
-            let status = DeviceEvent::Status(*slot, *subslot, *is_good);
-            happen_at_device(device, sent, &status);
-        }
-        Move::Ready => happen_at_device(device, sent, &DeviceEvent::Ready),
         Move::Neighbour(neighbour) => {
             let met = DeviceEvent::Neighbour(copied(neighbour));
             happen_at_device(device, sent, &met);
-        }
-        Move::Diagnosis(slot, subslot, channel, error, appears) => {
-            let change = DeviceEvent::Diagnosis(*slot, *subslot, *channel, *error, *appears);
-            happen_at_device(device, sent, &change);
         }
         Move::Give(slot, subslot, value) => {
             let output = ControllerEvent::Give(*slot, *subslot, bytes_of(value.as_slice()));

@@ -1,12 +1,12 @@
 -- Octets that are a whole call are read as one.
-use Rattle.std.proofs.Common.{◌≡◌, ◌≤◌, ◌<◌, ◌==◌, ◌&&◌, ◌+◌, ◌/◌, ◌%◌, ℕ, zero, suc, Bool, true, false, List, [], ◌∷◌, ◌++◌, length, take, drop, Option, Some, None, Ok, nat_eq, nat_le, nat_lt, if◌then◌else◌, refl, sym, ap, subst, ◌∙◌, arith, length-drop}
+use Rattle.std.proofs.Common.{◌≡◌, ◌≤◌, ◌==◌, ◌&&◌, ◌+◌, ◌/◌, ◌%◌, ℕ, zero, suc, Bool, true, false, List, [], ◌∷◌, ◌++◌, length, take, drop, Option, Some, None, Ok, nat_eq, nat_le, nat_lt, if◌then◌else◌, refl, sym, ap, subst, ◌∙◌, arith, length-drop}
 use Rattle.std.proofs.lemmas.List.{length-take-le}
 use Rattle.std.proofs.lemmas.Bool.{and_parts, cond_both, cond-true, cond-false}
 use Rattle.std.proofs.lemmas.Bool.Decides.{nat_tests}
 use Rattle.byteorder.specs.Endian.{big_number, little_number}
 use Rattle.byteorder.specs.Numbers.{big_from-take, little_from-take}
-use Rattle.rpc_core.specs.Body.{Args, blocks_in, body, counts}
-use Rattle.rpc_core.specs.Fields.{any, one, ordered, turned, uuid}
+use Rattle.rpc_core.specs.Body.{body, counts}
+use Rattle.rpc_core.specs.Fields.{any, one, ordered, uuid}
 use Rattle.rpc_core.specs.declared.interface.Interface.TheVariants.{Device}
 use Rattle.rpc_core.specs.Call.{Asked as Called, IsCall, call, call_of}
 use Rattle.rpc_core.specs.Header.{extent, head, names, opening, order_of, turn}

@@ -1,13 +1,12 @@
 -- A frame that is a whole datagram is read as one.
-use Rattle.std.proofs.Common.{◌≡◌, ◌≤◌, ◌<◌, ◌==◌, ◌&&◌, ◌||◌, ◌+◌, ◌-◌, ◌%◌, ℕ, Bool, true, false, List, [], ◌∷◌, ◌++◌, length, take, drop, Option, Some, None, Ok, nat_le, refl, sym, ap, subst, ◌∙◌, arith, length-drop}
+use Rattle.std.proofs.Common.{◌≡◌, ◌≤◌, ◌==◌, ◌+◌, ◌-◌, ◌%◌, ℕ, true, List, length, take, drop, None, Ok, nat_le, refl, sym, ap, ◌∙◌, arith, length-drop}
 use Rattle.std.proofs.lemmas.List.{length-take-le}
-use Rattle.std.proofs.lemmas.Bool.{and_parts, cond-true}
+use Rattle.std.proofs.lemmas.Bool.{and_parts}
 use Rattle.byteorder.specs.Endian.{big_number}
-use Rattle.wire.specs.Formats.{number as field, raw, seen, unchecked}
+use Rattle.wire.specs.Formats.{number as field, raw}
 use Rattle.wire.specs.Kept.{front_of}
-use Rattle.frame_codec.specs.declared.fault.FrameFault.{FrameFault}
 use Rattle.frame_codec.specs.declared.fault.FrameFault.TheVariants.{IpHeader, UdpLength}
-use Rattle.frame_codec.specs.Frame.{IsFrame, content_under, datagram, ethernet, frame_of, layers, mac, tag_and_type}
+use Rattle.frame_codec.specs.Frame.{content_under, datagram, ethernet, frame_of, layers, mac, tag_and_type}
 use Rattle.frame_codec.specs.Internet.{internet_header, internet_size, internet_way, packet, segment, size_behind, udp, udp_header}
 use Rattle.frame_codec.specs.Meaning.{Meaning, UdpDatagram}
 use Rattle.frame_codec.specs.Sum.{ones_sum_of}

@@ -21,7 +21,7 @@ use Rattle.rpc_core.specs.Response.{Answered, response_of}
 use Rattle.rpc_core.proofs.Sound.{call_behind, call_takes, response_behind, response_takes}
 use Rattle.settings_journal.specs.settings_store.Machine.{Outcome}
 use Rattle.device_frames.specs.declared.event.Event.{Event}
-use Rattle.device_frames.specs.declared.event.Event.TheVariants.{Frame, Call as Joined, Tick, Input, Alarm, Status, Diagnosis, Neighbour, Ready}
+use Rattle.device_frames.specs.declared.event.Event.TheVariants.{Frame, Call as Joined, Tick, Neighbour, Application}
 use Rattle.device_frames.specs.declared.note.Note.TheVariants as note
 use Rattle.device_frames.specs.Heard.{Calls, Elsewhere, Garbled, Resolves, broadcast, Reported, Responds, heard_content, heard_frame, heard_of, is_own, said_by, said_else, said_first}
 use Rattle.device_frames.specs.Sendable.{AreSendable}
@@ -180,12 +180,8 @@ module _ (names : List (List ℕ)) (outcomes : List Outcome) (station : Station)
   event_step (Joined caller address octets) can small writes named =
       said_step (Joined caller address octets) octets.items [] caller address (ap calling (sym (append-nil octets.items))) refl writes named
   event_step Tick can small writes named = other_said names outcomes station live Tick _ refl tt refl
-  event_step (Input slot subslot value) can small writes named = other_said names outcomes station live (Input slot subslot value) _ refl tt refl
-  event_step (Alarm slot subslot octets) can small writes named = other_said names outcomes station live (Alarm slot subslot octets) _ refl tt refl
-  event_step (Status slot subslot is_good) can small writes named = other_said names outcomes station live (Status slot subslot is_good) _ refl tt refl
-  event_step (Diagnosis slot subslot channel error appears) can small writes named = other_said names outcomes station live (Diagnosis slot subslot channel error appears) _ refl tt refl
+  event_step (Application local) can small writes named = other_said names outcomes station live (Application local) _ refl tt refl
   event_step (Neighbour neighbour) can small writes named = other_said names outcomes station live (Neighbour neighbour) _ refl tt refl
-  event_step Ready can small writes named = other_said names outcomes station live Ready _ refl tt refl
 
   -- The same, if what the device sends at it can be sent.
   pub any_step : (event : Event) → AreSendable station.identity (step_of outcomes station live event).sent → IsSmall event → IsNamed event → Goal event

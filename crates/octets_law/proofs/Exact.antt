@@ -5,7 +5,7 @@ use Rattle.settings_journal.specs.settings_store.State.{Values}
 use Rattle.settings_journal.specs.settings_store.Machine.{Accepted, Outcome}
 use Rattle.pn_values.specs.declared.mac.Mac.{Mac}
 use Rattle.device_frames.specs.declared.event.Event.{Event}
-use Rattle.device_frames.specs.declared.event.Event.TheVariants.{Frame, Call as Joined, Tick, Input, Alarm, Status, Diagnosis, Neighbour, Ready}
+use Rattle.device_frames.specs.declared.event.Event.TheVariants.{Frame, Call as Joined, Tick, Neighbour, Application}
 use Rattle.device_frames.specs.Heard.{heard_of}
 use Rattle.device_core.specs.Handled.{Sets, handled, handled_request}
 use Rattle.device_frames.specs.Sendable.{AreSendable}
@@ -103,12 +103,8 @@ step_owed outcomes station live (Frame frame) can small set is whole =
     (subst (λ n. n < 2 ^ 32) heard.read.xid small) (subst (λ what. AreSendable station.identity (handled_step outcomes station live what).sent) what can))
 step_owed outcomes station live (Joined caller address octets) can small set is whole = absurd (no_call octets.items set is)
 step_owed outcomes station live Tick can small set is whole = absurd cc
-step_owed outcomes station live (Input slot subslot value) can small set is whole = absurd cc
-step_owed outcomes station live (Alarm slot subslot octets) can small set is whole = absurd cc
-step_owed outcomes station live (Status slot subslot is_good) can small set is whole = absurd cc
-step_owed outcomes station live (Diagnosis slot subslot channel error appears) can small set is whole = absurd cc
+step_owed outcomes station live (Application local) can small set is whole = absurd cc
 step_owed outcomes station live (Neighbour neighbour) can small set is whole = absurd cc
-step_owed outcomes station live Ready can small set is whole = absurd cc
 
 -- A call that is answered again is named.
 is_named : (outcomes : List Outcome) (station : Station) (live : Live) (event : Event) → IsNamed (again_names (asking_of station.identity.mac event) (view live.rest.calls)) outcomes station live event

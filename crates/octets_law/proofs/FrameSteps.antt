@@ -16,7 +16,7 @@ use Rattle.dcp_core.proofs.Sound.{request_takes}
 use Rattle.settings_journal.specs.settings_store.Machine.{Outcome}
 use Rattle.device_frames.specs.declared.event.Event.{Event}
 use Rattle.device_frames.specs.declared.note.Note.{Note}
-use Rattle.device_frames.specs.Heard.{Heard, Ticks, Unreadable, Elsewhere, Asks, Resolves, Reported, Cyclic, Alarms, LowReplies, LowConfirms, Given, Raised, Rated, Met, Diagnosed, Readied, heard_alarm, heard_content, heard_low, heard_of, heard_reply, heard_request, is_own, is_taken}
+use Rattle.device_frames.specs.Heard.{Heard, Ticks, Unreadable, Elsewhere, Asks, Resolves, Reported, Cyclic, Alarms, LowReplies, LowConfirms, Met, Applied, heard_alarm, heard_content, heard_low, heard_of, heard_reply, heard_request, is_own, is_taken}
 use Rattle.pn_alarms.specs.declared.fault.AlarmFault.{AlarmFault}
 use Rattle.pn_alarms.specs.declared.message.Notice.TheVariants as message
 use Rattle.pn_alarms.specs.declared.pdu.Header.{Header}
@@ -90,12 +90,8 @@ other_no_call station live (Alarms source header message) other = tt
 other_no_call station live (LowReplies source header message) other = tt
 other_no_call station live (LowConfirms source header message) other = tt
 other_no_call station live (Cyclic source frame_id body) other = tt
-other_no_call station live (Given slot subslot value) other = tt
-other_no_call station live (Raised slot subslot octets) other = tt
-other_no_call station live (Rated slot subslot is_good) other = tt
+other_no_call station live (Applied local) other = tt
 other_no_call station live (Met peer) other = tt
-other_no_call station live (Diagnosed change) other = tt
-other_no_call station live Readied other = tt
 other_no_call station live Ticks other = tt
 other_no_call station live Unreadable other = tt
 other_no_call station live Elsewhere other = tt

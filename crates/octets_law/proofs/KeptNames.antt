@@ -1,5 +1,5 @@
 -- What answers a device keeps after each step.
-use Rattle.std.proofs.Common.{◌≡◌, ◌&&◌, ℕ, Bool, not, List, Option, Some, None, is_some, Result, Ok, Err, refl}
+use Rattle.std.proofs.Common.{◌≡◌, ◌&&◌, ℕ, List, Option, Some, None, Result, Ok, Err, refl, sym, ap, subst}
 use Rattle.std.proofs.lemmas.Bool.{cond_both}
 use Rattle.pn_values.specs.declared.mac.Mac.{Mac}
 use Rattle.pn_values.specs.declared.set_item.BlockError.{BlockError}
@@ -23,28 +23,22 @@ use Rattle.pn_alarms.specs.declared.device.PduFate.{PduFate}
 use Rattle.pn_alarms.specs.declared.device.PduFate.TheVariants as fate
 use Rattle.cyclic_data.specs.declared.exchange.received.Received.{Received}
 use Rattle.cyclic_data.specs.declared.exchange.received.Received.TheVariants as received
-use Rattle.relations.specs.declared.exchange.statuses.InputStatus.{InputStatus}
-use Rattle.relations.specs.exchange.Statuses.{statuses_at}
-use Rattle.relations.specs.exchange.Flow.{Flow}
-use Rattle.relations.specs.Exchanged.{given_to, heard_by, hearing, raised_to, received_by, receiving}
+use Rattle.relations.specs.Exchanged.{heard_by, hearing, received_by, receiving}
 use Rattle.relations.specs.declared.hearing.ReadyAnswer.{ReadyAnswer}
 use Rattle.relations.specs.declared.hearing.ReadyAnswer.TheVariants as to_ready
 use Rattle.relations.specs.Ready.{answer_of as ready_answer}
 use Rattle.frame_codec.specs.declared.udp.Caller.{Caller}
 use Rattle.pn_alarms.specs.declared.pdu.Header.{Header}
 use Rattle.pn_alarms.specs.Message.{ToDevice}
-use Rattle.module_diff.specs.Plugged.{submodule_ident}
-use Rattle.diagnosis.specs.Existing.{changed}
-use Rattle.diagnosis.specs.declared.diagnosis.Change.{Change}
-use Rattle.diagnosis.specs.declared.diagnosis.Diagnosis.{Diagnosis}
-use Rattle.device_frames.specs.Heard.{Heard, Ticks, Unreadable, Elsewhere, Asks, Resolves, Reported, Cyclic, Alarms, LowReplies, LowConfirms, Given, Raised, Rated, Met, Diagnosed, Readied, Said, Calls, Responds, Garbled}
+use Rattle.device_frames.specs.Heard.{Heard, Ticks, Unreadable, Elsewhere, Asks, Resolves, Reported, Cyclic, Alarms, LowReplies, LowConfirms, Met, Applied, Said, Calls, Responds, Garbled}
 use Rattle.rpc_core.specs.Cache.{Kept, Reported as Looked, new, again, old, looked, kept_more}
-use Rattle.relations.specs.RelationState.{RelationState, uuid_of, is_alarm_of, is_preparing, phase_of}
+use Rattle.relations.specs.RelationState.{RelationState, uuid_of, is_alarm_of}
 use Rattle.relations.specs.Phases.{updated}
-use Rattle.relations.specs.Diagnosed.{has_sent_low, heard_low, hearing_low, is_full_in}
-use Rattle.device_core.specs.State.{Station, Live, alias_in}
-use Rattle.device_core.specs.Handled.{Handled, is_running, is_request, handled_request, handled_effect, handled_write, handled_new, handled_looked, handled_blocks, handled_call, handled_answer, handled_said, handled_pdu, handled_received, handled_input, handled_notice, kept_status, handled, handled_alarm, handled_change, handled_low, handled_low_pdu}
+use Rattle.relations.specs.Diagnosed.{has_sent_low, heard_low, hearing_low}
+use Rattle.device_core.specs.State.{Station, Rest, Live, alias_in}
+use Rattle.device_core.specs.Handled.{Handled, is_running, is_request, handled_request, handled_effect, handled_write, handled_new, handled_looked, handled_blocks, handled_call, handled_answer, handled_said, handled_pdu, handled_received, handled, handled_alarm, handled_low, handled_low_pdu}
 use Rattle.device_core.specs.Machine.{items_in, finished, heard_step, handled_step}
+use Rattle.device_core.proofs.Applied.{local_is}
 
 -- ---- what holds of the kept answers
 
@@ -137,28 +131,11 @@ module _ (Q : List Kept → Type 0) where
         cond_both (is_alarm_of source header.destination header.source live.rest.link) _ _ Stays
         (λ _. low_pdu_stays (heard_low message live.rest.link) (updated (hearing_low message live.rest.link) live.rest.link)) (λ _. same)
 
-    change_stays : (change : Change) (diagnoses : Option (List Diagnosis)) → Stays (handled_change station live change diagnoses)
-    change_stays change (Some diagnoses) =
-        same
-    change_stays change None = same
-
     received_stays : (came : Received) (link : Option RelationState) → Stays (handled_received live came link)
     received_stays received.Foreign link = same
     received_stays received.Short link = same
     received_stays received.Stale link = same
     received_stays received.Taken link = same
-
-    input_stays : (flow : Option Flow) → Stays (handled_input live flow)
-    input_stays (Some flow) = same
-    input_stays None = same
-
-    notice_stays : (flow : Option Flow) → Stays (handled_notice live flow)
-    notice_stays (Some flow) = same
-    notice_stays None = same
-
-    status_stays : (slot subslot : ℕ) (is_good : Bool) (statuses : Option (List InputStatus)) → Stays (kept_status live slot subslot is_good statuses)
-    status_stays slot subslot is_good (Some statuses) = same
-    status_stays slot subslot is_good None = same
 
     abbrev FreshHeard : Heard → Type 0
     FreshHeard (Reported caller address said) = FreshIn said
@@ -176,16 +153,8 @@ module _ (Q : List Kept → Type 0) where
     handled_stays (LowConfirms source header message) fresh = cond_both (has_sent_low live.rest.link) _ _ Stays (λ _. low_stays source header message) (λ _. same)
     handled_stays (Cyclic source frame_id body) fresh =
         received_stays (received_by source frame_id body live.rest.link) (updated (receiving source frame_id body live.rest.link) live.rest.link)
-    handled_stays (Given slot subslot value) fresh = input_stays (given_to slot subslot value live.rest.link)
-    handled_stays (Raised slot subslot octets) fresh = notice_stays (raised_to station.real.modules.items slot subslot octets live.rest.link)
-    handled_stays (Rated slot subslot is_good) fresh =
-        status_stays slot subslot is_good (statuses_at station.real.modules.items (record { slot = slot; subslot = subslot; is_good = is_good }) live.rest.statuses)
     handled_stays (Met peer) fresh = same
-    handled_stays (Diagnosed change) fresh =
-        cond_both (is_some (submodule_ident station.real.modules.items change.diagnosis.slot change.diagnosis.subslot) && not (is_full_in live.rest.link)) _ _ Stays
-        (λ _. change_stays change (changed change live.rest.diagnoses)) (λ _. same)
-    handled_stays Readied fresh =
-        cond_both (is_preparing (phase_of live.rest.link)) _ _ Stays (λ _. same) (λ _. same)
+    handled_stays (Applied local) fresh = subst Q (sym (ap (λ (rest : Rest). rest.calls) ((local_is station live local).keeps answers)))
     handled_stays Ticks fresh = same
     handled_stays Unreadable fresh = same
     handled_stays Elsewhere fresh = same
@@ -205,12 +174,8 @@ fresh_none Q station live answers (Alarms source header message) none = tt
 fresh_none Q station live answers (LowReplies source header message) none = tt
 fresh_none Q station live answers (LowConfirms source header message) none = tt
 fresh_none Q station live answers (Cyclic source frame_id body) none = tt
-fresh_none Q station live answers (Given slot subslot value) none = tt
-fresh_none Q station live answers (Raised slot subslot octets) none = tt
-fresh_none Q station live answers (Rated slot subslot is_good) none = tt
 fresh_none Q station live answers (Met peer) none = tt
-fresh_none Q station live answers (Diagnosed change) none = tt
-fresh_none Q station live answers Readied none = tt
+fresh_none Q station live answers (Applied local) none = tt
 fresh_none Q station live answers Ticks none = tt
 fresh_none Q station live answers Unreadable none = tt
 fresh_none Q station live answers Elsewhere none = tt

@@ -1,5 +1,5 @@
 -- A whole Write is answered.
-use Rattle.std.proofs.Common.{◌≡◌, ◌==◌, ◌&&◌, ℕ, Bool, true, false, not, nat_eq, List, [], ◌∷◌, drop, flat_map, Option, Some, None, Result, Ok, Err, refl, sym, ap, subst, ◌∙◌}
+use Rattle.std.proofs.Common.{◌≡◌, ◌&&◌, ℕ, true, false, not, nat_eq, List, [], ◌∷◌, drop, flat_map, Some, Result, Ok, Err, refl, sym, ap, subst, ◌∙◌}
 use Rattle.std.proofs.lemmas.Bool.{cond-true}
 use Rattle.std.proofs.lemmas.List.{append-nil}
 use Rattle.pn_values.specs.declared.command.Command.TheVariants.{SetIm}
@@ -27,7 +27,7 @@ use Rattle.std.specs.Cmp.Lexicographic.{pointwise}
 use Rattle.pn_values.specs.IpSuite.{is_zero}
 use Rattle.rpc_core.specs.Response.{response_of}
 use Rattle.device_frames.specs.declared.event.Event.{Event}
-use Rattle.device_frames.specs.declared.event.Event.TheVariants.{Alarm, Call as Joined, Diagnosis, Frame, Input, Neighbour, Ready, Status as Rating, Tick}
+use Rattle.device_frames.specs.declared.event.Event.TheVariants.{Call as Joined, Frame, Neighbour, Application, Tick}
 use Rattle.device_frames.specs.declared.note.Note.{Note}
 use Rattle.device_frames.specs.Heard.{Calls, Heard, Reported, heard_content, heard_frame, heard_of, is_own, said_by, said_first}
 use Rattle.device_frames.specs.Sendable.{AreSendable, IsSendable}
@@ -35,7 +35,7 @@ use Rattle.device_frames.specs.Sent.{CallAnswer, bytes_of}
 use Rattle.device_core.specs.State.{Live, State, Station}
 use Rattle.device_core.specs.Steps.{Steps}
 use Rattle.device_core.specs.Several.{judged_each, texts_in}
-use Rattle.device_core.specs.Handled.{Handled, Writes, WritesEach, handled, handled_blocks, handled_effect, handled_looked, handled_new, handled_said, handled_write, is_running, kept_answer, outcome_of}
+use Rattle.device_core.specs.Handled.{Handled, handled, handled_effect, handled_write, is_running, kept_answer, outcome_of}
 use Rattle.device_core.specs.Machine.{Stepped, first_answer, handled_step, heard_step, several_answer, written_as}
 use Rattle.octets_law.specs.Octets.{args_of, in_order, part, statuses, statuses_in}
 use Rattle.octets_law.specs.Owed.{IsFor, IsOwed, identifier, is_whole_call}
@@ -132,12 +132,8 @@ module _ (outcomes : List Outcome) (station : Station) (live : Live) (event : Ev
           ∙ cond-true (is_own station.identity it.meaning.destination && true) _ _ (both _ _ mine refl)
           ∙ ap (λ l. Reported caller (part 30 4 frame.items) (said_by l)) (sym body)) can
       by_event call not_zero whole three fresh Tick is for = absurd for
-      by_event call not_zero whole three fresh (Input slot subslot value) is for = absurd for
-      by_event call not_zero whole three fresh (Alarm slot subslot octets) is for = absurd for
-      by_event call not_zero whole three fresh (Rating slot subslot is_good) is for = absurd for
-      by_event call not_zero whole three fresh (Diagnosis slot subslot channel error appears) is for = absurd for
+      by_event call not_zero whole three fresh (Application local) is for = absurd for
       by_event call not_zero whole three fresh (Neighbour neighbour) is for = absurd for
-      by_event call not_zero whole three fresh Ready is for = absurd for
 
 -- What a step sends is what is owed.
 pub step_owed : {F : Type 0} {S : ℕ} (as_flash : Flash F S) (old after : State F) (event : Event) (sent : List (List ℕ)) (said : Note)

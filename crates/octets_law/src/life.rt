@@ -23,7 +23,7 @@ pub trait Witness {
     ghost told: { Self → List Told };
 
     /// The device was given this event, and sent these frames at it.
-    fn tell(&mut self, event: &Event, frames: &Outbox)
+    fn tell(&mut self, event: &Event<'_>, frames: &Outbox)
         ensures { told self.new ≡ told self.old ++ (event.now, boxed frames.now) ∷ [] };
 }
 
@@ -51,7 +51,7 @@ pub fn live<F: Flash<S>, const S: usize, T: Product, W: Witness, P: Fn(F) -> F>(
     product: &T,
     options: DeviceOptions,
     flash: F,
-    cycles: &[Vec<Event>],
+    cycles: &[Vec<Event<'_>>],
     witness: &mut W,
     power_up: P,
 ) -> Result<Device<F, S>, (BootFault, F)>
@@ -85,7 +85,7 @@ fn live_once<F: Flash<S>, const S: usize, T: Product, W: Witness, P: Fn(F) -> F>
     product: &T,
     options: DeviceOptions,
     device: Device<F, S>,
-    events: &[Event],
+    events: &[Event<'_>],
     witness: &mut W,
     power_up: &P,
 ) -> Result<Device<F, S>, (BootFault, F)>
@@ -105,7 +105,7 @@ fn live_once<F: Flash<S>, const S: usize, T: Product, W: Witness, P: Fn(F) -> F>
 // The events of a cycle.
 fn turn_all<F: Flash<S>, const S: usize, W: Witness>(
     device: &mut Device<F, S>,
-    events: &[Event],
+    events: &[Event<'_>],
     witness: &mut W,
 )
     ensures { TurnsAll F.Flash device.old events.now (W.told witness.old) (W.told witness.new) device.new }
@@ -120,7 +120,7 @@ fn turn_all<F: Flash<S>, const S: usize, W: Witness>(
 // One event.
 fn turn<F: Flash<S>, const S: usize, W: Witness>(
     device: &mut Device<F, S>,
-    event: &Event,
+    event: &Event<'_>,
     outbox: &mut Outbox,
     witness: &mut W,
 )
@@ -142,7 +142,7 @@ fn forget_if(is_lost: bool, outbox: &mut Outbox)
 }
 
 // A Xid of four octets fits 32 bits.
-fn fits(event: &Event)
+fn fits(event: &Event<'_>)
     ensures { IsSmall event.now }
 {
     if let Event::Frame(frame) = event {

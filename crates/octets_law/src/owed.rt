@@ -9,7 +9,7 @@ use frame_codec::Outbox;
 /// A step of a device (`Device::step`), whatever was done to the device before.
 pub fn step<F: Flash<S>, const S: usize>(
     device: &mut Device<F, S>,
-    event: &Event,
+    event: &Event<'_>,
     outbox: &mut Outbox,
 ) -> Note
     // A whole Write to the running address that is not repeated or outdated is answered in the step. Whether anything is sent

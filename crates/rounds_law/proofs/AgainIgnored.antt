@@ -26,10 +26,10 @@ use Rattle.pn_alarms.specs.declared.pdu.Header.{Header}
 use Rattle.diagnosis.specs.reports.Message.{ToController, alarm_of}
 use Rattle.cyclic_data.specs.exchange.Received.{behind_frame}
 use Rattle.relations.specs.declared.ready.Ready.{Ready}
-use Rattle.relations.specs.exchange.Frames.{Inputs, Notifies, Replies, Reports, RepliesLow}
+use Rattle.relations.specs.exchange.Frames.{Inputs, Notifies, Reports}
 use Rattle.plans.specs.declared.parts.Controller.{Controller}
 use Rattle.device_frames.specs.Sendable.{IsSendable}
-use Rattle.device_frames.specs.Sent.{Sent, IdentifyAnswer, GetAnswer, SetAnswer, ArpReply, CallAnswer, Again, ReadyCall, Ends, Exchanges, bytes_of, ready_frame}
+use Rattle.device_frames.specs.Sent.{Sent, ReadyCall, Ends, Exchanges, bytes_of, ready_frame}
 use Rattle.controller_messages.specs.declared.setup.Setup.{Setup}
 use Rattle.controller_messages.specs.Heard.{Heard, Alarms, Answers, Calls, Cyclic, Nothing, Refuses, Responds}
 use Rattle.controller_messages.specs.Heard.{heard_alarm, heard_content, heard_of, heard_read, heard_real_time}
@@ -185,15 +185,8 @@ IsOfUnit setup (Ends farewell) = Unit {0}
 IsOfUnit setup (Exchanges route (Inputs has_problem inputs counter)) = is_cyclic route.sent_id ≡ true
 IsOfUnit setup (Exchanges route (Notifies header alarm)) = Unit {0}
 IsOfUnit setup (Exchanges route (Reports tag header alarm)) = Unit {0}
-IsOfUnit setup (Exchanges route (Replies header)) = ⊥
-IsOfUnit setup (Exchanges route (RepliesLow tag header)) = ⊥
 IsOfUnit setup (ReadyCall address ready) = IsReadyOfOther setup ready
-IsOfUnit setup (IdentifyAnswer asker running xid) = ⊥
-IsOfUnit setup (GetAnswer asker running alias request) = ⊥
-IsOfUnit setup (SetAnswer asker request answers) = ⊥
-IsOfUnit setup (ArpReply asker address target) = ⊥
-IsOfUnit setup (CallAnswer caller address answer) = ⊥
-IsOfUnit setup (Again frame) = ⊥
+IsOfUnit setup message = ⊥
 
 pub unit_ignored : HeardLaws → (setup : Setup) (identity : Identity) (message : Sent) → IsDevice identity → IsOfUnit setup message → IsSendable identity message
     → IsIgnored setup (bytes_of identity message)
@@ -209,13 +202,6 @@ unit_ignored laws setup identity (Exchanges route (Notifies header alarm)) devic
 unit_ignored laws setup identity (Exchanges route (Reports tag header alarm)) device of can =
     ignored setup (bytes_of identity (Exchanges route (Reports tag header alarm)))
     (exchange_quiet laws.real_time setup route.partner identity.mac tag _ _ (inr (refl, refl)) can)
-unit_ignored laws setup identity (Exchanges route (Replies header)) device of can = absurd of
-unit_ignored laws setup identity (Exchanges route (RepliesLow tag header)) device of can = absurd of
 unit_ignored laws setup identity (ReadyCall address ready) device of can =
     ignored setup (bytes_of identity (ReadyCall address ready)) (ready_quiet laws setup identity address ready device can.content.0.0 of)
-unit_ignored laws setup identity (IdentifyAnswer asker running xid) device of can = absurd of
-unit_ignored laws setup identity (GetAnswer asker running alias request) device of can = absurd of
-unit_ignored laws setup identity (SetAnswer asker request answers) device of can = absurd of
-unit_ignored laws setup identity (ArpReply asker address target) device of can = absurd of
-unit_ignored laws setup identity (CallAnswer caller address answer) device of can = absurd of
-unit_ignored laws setup identity (Again frame) device of can = absurd of
+unit_ignored laws setup identity message device of can = absurd of

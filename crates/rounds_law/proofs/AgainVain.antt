@@ -23,7 +23,7 @@ use Rattle.relations.specs.Exchanged.{received_by, receiving}
 use Rattle.relations.specs.Phases.{updated}
 use Rattle.relations.specs.RelationState.{RelationState, is_alarm_of}
 use Rattle.device_frames.specs.declared.note.Note.TheVariants as note
-use Rattle.device_frames.specs.Heard.{Heard, Ticks, Unreadable, Elsewhere, Asks, Resolves, Reported, Cyclic, Alarms, LowReplies, LowConfirms, Given, Raised, Rated, Met, Diagnosed, Readied, heard_alarm, heard_content, heard_frame, heard_low, heard_of, heard_reply}
+use Rattle.device_frames.specs.Heard.{Heard, Unreadable, Elsewhere, Cyclic, Alarms, LowReplies, LowConfirms, heard_alarm, heard_content, heard_frame, heard_low, heard_of, heard_reply}
 use Rattle.device_core.specs.State.{Live, Station}
 use Rattle.device_core.specs.Handled.{Refuses, handled_low, handled_message, handled_received}
 use Rattle.device_core.specs.Machine.{Stepped, handled_step, heard_step}
@@ -39,22 +39,13 @@ use Rattle.rounds_law.proofs.DevicePassingRead.{data_is_read}
 -- ---- what belongs to an exchange
 
 abbrev pub IsVain : Heard → Type 0
-IsVain Ticks = ⊥
 IsVain Unreadable = Unit {0}
 IsVain Elsewhere = Unit {0}
-IsVain (Asks source request) = ⊥
-IsVain (Resolves asker arp) = ⊥
-IsVain (Reported caller address said) = ⊥
 IsVain (Cyclic source frame_id body) = Unit {0}
 IsVain (Alarms source header message) = Unit {0}
 IsVain (LowReplies source header message) = Unit {0}
 IsVain (LowConfirms source header message) = Unit {0}
-IsVain (Given slot subslot value) = ⊥
-IsVain (Raised slot subslot octets) = ⊥
-IsVain (Rated slot subslot is_good) = ⊥
-IsVain (Met peer) = ⊥
-IsVain (Diagnosed change) = ⊥
-IsVain Readied = ⊥
+IsVain heard = ⊥
 
 -- Nothing is sent, and nothing changes.
 abbrev pub Keeps : Live → Stepped → Type 0
@@ -63,12 +54,8 @@ Keeps live step = (step.frames ≡ []) × (step.live ≡ live)
 pub in_vain : (outcomes : List Outcome) (station : Station) (live : Live) (heard : Heard) → live.rest.link ≡ None → IsVain heard
     → Keeps live (heard_step outcomes station live heard)
 unfolding heard_step handled_step
-in_vain outcomes station live Ticks none vain = absurd vain
 in_vain outcomes station live Unreadable none vain = (refl, refl)
 in_vain outcomes station live Elsewhere none vain = (refl, refl)
-in_vain outcomes station live (Asks source request) none vain = absurd vain
-in_vain outcomes station live (Resolves asker arp) none vain = absurd vain
-in_vain outcomes station live (Reported caller address said) none vain = absurd vain
 in_vain outcomes station live (Cyclic source frame_id body) none vain =
     subst (λ (l : Option RelationState). Keeps live (handled_step outcomes station live
     (handled_received live (received_by source frame_id body l) (updated (receiving source frame_id body l) l)))) (sym none) (refl, refl)
@@ -82,12 +69,7 @@ in_vain outcomes station live (LowReplies source header message) none vain =
 in_vain outcomes station live (LowConfirms source header message) none vain =
     subst (λ (l : Option RelationState). Keeps live (handled_step outcomes station live
     (if has_sent_low l then handled_low station live source header message else Refuses note.Fault))) (sym none) (refl, refl)
-in_vain outcomes station live (Given slot subslot value) none vain = absurd vain
-in_vain outcomes station live (Raised slot subslot octets) none vain = absurd vain
-in_vain outcomes station live (Rated slot subslot is_good) none vain = absurd vain
-in_vain outcomes station live (Met peer) none vain = absurd vain
-in_vain outcomes station live (Diagnosed change) none vain = absurd vain
-in_vain outcomes station live Readied none vain = absurd vain
+in_vain outcomes station live heard none vain = absurd vain
 
 -- ---- an ERR
 

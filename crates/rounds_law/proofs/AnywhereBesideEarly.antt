@@ -22,16 +22,16 @@ use Rattle.pn_alarms.specs.declared.pdu.Header.{Header}
 use Rattle.diagnosis.specs.reports.Message.{ToController, alarm_of}
 use Rattle.cyclic_data.specs.exchange.Received.{behind_frame}
 use Rattle.relations.specs.declared.ready.Ready.{Ready}
-use Rattle.relations.specs.exchange.Frames.{Inputs, Notifies, Replies, Reports, RepliesLow}
+use Rattle.relations.specs.exchange.Frames.{Inputs, Notifies, Reports}
 use Rattle.plans.specs.declared.parts.Controller.{Controller}
 use Rattle.device_frames.specs.Sendable.{AreSendable, IsSendable}
-use Rattle.device_frames.specs.Sent.{Sent, IdentifyAnswer, GetAnswer, SetAnswer, ArpReply, CallAnswer, Again, ReadyCall, Ends, Exchanges, bytes_of, ready_frame}
+use Rattle.device_frames.specs.Sent.{Sent, ReadyCall, Ends, Exchanges, bytes_of, ready_frame}
 use Rattle.controller_messages.specs.declared.setup.Setup.{Setup}
 use Rattle.controller_messages.specs.Heard.{Heard, Alarms, Answers, Calls, Cyclic, Nothing, Refuses, Responds}
 use Rattle.controller_messages.specs.Heard.{heard_alarm, heard_content, heard_of, heard_read, heard_real_time}
 use Rattle.controller_messages.specs.Sent.{calls_at}
 use Rattle.controller_core.specs.declared.stored.state.State.{State}
-use Rattle.controller_core.specs.declared.stored.state.State.TheVariants.{Addressing, Connecting, Ended, Ending, Exchanging, Looking, Waiting, Writing}
+use Rattle.controller_core.specs.declared.stored.state.State.TheVariants.{Addressing, Connecting, Looking}
 use Rattle.controller_core.specs.start_up.Answers.{is_ready, ready_in}
 use Rattle.controller_core.specs.stored.Alarms.{is_alarm}
 use Rattle.controller_core.specs.stored.State.{Controlling, Live}
@@ -51,11 +51,7 @@ abbrev pub IsEarly : State → Type 0
 IsEarly Looking = Unit {0}
 IsEarly Addressing = Unit {0}
 IsEarly Connecting = Unit {0}
-IsEarly Writing = ⊥
-IsEarly Ending = ⊥
-IsEarly Waiting = ⊥
-IsEarly Exchanging = ⊥
-IsEarly (Ended cause) = ⊥
+IsEarly phase = ⊥
 
 -- A controller that does so, without an established relation, ignores this frame.
 abbrev pub IsIgnoredEarly : Setup → List ℕ → Type 0
@@ -93,11 +89,7 @@ readied_early : (live : Live) (caller : Caller) (call : Call) (block : ControlBl
 readied_early live caller call block Looking early = refl
 readied_early live caller call block Addressing early = refl
 readied_early live caller call block Connecting early = refl
-readied_early live caller call block Writing early = absurd early
-readied_early live caller call block Ending early = absurd early
-readied_early live caller call block Waiting early = absurd early
-readied_early live caller call block Exchanging early = absurd early
-readied_early live caller call block (Ended cause) early = absurd early
+readied_early live caller call block phase early = absurd early
 
 called_early : (setup : Setup) (live : Live) (caller : Caller) (call : Call) (found : Option ControlBlock) → IsEarly live.phase
     → called setup live caller call found ≡ stays live
@@ -202,15 +194,8 @@ module _ (laws : UnitLaws) (setup : Setup) (identity : Identity) where
   IsOfUnit (Exchanges route (Inputs has_problem inputs counter)) = is_cyclic route.sent_id ≡ true
   IsOfUnit (Exchanges route (Notifies header alarm)) = Unit {0}
   IsOfUnit (Exchanges route (Reports tag header alarm)) = Unit {0}
-  IsOfUnit (Exchanges route (Replies header)) = ⊥
-  IsOfUnit (Exchanges route (RepliesLow tag header)) = ⊥
   IsOfUnit (ReadyCall address ready) = IsSizedReady ready
-  IsOfUnit (IdentifyAnswer asker running xid) = ⊥
-  IsOfUnit (GetAnswer asker running alias request) = ⊥
-  IsOfUnit (SetAnswer asker request answers) = ⊥
-  IsOfUnit (ArpReply asker address target) = ⊥
-  IsOfUnit (CallAnswer caller address answer) = ⊥
-  IsOfUnit (Again frame) = ⊥
+  IsOfUnit message = ⊥
 
   message_early : (message : Sent) → IsDevice identity → IsOfUnit message → IsSendable identity message → IsIgnoredEarly setup (bytes_of identity message)
   message_early (Ends farewell) device of can =
@@ -224,16 +209,9 @@ module _ (laws : UnitLaws) (setup : Setup) (identity : Identity) where
   message_early (Exchanges route (Reports tag header alarm)) device of can =
       ignored_early setup (bytes_of identity (Exchanges route (Reports tag header alarm)))
       (exchange_quiet route.partner tag _ _ (inr (refl, refl)) can)
-  message_early (Exchanges route (Replies header)) device of can = absurd of
-  message_early (Exchanges route (RepliesLow tag header)) device of can = absurd of
   message_early (ReadyCall address ready) device of can =
       ignored_early setup (bytes_of identity (ReadyCall address ready)) (ready_quiet address ready device of can)
-  message_early (IdentifyAnswer asker running xid) device of can = absurd of
-  message_early (GetAnswer asker running alias request) device of can = absurd of
-  message_early (SetAnswer asker request answers) device of can = absurd of
-  message_early (ArpReply asker address target) device of can = absurd of
-  message_early (CallAnswer caller address answer) device of can = absurd of
-  message_early (Again frame) device of can = absurd of
+  message_early message device of can = absurd of
 
   pub messages_early : (sent : List Sent) → IsDevice identity → AllByRecursion IsOfUnit sent → AreSendable identity sent
       → AllByRecursion (IsIgnoredEarly setup) (map (bytes_of identity) sent)
@@ -245,27 +223,13 @@ module _ (laws : UnitLaws) (setup : Setup) (identity : Identity) where
   -- The ERR of a relation that has just ended is ignored in each phase.
   abbrev pub IsFarewell : Sent → Type 0
   IsFarewell (Ends farewell) = Unit {0}
-  IsFarewell (Exchanges route frame) = ⊥
-  IsFarewell (ReadyCall address ready) = ⊥
-  IsFarewell (IdentifyAnswer asker running xid) = ⊥
-  IsFarewell (GetAnswer asker running alias request) = ⊥
-  IsFarewell (SetAnswer asker request answers) = ⊥
-  IsFarewell (ArpReply asker address target) = ⊥
-  IsFarewell (CallAnswer caller address answer) = ⊥
-  IsFarewell (Again frame) = ⊥
+  IsFarewell message = ⊥
 
   farewell_ignored : (message : Sent) → IsFarewell message → IsSendable identity message → IsIgnored setup (bytes_of identity message)
   farewell_ignored (Ends farewell) is can =
       again.ignored setup (bytes_of identity (Ends farewell))
       (again.exchange_quiet laws.real_time setup farewell.initiator identity.mac farewell.tag _ _ (inr (refl, refl)) can)
-  farewell_ignored (Exchanges route frame) is can = absurd is
-  farewell_ignored (ReadyCall address ready) is can = absurd is
-  farewell_ignored (IdentifyAnswer asker running xid) is can = absurd is
-  farewell_ignored (GetAnswer asker running alias request) is can = absurd is
-  farewell_ignored (SetAnswer asker request answers) is can = absurd is
-  farewell_ignored (ArpReply asker address target) is can = absurd is
-  farewell_ignored (CallAnswer caller address answer) is can = absurd is
-  farewell_ignored (Again frame) is can = absurd is
+  farewell_ignored message is can = absurd is
 
   pub farewells_ignored : (sent : List Sent) → AllByRecursion IsFarewell sent → AreSendable identity sent
       → AllByRecursion (IsIgnored setup) (map (bytes_of identity) sent)

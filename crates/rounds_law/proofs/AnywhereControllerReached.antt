@@ -17,7 +17,7 @@ use Rattle.controller_messages.specs.Access.{Accessing, made}
 use Rattle.controller_messages.specs.Heard.{Answers, Heard, Nothing}
 use Rattle.controller_messages.specs.Requests.{writing_from}
 use Rattle.controller_core.specs.declared.stored.event.Event.{Event}
-use Rattle.controller_core.specs.declared.stored.event.Event.TheVariants.{Frame, Tick, Give, Status, Read, Write, Stop}
+use Rattle.controller_core.specs.declared.stored.event.Event.TheVariants.{Frame, Write}
 use Rattle.controller_core.specs.declared.stored.state.State.{State}
 use Rattle.controller_core.specs.declared.stored.state.State.TheVariants.{Looking, Addressing, Connecting, Ending, Waiting, Exchanging}
 use Rattle.controller_core.specs.stored.Cause.{cause_of}
@@ -178,12 +178,7 @@ heard_in came = Nothing
 
 pub stations_answer : (setup : Setup) (event : Event) (source : Mac) (answer : Answered) → came_by setup event ≡ Hears (Answers source answer) → IsMac source
 stations_answer setup (Frame bytes) source answer e = answered_by setup.plan.controller bytes.items source answer (ap heard_in e)
-stations_answer setup Tick source answer e = absurd cc
-stations_answer setup (Give slot subslot value) source answer e = absurd cc
-stations_answer setup (Status slot subslot is_good) source answer e = absurd cc
-stations_answer setup (Read slot subslot index) source answer e = absurd cc
-stations_answer setup (Write slot subslot index octets) source answer e = absurd cc
-stations_answer setup Stop source answer e = absurd cc
+stations_answer setup event source answer e = absurd cc
 
 setup_on : (controller : Controlling) (event : Event) → (step_of controller event).controller.setup ≡ controller.setup
 unfolding step_of

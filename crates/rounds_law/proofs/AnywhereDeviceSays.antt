@@ -21,7 +21,7 @@ use Rattle.device_frames.specs.Sendable.{AreSendable, IsSendable}
 use Rattle.device_frames.specs.Sent.{Sent, IdentifyAnswer, GetAnswer, SetAnswer, ArpReply, CallAnswer, Again, ReadyCall, Ends, Exchanges, bytes_of}
 use Rattle.device_frames.specs.Sent.{ready_frame, response_frame}
 use Rattle.controller_messages.specs.declared.setup.Setup.{Setup}
-use Rattle.controller_messages.specs.Heard.{Alarms, Answers, Calls, Cyclic, Heard, Nothing, Refuses, Responds, heard_of}
+use Rattle.controller_messages.specs.Heard.{Calls, Heard, Nothing, Responds, heard_of}
 use Rattle.end_laws.specs.hearing.Hearing.{IsUncalled, mine_reported}
 use Rattle.end_laws.specs.hearing.Stations.{IsAddress, IsCaller, IsDevice, IsSetup, ready_call}
 use Rattle.both_ends.specs.startup.answer.Answer.{caller_of}
@@ -46,13 +46,9 @@ pub record SaysLaws : Type 0 where
 -- ---- what is heard
 
 uncalled_fit : (setup : Setup) (heard : Heard) → IsUncalled heard → IsFit setup heard
-uncalled_fit setup Nothing is = tt
-uncalled_fit setup (Answers source answer) is = tt
 uncalled_fit setup (Responds response) is = absurd is
-uncalled_fit setup (Refuses refusal) is = tt
 uncalled_fit setup (Calls caller call) is = absurd is
-uncalled_fit setup (Cyclic source frame_id body) is = tt
-uncalled_fit setup (Alarms source under header told) is = tt
+uncalled_fit setup heard is = tt
 
 reported_fit : (setup : Setup) (destination : Mac) (to : Endpoint) (heard : Heard) → IsFit setup heard
     → IsFit setup (mine_reported setup.plan.controller destination to heard)

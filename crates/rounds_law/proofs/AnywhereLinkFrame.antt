@@ -35,8 +35,7 @@ use Rattle.relations.specs.exchange.Flow.{Flow}
 use Rattle.relations.specs.exchange.Notices.{behind_message}
 use Rattle.relations.specs.exchange.Received.{behind_frame, received_as}
 use Rattle.device_frames.specs.Heard.{Said, Calls, Garbled, Responds, heard_of}
-use Rattle.device_frames.specs.Heard.{Heard, Ticks, Unreadable, Elsewhere, Asks, Resolves, Reported, Cyclic, Alarms, LowReplies, LowConfirms}
-use Rattle.device_frames.specs.Heard.{Given, Raised, Rated, Met, Diagnosed, Readied}
+use Rattle.device_frames.specs.Heard.{Heard, Elsewhere, Reported, Cyclic, Alarms, LowReplies, LowConfirms}
 use Rattle.device_frames.specs.Relation.{low_alarms_of}
 use Rattle.device_frames.specs.declared.note.Note.{Note}
 use Rattle.device_frames.specs.declared.note.Note.TheVariants as note
@@ -203,11 +202,7 @@ module _ (setup : Setup) (route : Route) (outcomes : List Outcome) (station : St
 
   now_went : (heard : Heard) → IsOfData setup route heard → Went setup route link (heard_step outcomes station now heard)
   unfolding heard_step
-  now_went Ticks is = absurd is
-  now_went Unreadable is = absurd is
   now_went Elsewhere is = refused_went note.NotMine
-  now_went (Asks source request) is = absurd is
-  now_went (Resolves asker arp) is = absurd is
   now_went (Reported caller address said) is = datagram_went caller said is (is_running live.values.running address)
   now_went (Cyclic source frame_id body) is =
       received_went (behind_frame link.flow source frame_id body) (frame_left link.flow.cyclic source frame_id body).route
@@ -215,12 +210,7 @@ module _ (setup : Setup) (route : Route) (outcomes : List Outcome) (station : St
   now_went (Alarms source header message) is = alarm_went message (is_alarm_of source header.destination header.source (Some link))
   now_went (LowReplies source header message) is = low_reply_went source header message (has_sent_low (Some link))
   now_went (LowConfirms source header message) is = low_confirm_went source header message (has_sent_low (Some link))
-  now_went (Given slot subslot value) is = absurd is
-  now_went (Raised slot subslot octets) is = absurd is
-  now_went (Rated slot subslot is_good) is = absurd is
-  now_went (Met peer) is = absurd is
-  now_went (Diagnosed change) is = absurd is
-  now_went Readied is = absurd is
+  now_went heard is = absurd is
 
   pub data_went : (heard : Heard) → IsOfData setup route heard → live.rest.link ≡ Some link → Went setup route link (heard_step outcomes station live heard)
   data_went heard is has =
@@ -248,11 +238,7 @@ datagram_in_vain outcomes station live caller said is none false = (refl, refl)
 data_in_vain : (setup : Setup) (route : Route) (outcomes : List Outcome) (station : Station) (live : Live) (heard : Heard) → IsOfData setup route heard
     → live.rest.link ≡ None → Keeps live (heard_step outcomes station live heard)
 unfolding heard_step
-data_in_vain setup route outcomes station live Ticks is none = absurd is
-data_in_vain setup route outcomes station live Unreadable is none = absurd is
 data_in_vain setup route outcomes station live Elsewhere is none = in_vain outcomes station live Elsewhere none tt
-data_in_vain setup route outcomes station live (Asks source request) is none = absurd is
-data_in_vain setup route outcomes station live (Resolves asker arp) is none = absurd is
 data_in_vain setup route outcomes station live (Reported caller address said) is none =
     datagram_in_vain outcomes station live caller said is none (is_running live.values.running address)
 data_in_vain setup route outcomes station live (Cyclic source frame_id body) is none = in_vain outcomes station live (Cyclic source frame_id body) none tt
@@ -261,12 +247,7 @@ data_in_vain setup route outcomes station live (LowReplies source header message
     in_vain outcomes station live (LowReplies source header message) none tt
 data_in_vain setup route outcomes station live (LowConfirms source header message) is none =
     in_vain outcomes station live (LowConfirms source header message) none tt
-data_in_vain setup route outcomes station live (Given slot subslot value) is none = absurd is
-data_in_vain setup route outcomes station live (Raised slot subslot octets) is none = absurd is
-data_in_vain setup route outcomes station live (Rated slot subslot is_good) is none = absurd is
-data_in_vain setup route outcomes station live (Met peer) is none = absurd is
-data_in_vain setup route outcomes station live (Diagnosed change) is none = absurd is
-data_in_vain setup route outcomes station live Readied is none = absurd is
+data_in_vain setup route outcomes station live heard is none = absurd is
 
 -- ---- the part
 

@@ -12,8 +12,7 @@ use Rattle.diagnosis.specs.declared.reports.priority.Priority.{Priority}
 use Rattle.diagnosis.specs.declared.reports.priority.Priority.TheVariants.{High, Low}
 use Rattle.cyclic_data.specs.declared.exchange.route.Route.{Route}
 use Rattle.device_frames.specs.Heard.{Said, Calls, Garbled, Responds, heard_of, heard_reply, is_own}
-use Rattle.device_frames.specs.Heard.{Heard, Ticks, Unreadable, Elsewhere, Asks, Resolves, Reported, Cyclic, Alarms, LowReplies, LowConfirms}
-use Rattle.device_frames.specs.Heard.{Given, Raised, Rated, Met, Diagnosed, Readied}
+use Rattle.device_frames.specs.Heard.{Heard, Elsewhere, Reported, Cyclic, Alarms, LowReplies, LowConfirms}
 use Rattle.controller_messages.specs.declared.setup.Setup.{Setup}
 use Rattle.controller_messages.specs.Sent.{Sent, Accesses, Agrees, Confirms, Cycles, Ends, Replies, Requests, bytes_of as controller_bytes}
 use Rattle.end_laws.specs.hearing.Hearing.{comes, own_hears}
@@ -30,22 +29,13 @@ IsNoCall Garbled = Unit {0}
 
 -- What belongs to an exchange. A cyclic frame is one of the controller, under the FrameID of this route.
 abbrev pub IsOfData : Setup → Route → Heard → Type 0
-IsOfData setup route Ticks = ⊥
-IsOfData setup route Unreadable = ⊥
 IsOfData setup route Elsewhere = Unit {0}
-IsOfData setup route (Asks source request) = ⊥
-IsOfData setup route (Resolves asker arp) = ⊥
 IsOfData setup route (Reported caller address said) = IsNoCall said
 IsOfData setup route (Cyclic source frame_id body) = (source ≡ setup.plan.controller.mac) × (frame_id ≡ route.sent_id)
 IsOfData setup route (Alarms source header message) = Unit {0}
 IsOfData setup route (LowReplies source header message) = Unit {0}
 IsOfData setup route (LowConfirms source header message) = Unit {0}
-IsOfData setup route (Given slot subslot value) = ⊥
-IsOfData setup route (Raised slot subslot octets) = ⊥
-IsOfData setup route (Rated slot subslot is_good) = ⊥
-IsOfData setup route (Met peer) = ⊥
-IsOfData setup route (Diagnosed change) = ⊥
-IsOfData setup route Readied = ⊥
+IsOfData setup route heard = ⊥
 
 -- It is so whether the frame is for this device or not.
 own_so : (setup : Setup) (route : Route) (heard : Heard) → IsOfData setup route heard → (own : Bool) → IsOfData setup route (if own then heard else Elsewhere)

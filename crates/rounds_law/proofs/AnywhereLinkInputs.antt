@@ -27,7 +27,7 @@ use Rattle.device_frames.specs.Heard as device
 use Rattle.device_frames.specs.Heard.{Ticks, heard_of as device_hears}
 use Rattle.device_frames.specs.Relation.{alarms_of, frames_in, inputs_of, low_alarms_of, ready_calls, where_due}
 use Rattle.device_frames.specs.Sendable.{AreSendable, IsSendable}
-use Rattle.device_frames.specs.Sent.{Sent, IdentifyAnswer, GetAnswer, SetAnswer, ArpReply, CallAnswer, Again, ReadyCall, Ends, Exchanges, bytes_of}
+use Rattle.device_frames.specs.Sent.{Sent, ReadyCall, Ends, Exchanges, bytes_of}
 use Rattle.device_core.specs.State.{Live, Station, counter_of, units_after}
 use Rattle.device_core.specs.Machine.{Stepped, handled_step, heard_step}
 use Rattle.controller_messages.specs.declared.setup.Setup.{Setup}
@@ -94,12 +94,7 @@ module _ (laws : ReadLaws) (identity : Identity) (controller : Controlling) (lin
       never (bytes_of identity (Exchanges route (RepliesLow tag header))) (tagged_no_data laws mine route.partner identity.mac tag _ _ refl can)
   message_well (ReadyCall address ready) of can =
       never (bytes_of identity (ReadyCall address ready)) (udp_no_data laws mine ready.partner.mac identity.mac _ _ _ can)
-  message_well (IdentifyAnswer asker running xid) of can = absurd of
-  message_well (GetAnswer asker running alias request) of can = absurd of
-  message_well (SetAnswer asker request answers) of can = absurd of
-  message_well (ArpReply asker address target) of can = absurd of
-  message_well (CallAnswer caller address answer) of can = absurd of
-  message_well (Again frame) of can = absurd of
+  message_well message of can = absurd of
 
   all_well : (sent : List Sent) → AreOfLink link.flow.cyclic.route sent → AreSendable identity sent → AllByRecursion IsWell (map (bytes_of identity) sent)
   all_well [] of can = tt

@@ -26,7 +26,7 @@ use Rattle.device_core.specs.Machine.{Stepped, handled_step, heard_step}
 use Rattle.controller_messages.specs.declared.request.Request.TheVariants as asks
 use Rattle.controller_messages.specs.declared.setup.Setup.{Setup}
 use Rattle.controller_messages.specs.Requests.{blocks_of, call_for}
-use Rattle.controller_messages.specs.Sent.{Sent, Accesses, Agrees, Confirms, Cycles, Ends, Replies, Requests, bytes_of as controller_bytes, call_frame}
+use Rattle.controller_messages.specs.Sent.{Sent, Requests, bytes_of as controller_bytes, call_frame}
 use Rattle.end_laws.specs.hearing.Hearing.{comes}
 use Rattle.end_laws.specs.hearing.Stations.{IsDevice}
 use Rattle.end_laws.specs.sending.Messages.{CanBeSent}
@@ -54,19 +54,9 @@ pub record IsReleaseFrame (setup : Setup) (octets : List ℕ) : Type 0 where
 
 pub release_in : (setup : Setup) (octets : List ℕ) (message : Sent) → octets ≡ controller_bytes setup message → CanBeSent setup message → IsRelease message
     → IsReleaseFrame setup octets
-release_in setup octets (Requests device asks.Identify) e can is = absurd is
-release_in setup octets (Requests device asks.Address) e can is = absurd is
-release_in setup octets (Requests device asks.Connect) e can is = absurd is
-release_in setup octets (Requests device (asks.Write number)) e can is = absurd is
-release_in setup octets (Requests device asks.PrmEnd) e can is = absurd is
 release_in setup octets (Requests device (asks.Release sequence)) e can is =
     record { to = device; sequence = sequence; is_mac = can.0; numbered = can.1; frame = e }
-release_in setup octets (Accesses device request content) e can is = absurd is
-release_in setup octets (Agrees caller answer) e can is = absurd is
-release_in setup octets (Cycles route shown counter) e can is = absurd is
-release_in setup octets (Confirms route priority header ack) e can is = absurd is
-release_in setup octets (Replies route priority header) e can is = absurd is
-release_in setup octets (Ends route header reason) e can is = absurd is
+release_in setup octets message e can is = absurd is
 
 -- ---- the step
 

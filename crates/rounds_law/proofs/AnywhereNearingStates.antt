@@ -45,13 +45,7 @@ kinds (Ended cause) = inr (inr (inr refl))
 
 pub looks_or_not : (phase : Phases) → (phase ≡ Looking) ⊎ (phase ≢ Looking)
 looks_or_not Looking = inl refl
-looks_or_not Addressing = inr (λ e. absurd cc)
-looks_or_not Connecting = inr (λ e. absurd cc)
-looks_or_not Writing = inr (λ e. absurd cc)
-looks_or_not Ending = inr (λ e. absurd cc)
-looks_or_not Waiting = inr (λ e. absurd cc)
-looks_or_not Exchanging = inr (λ e. absurd cc)
-looks_or_not (Ended cause) = inr (λ e. absurd cc)
+looks_or_not state = inr (λ e. absurd cc)
 
 -- A state after the search is no further from the exchange than the search.
 few_ahead : (options : ControllerOptions) (left : ℕ) (phase : Phases) → phase ≢ Looking → HasPatience options

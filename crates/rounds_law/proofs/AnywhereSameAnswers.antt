@@ -34,7 +34,7 @@ use Rattle.relations.specs.Phases.{differing_octets}
 use Rattle.relations.specs.RelationState.{RelationState}
 use Rattle.relations.specs.declared.ready.Ready.{Ready}
 use Rattle.device_frames.specs.Heard.{Calls, Heard, Reported}
-use Rattle.device_frames.specs.Sent.{Again, ArpReply, CallAnswer, Ends, Exchanges, GetAnswer, IdentifyAnswer, ReadyCall, Sent, SetAnswer, bytes_of}
+use Rattle.device_frames.specs.Sent.{Again, CallAnswer, Exchanges, ReadyCall, Sent, bytes_of}
 use Rattle.device_core.specs.State.{Live, Rest, Station}
 use Rattle.device_core.specs.Handled.{answer_from, kept_for, outcome_of}
 use Rattle.controller_messages.specs.declared.request.Request.{Request}
@@ -159,12 +159,7 @@ module _ (setup : Setup) (Holds : Chosen → Type 0) (silence : ℕ) (station : 
   other_says after (CallAnswer caller address answer) lasts is = absurd is
   other_says after (Again frame) lasts is = absurd is
   other_says after (ReadyCall address ready) lasts is = ready_sized ready is.0 lasts
-  other_says after (IdentifyAnswer asker running xid) lasts is = tt
-  other_says after (GetAnswer asker running alias request) lasts is = tt
-  other_says after (SetAnswer asker request answers) lasts is = tt
-  other_says after (ArpReply asker address target) lasts is = tt
-  other_says after (Ends farewell) lasts is = tt
-  other_says after (Exchanges route frame) lasts is = tt
+  other_says after message lasts is = tt
 
   others_say : (after : Option RelationState) (sent : List Sent) → AllLast silence live.rest.link → AllByRecursion (IsOther live after) sent
       → AllByRecursion Saying sent

@@ -11,8 +11,8 @@ use Rattle.controller_core.specs.declared.stored.event.Event.TheVariants.{Frame,
 use Rattle.controller_core.specs.stored.State.{Controlling, Live}
 use Rattle.controller_core.specs.Machine.{Turn, behind_ack, behind_data, end_of, step_of, taken, turn_of}
 use Rattle.end_laws.specs.turns.Turns.{Hears, IsKind, Kind, Passes}
-use Rattle.end_laws.specs.turns.Turns.{Rests, Connects, Addresses, Ends, Releases, Relates, Writes, Skips, Waits, Forgets}
-use Rattle.end_laws.specs.turns.Turns.{Begins, Repeats, Follows, Takes, IsAcked, Gives, GivesStatus, Asks, IsReplied, Flows, Breaks, Idles, turn_by}
+use Rattle.end_laws.specs.turns.Turns.{Ends, Releases, Relates}
+use Rattle.end_laws.specs.turns.Turns.{Follows, Takes, IsAcked, Gives, GivesStatus, Flows, Breaks, Idles, turn_by}
 use Rattle.rounds_law.specs.AnywhereSame.{Chooses, ChoosesIn}
 use Rattle.rounds_law.specs.Path.{controller_step}
 use Rattle.rounds_law.proofs.AnywhereControllerLaws.{TurnsAreOfAKind}
@@ -37,20 +37,11 @@ module _ (setup : Setup) (Of : ℕ → ℕ → Type 0) where
     -- The turn of a frame.
     frame_related : (heard : Heard) → Chooses setup OfChosen heard → (kind : Kind) → IsKind setup live (Hears heard) kind
         → IsRelated (turn_by setup live kind).live
-    frame_related heard fit Rests holds = related
-    frame_related heard fit (Connects source) holds = related
-    frame_related heard fit (Addresses source) holds = related
     frame_related heard fit (Ends cause refusal refused units) holds = λ up. absurd (false≢true up)
     frame_related heard fit (Releases cause refusal refused units) holds = λ up. absurd (false≢true up)
     frame_related heard fit (Relates chosen) holds = λ up.
         let fits : Chooses setup OfChosen (Responds holds.0.response) = subst (λ (h : Heard). Chooses setup OfChosen h) (ap heard_in holds.0.comes) fit in
         fits holds.0.right holds.0.granted chosen holds.1
-    frame_related heard fit (Writes number) holds = related
-    frame_related heard fit (Skips number refused status) holds = related
-    frame_related heard fit Waits holds = related
-    frame_related heard fit Forgets holds = related
-    frame_related heard fit (Begins caller call block) holds = related
-    frame_related heard fit (Repeats caller call block) holds = related
     frame_related heard fit (Follows source frame_id body) holds = λ up.
         subst (λ (r : Route). Of r.sent_id r.reference) (sym (frame_on live.cyclic source frame_id body).route) (related up)
     frame_related heard fit (Takes number report) holds =
@@ -60,26 +51,16 @@ module _ (setup : Setup) (Of : ℕ → ℕ → Type 0) where
         alike_related live (behind_ack live priority number) (ack_alike live priority number) related
     frame_related heard fit (Gives slot subslot value) holds = absurd cc
     frame_related heard fit (GivesStatus slot subslot is_good) holds = absurd cc
-    frame_related heard fit (Asks request octets) holds = related
-    frame_related heard fit (IsReplied refusal access) holds = related
     frame_related heard fit Flows holds = let bad = holds.0 in absurd cc
     frame_related heard fit (Breaks reason) holds = let bad = holds.0 in absurd cc
     frame_related heard fit Idles holds = let bad = holds.0 in absurd cc
+    frame_related heard fit kind holds = related
 
     -- The turn of a unit.
     unit_related : (kind : Kind) → IsKind setup live Passes kind → IsRelated (turn_by setup live kind).live
-    unit_related Rests holds = related
-    unit_related (Connects source) holds = related
-    unit_related (Addresses source) holds = related
     unit_related (Ends cause refusal refused units) holds = λ up. absurd (false≢true up)
     unit_related (Releases cause refusal refused units) holds = λ up. absurd (false≢true up)
     unit_related (Relates chosen) holds = let bad = holds.0.comes in absurd cc
-    unit_related (Writes number) holds = related
-    unit_related (Skips number refused status) holds = related
-    unit_related Waits holds = related
-    unit_related Forgets holds = related
-    unit_related (Begins caller call block) holds = related
-    unit_related (Repeats caller call block) holds = related
     unit_related (Follows source frame_id body) holds = λ up.
         subst (λ (r : Route). Of r.sent_id r.reference) (sym (frame_on live.cyclic source frame_id body).route) (related up)
     unit_related (Takes number report) holds =
@@ -89,11 +70,8 @@ module _ (setup : Setup) (Of : ℕ → ℕ → Type 0) where
         alike_related live (behind_ack live priority number) (ack_alike live priority number) related
     unit_related (Gives slot subslot value) holds = absurd cc
     unit_related (GivesStatus slot subslot is_good) holds = absurd cc
-    unit_related (Asks request octets) holds = related
-    unit_related (IsReplied refusal access) holds = related
-    unit_related Flows holds = related
     unit_related (Breaks reason) holds = λ up. absurd (false≢true up)
-    unit_related Idles holds = related
+    unit_related kind holds = related
 
   -- ---- a step
 

@@ -16,7 +16,7 @@ use Rattle.pn_alarms.specs.declared.pdu.PduType.TheVariants as pdu
 use Rattle.diagnosis.specs.declared.reports.priority.Priority.{Priority}
 use Rattle.diagnosis.specs.declared.reports.priority.Priority.TheVariants.{High, Low}
 use Rattle.plans.specs.Connect.{connect_of}
-use Rattle.device_frames.specs.Heard.{Calls, Diagnosed, Heard, Raised, Reported, Ticks}
+use Rattle.device_frames.specs.Heard.{Calls, Applied, Heard, Reported, Ticks}
 use Rattle.controller_messages.specs.declared.request.Request.{Request}
 use Rattle.controller_messages.specs.declared.request.Request.TheVariants as asks
 use Rattle.controller_messages.specs.declared.setup.Setup.{Setup}
@@ -73,8 +73,7 @@ pub record IsOwnCall (setup : Setup) (caller : Caller) (call : Call) : Type 0 wh
 -- Each call is one, and nothing comes from an application.
 abbrev pub IsOwnHeard : Setup → Heard → Type 0
 IsOwnHeard setup (Reported caller address (Calls call)) = IsOwnCall setup caller call
-IsOwnHeard setup (Raised slot subslot octets) = ⊥
-IsOwnHeard setup (Diagnosed change) = ⊥
+IsOwnHeard setup (Applied local) = ⊥
 IsOwnHeard setup heard = Unit {0}
 
 -- What the law of turns needs of the start: what the Connect asks for. It is not asked about Writes.

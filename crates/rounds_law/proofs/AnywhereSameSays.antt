@@ -20,7 +20,7 @@ use Rattle.device_frames.specs.Sendable.{AreSendable, IsSendable}
 use Rattle.device_frames.specs.Sent.{Sent, IdentifyAnswer, GetAnswer, SetAnswer, ArpReply, CallAnswer, Again, ReadyCall, Ends, Exchanges, bytes_of}
 use Rattle.device_frames.specs.Sent.{ready_frame, response_frame}
 use Rattle.controller_messages.specs.declared.setup.Setup.{Setup}
-use Rattle.controller_messages.specs.Heard.{Alarms, Answers, Calls, Cyclic, Heard, Nothing, Refuses, Responds, heard_of}
+use Rattle.controller_messages.specs.Heard.{Calls, Heard, Nothing, Responds, heard_of}
 use Rattle.end_laws.specs.hearing.Hearing.{IsUncalled, mine_reported}
 use Rattle.end_laws.specs.hearing.Stations.{IsAddress, IsCaller, IsDevice, IsSetup, ready_call}
 use Rattle.both_ends.specs.startup.answer.Answer.{caller_of}
@@ -35,13 +35,8 @@ PacketsAreNothing = (mine : Controller) (identity : Identity) (asker : Mac) (add
 -- ---- what is heard
 
 uncalled_chooses : (setup : Setup) (Holds : Chosen → Type 0) (heard : Heard) → IsUncalled heard → Chooses setup Holds heard
-uncalled_chooses setup Holds Nothing is = tt
-uncalled_chooses setup Holds (Answers source answer) is = tt
 uncalled_chooses setup Holds (Responds response) is = absurd is
-uncalled_chooses setup Holds (Refuses refusal) is = tt
-uncalled_chooses setup Holds (Calls caller call) is = tt
-uncalled_chooses setup Holds (Cyclic source frame_id body) is = tt
-uncalled_chooses setup Holds (Alarms source under header told) is = tt
+uncalled_chooses setup Holds heard is = tt
 
 reported_chooses : (setup : Setup) (Holds : Chosen → Type 0) (destination : Mac) (to : Endpoint) (heard : Heard) → Chooses setup Holds heard
     → Chooses setup Holds (mine_reported setup.plan.controller destination to heard)

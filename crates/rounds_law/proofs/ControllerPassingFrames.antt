@@ -32,7 +32,7 @@ use Rattle.plans.specs.declared.parts.Controller.{Controller}
 use Rattle.device_frames.specs.Sent.{Exchanges, bytes_of as device_bytes}
 use Rattle.controller_messages.specs.declared.request.Request.{Request}
 use Rattle.controller_messages.specs.declared.setup.Setup.{Setup}
-use Rattle.controller_messages.specs.Heard.{Heard, Nothing, Answers, Responds, Refuses, Calls, Alarms, heard_of, heard_read}
+use Rattle.controller_messages.specs.Heard.{Heard, Nothing, Alarms, heard_of, heard_read}
 use Rattle.controller_messages.specs.Heard.{Cyclic as Comes}
 use Rattle.controller_core.specs.declared.stored.state.State.{State as Phases}
 use Rattle.controller_core.specs.stored.Alarms.{is_alarm}
@@ -76,22 +76,14 @@ comes_by live false cyclic on = rests live
 -- A cyclic frame, or nothing.
 abbrev pub IsCyclicOrNone : Heard → Type 0
 IsCyclicOrNone Nothing = Unit {0}
-IsCyclicOrNone (Answers source answer) = ⊥
-IsCyclicOrNone (Responds response) = ⊥
-IsCyclicOrNone (Refuses refusal) = ⊥
-IsCyclicOrNone (Calls caller call) = ⊥
 IsCyclicOrNone (Comes source frame_id body) = Unit {0}
-IsCyclicOrNone (Alarms source under header notice) = ⊥
+IsCyclicOrNone heard = ⊥
 
 turned_on : (setup : Setup) (live : Live) (heard : Heard) → IsCyclicOrNone heard → IsTurnedOn live (turned setup live heard)
 turned_on setup live Nothing is = rests live
-turned_on setup live (Answers source answer) is = absurd is
-turned_on setup live (Responds response) is = absurd is
-turned_on setup live (Refuses refusal) is = absurd is
-turned_on setup live (Calls caller call) is = absurd is
 turned_on setup live (Comes source frame_id body) is = comes_by live live.stands (behind_frame live.cyclic source frame_id body)
     (frame_on live.cyclic source frame_id body)
-turned_on setup live (Alarms source under header notice) is = absurd is
+turned_on setup live heard is = absurd is
 
 -- The step with such a frame.
 pub record IsSteppedOn (controller : Controlling) (step : Stepped) : Type 0 where

@@ -11,7 +11,7 @@ ghost use Rattle.rounds_law.specs.Rounds.{Adds, IsReliable, Round, Takes, hears_
 
 use controller_core::{Controller, Event as ControllerEvent};
 use controller_messages::Setup;
-use device_core::{Device, Event as DeviceEvent};
+use device_core::{Device, Event as DeviceEvent, Octets};
 use flash_model::Flash;
 use frame_codec::{Bytes, Frame, Outbox};
 use network_world::End;
@@ -84,7 +84,10 @@ fn hear_at_device<F: Flash<S>, const S: usize>(
         device.new (octets_of sent.new.items)) }
 {
     let mut outbox = Outbox::new();
-    let _ = device.step_frame(frame.as_slice(), &mut outbox);
+    let _ = device.step(
+        &DeviceEvent::Frame(Octets::of(frame.as_slice())),
+        &mut outbox,
+    );
     append(sent, outbox.as_slice())?;
     Ok(())
 }

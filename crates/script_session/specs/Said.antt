@@ -11,6 +11,8 @@ use Rattle.relations.specs.declared.options.DeviceOptions.{DeviceOptions}
 use Rattle.plans.specs.declared.parts.Parts.{Parts}
 use Rattle.device_frames.specs.declared.event.Event.{Event}
 use Rattle.device_frames.specs.declared.event.Event.TheVariants as event
+use Rattle.device_frames.specs.declared.local.Local.{Local}
+use Rattle.device_frames.specs.declared.local.Local.TheVariants as local
 use Rattle.device_frames.specs.declared.note.Note.TheVariants.{Done}
 use Rattle.device_frames.specs.declared.note.Note.TheVariants.{Refused as Declined}
 use Rattle.device_core.specs.Cycle.{started}
@@ -58,6 +60,10 @@ handed bytes = record { items = take 1519 bytes }
 -- What an event of the device prints, and both ends after it.
 abbrev pub event_answer : Network → Event → Answer
 event_answer network event = step_answer network (station_step network.station event)
+
+-- What it prints that the application says this to the device.
+abbrev pub local_answer : Network → Local (ArrayVec ℕ) → Answer
+local_answer network local = event_answer network (event.Application local)
 
 -- A restart starts the device from what is stored, with the options that were set; no frame waits afterwards, and the
 -- controller is as it was. Services that are on begin again.
@@ -200,12 +206,12 @@ said plans network (Elapse units) = Answers (tick_answer network units)
 said plans network Show = Answers (show_answer network)
 said plans network Due = Answers (due_answer network)
 said plans network (Choose choice) = Answers (choose_answer network choice)
-said plans network Ready = Answers (event_answer network event.Ready)
+said plans network Ready = Answers (local_answer network local.Ready)
 said plans network (Arm order) = Answers (unchanged network)
-said plans network (Input slot subslot bytes) = Answers (event_answer network (event.Input slot subslot (handed bytes)))
-said plans network (Alarm slot subslot bytes) = Answers (event_answer network (event.Alarm slot subslot (handed bytes)))
-said plans network (Status slot subslot is_good) = Answers (event_answer network (event.Status slot subslot is_good))
-said plans network (Diagnosis slot subslot channel error appears) = Answers (event_answer network (event.Diagnosis slot subslot channel error appears))
+said plans network (Input slot subslot bytes) = Answers (local_answer network (local.Input slot subslot (handed bytes)))
+said plans network (Alarm slot subslot bytes) = Answers (local_answer network (local.Alarm slot subslot (handed bytes)))
+said plans network (Status slot subslot is_good) = Answers (local_answer network (local.Status slot subslot is_good))
+said plans network (Diagnosis slot subslot channel error appears) = Answers (local_answer network (local.Diagnosis slot subslot channel error appears))
 said plans network (Provider slot subslot) = Answers (provider_answer network slot subslot)
 said plans network (Config catalogue) = config_outcome network catalogue (plans catalogue)
 said plans network (Start ar activity) = start_outcome network ar activity network.other.plan

@@ -23,7 +23,7 @@ use std::alloc::AllocError;
 /// sends are rendered, or wait for the controller once there is one.
 pub(crate) fn respond(
     device: &mut DemoStation<'_>,
-    event: &Event,
+    event: &Event<'_>,
     outbox: &mut StationOutbox,
     other: &mut OtherEnd,
     text: &mut Vec<u8>,

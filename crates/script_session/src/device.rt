@@ -6,37 +6,13 @@ ghost use Rattle.script_session.specs.Said.{handed};
 ghost use Rattle.script_session.specs.Power.{Runs};
 ghost use Rattle.script_session.specs.Session.{IsHandedTo};
 
-use crate::bytes::copied;
 use crate::power::DemoStation;
 use crate::waiting::append_all;
-use device_core::Event;
+use device_core::{Event, Octets};
 use flash_model::Flash;
 use frame_codec::Frame;
 use station::StationOutbox;
 use std::alloc::AllocError;
-use wire::at_most;
-
-/// Makes the event of bytes that come from the network, in place of the last event. At most the first 1,519 bytes count,
-/// because no frame is that long.
-pub(crate) fn receive(received: &mut Event, bytes: &[u8])
-    ensures { received.new ≡ event.Frame (handed bytes.now) }
-{
-    let bytes = at_most(bytes, 1519);
-    match received {
-        Event::Frame(room) => {
-            room.clear();
-            let _ = room.try_extend_from_slice(bytes);
-        }
-        Event::Call(..)
-        | Event::Tick
-        | Event::Input(..)
-        | Event::Alarm(..)
-        | Event::Status(..)
-        | Event::Neighbour(..)
-        | Event::Diagnosis(..)
-        | Event::Ready => *received = Event::Frame(copied(bytes)),
-    }
-}
 
 /// Hands frames to the device, until power is lost. What the device sends waits for the controller.
 pub(crate) fn hand_over(
@@ -51,7 +27,7 @@ pub(crate) fn hand_over(
     ensures same { device.new.station ≡ device.old.station }
 {
     for frame in frames {
-        let event = Event::Frame(copied(frame.as_slice()));
+        let event = Event::Frame(Octets::of(frame.as_slice()));
         device.step(&event, outbox);
         if device.device().flash().is_lost() {
             return Ok(());

@@ -68,7 +68,7 @@ impl<'a> DemoStation<'a> {
     }
 
     /// Makes a step.
-    pub(crate) fn step(&mut self, event: &Event, outbox: &mut StationOutbox) -> Note
+    pub(crate) fn step(&mut self, event: &Event<'_>, outbox: &mut StationOutbox) -> Note
         ensures steps { (station : Station) → Runs station self.old → IsStepped (station_step station event.now) self.new outbox.new result }
         // Whatever the flash does.
         ensures any { IsStepFor (station_in self.old) event.now self.new outbox.new result }

@@ -5,20 +5,19 @@ ghost use Rattle.device_frames.specs.declared.event.Event.TheVariants as event;
 ghost use Rattle.configurator.specs.declared.fault.PlanFault.TheVariants as plan_fault;
 ghost use Rattle.script_lines.specs.Read.{line_read};
 ghost use Rattle.script_session.specs.Ends.{Network};
-ghost use Rattle.script_session.specs.Said.{event_answer, handed};
+ghost use Rattle.script_session.specs.Said.{event_answer, handed, local_answer};
 ghost use Rattle.script_session.specs.Power.{IsDemo, IsRunning};
 ghost use Rattle.script_session.specs.Off.{TellsLoss, is_heard_off};
 ghost use Rattle.script_session.specs.Session.{IsObeyed};
 
 use crate::both::{exchange, leaps, respond, ticks};
 use crate::bytes::copied;
-use crate::device::receive;
 use crate::other_end::OtherEnd;
 use crate::outputs::outputs;
 use crate::power::Power;
 use configurator::PlanFault;
 use controller_core::{Event as ControllerEvent, MOST_RECORD_OCTETS};
-use device_core::{Event, Note};
+use device_core::{Event, Local, Note, Octets};
 use flash_model::{Flash, Lent, MemoryFlash, Order};
 use frame_codec::Bytes;
 use script_lines::{Command, Line, meaning, render, show};
@@ -29,13 +28,11 @@ use std::mem;
 use uuid::Uuid;
 use wire::at_most;
 
-/// A run between two lines: the device, the other end, the last event that came from the network, and the frames of one
-/// step of the device. In clauses it is both ends.
+/// A run between two lines: the device, the other end, and the frames of one step of the device. In clauses it is both ends.
 #[derive(Drop)]
 pub struct Session<'a> {
     power: Power<'a>,
     other: OtherEnd,
-    received: Event,
     outbox: StationOutbox,
 }
 
@@ -73,7 +70,6 @@ impl<'a> Session<'a> {
         Session {
             power: Power::start(other.options(), false, Lent::new(flash)),
             other,
-            received: Event::Tick,
             outbox: StationOutbox::new(),
         }
     }
@@ -145,10 +141,14 @@ impl<'a> Session<'a> {
     {
         match command {
             Command::Frame(bytes) => always(self.hand_in(bytes, text)),
-            Command::Input(slot, subslot, bytes) => always(self.give(slot, subslot, bytes, text)),
-            Command::Alarm(slot, subslot, bytes) => always(self.alarm(slot, subslot, bytes, text)),
+            Command::Input(slot, subslot, bytes) => {
+                always(self.say(Local::Input(slot, subslot, Octets::of(bytes)), text))
+            }
+            Command::Alarm(slot, subslot, bytes) => {
+                always(self.say(Local::Alarm(slot, subslot, Octets::of(bytes)), text))
+            }
             Command::Status(slot, subslot, is_good) => {
-                always(self.status(slot, subslot, is_good, text))
+                always(self.say(Local::Status(slot, subslot, is_good), text))
             }
             Command::Provider(slot, subslot) => always(self.provider(slot, subslot, text)),
             Command::Restart => always(self.restart(text)),
@@ -160,9 +160,10 @@ impl<'a> Session<'a> {
                 self.other.choose(choice);
                 always(Ok(()))
             }
-            Command::Ready => always(self.ready(text)),
+            Command::Ready => always(self.say(Local::Ready, text)),
             Command::Diagnosis(slot, subslot, channel, error, appears) => {
-                always(self.diagnose(slot, subslot, channel, error, appears, text))
+                let change = Local::Diagnosis(slot, subslot, channel, error, appears);
+                always(self.say(change, text))
             }
             Command::Arm(order) => {
                 self.arm(order);
@@ -203,31 +204,7 @@ impl<'a> Session<'a> {
         ensures demo { IsDemo self.old.power → IsDemo self.new.power }
         ensures lost { TellsLoss (self.new.other ≡ self.old.other) self.old.power self.new.power text.old.items text.new.items result }
     {
-        receive(&mut self.received, bytes);
-        answered(
-            &mut self.power,
-            &self.received,
-            &mut self.outbox,
-            &mut self.other,
-            text,
-        )
-    }
-
-    /// Sets the input of a submodule.
-    fn give(
-        &mut self,
-        slot: u16,
-        subslot: u16,
-        bytes: &[u8],
-        text: &mut Vec<u8>,
-    ) -> Result<(), AllocError>
-        ensures obeys { (network : Network) → Are network self.old →
-            OnOk result (IsObeyed (event_answer network (event.Input slot subslot (handed bytes.now))) self.new text.old.items
-            text.new.items) }
-        ensures demo { IsDemo self.old.power → IsDemo self.new.power }
-        ensures lost { TellsLoss (self.new.other ≡ self.old.other) self.old.power self.new.power text.old.items text.new.items result }
-    {
-        let event = Event::Input(slot, subslot, handed(bytes));
+        let event = Event::Frame(Octets::of(bytes));
         answered(
             &mut self.power,
             &event,
@@ -237,89 +214,16 @@ impl<'a> Session<'a> {
         )
     }
 
-    /// Raises an alarm at the device.
-    fn alarm(
-        &mut self,
-        slot: u16,
-        subslot: u16,
-        bytes: &[u8],
-        text: &mut Vec<u8>,
-    ) -> Result<(), AllocError>
+    /// The application says this to the device.
+    fn say(&mut self, local: Local<Octets<'_, 1519>>, text: &mut Vec<u8>) -> Result<(), AllocError>
         ensures obeys { (network : Network) → Are network self.old →
-            OnOk result (IsObeyed (event_answer network (event.Alarm slot subslot (handed bytes.now))) self.new text.old.items
-            text.new.items) }
-        ensures demo { IsDemo self.old.power → IsDemo self.new.power }
-        ensures lost { TellsLoss (self.new.other ≡ self.old.other) self.old.power self.new.power text.old.items text.new.items result }
-    {
-        let event = Event::Alarm(slot, subslot, handed(bytes));
-        answered(
-            &mut self.power,
-            &event,
-            &mut self.outbox,
-            &mut self.other,
-            text,
-        )
-    }
-
-    /// Says whether the inputs of a submodule are good.
-    fn status(
-        &mut self,
-        slot: u16,
-        subslot: u16,
-        is_good: bool,
-        text: &mut Vec<u8>,
-    ) -> Result<(), AllocError>
-        ensures obeys { (network : Network) → Are network self.old →
-            OnOk result (IsObeyed (event_answer network (event.Status slot subslot is_good)) self.new text.old.items text.new.items) }
-        ensures demo { IsDemo self.old.power → IsDemo self.new.power }
-        ensures lost { TellsLoss (self.new.other ≡ self.old.other) self.old.power self.new.power text.old.items text.new.items result }
-    {
-        let event = Event::Status(slot, subslot, is_good);
-        answered(
-            &mut self.power,
-            &event,
-            &mut self.outbox,
-            &mut self.other,
-            text,
-        )
-    }
-
-    /// A diagnosis appears or disappears.
-    fn diagnose(
-        &mut self,
-        slot: u16,
-        subslot: u16,
-        channel: u16,
-        error: u16,
-        appears: bool,
-        text: &mut Vec<u8>,
-    ) -> Result<(), AllocError>
-        ensures obeys { (network : Network) → Are network self.old →
-            OnOk result (IsObeyed (event_answer network (event.Diagnosis slot subslot channel error appears)) self.new text.old.items
-            text.new.items) }
-        ensures demo { IsDemo self.old.power → IsDemo self.new.power }
-        ensures lost { TellsLoss (self.new.other ≡ self.old.other) self.old.power self.new.power text.old.items text.new.items result }
-    {
-        let event = Event::Diagnosis(slot, subslot, channel, error, appears);
-        answered(
-            &mut self.power,
-            &event,
-            &mut self.outbox,
-            &mut self.other,
-            text,
-        )
-    }
-
-    /// Says that the device's application is ready.
-    fn ready(&mut self, text: &mut Vec<u8>) -> Result<(), AllocError>
-        ensures obeys { (network : Network) → Are network self.old →
-            OnOk result (IsObeyed (event_answer network event.Ready) self.new text.old.items text.new.items) }
+            OnOk result (IsObeyed (local_answer network local.entry) self.new text.old.items text.new.items) }
         ensures demo { IsDemo self.old.power → IsDemo self.new.power }
         ensures lost { TellsLoss (self.new.other ≡ self.old.other) self.old.power self.new.power text.old.items text.new.items result }
     {
         answered(
             &mut self.power,
-            &Event::Ready,
+            &Event::Application(local),
             &mut self.outbox,
             &mut self.other,
             text,
@@ -638,7 +542,7 @@ impl<'a> Session<'a> {
 /// Hands an event to the device, if it runs.
 fn answered(
     power: &mut Power<'_>,
-    event: &Event,
+    event: &Event<'_>,
     outbox: &mut StationOutbox,
     other: &mut OtherEnd,
     text: &mut Vec<u8>,

@@ -12,7 +12,8 @@ use Rattle.settings_journal.specs.settings_store.Machine.{Outcome}
 use Rattle.diagnosis.specs.declared.reports.priority.Priority.TheVariants.{High}
 use Rattle.diagnosis.specs.World.{IsPrefixOf}
 use Rattle.pn_values.specs.declared.mac.Mac.{Mac}
-use Rattle.device_frames.specs.Heard.{Heard as DeviceHeard, Raised}
+use Rattle.device_frames.specs.Heard.{Heard as DeviceHeard, Applied}
+use Rattle.device_frames.specs.declared.local.Local.TheVariants as local
 use Rattle.device_frames.specs.Sent.{bytes_of as device_bytes}
 use Rattle.device_core.specs.State.{Live, Station}
 use Rattle.device_core.specs.Machine.{handled_step, heard_step}
@@ -24,7 +25,7 @@ use Rattle.controller_core.specs.declared.stored.event.Event.{Event}
 use Rattle.controller_core.specs.declared.stored.event.Event.TheVariants as event
 use Rattle.controller_core.specs.stored.State.{Controlling, Live as ControllerLive}
 use Rattle.controller_core.specs.Machine.{step_of, turn_of, turned}
-use Rattle.network_world.specs.declared.moves.End.TheVariants.{Device, Controller}
+use Rattle.network_world.specs.declared.moves.End.TheVariants.{Controller}
 use Rattle.network_world.specs.declared.moves.Move.{Move}
 use Rattle.network_world.specs.declared.moves.Move.TheVariants as move
 use Rattle.network_world.specs.World.{AreMade, at_controller, Comes, Delivers, Happens, is_skipped, last_world, World}
@@ -143,7 +144,6 @@ module _ {F : Type 0} where
     }
 
     move_read : (one : Move) → Happens as_flash before one after → IsMoveRead before one after
-    move_read (move.Deliver Device number) happens = nothing_read (move.Deliver Device number) refl refl refl refl
     move_read (move.Deliver Controller number) happens =
         let fit : (frame : List ℕ) → slice_get before.sent number ≡ Some frame → IsWellHeard frame = λ frame there. (
           (in_at High so hears as_flash before after raised taken follows number frame there).good,
@@ -151,31 +151,21 @@ module _ {F : Type 0} where
         ) in
         let it = came_accepted (slice_get before.sent number) fit happens in
         record { raised = refl; accepted = it.0; kept = it.1 }
-    move_read (move.Tick end) happens = nothing_read (move.Tick end) refl refl refl refl
-    move_read (move.Input slot subslot value) happens = nothing_read (move.Input slot subslot value) refl refl refl refl
-    move_read (move.Alarm slot subslot octets) happens =
+    move_read (move.Application (local.Alarm slot subslot octets)) happens =
         let steps = happens.hears.steps in
         let station = before.device.station in
         let live = before.device.live in
-        let heard = Raised slot subslot octets.items in
+        let heard = Applied (local.Alarm slot subslot octets) in
         let step = heard_step steps.outcomes station live heard in
         let sent_is : sent_with before after ≡ map (device_bytes station.identity) step.sent =
         ap (drop (length before.sent)) happens.hears.behind ∙ (dropped before.sent happens.hears.frames ∙ (steps.frames ∙ frames_of_device steps.outcomes station live heard)) in
         record {
           raised = device_turn station.identity station.real.modules.items live.rest.link slot subslot octets step.live.rest.link step.sent (so.raises steps.outcomes station live slot subslot octets.items) steps.sendable
-              ∙ sym (ap (raised_by (Some (move.Alarm slot subslot octets))) sent_is);
+              ∙ sym (ap (raised_by (Some (move.Application (local.Alarm slot subslot octets)))) sent_is);
           accepted = refl;
           kept = tt;
         }
-    move_read (move.Status slot subslot is_good) happens = nothing_read (move.Status slot subslot is_good) refl refl refl refl
-    move_read (move.Neighbour neighbour) happens = nothing_read (move.Neighbour neighbour) refl refl refl refl
-    move_read (move.Diagnosis slot subslot channel error appears) happens = nothing_read (move.Diagnosis slot subslot channel error appears) refl refl refl refl
-    move_read move.Ready happens = nothing_read move.Ready refl refl refl refl
-    move_read (move.Give slot subslot value) happens = nothing_read (move.Give slot subslot value) refl refl refl refl
-    move_read (move.OutputStatus slot subslot is_good) happens = nothing_read (move.OutputStatus slot subslot is_good) refl refl refl refl
-    move_read (move.Read slot subslot index) happens = nothing_read (move.Read slot subslot index) refl refl refl refl
-    move_read (move.Write slot subslot index octets) happens = nothing_read (move.Write slot subslot index octets) refl refl refl refl
-    move_read move.Stop happens = nothing_read move.Stop refl refl refl refl
+    move_read one happens = nothing_read one refl refl refl refl
 
   -- ---- a run
 

@@ -48,7 +48,8 @@ use Rattle.relations.specs.exchange.Frames.{Notifies}
 use Rattle.relations.specs.exchange.Notices.{header_of, raised_at}
 use Rattle.relations.specs.Exchanged.{raised_to}
 use Rattle.relations.specs.RelationState.{RelationState}
-use Rattle.device_frames.specs.Heard.{Heard as DeviceHeard, Raised}
+use Rattle.device_frames.specs.Heard.{Heard as DeviceHeard, Applied}
+use Rattle.device_frames.specs.declared.local.Local.TheVariants as local
 use Rattle.device_frames.specs.Relation.{alarms_of, frames_in}
 use Rattle.device_frames.specs.Sendable.{AreSendable}
 use Rattle.device_frames.specs.Sent.{Sent as DeviceSent, Exchanges, bytes_of as device_bytes}
@@ -63,7 +64,7 @@ use Rattle.controller_core.specs.stored.Alarms.{ack_of, header_of as header_of_c
 use Rattle.controller_core.specs.stored.State.{Live}
 use Rattle.controller_core.specs.Machine.{Turn, ack_now, behind_data, confirming, end_of, reply_of, stays, taken, turned}
 use Rattle.network_world.specs.declared.moves.Move.TheVariants as move
-use Rattle.end_laws.specs.device.Turn.{IsRaise}
+use Rattle.end_laws.specs.device.Turn.{IsRaise, alarm_heard}
 use Rattle.end_laws.specs.hearing.Stations.{IsSetup}
 use Rattle.end_laws.specs.sending.Messages.{CanBeSent}
 use Rattle.end_laws.specs.turns.Alarms.{is_priority}
@@ -392,7 +393,7 @@ module _ (setup : Setup) (good : IsSetup setup) (live : Live) (octets : List ℕ
 -- The alarms that are raised are read from the move and from the frames that the device then sends.
 module _ (identity : Identity) (real : List RealModule) (before : Option RelationState) (slot subslot : ℕ) (octets : ArrayVec ℕ) (after : Option RelationState) (sent : List DeviceSent) where
   abbrev Goal : List AlarmNotification → Type 0
-  Goal raised = map raise_of raised ≡ raised_by (Some (move.Alarm slot subslot octets)) (map (device_bytes identity) sent)
+  Goal raised = map raise_of raised ≡ raised_by (Some (move.Application (local.Alarm slot subslot octets))) (map (device_bytes identity) sent)
 
   abbrev own_raise : List Raise
   own_raise = record { alarm_type = 2; api = 0; slot = slot; subslot = subslot; octets = octets.items } ∷ []
@@ -410,12 +411,16 @@ module _ (identity : Identity) (real : List RealModule) (before : Option Relatio
       ap (λ (o : Option AlarmNotification). map raise_of (one_in o)) standing ∙ sym (ap (λ b. if b then own_raise else []) carried)
 
   abbrev raised_for : DeviceHeard → RelationState → Option Flow
-  raised_for (Raised slot subslot octets) link = raised_at link.flow real slot subslot octets
+  raised_for (Applied (local.Alarm slot subslot octets)) link = raised_at link.flow real slot subslot octets.items
   raised_for other link = None
 
-  same_notice_of : (specifier ident part other_slot other_subslot : ℕ) (other : List ℕ) → Raised slot subslot octets.items ≡ Raised other_slot other_subslot other
+  abbrev notice_for : (specifier ident part : ℕ) → DeviceHeard → AlarmNotification
+  notice_for specifier ident part (Applied (local.Alarm slot subslot octets)) = notice_of specifier slot subslot ident part octets.items
+  notice_for specifier ident part other = notice_of specifier 0 0 ident part []
+
+  same_notice_of : (specifier ident part other_slot other_subslot : ℕ) (other : List ℕ) → alarm_heard slot subslot octets.items ≡ alarm_heard other_slot other_subslot other
       → notice_of specifier other_slot other_subslot ident part other ≡ notice_of specifier slot subslot ident part octets.items
-  same_notice_of specifier ident part other_slot other_subslot other e = cc
+  same_notice_of specifier ident part other_slot other_subslot other e = ap (notice_for specifier ident part) (sym e)
 
   pub device_turn : IsRaise real before slot subslot octets.items after sent → AreSendable identity sent → Goal (raised_in (raised_to real slot subslot octets.items before))
   device_turn (inl raises) can =
@@ -428,4 +433,4 @@ module _ (identity : Identity) (real : List RealModule) (before : Option Relatio
       (ap (λ (f : Flow). f.alarms.sender.standing) may.is ∙ ap (λ (a : AlarmNotification). Some a) (same_notice_of flow.alarms.sender.specifier may.ident may.part raises.slot raises.subslot raises.octets raises.is)) raises.sends can)
   device_turn (inr refused) can =
       ap (λ (o : Option Flow). map raise_of (raised_in o)) refused.unraised
-      ∙ sym (ap (λ (messages : List DeviceSent). raised_by (Some (move.Alarm slot subslot octets)) (map (device_bytes identity) messages)) refused.silent)
+      ∙ sym (ap (λ (messages : List DeviceSent). raised_by (Some (move.Application (local.Alarm slot subslot octets))) (map (device_bytes identity) messages)) refused.silent)

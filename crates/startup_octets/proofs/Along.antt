@@ -15,7 +15,7 @@ use Rattle.records.specs.declared.writes.taken.TakenRecord.{TakenRecord}
 use Rattle.relations.specs.RelationState.{RelationState}
 use Rattle.plans.specs.declared.parts.PlanRecord.{PlanRecord}
 use Rattle.device_frames.specs.declared.event.Event.TheVariants.{Frame}
-use Rattle.device_frames.specs.Heard.{Heard, Ticks, Given, Raised, Rated, Met, Readied, Reported, Calls, diagnosed, heard_of}
+use Rattle.device_frames.specs.Heard.{Heard, Ticks, Met, Applied, Reported, Calls, heard_of}
 use Rattle.device_frames.specs.Sent.{bytes_of}
 use Rattle.device_core.specs.State.{Station, Live}
 use Rattle.device_core.specs.Machine.{heard_step, handled_step}
@@ -36,7 +36,7 @@ use Rattle.end_laws.specs.both.Small as small
 use Rattle.end_laws.specs.both.StartUp.{Begins as BeginsSmall, IsRun, last_of}
 use Rattle.end_laws.specs.both.Steps.{DeviceSteps, Steps, records_of}
 use Rattle.end_laws.specs.controller.Small.{said_in, said_to, small_of}
-use Rattle.end_laws.specs.device.Small.{IsPlanned, heard_as, kept_in, link_of}
+use Rattle.end_laws.specs.device.Small.{IsPlanned, heard_as, link_of}
 use Rattle.end_laws.specs.device.Small as device
 use Rattle.end_laws.specs.device.Turn.{Turn as DeviceTurn}
 use Rattle.both_ends.specs.startup.request.Request.{request_for}
@@ -329,13 +329,8 @@ module _ (laws : Laws) {F : Type 0} (first : World F) where
           delivered as_flash now after Controller _ (slice_get now.sent number) happens (stays (move.Deliver Controller number)) (λ frame there comes. comes_to_controller number frame there comes)
       moved (move.Tick Device) happens runs = alone Ticks (no_report Ticks tt) tt happens (move.Tick Device) refl runs
       moved (move.Tick Controller) happens runs = acts controller.Tick tt nothing_ready happens (move.Tick Controller) refl
-      moved (move.Input slot subslot value) happens runs = alone (Given slot subslot value.items) (no_report (Given slot subslot value.items) tt) tt happens (move.Input slot subslot value) refl runs
-      moved (move.Alarm slot subslot octets) happens runs = alone (Raised slot subslot octets.items) (no_report (Raised slot subslot octets.items) tt) tt happens (move.Alarm slot subslot octets) refl runs
-      moved (move.Status slot subslot is_good) happens runs = alone (Rated slot subslot is_good) (no_report (Rated slot subslot is_good) tt) tt happens (move.Status slot subslot is_good) refl runs
+      moved (move.Application local) happens runs = alone (Applied local) (no_report (Applied local) tt) tt happens (move.Application local) refl runs
       moved (move.Neighbour neighbour) happens runs = alone (Met (mapped peer_as neighbour)) (no_report (Met (mapped peer_as neighbour)) tt) tt happens (move.Neighbour neighbour) refl runs
-      moved (move.Diagnosis slot subslot channel error appears) happens runs =
-          alone (diagnosed slot subslot channel error appears) (no_report (diagnosed slot subslot channel error appears) tt) tt happens (move.Diagnosis slot subslot channel error appears) refl runs
-      moved move.Ready happens runs = alone Readied (no_report Readied tt) tt happens move.Ready refl runs
       moved (move.Give slot subslot value) happens runs = acts (controller.Give slot subslot value) tt nothing_ready happens (move.Give slot subslot value) refl
       moved (move.OutputStatus slot subslot is_good) happens runs = acts (controller.Status slot subslot is_good) tt nothing_ready happens (move.OutputStatus slot subslot is_good) refl
       moved (move.Read slot subslot index) happens runs = acts (controller.Read slot subslot index) tt nothing_ready happens (move.Read slot subslot index) refl
@@ -371,18 +366,10 @@ module _ (laws : Laws) {F : Type 0} (first : World F) where
             absurd (no_frame event none by.octets by.is)
 
         fine : (one : Move) → Happens as_flash now one after → IsFine one
-        fine (move.Deliver Device number) happens answers = absurd (true_false answers.at_controller)
         fine (move.Deliver Controller number) happens answers =
             delivered as_flash now after Controller (IsFine (move.Deliver Controller number)) (slice_get now.sent number) happens
             (λ is answers. absurd (silent_turn (move.Deliver Controller number) is answers)) (λ frame there comes. answers_frame number frame there comes) answers
-        fine (move.Tick Device) happens answers = absurd (true_false answers.at_controller)
         fine (move.Tick Controller) happens answers = answers_none controller.Tick tt nothing_ready happens (move.Tick Controller) refl tt answers
-        fine (move.Input slot subslot value) happens answers = absurd (true_false answers.at_controller)
-        fine (move.Alarm slot subslot octets) happens answers = absurd (true_false answers.at_controller)
-        fine (move.Status slot subslot is_good) happens answers = absurd (true_false answers.at_controller)
-        fine (move.Neighbour neighbour) happens answers = absurd (true_false answers.at_controller)
-        fine (move.Diagnosis slot subslot channel error appears) happens answers = absurd (true_false answers.at_controller)
-        fine move.Ready happens answers = absurd (true_false answers.at_controller)
         fine (move.Give slot subslot value) happens answers = answers_none (controller.Give slot subslot value) tt nothing_ready happens (move.Give slot subslot value) refl tt answers
         fine (move.OutputStatus slot subslot is_good) happens answers =
             answers_none (controller.Status slot subslot is_good) tt nothing_ready happens (move.OutputStatus slot subslot is_good) refl tt answers
@@ -390,6 +377,7 @@ module _ (laws : Laws) {F : Type 0} (first : World F) where
         fine (move.Write slot subslot index octets) happens answers =
             answers_none (controller.Write slot subslot index octets) tt nothing_ready happens (move.Write slot subslot index octets) refl tt answers
         fine move.Stop happens answers = answers_none controller.Stop tt nothing_ready happens move.Stop refl tt answers
+        fine one happens answers = absurd (true_false answers.at_controller)
 
   -- ---- any list of moves
 

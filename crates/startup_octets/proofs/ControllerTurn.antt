@@ -28,7 +28,7 @@ use Rattle.controller_messages.specs.RecordRequests.{record_call}
 use Rattle.controller_messages.specs.Requests.{call_for}
 use Rattle.controller_messages.specs.Sent.{Sent, Requests, Accesses, Agrees, Cycles, Confirms, Replies, Ends, bytes_of, identify_multicast}
 use Rattle.controller_core.specs.declared.stored.event.Event.{Event}
-use Rattle.controller_core.specs.declared.stored.event.Event.TheVariants.{Frame, Tick, Give, Status, Read, Write, Stop}
+use Rattle.controller_core.specs.declared.stored.event.Event.TheVariants.{Frame, Write}
 use Rattle.controller_core.specs.stored.State.{Live}
 use Rattle.controller_core.specs.start_up.Answers.{is_ready}
 use Rattle.controller_core.specs.Machine.{Turn, accesses_by, acks_in, acks_of, behind_data, brought, due_frames, end_of, flow_later, is_again, outputs_of, pending_by, pending_of, requests_of, taken, turn_of, where_due}
@@ -136,12 +136,7 @@ readied_event setup (Frame bytes) caller call block it = record {
   where
     same_heard : Hears (heard_of setup.plan.controller bytes.items) ≡ Hears (Calls caller call) → heard_of setup.plan.controller bytes.items ≡ Calls caller call
     same_heard e = cc
-readied_event setup Tick caller call block it = let e = it.comes in absurd cc
-readied_event setup (Give slot subslot value) caller call block it = let e = it.comes in absurd cc
-readied_event setup (Status slot subslot is_good) caller call block it = let e = it.comes in absurd cc
-readied_event setup (Read slot subslot index) caller call block it = let e = it.comes in absurd cc
-readied_event setup (Write slot subslot index octets) caller call block it = let e = it.comes in absurd cc
-readied_event setup Stop caller call block it = let e = it.comes in absurd cc
+readied_event setup event caller call block it = let e = it.comes in absurd cc
 
 module _ (setup : Setup) (live : Live) (event : Event) where
   abbrev IsEither : Turn → Type 0

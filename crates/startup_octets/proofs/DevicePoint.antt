@@ -14,7 +14,7 @@ use Rattle.device_core.specs.State.{Live, Rest, Station}
 use Rattle.controller_messages.specs.declared.setup.Setup.{Setup}
 use Rattle.controller_messages.specs.Heard.{heard_of as controller_hears}
 use Rattle.end_laws.specs.both.Small as small
-use Rattle.end_laws.specs.both.Small.{Move, Rules}
+use Rattle.end_laws.specs.both.Small.{Move}
 use Rattle.end_laws.specs.both.StartUp.{Begins, IsRun}
 use Rattle.end_laws.specs.both.Steps.{DeviceSteps}
 use Rattle.end_laws.specs.controller.Small.{said_to}

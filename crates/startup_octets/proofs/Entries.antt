@@ -60,18 +60,7 @@ same_cause one other e = cc
 -- A move that delivers nothing brings no octets.
 pub came_none : (one : Move) (sent : List (List ℕ)) → ((end : End) (number : ℕ) → one ≡ move.Deliver end number → ⊥) → [] ≡ came_by sent one
 came_none (move.Deliver end number) sent none = absurd (none end number refl)
-came_none (move.Tick end) sent none = refl
-came_none (move.Input slot subslot value) sent none = refl
-came_none (move.Alarm slot subslot octets) sent none = refl
-came_none (move.Status slot subslot is_good) sent none = refl
-came_none (move.Neighbour neighbour) sent none = refl
-came_none (move.Diagnosis slot subslot channel error appears) sent none = refl
-came_none move.Ready sent none = refl
-came_none (move.Give slot subslot value) sent none = refl
-came_none (move.OutputStatus slot subslot is_good) sent none = refl
-came_none (move.Read slot subslot index) sent none = refl
-came_none (move.Write slot subslot index octets) sent none = refl
-came_none move.Stop sent none = refl
+came_none one sent none = refl
 
 -- Without turns there is nothing to say.
 pub no_start_ups : (mac : Mac) (relation : List ℕ) (records : List Written) → AreStartUps mac relation records []

@@ -164,18 +164,9 @@ module _ {F : Type 0} where
     setup_kept before after (move.Deliver Controller number) happens =
         delivered as_flash before after Controller (KeepsSetup before after) (slice_get before.sent number) happens (by_same before after) (λ frame there comes. by_controller before after _ comes)
     setup_kept before after (move.Tick Device) happens = by_device before after happens.controller
-    setup_kept before after (move.Tick Controller) happens = by_controller before after _ happens
-    setup_kept before after (move.Input slot subslot value) happens = by_device before after happens.controller
-    setup_kept before after (move.Alarm slot subslot octets) happens = by_device before after happens.controller
-    setup_kept before after (move.Status slot subslot is_good) happens = by_device before after happens.controller
+    setup_kept before after (move.Application local) happens = by_device before after happens.controller
     setup_kept before after (move.Neighbour neighbour) happens = by_device before after happens.controller
-    setup_kept before after (move.Diagnosis slot subslot channel error appears) happens = by_device before after happens.controller
-    setup_kept before after move.Ready happens = by_device before after happens.controller
-    setup_kept before after (move.Give slot subslot value) happens = by_controller before after _ happens
-    setup_kept before after (move.OutputStatus slot subslot is_good) happens = by_controller before after _ happens
-    setup_kept before after (move.Read slot subslot index) happens = by_controller before after _ happens
-    setup_kept before after (move.Write slot subslot index octets) happens = by_controller before after _ happens
-    setup_kept before after move.Stop happens = by_controller before after _ happens
+    setup_kept before after one happens = by_controller before after _ happens
 
     setup_stays : (first : World F) (run : List (Move × World F)) → AreMade as_flash first run → KeepsSetup first (last_world first run)
     setup_stays first [] made = refl

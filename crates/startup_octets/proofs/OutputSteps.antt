@@ -60,18 +60,9 @@ module _ {F : Type 0} {S : ℕ} (as_flash : Flash F S) where
       delivered as_flash before after Controller (KeepsStation before after) (slice_get before.sent number) happens (by_same before after)
       (λ frame there comes. ap (λ (w : World F). w.device.station) comes)
   station_kept before after (move.Tick Device) happens = happens.hears.steps.same
-  station_kept before after (move.Tick Controller) happens = ap (λ (w : World F). w.device.station) happens
-  station_kept before after (move.Input slot subslot value) happens = happens.hears.steps.same
-  station_kept before after (move.Alarm slot subslot octets) happens = happens.hears.steps.same
-  station_kept before after (move.Status slot subslot is_good) happens = happens.hears.steps.same
+  station_kept before after (move.Application local) happens = happens.hears.steps.same
   station_kept before after (move.Neighbour neighbour) happens = happens.hears.steps.same
-  station_kept before after (move.Diagnosis slot subslot channel error appears) happens = happens.hears.steps.same
-  station_kept before after move.Ready happens = happens.hears.steps.same
-  station_kept before after (move.Give slot subslot value) happens = ap (λ (w : World F). w.device.station) happens
-  station_kept before after (move.OutputStatus slot subslot is_good) happens = ap (λ (w : World F). w.device.station) happens
-  station_kept before after (move.Read slot subslot index) happens = ap (λ (w : World F). w.device.station) happens
-  station_kept before after (move.Write slot subslot index octets) happens = ap (λ (w : World F). w.device.station) happens
-  station_kept before after move.Stop happens = ap (λ (w : World F). w.device.station) happens
+  station_kept before after one happens = ap (λ (w : World F). w.device.station) happens
 
 -- ---- what is shown of a relation
 
@@ -219,13 +210,8 @@ module _ (options : DeviceOptions) (setup : Setup) (identity : Identity) (there 
     by_move (move.Deliver Controller number) steps = at_controller real old new (shown_of before) (shown_of after) was is (came_turn (move.Deliver Controller number)) steps
     by_move (move.Tick Device) steps = at_device real old new (shown_of before) (shown_of after) was is (came_turn (move.Tick Device)) steps
     by_move (move.Tick Controller) steps = at_controller real old new (shown_of before) (shown_of after) was is (came_turn (move.Tick Controller)) steps
-    by_move (move.Input slot subslot value) steps = at_device real old new (shown_of before) (shown_of after) was is (came_turn (move.Input slot subslot value)) steps
-    by_move (move.Alarm slot subslot octets) steps = at_device real old new (shown_of before) (shown_of after) was is (came_turn (move.Alarm slot subslot octets)) steps
-    by_move (move.Status slot subslot is_good) steps = at_device real old new (shown_of before) (shown_of after) was is (came_turn (move.Status slot subslot is_good)) steps
+    by_move (move.Application local) steps = at_device real old new (shown_of before) (shown_of after) was is (came_turn (move.Application local)) steps
     by_move (move.Neighbour neighbour) steps = at_device real old new (shown_of before) (shown_of after) was is (came_turn (move.Neighbour neighbour)) steps
-    by_move (move.Diagnosis slot subslot channel error appears) steps =
-        at_device real old new (shown_of before) (shown_of after) was is (came_turn (move.Diagnosis slot subslot channel error appears)) steps
-    by_move move.Ready steps = at_device real old new (shown_of before) (shown_of after) was is (came_turn move.Ready) steps
     by_move (move.Give slot subslot value) steps = at_controller real old new (shown_of before) (shown_of after) was is (came_turn (move.Give slot subslot value)) steps
     by_move (move.OutputStatus slot subslot is_good) steps =
         at_controller real old new (shown_of before) (shown_of after) was is (came_turn (move.OutputStatus slot subslot is_good)) steps

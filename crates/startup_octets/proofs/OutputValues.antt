@@ -25,7 +25,7 @@ use Rattle.both_ends.proofs.ExchangeOutputsValues.{cell_found, cell_with, only_o
 use Rattle.octets_law.specs.Octets.{untagged}
 use Rattle.startup_octets.specs.declared.outputs.Output.{Output}
 use Rattle.startup_octets.specs.Outputs as own
-use Rattle.startup_octets.specs.Outputs.{carried, is_at, outputs_in, value_after}
+use Rattle.startup_octets.specs.Outputs.{carried, outputs_in, value_after}
 use Rattle.relations.specs.declared.options.DeviceOptions.{DeviceOptions}
 use Rattle.startup_octets.proofs.OutputFrames.{IsCarrier}
 use Rattle.startup_octets.proofs.OutputPlaces.{all_both, all_so, carried_are, each_same, front_all, map_same, mapped, outputs_are, place_read, placed_at, places_from, read_in}
@@ -49,33 +49,11 @@ module _ (offset : ℕ) (output : Output) where
   given_same : (one : Move) (last : Option (List ℕ)) → own.given_by output last one ≡ given_by place one last
   given_same (move.Give slot subslot value) last =
       ap (λ (b : Bool). if ((output.slot == slot) && (output.subslot == subslot)) && b then Some value.items else last) (sym (same_size output.size (length value.items)))
-  given_same (move.Deliver end number) last = refl
-  given_same (move.Tick end) last = refl
-  given_same (move.Input slot subslot value) last = refl
-  given_same (move.Alarm slot subslot octets) last = refl
-  given_same (move.Status slot subslot is_good) last = refl
-  given_same (move.Neighbour neighbour) last = refl
-  given_same (move.Diagnosis slot subslot channel error appears) last = refl
-  given_same move.Ready last = refl
-  given_same (move.OutputStatus slot subslot is_good) last = refl
-  given_same (move.Read slot subslot index) last = refl
-  given_same (move.Write slot subslot index octets) last = refl
-  given_same move.Stop last = refl
+  given_same one last = refl
 
   rated_same : (one : Move) (last : Bool) → own.rated_by output last one ≡ rated_by place one last
   rated_same (move.OutputStatus slot subslot is_good) last = refl
-  rated_same (move.Give slot subslot value) last = refl
-  rated_same (move.Deliver end number) last = refl
-  rated_same (move.Tick end) last = refl
-  rated_same (move.Input slot subslot value) last = refl
-  rated_same (move.Alarm slot subslot octets) last = refl
-  rated_same (move.Status slot subslot is_good) last = refl
-  rated_same (move.Neighbour neighbour) last = refl
-  rated_same (move.Diagnosis slot subslot channel error appears) last = refl
-  rated_same move.Ready last = refl
-  rated_same (move.Read slot subslot index) last = refl
-  rated_same (move.Write slot subslot index octets) last = refl
-  rated_same move.Stop last = refl
+  rated_same one last = refl
 
   all_given : (moves : List Move) (last : Option (List ℕ)) → fold (own.given_by output) last moves ≡ last_given place last moves
   all_given [] last = refl

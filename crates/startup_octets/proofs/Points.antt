@@ -12,7 +12,7 @@ use Rattle.records.specs.status.Operation.{operation_of}
 use Rattle.records.specs.declared.writes.taken.TakenRecord.{TakenRecord}
 use Rattle.connects.specs.requests.Request.{Request}
 use Rattle.relations.specs.RelationState.{RelationState}
-use Rattle.device_frames.specs.Heard.{Heard, Ticks, Unreadable, Elsewhere, Asks, Resolves, Reported, Cyclic, Alarms, LowReplies, LowConfirms, Given, Raised, Rated, Met, Diagnosed, Readied, Calls, Responds, Garbled}
+use Rattle.device_frames.specs.Heard.{Heard, Reported, Calls, Responds}
 use Rattle.end_laws.specs.both.Small as small
 use Rattle.end_laws.specs.both.Small.{Rules, Move, World}
 use Rattle.end_laws.specs.both.Steps.{records_of}
@@ -95,22 +95,7 @@ call_heard planned (Reported caller address (Calls call)) sequence ask e = recor
   numbered = asked_sequence planned call.header.sequence sequence (unwrap_or call.blocks []) (operation_of call.header.operation) ask e;
 }
 call_heard planned (Reported caller address (Responds response)) sequence ask e = absurd (no_confirm (confirms response) sequence ask e)
-call_heard planned (Reported caller address Garbled) sequence ask e = absurd cc
-call_heard planned Ticks sequence ask e = absurd cc
-call_heard planned Unreadable sequence ask e = absurd cc
-call_heard planned Elsewhere sequence ask e = absurd cc
-call_heard planned (Asks source request) sequence ask e = absurd cc
-call_heard planned (Resolves asker packet) sequence ask e = absurd cc
-call_heard planned (Cyclic source frame_id body) sequence ask e = absurd cc
-call_heard planned (Alarms source header message) sequence ask e = absurd cc
-call_heard planned (LowReplies source header message) sequence ask e = absurd cc
-call_heard planned (LowConfirms source header message) sequence ask e = absurd cc
-call_heard planned (Given slot subslot value) sequence ask e = absurd cc
-call_heard planned (Raised slot subslot octets) sequence ask e = absurd cc
-call_heard planned (Rated slot subslot is_good) sequence ask e = absurd cc
-call_heard planned (Met peer) sequence ask e = absurd cc
-call_heard planned (Diagnosed change) sequence ask e = absurd cc
-call_heard planned Readied sequence ask e = absurd cc
+call_heard planned heard sequence ask e = absurd cc
 
 -- ---- points
 

@@ -47,18 +47,7 @@ came_sent sent (Some frame) so = inr (so frame refl)
 
 came_by_sent : (sent : List (List ℕ)) (one : Move) → (came_by sent one ≡ []) ⊎ IsIn (came_by sent one) sent
 came_by_sent sent (move.Deliver end number) = came_sent sent (slice_get sent number) (in_slice sent number)
-came_by_sent sent (move.Tick end) = inl refl
-came_by_sent sent (move.Input slot subslot value) = inl refl
-came_by_sent sent (move.Alarm slot subslot octets) = inl refl
-came_by_sent sent (move.Status slot subslot is_good) = inl refl
-came_by_sent sent (move.Neighbour neighbour) = inl refl
-came_by_sent sent (move.Diagnosis slot subslot channel error appears) = inl refl
-came_by_sent sent move.Ready = inl refl
-came_by_sent sent (move.Give slot subslot value) = inl refl
-came_by_sent sent (move.OutputStatus slot subslot is_good) = inl refl
-came_by_sent sent (move.Read slot subslot index) = inl refl
-came_by_sent sent (move.Write slot subslot index octets) = inl refl
-came_by_sent sent move.Stop = inl refl
+came_by_sent sent one = inl refl
 
 module _ {F : Type 0} {S : ℕ} (as_flash : Flash F S) where
   -- What is sent follows what was sent before.
@@ -80,18 +69,9 @@ module _ {F : Type 0} {S : ℕ} (as_flash : Flash F S) where
   more before after (move.Deliver Controller number) happens =
       delivered as_flash before after Controller (IsMore before after) (slice_get before.sent number) happens (same_more before after) (λ frame there comes. controller_more before after _ comes)
   more before after (move.Tick Device) happens = device_more before after _ happens
-  more before after (move.Tick Controller) happens = controller_more before after _ happens
-  more before after (move.Input slot subslot value) happens = device_more before after _ happens
-  more before after (move.Alarm slot subslot octets) happens = device_more before after _ happens
-  more before after (move.Status slot subslot is_good) happens = device_more before after _ happens
+  more before after (move.Application local) happens = device_more before after _ happens
   more before after (move.Neighbour neighbour) happens = device_more before after _ happens
-  more before after (move.Diagnosis slot subslot channel error appears) happens = device_more before after _ happens
-  more before after move.Ready happens = device_more before after _ happens
-  more before after (move.Give slot subslot value) happens = controller_more before after _ happens
-  more before after (move.OutputStatus slot subslot is_good) happens = controller_more before after _ happens
-  more before after (move.Read slot subslot index) happens = controller_more before after _ happens
-  more before after (move.Write slot subslot index octets) happens = controller_more before after _ happens
-  more before after move.Stop happens = controller_more before after _ happens
+  more before after one happens = controller_more before after _ happens
 
   pub more_dropped : (before after : World F) → IsMore before after → after.sent ≡ before.sent ++ drop (length before.sent) after.sent
   more_dropped before after it = it.1 ∙ ap (λ (l : List (List ℕ)). before.sent ++ l) (sym (ap (drop (length before.sent)) it.1 ∙ dropped before.sent it.0))

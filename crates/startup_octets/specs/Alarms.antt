@@ -4,6 +4,7 @@ use Rattle.std.specs.Prelude.{◌≡◌, ◌≤◌, ◌+◌, ◌-◌, ◌==◌, 
 use Rattle.std.specs.List.{list_any}
 use Rattle.record_blocks.specs.declared.alarm_notification.AlarmNotification.{AlarmNotification}
 use Rattle.diagnosis.specs.World.{IsPrefixOf}
+use Rattle.device_frames.specs.declared.local.Local.TheVariants as local
 use Rattle.network_world.specs.declared.moves.End.TheVariants.{Controller}
 use Rattle.network_world.specs.declared.moves.Move.{Move}
 use Rattle.network_world.specs.declared.moves.Move.TheVariants as move
@@ -54,7 +55,7 @@ raise_of alarm = record {
 
 -- The application of the device raised a process alarm (AlarmType 2, API 0), and the device sent an alarm (block type 0x0001).
 abbrev pub raised_by : Option Move → List (List ℕ) → List Raise
-raised_by (Some (move.Alarm slot subslot octets)) sent =
+raised_by (Some (move.Application (local.Alarm slot subslot octets))) sent =
     if any_carries 0x0001 sent then record { alarm_type = 2; api = 0; slot = slot; subslot = subslot; octets = octets.items } ∷ [] else []
 raised_by _ sent = []
 

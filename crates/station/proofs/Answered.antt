@@ -10,7 +10,7 @@ use Rattle.frame_codec.specs.Meaning.{Meaning, Content, RealTime, ArpPacket, Udp
 use Rattle.frame_codec.specs.Frame.{frame_of}
 use Rattle.settings_journal.specs.settings_store.Machine.{Outcome}
 use Rattle.device_frames.specs.declared.event.Event.{Event}
-use Rattle.device_frames.specs.declared.event.Event.TheVariants.{Frame, Call, Tick, Input, Alarm, Status, Neighbour, Diagnosis, Ready}
+use Rattle.device_frames.specs.declared.event.Event.TheVariants.{Frame, Call, Tick, Neighbour, Application}
 use Rattle.flash_model.specs.declared.flash.Flash.{Ghosts as Flash}
 use Rattle.device_frames.specs.declared.note.Note.{Note}
 use Rattle.device_frames.specs.declared.note.Note.TheVariants.{NotMine}
@@ -82,12 +82,8 @@ conflicts_are_noticed outcomes station live state (Frame bytes) dropped silent =
     (λ conflict. conflict_noticed outcomes station live state.ip bytes conflict) dropped silent
 conflicts_are_noticed outcomes station live state (Call caller address octets) dropped silent = tt
 conflicts_are_noticed outcomes station live state Tick dropped silent = tt
-conflicts_are_noticed outcomes station live state (Input slot subslot value) dropped silent = tt
-conflicts_are_noticed outcomes station live state (Alarm slot subslot octets) dropped silent = tt
-conflicts_are_noticed outcomes station live state (Status slot subslot is_good) dropped silent = tt
+conflicts_are_noticed outcomes station live state (Application local) dropped silent = tt
 conflicts_are_noticed outcomes station live state (Neighbour neighbour) dropped silent = tt
-conflicts_are_noticed outcomes station live state (Diagnosis slot subslot channel error appears) dropped silent = tt
-conflicts_are_noticed outcomes station live state Ready dropped silent = tt
 
 pub undisputed : {F : Type 0} {S : ℕ} (as_flash : Flash F S) (old new : device.State F) (event : Event) (sent : List (List ℕ)) (said : Note) (state : Serving)
     → Steps as_flash old (heard_of old.station.identity event) sent said new → is_dropped said ≡ false → has_any sent ≡ false → IsUndisputed state event

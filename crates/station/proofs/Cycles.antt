@@ -49,12 +49,6 @@ unfolding cycled_from
 refused_cycled as_flash power_up station flash booted begun ended events before now same serves begins ran fault left alone =
     record { cycled = cycled_from as_flash station flash booted begun ended events before now same serves begins ran; alone = alone }
 
--- the device of the station that a restart makes
-pub restarts_as : {F : Type 0} {S : ℕ} (as_flash : Flash F S) (power_up : F → F → Type 0) (station : Station) (flash : F) (first : Settings) (room : ℕ) (events : List Event) (before now : List (List ℕ)) (one other : device.State F)
-    → other ≡ one → Restarts as_flash power_up station flash first room events before now one → Restarts as_flash power_up station flash first room events before now other
-restarts_as {F} as_flash power_up station flash first room events before now one other same restarts =
-    subst (λ (d : device.State F). Restarts as_flash power_up station flash first room events before now d) (sym same) restarts
-
 -- what a start of a device says
 pub begins_from : {F : Type 0} {S : ℕ} (as_flash : Flash F S) (station : Station) (flash : F) (booted : device.State F) → booted.station ≡ station
     → ((settings : Settings) (room : ℕ) → StartsWith (as_flash.image flash) settings room → booted.live ≡ started settings room) → booted.live ≡ started booted.live.values.stored booted.live.values.room

@@ -98,9 +98,6 @@ next_sent units station live state =
 
 -- ---- units with which nothing is sent
 
-none_behind : (xs ys : List (List ℕ)) → xs ≡ [] → xs ++ ys ≡ [] → ys ≡ []
-none_behind xs ys none all = ap (λ (l : List (List ℕ)). l ++ ys) (sym none) ∙ all
-
 none_of_both : (xs ys : List (List ℕ)) → xs ≡ [] → ys ≡ [] → xs ++ ys ≡ []
 none_of_both xs ys one two = ap (λ (l : List (List ℕ)). l ++ ys) one ∙ two
 
@@ -397,10 +394,6 @@ IsLeap units station live state after sent =
     (after ≡ (plain_ticks units station live state).services)
     × ((device_ticks units station live).frames ++ sent ≡ (plain_ticks units station live state).frames)
     × OnlyTheLastOfPlain units station live state × OnlyTheLastMeets units station live state
-
-pub no_leap : (units : ℕ) (station : Station) (live : Live) (state : Serving) (sent : List (List ℕ)) → units ≡ 0 → sent ≡ [] → IsLeap units station live state state sent
-no_leap units station live state sent none silent =
-    subst (λ (n : ℕ). IsLeap n station live state state sent) (sym none) (refl, silent, λ before sooner. absurd (omega (arith, sooner)), λ before sooner. absurd (omega (arith, sooner)))
 
 leap_at : (units : ℕ) (station : Station) (live : Live) (state after : Serving) (sent : List (List ℕ)) → OnlyTheLastOfDevice (suc units) station live
     → Follows station.identity live.values (suc units) state after sent → IsLeap (suc units) station live state after sent

@@ -4,7 +4,7 @@ use Rattle.std.specs.Prelude.{if◌then◌else◌}
 use Rattle.flash_model.specs.declared.flash.Flash.{Ghosts as Flash}
 use Rattle.pn_values.specs.declared.identity.Identity.{Identity}
 use Rattle.device_frames.specs.declared.event.Event.{Event}
-use Rattle.device_frames.specs.declared.event.Event.TheVariants.{Frame, Call, Tick, Input, Alarm, Status, Neighbour, Diagnosis, Ready}
+use Rattle.device_frames.specs.declared.event.Event.TheVariants.{Frame, Call, Tick, Neighbour, Application}
 use Rattle.device_frames.specs.declared.note.Note.{Note}
 use Rattle.device_frames.specs.declared.note.Note.TheVariants.{Done}
 use Rattle.device_frames.specs.Heard.{Ticks, heard_of}
@@ -51,22 +51,14 @@ sparing_by : (is_lost : Bool) (identity : Identity) (state : Serving) (running :
 sparing_by true identity state running note (Frame bytes) frames e silent = inl e
 sparing_by true identity state running note (Call caller address octets) frames e silent = e
 sparing_by true identity state running note Tick frames e silent = rw e (omega arith)
-sparing_by true identity state running note (Input slot subslot value) frames e silent = e
-sparing_by true identity state running note (Alarm slot subslot octets) frames e silent = e
-sparing_by true identity state running note (Status slot subslot is_good) frames e silent = e
+sparing_by true identity state running note (Application local) frames e silent = e
 sparing_by true identity state running note (Neighbour neighbour) frames e silent = e
-sparing_by true identity state running note (Diagnosis slot subslot channel error appears) frames e silent = e
-sparing_by true identity state running note Ready frames e silent = e
 sparing_by false identity state running note (Frame bytes) frames e silent =
     sparing_frame (is_dropped note) (answered identity state bytes.items) frames e (λ dropped. silent (not_done note dropped)) bytes
 sparing_by false identity state running note (Call caller address octets) frames e silent = e
 sparing_by false identity state running note Tick frames e silent = subst (λ (f : List (List ℕ)). length f ≤ 2) (sym e) (at_most_two state)
-sparing_by false identity state running note (Input slot subslot value) frames e silent = e
-sparing_by false identity state running note (Alarm slot subslot octets) frames e silent = e
-sparing_by false identity state running note (Status slot subslot is_good) frames e silent = e
+sparing_by false identity state running note (Application local) frames e silent = e
 sparing_by false identity state running note (Neighbour neighbour) frames e silent = e
-sparing_by false identity state running note (Diagnosis slot subslot channel error appears) frames e silent = e
-sparing_by false identity state running note Ready frames e silent = e
 
 -- ---- power that was lost
 
@@ -104,12 +96,8 @@ refused_by false identity state running note said (Frame bytes) sent e f refused
     (e ∙ n.0, n.1)
 refused_by false identity state running note said (Call caller address octets) sent e f refused tick = (e, λ done. refused (f ∙ done))
 refused_by false identity state running note said Tick sent e f refused tick = absurd (refused (f ∙ tick refl))
-refused_by false identity state running note said (Input slot subslot value) sent e f refused tick = (e, λ done. refused (f ∙ done))
-refused_by false identity state running note said (Alarm slot subslot octets) sent e f refused tick = (e, λ done. refused (f ∙ done))
-refused_by false identity state running note said (Status slot subslot is_good) sent e f refused tick = (e, λ done. refused (f ∙ done))
+refused_by false identity state running note said (Application local) sent e f refused tick = (e, λ done. refused (f ∙ done))
 refused_by false identity state running note said (Neighbour neighbour) sent e f refused tick = (e, λ done. refused (f ∙ done))
-refused_by false identity state running note said (Diagnosis slot subslot channel error appears) sent e f refused tick = (e, λ done. refused (f ∙ done))
-refused_by false identity state running note said Ready sent e f refused tick = (e, λ done. refused (f ∙ done))
 
 -- ---- a call that was completed
 
@@ -118,12 +106,8 @@ sparing_none : (event : Event) (frames : Frames) → frames.services ≡ [] → 
 sparing_none (Frame bytes) frames none = inl none
 sparing_none (Call caller address octets) frames none = none
 sparing_none Tick frames none = rw none (omega arith)
-sparing_none (Input slot subslot value) frames none = none
-sparing_none (Alarm slot subslot octets) frames none = none
-sparing_none (Status slot subslot is_good) frames none = none
+sparing_none (Application local) frames none = none
 sparing_none (Neighbour neighbour) frames none = none
-sparing_none (Diagnosis slot subslot channel error appears) frames none = none
-sparing_none Ready frames none = none
 
 -- what the services do with the frame that completes it
 record IsQuiet (after : Beside) : Type 0 where
@@ -162,12 +146,8 @@ step_quiet false identity state running note (Frame bytes) call e =
     record { silent = quiet.silent; done = quiet.done }
 step_quiet is_lost identity state running note (Call caller address octets) call e = absurd cc
 step_quiet is_lost identity state running note Tick call e = absurd cc
-step_quiet is_lost identity state running note (Input slot subslot value) call e = absurd cc
-step_quiet is_lost identity state running note (Alarm slot subslot octets) call e = absurd cc
-step_quiet is_lost identity state running note (Status slot subslot is_good) call e = absurd cc
+step_quiet is_lost identity state running note (Application local) call e = absurd cc
 step_quiet is_lost identity state running note (Neighbour neighbour) call e = absurd cc
-step_quiet is_lost identity state running note (Diagnosis slot subslot channel error appears) call e = absurd cc
-step_quiet is_lost identity state running note Ready call e = absurd cc
 
 -- ---- a step
 

@@ -1,11 +1,11 @@
 -- A step of a station, of the step of its device and what the services do beside it.
-use Rattle.std.proofs.Common.{◌≡◌, ◌≢◌, ℕ, Bool, true, false, Option, Some, None, List, [], ◌∷◌, map, refl, sym, ap, subst, ◌∙◌}
+use Rattle.std.proofs.Common.{◌≡◌, ◌≢◌, ℕ, Bool, true, false, Option, Some, None, List, [], refl, sym, ap, subst, ◌∙◌}
 use Rattle.std.specs.Prelude.{if◌then◌else◌}
 use Rattle.settings_journal.specs.settings_store.State.{Values}
 use Rattle.flash_model.specs.declared.flash.Flash.{Ghosts as Flash}
 use Rattle.pn_values.specs.declared.identity.Identity.{Identity}
 use Rattle.device_frames.specs.declared.event.Event.{Event}
-use Rattle.device_frames.specs.declared.event.Event.TheVariants.{Frame, Call, Tick, Input, Alarm, Status, Neighbour, Diagnosis, Ready}
+use Rattle.device_frames.specs.declared.event.Event.TheVariants.{Frame, Call, Tick, Neighbour, Application}
 use Rattle.device_frames.specs.declared.note.Note.{Note}
 use Rattle.device_frames.specs.declared.note.Note.TheVariants.{Done, NotMine, Fault, Filter, OldCall, NoRelation, StaleCycle, Refused}
 use Rattle.device_core.specs.State as device
@@ -15,11 +15,6 @@ use Rattle.station.specs.Steps.{DeviceSteps, Gives, StationSteps, station_of}
 
 abbrev made : Serving → List (List ℕ) → Note → Beside
 made state frames said = record { services = state; sent = frames; note = said }
-
--- Nothing in a list of what is made of a list.
-pub none_in : {A B : Type 0} (f : A → B) (xs : List A) → map f xs ≡ [] → xs ≡ []
-none_in f [] none = refl
-none_in f (x ∷ xs) none = cc
 
 if_true : (b : Bool) (one other : Beside) → b ≡ true → (if b then one else other) ≡ one
 if_true b one other e = rw e refl
@@ -77,24 +72,16 @@ joined_dropped is_lost state note (Frame bytes) call e =
     dropped_if (is_dropped note) (completed (piece_in state bytes.items)) call (there_if is_lost (joined_from state note bytes.items) call e)
 joined_dropped is_lost state note (Call caller address octets) call e = absurd cc
 joined_dropped is_lost state note Tick call e = absurd cc
-joined_dropped is_lost state note (Input slot subslot value) call e = absurd cc
-joined_dropped is_lost state note (Alarm slot subslot octets) call e = absurd cc
-joined_dropped is_lost state note (Status slot subslot is_good) call e = absurd cc
+joined_dropped is_lost state note (Application local) call e = absurd cc
 joined_dropped is_lost state note (Neighbour neighbour) call e = absurd cc
-joined_dropped is_lost state note (Diagnosis slot subslot channel error appears) call e = absurd cc
-joined_dropped is_lost state note Ready call e = absurd cc
 
 -- no call is completed in a step in which power was lost
 none_joined : (state : Serving) (note : Note) (event : Event) → ◌≡◌ {A = Option Event} None (joined_by true state note event)
 none_joined state note (Frame bytes) = refl
 none_joined state note (Call caller address octets) = refl
 none_joined state note Tick = refl
-none_joined state note (Input slot subslot value) = refl
-none_joined state note (Alarm slot subslot octets) = refl
-none_joined state note (Status slot subslot is_good) = refl
+none_joined state note (Application local) = refl
 none_joined state note (Neighbour neighbour) = refl
-none_joined state note (Diagnosis slot subslot channel error appears) = refl
-none_joined state note Ready = refl
 
 pub none_lost : (state : Serving) (values : Values) (note : Note) (event : Event) → values.is_lost ≡ true → ◌≡◌ {A = Option Event} None (joined_beside state values note event)
 none_lost state values note event lost =

@@ -6,7 +6,7 @@ use Rattle.settings_journal.specs.settings_store.Machine.{Outcome}
 use Rattle.device_core.specs.Machine.{step_of}
 use Rattle.device_core.specs.State.{Live, Station}
 use Rattle.device_frames.specs.declared.event.Event.{Event}
-use Rattle.device_frames.specs.declared.event.Event.TheVariants.{Frame, Call, Tick, Input, Alarm, Status, Neighbour, Diagnosis, Ready}
+use Rattle.device_frames.specs.declared.event.Event.TheVariants.{Frame, Call, Tick, Neighbour, Application}
 use Rattle.device_frames.specs.declared.note.Note.{Note}
 use Rattle.device_frames.specs.declared.note.Note.TheVariants.{Done, NotMine, Fault, Filter, OldCall, NoRelation, StaleCycle, Refused}
 use Rattle.pn_values.specs.declared.settings.Settings.{Settings}
@@ -99,12 +99,8 @@ abbrev pub event_beside : Identity → Serving → Note → Event → Beside
 event_beside identity state note (Frame bytes) = heard_beside identity state note bytes.items
 event_beside identity state note Tick = record { services = ticked state; sent = sent_by_tick state; note = note }
 event_beside identity state note (Call caller address octets) = idle state note
-event_beside identity state note (Input slot subslot value) = idle state note
-event_beside identity state note (Alarm slot subslot octets) = idle state note
-event_beside identity state note (Status slot subslot is_good) = idle state note
+event_beside identity state note (Application local) = idle state note
 event_beside identity state note (Neighbour neighbour) = idle state note
-event_beside identity state note (Diagnosis slot subslot channel error appears) = idle state note
-event_beside identity state note Ready = idle state note
 
 -- At the end of a step the services see the running settings.
 abbrev pub observing : Settings → Beside → Beside
@@ -126,12 +122,8 @@ abbrev pub joined_by : Bool → Serving → Note → Event → Option Event
 joined_by is_lost state note (Frame bytes) = if is_lost then None else joined_from state note bytes.items
 joined_by is_lost state note (Call caller address octets) = None
 joined_by is_lost state note Tick = None
-joined_by is_lost state note (Input slot subslot value) = None
-joined_by is_lost state note (Alarm slot subslot octets) = None
-joined_by is_lost state note (Status slot subslot is_good) = None
+joined_by is_lost state note (Application local) = None
 joined_by is_lost state note (Neighbour neighbour) = None
-joined_by is_lost state note (Diagnosis slot subslot channel error appears) = None
-joined_by is_lost state note Ready = None
 
 -- The call that a frame completed, if it did.
 abbrev pub joined_of : Serving → Note → Event → Option Event
@@ -153,12 +145,8 @@ abbrev pub IsUndisputed : Serving → Event → Type 0
 IsUndisputed state (Frame bytes) = disputes state bytes.items ≡ false
 IsUndisputed state (Call caller address octets) = ⊤
 IsUndisputed state Tick = ⊤
-IsUndisputed state (Input slot subslot value) = ⊤
-IsUndisputed state (Alarm slot subslot octets) = ⊤
-IsUndisputed state (Status slot subslot is_good) = ⊤
+IsUndisputed state (Application local) = ⊤
 IsUndisputed state (Neighbour neighbour) = ⊤
-IsUndisputed state (Diagnosis slot subslot channel error appears) = ⊤
-IsUndisputed state Ready = ⊤
 
 -- A step that neither drops its event nor sends a frame was no conflict.
 abbrev pub ConflictsAreNoticed : Type 0

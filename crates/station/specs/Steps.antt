@@ -7,7 +7,7 @@ use Rattle.dcp_core.specs.Request.{Asked}
 use Rattle.rpc_core.specs.Call.{Asked as Called}
 use Rattle.rpc_core.specs.Cache.{looked, again}
 use Rattle.device_frames.specs.declared.event.Event.{Event}
-use Rattle.device_frames.specs.declared.event.Event.TheVariants.{Frame, Call, Tick, Input, Alarm, Status, Neighbour, Diagnosis, Ready}
+use Rattle.device_frames.specs.declared.event.Event.TheVariants.{Frame, Call, Tick, Neighbour, Application}
 use Rattle.device_frames.specs.declared.note.Note.{Note}
 use Rattle.device_frames.specs.declared.note.Note.TheVariants.{Done}
 use Rattle.device_frames.specs.Heard.{Asks, heard_of}
@@ -77,12 +77,8 @@ abbrev pub IsSparing : Event → Frames → Type 0
 IsSparing (Frame bytes) frames = (frames.services ≡ []) ⊎ ((frames.device ≡ []) × AtMostOne frames.services)
 IsSparing (Call caller address octets) frames = frames.services ≡ []
 IsSparing Tick frames = length frames.services ≤ 2
-IsSparing (Input slot subslot value) frames = frames.services ≡ []
-IsSparing (Alarm slot subslot octets) frames = frames.services ≡ []
-IsSparing (Status slot subslot is_good) frames = frames.services ≡ []
+IsSparing (Application local) frames = frames.services ≡ []
 IsSparing (Neighbour neighbour) frames = frames.services ≡ []
-IsSparing (Diagnosis slot subslot channel error appears) frames = frames.services ≡ []
-IsSparing Ready frames = frames.services ≡ []
 
 -- The station is as it is once its neighbour was reported to its device, if that changed.
 pub record IsReady {F : Type 0} (old new : State F) : Type 0 where

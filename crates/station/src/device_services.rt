@@ -109,7 +109,7 @@ impl DeviceServices {
 
     /// What must be reported to the device, if the neighbour changed since the last report: the owner gives it this event.
     #[inline(never)]
-    pub fn news(&self) -> Option<Event>
+    pub fn news(&self) -> Option<Event<'static>>
         ensures { result ≡ (if self.now.has_news then Some (news_in self.now) else None) }
     {
         if self.has_news {
@@ -135,7 +135,7 @@ impl DeviceServices {
 
     /// The event that reports the neighbour to the device, or that none is known.
     #[inline(never)]
-    pub(crate) fn neighbour_event(&self) -> Event
+    pub(crate) fn neighbour_event(&self) -> Event<'static>
         ensures { result ≡ news_in self.now }
     {
         match self.near.neighbour() {
@@ -182,7 +182,7 @@ impl DeviceServices {
     pub fn attend(
         &mut self,
         identity: &Identity,
-        event: &Event,
+        event: &Event<'_>,
         note: Note,
         has_sent: bool,
         outbox: &mut Outbox,
@@ -204,13 +204,7 @@ impl DeviceServices {
                 self.tick(outbox);
                 Attended::Noted(note)
             }
-            Event::Call(..)
-            | Event::Input(..)
-            | Event::Alarm(..)
-            | Event::Status(..)
-            | Event::Neighbour(..)
-            | Event::Diagnosis(..)
-            | Event::Ready => Attended::Noted(note),
+            Event::Call(..) | Event::Neighbour(..) | Event::Application(_) => Attended::Noted(note),
         }
     }
 

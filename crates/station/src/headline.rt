@@ -22,7 +22,7 @@ pub fn cycle<F: Flash<S>, const S: usize, K: Sink, P: FnOnce(F) -> F>(
     identity: Identity,
     real: Real,
     flash: F,
-    events: &[Event],
+    events: &[Event<'_>],
     sink: &mut K,
     power_up: P,
 ) -> Result<IoStation<F, S>, (BootFault, F)>
@@ -62,7 +62,7 @@ pub fn cycle_with<F: Flash<S>, const S: usize, K: Sink, P: FnOnce(F) -> F>(
     real: Real,
     options: DeviceOptions,
     flash: F,
-    events: &[Event],
+    events: &[Event<'_>],
     sink: &mut K,
     power_up: P,
 ) -> Result<IoStation<F, S>, (BootFault, F)>

@@ -1,9 +1,7 @@
 //! A call that the services beside a device joined from its fragments.
 ghost use Rattle.std.specs.Prelude.{◌≡◌};
-ghost use Rattle.arrayvec.specs.ArrayVec.{array_vec_len};
-ghost use Rattle.device_frames.specs.declared.event.Event.TheVariants.{Call};
 
-use device_core::Caller;
+use device_core::{Caller, Event, Octets};
 use frame_codec::Endpoint;
 use pn_values::Mac;
 use rpc_services::WholeCall;
@@ -44,11 +42,14 @@ impl JoinedCall {
         }
     }
 
-    /// Who sent its last fragment, the IP address that it went to, and its header and body.
-    pub fn parts(&self) -> (Caller, [u8; 4], &[u8])
-        // It is the event of these.
-        ensures { self.now ≡ Call result.0 result.1 (record { items = result.2.now }) }
+    /// The event of it, which borrows its octets.
+    pub fn event(&self) -> Event<'_>
+        ensures { result ≡ self.now }
     {
-        (self.caller, self.address, self.octets.as_slice())
+        Event::Call(
+            self.caller,
+            self.address,
+            Octets::of(self.octets.as_slice()),
+        )
     }
 }

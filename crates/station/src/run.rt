@@ -9,7 +9,7 @@ use frame_codec::Frame;
 
 impl<F: Flash<S>, const S: usize> IoStation<F, S> {
     /// Handles the events in order, and hands on the frames, up to the event in which power is lost.
-    pub fn run<K: Sink>(&mut self, events: &[Event], sink: &mut K)
+    pub fn run<K: Sink>(&mut self, events: &[Event<'_>], sink: &mut K)
         // The device of the run is that of a run of the device alone over the same events, with the Neighbour events and the
         // joined calls put in where the services gave them, and with all that the contract of `Device::run` says; its frames
         // are that run's, in order. The frames of the services follow those of the device in each step.
@@ -25,7 +25,7 @@ impl<F: Flash<S>, const S: usize> IoStation<F, S> {
     }
 
     /// One event of a run.
-    fn take<K: Sink>(&mut self, event: &Event, outbox: &mut StationOutbox, sink: &mut K)
+    fn take<K: Sink>(&mut self, event: &Event<'_>, outbox: &mut StationOutbox, sink: &mut K)
         ensures { StationHandsOn F.Flash self.old event.now (K.taken sink.old) (K.taken sink.new) self.new }
     {
         let _ = self.step(event, outbox);

@@ -46,7 +46,7 @@ impl<F: Flash<S>, const S: usize> IoStation<F, S> {
 
     /// Handles an event, and replaces the content of the outbox by the frames to be sent. The neighbour is reported to the device
     /// first, if that changed.
-    pub fn step(&mut self, event: &Event, outbox: &mut StationOutbox) -> Note
+    pub fn step(&mut self, event: &Event<'_>, outbox: &mut StationOutbox) -> Note
         // The step of the device is a step of the device alone: the same device, the same frames in the same order, and all
         // that the contract of `Device::step` says. The services know, send and note what is said of them beside it. In the
         // step of a frame the services send at most one frame, and none if the device sends one; in a tick they send at most

@@ -22,7 +22,7 @@ use frame_codec::Outbox;
 pub fn step_beside<F: Flash<S>, const S: usize>(
     device: &mut Device<F, S>,
     services: &mut DeviceServices,
-    event: &Event,
+    event: &Event<'_>,
     outbox: &mut StationOutbox,
 ) -> Note
     // The step of the device is a step of the device alone, and the services do what is said of them beside it.
@@ -36,7 +36,7 @@ pub fn step_beside<F: Flash<S>, const S: usize>(
 fn step_told<F: Flash<S>, const S: usize>(
     device: &mut Device<F, S>,
     services: &mut DeviceServices,
-    event: &Event,
+    event: &Event<'_>,
     outbox: &mut StationOutbox,
 ) -> Note
     ensures { StationSteps F.Flash (station_of device.old services.old) event.now outbox.new result (station_of device.new services.new) }
@@ -63,7 +63,7 @@ fn step_told<F: Flash<S>, const S: usize>(
 fn step_both<F: Flash<S>, const S: usize>(
     device: &mut Device<F, S>,
     services: &mut DeviceServices,
-    event: &Event,
+    event: &Event<'_>,
     sent: &mut Outbox,
     outbox: &mut Outbox,
     call: &mut JoinedCall,
@@ -95,7 +95,7 @@ pub fn give<F: Flash<S>, const S: usize>(
 ) -> Note
     ensures { DeviceSteps F.Flash device.old call.now (boxed outbox.new) result device.new }
 {
-    device.step_call(&call.caller, call.address, call.octets.as_slice(), outbox)
+    step_device(device, &call.event(), outbox)
 }
 
 /// Reports its neighbour to a device, if it changed since the last report: a step of its own, with the event Neighbour, which
@@ -133,7 +133,7 @@ fn tell<F: Flash<S>, const S: usize>(
 /// Handles an event at a device without services, and replaces the content of the outbox by the frames to be sent.
 pub fn step_alone<F: Flash<S>, const S: usize>(
     device: &mut Device<F, S>,
-    event: &Event,
+    event: &Event<'_>,
     outbox: &mut StationOutbox,
 ) -> Note
     // The step is that of the device alone.
@@ -148,7 +148,7 @@ pub fn step_alone<F: Flash<S>, const S: usize>(
 /// Handles an event at a device, and replaces the content of the outbox by the frames to be sent.
 fn step_device<F: Flash<S>, const S: usize>(
     device: &mut Device<F, S>,
-    event: &Event,
+    event: &Event<'_>,
     outbox: &mut Outbox,
 ) -> Note
     ensures { DeviceSteps F.Flash device.old event.now (boxed outbox.new) result device.new }

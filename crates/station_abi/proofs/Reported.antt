@@ -67,22 +67,22 @@ pub settings_refused : (why : Option Refusal) (known : Settings) (refusal : Refu
 settings_refused why known refusal asked answer reported is at same = rw is (at, same)
 
 -- A number in its place is reported with the whole operation.
-pub due_told : (why : Option Refusal) (due : ℕ) (asked : Op) (answer new : ℕ) → IsNumber why due asked.units answer new → IsDue why due asked answer (record asked { units = new })
-due_told (Some refusal) due asked answer new is = (is.0, ap (λ (n : ℕ). record asked { units = n }) is.1)
-due_told None due asked answer new is = (is.0, ap (λ (n : ℕ). record asked { units = n }) is.1)
+pub due_told : (why : Option Refusal) (due : ℕ) (asked : Op) (answer new : ℕ) → IsNumber why due asked.due answer new → IsDue why due asked answer (record asked { due = new })
+due_told (Some refusal) due asked answer new is = (is.0, ap (λ (n : ℕ). record asked { due = n }) is.1)
+due_told None due asked answer new is = (is.0, ap (λ (n : ℕ). record asked { due = n }) is.1)
 
-pub passed_told : (why : Option Refusal) (count : ℕ) (asked : Op) (answer new : ℕ) → IsNumber why count asked.units answer new → IsPassedOn why count asked answer (record asked { units = new })
-passed_told (Some refusal) count asked answer new is = (is.0, ap (λ (n : ℕ). record asked { units = n }) is.1)
-passed_told None count asked answer new is = (is.0, ap (λ (n : ℕ). record asked { units = n }) is.1)
+pub passed_told : (why : Option Refusal) (count : ℕ) (asked : Op) (answer new : ℕ) → IsNumber why count asked.count answer new → IsPassedOn why count asked answer (record asked { count = new })
+passed_told (Some refusal) count asked answer new is = (is.0, ap (λ (n : ℕ). record asked { count = n }) is.1)
+passed_told None count asked answer new is = (is.0, ap (λ (n : ℕ). record asked { count = n }) is.1)
 
-pub left_told : (why : Option Refusal) (left : ℕ) (asked : Op) (answer new : ℕ) → IsNumber why left asked.place answer new → IsLeft why left asked answer (record asked { place = new })
-left_told (Some refusal) left asked answer new is = (is.0, ap (λ (n : ℕ). record asked { place = n }) is.1)
-left_told None left asked answer new is = (is.0, ap (λ (n : ℕ). record asked { place = n }) is.1)
+pub left_told : (why : Option Refusal) (left : ℕ) (asked : Op) (answer new : ℕ) → IsNumber why left asked.commits answer new → IsLeft why left asked answer (record asked { commits = new })
+left_told (Some refusal) left asked answer new is = (is.0, ap (λ (n : ℕ). record asked { commits = n }) is.1)
+left_told None left asked answer new is = (is.0, ap (λ (n : ℕ). record asked { commits = n }) is.1)
 
-pub conflicts_told : (why : Option Refusal) (conflicts : ℕ) (asked : Op) (answer new : ℕ) → IsNumber why (min conflicts 4294967295) asked.units answer new
-    → IsConflicts why conflicts asked answer (record asked { units = new })
-conflicts_told (Some refusal) conflicts asked answer new is = (is.0, ap (λ (n : ℕ). record asked { units = n }) is.1)
-conflicts_told None conflicts asked answer new is = (is.0, ap (λ (n : ℕ). record asked { units = n }) is.1)
+pub conflicts_told : (why : Option Refusal) (conflicts : ℕ) (asked : Op) (answer new : ℕ) → IsNumber why (min conflicts 4294967295) asked.count answer new
+    → IsConflicts why conflicts asked answer (record asked { count = new })
+conflicts_told (Some refusal) conflicts asked answer new is = (is.0, ap (λ (n : ℕ). record asked { count = n }) is.1)
+conflicts_told None conflicts asked answer new is = (is.0, ap (λ (n : ℕ). record asked { count = n }) is.1)
 
 pub number_told : (why : Option Refusal) (known old answer new : ℕ) → (why ≡ None) × (new ≡ known) → answer ≡ 0 → IsNumber why known old answer new
 number_told why known old answer new is done = rw is.0 (done, is.1)

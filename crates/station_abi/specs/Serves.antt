@@ -2,11 +2,12 @@
 -- afterwards: an equation of the whole operation says which fields are written, and with what. All other fields are
 -- unchanged, and so are the octets after those that are written. A refused operation changes nothing, neither in the
 -- port nor in the operation.
-use Rattle.std.specs.Prelude.{◌≡◌, ◌==◌, ◌++◌, ◌-◌, ℕ, Bool, nat_lt, not, min, if◌then◌else◌, List, [], ◌∷◌, drop, length, take, slice_get, slice_index, Option, Some, None, Result, Ok, Err, MatchResult}
+use Rattle.std.specs.Prelude.{⊤, ◌≡◌, ◌==◌, ◌++◌, ◌-◌, ℕ, Bool, true, false, nat_lt, not, min, if◌then◌else◌, List, [], ◌∷◌, drop, length, take, slice_get, slice_index, Option, Some, None, Result, Ok, Err, MatchResult}
 use Rattle.std.specs.Int.{w16, from_be_bytes}
 use Rattle.flash_model.specs.Calls.{Call, Programs, Erases, Arms}
 use Rattle.flash_model.specs.declared.flash.Sector.{Sector}
 use Rattle.flash_model.specs.declared.flash.Sector.TheVariants.{First, Second}
+use Rattle.pn_values.specs.declared.real.RealModule.{RealModule}
 use Rattle.pn_values.specs.declared.settings.Settings.{Settings}
 use Rattle.cyclic_data.specs.declared.exchange.exchange.ProviderStatus.{ProviderStatus}
 use Rattle.lldp.specs.declared.station.Link.{Link}
@@ -17,7 +18,11 @@ use Rattle.relations.specs.Exchanged.{output_in, provider_in}
 use Rattle.relations.specs.RelationState.{passed_of, phase_of, taken_of}
 use Rattle.relations.specs.Outputs.{output_of}
 use Rattle.device_frames.specs.declared.event.Event.{Event}
-use Rattle.device_frames.specs.declared.event.Event.TheVariants.{Frame, Input, Alarm, Status, Diagnosis, Ready}
+use Rattle.device_frames.specs.declared.event.Event.TheVariants.{Frame, Application}
+use Rattle.arrayvec.specs.ArrayVec.{ArrayVec}
+use Rattle.device_frames.specs.declared.local.Local.{Local}
+use Rattle.device_frames.specs.declared.local.Local.TheVariants.{Input, Alarm, Status, Diagnosis, Ready}
+use Rattle.device_core.specs.Handled.{change_of}
 use Rattle.device_frames.specs.declared.note.Note.{Note}
 use Rattle.device_frames.specs.Notes.{note_number}
 use Rattle.c_layout.specs.Places.{place_in}
@@ -30,6 +35,8 @@ use Rattle.device_abi.specs.port.Refusals.{refusal_number}
 use Rattle.device_abi.specs.port.State.{State, closed}
 use Rattle.device_abi.specs.port.Served.{Served, advanced_both, conflicts_of, due_both, frames_of, linked_both, lost_both, waiting_both}
 use Rattle.device_abi.specs.port.ServedSteps.{AnswersBoth, KnowsBothOrNot, PassesBothOrNot, QuietOrNot, StartsBothOrNot}
+use Rattle.station_abi.specs.declared.reason.Reason.{Reason}
+use Rattle.station_abi.specs.Reasons.{reason_number, why_no_alarm, why_no_diagnosis, why_no_input, why_no_status, why_not_ready}
 use Rattle.station_abi.specs.declared.operation.Operation.{Operation}
 use Rattle.station_abi.specs.declared.operation.Operation.TheVariants as operation
 
@@ -90,28 +97,69 @@ abbrev pub IsFrameAfter : Served → List ℕ → Op → ℕ → Served → Op �
 IsFrameAfter old given asked answer new reported =
     (passed : Result ℕ Refusal) × (middle : Served) × QuietOrNot old asked.units passed middle × IsAfter passed middle given asked answer new reported
 
+-- Whether the device refused an event.
+abbrev pub is_refused : Result Note Refusal → Bool
+is_refused (Ok note) = note_number note == 7
+is_refused (Err refusal) = false
+
+-- Nothing of a device changed, but that it may know another neighbour: that one is reported to it before an event.
+abbrev pub IsUntouched : State → State → Type 0
+IsUntouched old new = (new.device.station ≡ old.device.station)
+    × (new.device.live ≡ record old.device.live { rest = record old.device.live.rest { peer = new.device.live.rest.peer } })
+
+-- A device that refused an event is as before.
+abbrev pub KeepsIf : Bool → State → State → Type 0
+KeepsIf true old new = IsUntouched old new
+KeepsIf false old new = ⊤
+
+-- What is returned of an outcome, with this reason if it is a refusal.
+abbrev pub IsOutcomeBy : Bool → Result Note Refusal → Reason → Served → Op → ℕ → Op → Type 0
+IsOutcomeBy true result why new asked answer reported = (answer ≡ 44) × (reported ≡ record asked { reason = reason_number why })
+IsOutcomeBy false result why new asked answer reported = (answer ≡ answer_of result) × (reported ≡ noted result new asked)
+
+-- What is returned of an outcome.
+abbrev pub IsOutcome : Result Note Refusal → Reason → Served → Op → ℕ → Op → Type 0
+IsOutcome result why new asked answer reported = IsOutcomeBy (is_refused result) result why new asked answer reported
+
+-- What the application says: it is handled, with its outcome and what work it made, or refused, and why.
+abbrev pub IsSaid : Served → Local (ArrayVec ℕ) → Reason → Op → ℕ → Served → Op → Type 0
+IsSaid old said why asked answer new reported =
+    (result : Result Note Refusal) × AnswersBoth old (Application said) result new × KeepsIf (is_refused result) old.port new.port
+    × IsOutcome result why new asked answer reported
+
+-- The modules that are plugged in a device, and the phase of its relation.
+abbrev pub plugged_in : Served → List RealModule
+plugged_in served = served.port.device.station.real.modules.items
+
+-- The phase of the relation of a device, if there is one.
+abbrev pub reached_in : Served → Option Phase
+reached_in served = phase_of served.port.device.live.rest.link
+
 -- 9 if the slot or the subslot is not a number of 16 bits: nothing is plugged there.
 abbrev pub IsInput : Option (ℕ × ℕ) → Served → List ℕ → Op → ℕ → Served → Op → Type 0
 IsInput (Some place) old given asked answer new reported =
-    IsEvent old (Input place.0 place.1 (record { items = take 1519 given })) asked answer new reported
+    IsSaid old (Input place.0 place.1 (record { items = take 1519 given }))
+    (why_no_input (plugged_in old) place.0 place.1 (length given) (reached_in old)) asked answer new reported
 IsInput None old given asked answer new reported = (answer ≡ 9) × (new ≡ old) × (reported ≡ asked)
 
 -- What the operation Alarm does, with its place if it is one of 16 bits.
 abbrev pub IsAlarm : Option (ℕ × ℕ) → Served → List ℕ → Op → ℕ → Served → Op → Type 0
 IsAlarm (Some place) old given asked answer new reported =
-    IsEvent old (Alarm place.0 place.1 (record { items = take 1519 given })) asked answer new reported
+    IsSaid old (Alarm place.0 place.1 (record { items = take 1519 given }))
+    (why_no_alarm (plugged_in old) place.0 place.1 (length given) (reached_in old)) asked answer new reported
 IsAlarm None old given asked answer new reported = (answer ≡ 9) × (new ≡ old) × (reported ≡ asked)
 
--- The status of the inputs of a submodule: bad if `place` is 0.
+-- The status of the inputs of a submodule: bad if `is_good` is 0.
 abbrev pub IsStatus : Option (ℕ × ℕ) → Served → Op → ℕ → Served → Op → Type 0
-IsStatus (Some place) old asked answer new reported = IsEvent old (Status place.0 place.1 (not (asked.place == 0))) asked answer new reported
+IsStatus (Some place) old asked answer new reported =
+    IsSaid old (Status place.0 place.1 (not (asked.is_good == 0))) (why_no_status (plugged_in old) place.0 place.1) asked answer new reported
 IsStatus None old asked answer new reported = (answer ≡ 9) × (new ≡ old) × (reported ≡ asked)
 
--- A diagnosis of a submodule: its channel is asked for as `units`, its error as `sector`, and it disappears if `place` is 0. 9 if
--- one of the four is not a number of 16 bits.
+-- A diagnosis of a submodule: it disappears if `appears` is 0. 9 if one of slot, subslot, channel and error is not a number of 16 bits.
 abbrev pub IsDiagnosis : Option (ℕ × ℕ) → Option (ℕ × ℕ) → Served → Op → ℕ → Served → Op → Type 0
 IsDiagnosis (Some place) (Some what) old asked answer new reported =
-    IsEvent old (Diagnosis place.0 place.1 what.0 what.1 (not (asked.place == 0))) asked answer new reported
+    IsSaid old (Diagnosis place.0 place.1 what.0 what.1 (not (asked.appears == 0)))
+    (why_no_diagnosis (plugged_in old) old.port.device.live.rest.diagnoses (change_of place.0 place.1 what.0 what.1 (not (asked.appears == 0)))) asked answer new reported
 IsDiagnosis (Some place) None old asked answer new reported = (answer ≡ 9) × (new ≡ old) × (reported ≡ asked)
 IsDiagnosis None what old asked answer new reported = (answer ≡ 9) × (new ≡ old) × (reported ≡ asked)
 
@@ -206,12 +254,12 @@ IsSettings None settings asked answer reported = (answer ≡ 0) × (reported ≡
 -- The number of units up to and including the next one with which anything is due.
 abbrev pub IsDue : Option Refusal → ℕ → Op → ℕ → Op → Type 0
 IsDue (Some refusal) due asked answer reported = (answer ≡ refusal_number refusal) × (reported ≡ asked)
-IsDue None due asked answer reported = (answer ≡ 0) × (reported ≡ record asked { units = due })
+IsDue None due asked answer reported = (answer ≡ 0) × (reported ≡ record asked { due = due })
 
 -- The number of commits that the flash still accepts.
 abbrev pub IsLeft : Option Refusal → ℕ → Op → ℕ → Op → Type 0
 IsLeft (Some refusal) left asked answer reported = (answer ≡ refusal_number refusal) × (reported ≡ asked)
-IsLeft None left asked answer reported = (answer ≡ 0) × (reported ≡ record asked { place = left })
+IsLeft None left asked answer reported = (answer ≡ 0) × (reported ≡ record asked { commits = left })
 
 -- The number of each phase, as C sees it; 0 without a relation.
 abbrev pub phase_number : Option Phase → ℕ
@@ -225,7 +273,7 @@ phase_number (Some Exchanging) = 3
 abbrev pub IsState : Option Refusal → State → Op → ℕ → Op → Type 0
 IsState (Some refusal) port asked answer reported = (answer ≡ refusal_number refusal) × (reported ≡ asked)
 IsState None port asked answer reported =
-    (answer ≡ 0) × (reported ≡ record asked { phase = phase_number (phase_of port.device.live.rest.link); units = port.device.live.rest.lamp })
+    (answer ≡ 0) × (reported ≡ record asked { phase = phase_number (phase_of port.device.live.rest.link); lamp = port.device.live.rest.lamp })
 
 -- The output of a submodule; 9 if no submodule with an output is plugged there.
 abbrev pub IsValue : Option (List ℕ) → Op → ℕ → Op → Type 0
@@ -246,9 +294,9 @@ abbrev pub IsOutput : Option (ℕ × ℕ) → State → Op → ℕ → Op → Ty
 IsOutput (Some place) port asked answer reported = IsValueOf (closed port.stage) (value_of port place.0 place.1) asked answer reported
 IsOutput None port asked answer reported = (answer ≡ 9) × (reported ≡ asked)
 
--- What the controller says of the output of a submodule: IOPS, then DataStatus; 24 if no frame with it was accepted.
+-- What the controller says of the output of a submodule: its IOPS, and the DataStatus of the frame; 24 if no frame with it was accepted.
 abbrev pub with_statuses : ProviderStatus → Op → Op
-with_statuses status asked = with_octets (status.iops ∷ status.data_status.0 ∷ []) asked
+with_statuses status asked = record asked { iops = status.iops; data_status = status.data_status.0 }
 
 -- What is returned of a status of the controller, if there is one.
 abbrev pub IsProviderAt : Option ProviderStatus → Op → ℕ → Op → Type 0
@@ -266,10 +314,9 @@ IsProvider (Some place) port asked answer reported =
     IsProviderOf (closed port.stage) (provider_in place.0 place.1 port.device.live.rest.link) asked answer reported
 IsProvider None port asked answer reported = (answer ≡ 24) × (reported ≡ asked)
 
--- The output of a submodule, and in `sector` and `place` what the controller says of it: its IOPS, and the DataStatus of the frame. 24 if no frame
--- with it was accepted.
+-- The output of a submodule, and what the controller says of it. 24 if no frame with it was accepted.
 abbrev pub with_received : ProviderStatus → List ℕ → Op → Op
-with_received status value asked = record (with_octets value asked) { sector = status.iops; place = status.data_status.0 }
+with_received status value asked = with_statuses status (with_octets value asked)
 
 -- What is returned of a value and its status, if both exist.
 abbrev pub IsReceivedAt : Option ProviderStatus → Option (List ℕ) → Op → ℕ → Op → Type 0
@@ -292,7 +339,7 @@ IsReceived None port asked answer reported = (answer ≡ 24) × (reported ≡ as
 -- number.
 abbrev pub with_record : TakenRecord → Op → Op
 with_record taken asked =
-    with_octets taken.value.items (record asked { slot = taken.slot; subslot = taken.subslot; place = taken.index })
+    with_octets taken.value.items (record asked { slot = taken.slot; subslot = taken.subslot; index = taken.index })
 
 -- What is returned of a record, if it exists.
 abbrev pub IsRecordAt : Option TakenRecord → Op → ℕ → Op → Type 0
@@ -311,12 +358,12 @@ back_at records back = if nat_lt back (length records) then slice_get records (l
 -- How many parameter records the relation passed on, modulo 2^32.
 abbrev pub IsPassedOn : Option Refusal → ℕ → Op → ℕ → Op → Type 0
 IsPassedOn (Some refusal) count asked answer reported = (answer ≡ refusal_number refusal) × (reported ≡ asked)
-IsPassedOn None count asked answer reported = (answer ≡ 0) × (reported ≡ record asked { units = count })
+IsPassedOn None count asked answer reported = (answer ≡ 0) × (reported ≡ record asked { count = count })
 
 -- How many conflicts of the running IP address were heard, at most the maximum of 32 bits; 0 without services.
 abbrev pub IsConflicts : Option Refusal → ℕ → Op → ℕ → Op → Type 0
 IsConflicts (Some refusal) conflicts asked answer reported = (answer ≡ refusal_number refusal) × (reported ≡ asked)
-IsConflicts None conflicts asked answer reported = (answer ≡ 0) × (reported ≡ record asked { units = min conflicts 4294967295 })
+IsConflicts None conflicts asked answer reported = (answer ≡ 0) × (reported ≡ record asked { count = min conflicts 4294967295 })
 
 -- ---- the link
 
@@ -338,10 +385,10 @@ abbrev pub LinksOrNot : Bool → Option Link → Served → Result (Unit {0}) Re
 LinksOrNot is_up link old result new = MatchResult result (λ done. (closed old.port.stage ≡ None) × (new ≡ linked_both is_up link old))
     (λ refusal. (closed old.port.stage ≡ Some refusal) × (new ≡ old))
 
--- The link is down if `place` is 0.
+-- The link is down if `is_up` is 0.
 abbrev pub IsLink : Result (Option Link) Refusal → Served → Op → ℕ → Served → Type 0
 IsLink (Ok link) old asked answer new =
-    (result : Result (Unit {0}) Refusal) × LinksOrNot (not (asked.place == 0)) link old result new × (answer ≡ answer_of result)
+    (result : Result (Unit {0}) Refusal) × LinksOrNot (not (asked.is_up == 0)) link old result new × (answer ≡ answer_of result)
 IsLink (Err refused) old asked answer new = (answer ≡ refusal_number refused) × (new ≡ old)
 
 -- ---- all of them
@@ -364,22 +411,22 @@ Serves (Some operation.Stored) old asked given answer new reported =
     (new ≡ old) × IsSettings (closed old.port.stage) old.port.device.live.values.stored asked answer reported
 Serves (Some operation.Lose) old asked given answer new reported = (reported ≡ asked) × IsLoss old answer new
 Serves (Some operation.Record) old asked given answer new reported =
-    (new ≡ old) × IsRecordOf (closed old.port.stage) (slice_get (taken_of old.port.device.live.rest.link) asked.place) asked answer reported
+    (new ≡ old) × IsRecordOf (closed old.port.stage) (slice_get (taken_of old.port.device.live.rest.link) asked.number) asked answer reported
 Serves (Some operation.Left) old asked given answer new reported =
     (new ≡ old) × IsLeft (closed old.port.stage) old.port.device.live.values.room asked answer reported
 Serves (Some operation.Due) old asked given answer new reported =
     (new ≡ old) × IsDue (closed old.port.stage) (due_both old) asked answer reported
 Serves (Some operation.Status) old asked given answer new reported = IsStatus (place_in asked.slot asked.subslot) old asked answer new reported
 Serves (Some operation.Diagnosis) old asked given answer new reported =
-    IsDiagnosis (place_in asked.slot asked.subslot) (place_in asked.units asked.sector) old asked answer new reported
-Serves (Some operation.Ready) old asked given answer new reported = IsEvent old Ready asked answer new reported
+    IsDiagnosis (place_in asked.slot asked.subslot) (place_in asked.channel asked.error) old asked answer new reported
+Serves (Some operation.Ready) old asked given answer new reported = IsSaid old Ready (why_not_ready (reached_in old)) asked answer new reported
 Serves (Some operation.Provider) old asked given answer new reported =
     (new ≡ old) × IsProvider (place_in asked.slot asked.subslot) old.port asked answer reported
 Serves (Some operation.Conflicts) old asked given answer new reported =
     (new ≡ old) × IsConflicts (closed old.port.stage) (conflicts_of old.services) asked answer reported
 Serves (Some operation.Link) old asked given answer new reported = (reported ≡ asked) × IsLink (link_of given) old asked answer new
 Serves (Some operation.Passed) old asked given answer new reported =
-    (new ≡ old) × IsRecordOf (closed old.port.stage) (back_at (passed_of old.port.device.live.rest.link).last asked.place) asked answer reported
+    (new ≡ old) × IsRecordOf (closed old.port.stage) (back_at (passed_of old.port.device.live.rest.link).last asked.number) asked answer reported
 Serves (Some operation.PassedOn) old asked given answer new reported =
     (new ≡ old) × IsPassedOn (closed old.port.stage) (passed_of old.port.device.live.rest.link).count asked answer reported
 Serves (Some operation.FrameAfter) old asked given answer new reported = IsFrameAfter old given asked answer new reported

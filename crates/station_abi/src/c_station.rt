@@ -17,13 +17,13 @@ use pn_values::{Identity, Mac, Real};
 use relations::DeviceOptions;
 
 /// The version of the header.
-const ABI: u32 = 5;
+const ABI: u32 = 6;
 
 /// The number of octets of the memory for a port.
-const ROOM: usize = 88064;
+const ROOM: usize = 79872;
 
 /// The number of octets of an operation.
-const OP_SIZE: usize = 1568;
+const OP_SIZE: usize = 1664;
 
 /// The identity that a device has from the factory, and the modules that are plugged, at most 16.
 #[repr(C)]

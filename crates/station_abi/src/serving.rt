@@ -1,6 +1,7 @@
 //! One operation of the host.
 ghost use Rattle.std.specs.Prelude.{◌≡◌, ◌≤◌, ℕ, IfSome, Ok, Option, Some, [], length, min, option_map, slice_get, take, true};
-ghost use Rattle.device_frames.specs.declared.event.Event.TheVariants.{Frame as Framed, Ready as IsReady};
+ghost use Rattle.device_frames.specs.declared.event.Event.TheVariants.{Frame as Framed};
+ghost use Rattle.device_frames.specs.declared.local.Local.TheVariants.{Ready as IsReady};
 ghost use Rattle.device_abi.specs.recorded.Entry.{call_of};
 ghost use Rattle.device_abi.specs.recorded.Fits.{fits_in};
 ghost use Rattle.relations.specs.Exchanged.{provider_in};
@@ -16,15 +17,22 @@ ghost use Rattle.c_layout.specs.Places.{place_in};
 ghost use Rattle.c_layout.specs.Reported.{with_octets};
 ghost use Rattle.station_abi.specs.Serves.{IsAlarm, IsBoot, IsCall, IsDiagnosis, IsEvent, IsFrameAfter, IsInput, IsLink, IsLoss, HandsOut, IsHanded, IsOutput, with_frame, with_nothing};
 ghost use Rattle.station_abi.specs.Serves.{IsNumber, IsReceived, IsReceivedAt, IsReceivedOf, IsRecordAt, IsRecordOf, IsProvider, IsProviderAt, IsProviderOf, IsSector, IsSettings, IsState, IsStatus, IsTick, IsValueOf, Serves, answer_of, back_at, link_of};
+ghost use Rattle.station_abi.specs.Reasons.{why_not_ready as why_not_ready_in};
+ghost use Rattle.station_abi.specs.Serves.{IsOutcome, IsSaid, is_refused as is_refused_in, reached_in, with_statuses};
 ghost use Rattle.station_abi.specs.Serves.{noted as is_noted, operation_of as operation_in, with_passed, phase_number};
 ghost use Rattle.station_abi.specs.Serves.{sector_number as number_of, sector_of, settings_octets, value_of};
 
 use crate::operation::{Operation, operation_of};
+use crate::reason::{
+    Reason, why_no_alarm, why_no_diagnosis, why_no_input, why_no_status, why_not_ready,
+};
 use c_layout::{
-    BAD_LENGTH, NO_FRAME, NO_RECORD, NO_SLOT, Op, UNKNOWN, pair_of, place_of, put, put_more,
+    BAD_LENGTH, NO_FRAME, NO_RECORD, NO_SLOT, Op, REFUSED, UNKNOWN, pair_of, place_of, put,
+    put_more,
 };
 use device_abi::{Port, Recorded, Refusal};
 use device_core::Note;
+use diagnosis::{Change, Diagnosis};
 use flash_model::Sector;
 use frame_codec::Frame;
 use lldp::Link;
@@ -84,16 +92,16 @@ fn perform(operation: Operation, port: &mut Port, op: &mut Op, given: &[u8]) -> 
         Operation::Stored => tell_settings(port.stored(), op),
         Operation::Lose => lose(port),
         Operation::Record => tell_taken(port, op),
-        Operation::Left => tell_number(port.left(), &mut op.place),
-        Operation::Due => tell_number(port.due(), &mut op.units),
+        Operation::Left => tell_number(port.left(), &mut op.commits),
+        Operation::Due => tell_number(port.due(), &mut op.due),
         Operation::Status => status(port, op),
         Operation::Ready => ready(port, op),
         Operation::Provider => provider(port, op),
         Operation::Diagnosis => diagnosis(port, op),
-        Operation::Conflicts => tell_number(conflicts(port), &mut op.units),
+        Operation::Conflicts => tell_number(conflicts(port), &mut op.count),
         Operation::Link => link(port, op, given),
         Operation::Passed => tell_passed_record(port, op),
-        Operation::PassedOn => tell_number(port.passed_on(), &mut op.units),
+        Operation::PassedOn => tell_number(port.passed_on(), &mut op.count),
         Operation::FrameAfter => frame_after(port, op, given),
         Operation::Received => received(port, op),
     }
@@ -202,7 +210,10 @@ fn get_input(port: &mut Port, op: &mut Op, place: (u16, u16), given: &[u8]) -> u
     ensures { IsInput (Some place) port.old given.now op.old result port.new op.new }
 {
     match port.input(place.0, place.1, given) {
-        Some(outcome) => noted(outcome, port, op),
+        Some(outcome) => {
+            let why = why_no_input(port.device(), place.0, place.1, given.len());
+            conclude(outcome, why, port, op)
+        }
         None => silent(op),
     }
 }
@@ -212,61 +223,109 @@ fn alarm(port: &mut Port, op: &mut Op, given: &[u8]) -> u32
     ensures { IsAlarm (place_in op.old.slot op.old.subslot) port.old given.now op.old result port.new op.new }
 {
     match place_of(op) {
-        Some(place) => {
-            let outcome = port.alarm(place.0, place.1, given);
-            noted(outcome, port, op)
-        }
+        Some(place) => raise(port, op, place, given),
         None => NO_SLOT,
     }
 }
 
-// The status of the inputs of a submodule: `place` is 0 if they are bad.
+// The same of the submodule in this slot and subslot.
+fn raise(port: &mut Port, op: &mut Op, place: (u16, u16), given: &[u8]) -> u32
+    ensures { IsAlarm (Some place) port.old given.now op.old result port.new op.new }
+{
+    let outcome = port.alarm(place.0, place.1, given);
+    let why = why_no_alarm(port.device(), place.0, place.1, given.len());
+    conclude(outcome, why, port, op)
+}
+
+// The status of the inputs of a submodule: `is_good` is 0 if they are bad.
 #[inline(never)]
 fn status(port: &mut Port, op: &mut Op) -> u32
     ensures { IsStatus (place_in op.old.slot op.old.subslot) port.old op.old result port.new op.new }
 {
     match place_of(op) {
-        Some(place) => {
-            let is_good = op.place != 0;
-            let outcome = port.status(place.0, place.1, is_good);
-            noted(outcome, port, op)
-        }
+        Some(place) => rate(port, op, place),
         None => NO_SLOT,
     }
 }
 
-// A diagnosis of a submodule: its channel is `units` and its error `sector`; it disappears if `place` is 0.
+// The same of the submodule in this slot and subslot.
+fn rate(port: &mut Port, op: &mut Op, place: (u16, u16)) -> u32
+    ensures { IsStatus (Some place) port.old op.old result port.new op.new }
+{
+    let outcome = port.status(place.0, place.1, op.is_good != 0);
+    let why = why_no_status(port.device(), place.0, place.1);
+    conclude(outcome, why, port, op)
+}
+
+// A diagnosis of a submodule; it disappears if `appears` is 0.
 #[inline(never)]
 fn diagnosis(port: &mut Port, op: &mut Op) -> u32
-    ensures { IsDiagnosis (place_in op.old.slot op.old.subslot) (place_in op.old.units op.old.sector) port.old op.old result port.new op.new }
+    ensures { IsDiagnosis (place_in op.old.slot op.old.subslot) (place_in op.old.channel op.old.error) port.old op.old result port.new op.new }
 {
     match place_of(op) {
-        Some(place) => diagnose(port, op, place),
+        Some(place) => diagnosis_at(port, op, place),
         None => NO_SLOT,
     }
 }
 
-// The same, of the submodule in this slot and subslot.
-fn diagnose(port: &mut Port, op: &mut Op, place: (u16, u16)) -> u32
-    ensures { IsDiagnosis (Some place) (place_in op.old.units op.old.sector) port.old op.old result port.new op.new }
+// The same of the submodule in this slot and subslot.
+fn diagnosis_at(port: &mut Port, op: &mut Op, place: (u16, u16)) -> u32
+    ensures { IsDiagnosis (Some place) (place_in op.old.channel op.old.error) port.old op.old result port.new op.new }
 {
-    match pair_of(op.units, op.sector) {
-        Some(what) => {
-            let appears = op.place != 0;
-            let outcome = port.diagnosis(place.0, place.1, what.0, what.1, appears);
-            noted(outcome, port, op)
-        }
+    match pair_of(op.channel, op.error) {
+        Some(what) => diagnose(port, op, place, what),
         None => NO_SLOT,
     }
+}
+
+// The same with this channel and error.
+fn diagnose(port: &mut Port, op: &mut Op, place: (u16, u16), what: (u16, u16)) -> u32
+    ensures { IsDiagnosis (Some place) (Some what) port.old op.old result port.new op.new }
+{
+    let change = Change {
+        diagnosis: Diagnosis {
+            slot: place.0,
+            subslot: place.1,
+            channel: what.0,
+            error: what.1,
+        },
+        appears: op.appears != 0,
+    };
+    let outcome = port.diagnosis(place.0, place.1, what.0, what.1, change.appears);
+    let why = why_no_diagnosis(port.device(), &change);
+    conclude(outcome, why, port, op)
 }
 
 // The application is ready.
 #[inline(never)]
 fn ready(port: &mut Port, op: &mut Op) -> u32
-    ensures { IsEvent port.old IsReady op.old result port.new op.new }
+    ensures { IsSaid port.old IsReady (why_not_ready_in (reached_in port.old)) op.old result port.new op.new }
 {
     let outcome = port.ready();
+    let why = why_not_ready(port.device());
+    conclude(outcome, why, port, op)
+}
+
+// The outcome of what the application said. This is why, if the device refused it.
+#[inline(never)]
+fn conclude(outcome: Result<Note, Refusal>, why: Reason, port: &Port, op: &mut Op) -> u32
+    ensures { IsOutcome outcome why port.now op.old result op.new }
+{
+    if is_refused(&outcome) {
+        op.reason = why.number();
+        return REFUSED;
+    }
     noted(outcome, port, op)
+}
+
+// Whether the device refused an event.
+fn is_refused(outcome: &Result<Note, Refusal>) -> bool
+    ensures { result ≡ is_refused_in outcome.now }
+{
+    match outcome {
+        Ok(note) => note.number() == 7,
+        Err(_) => false,
+    }
 }
 
 // The outcome of an event and the kind of the first piece of its work, or why it was refused.
@@ -529,7 +588,7 @@ fn tell_state(phase: Option<Phase>, port: &Port, op: &mut Op) -> u32
     match port.lamp() {
         Ok(lamp) => {
             op.phase = number_of_phase(phase);
-            op.units = lamp;
+            op.lamp = lamp;
             0
         }
         Err(refusal) => refusal.number(),
@@ -599,13 +658,13 @@ fn conflicts(port: &Port) -> Result<u32, Refusal>
     }
 }
 
-// What the host says of the link: `place` is 0 if it is down, and the given octets say which link it is, if any are given.
+// What the host says of the link: `is_up` is 0 if it is down, and the given octets say which link it is, if any are given.
 #[inline(never)]
 fn link(port: &mut Port, op: &Op, given: &[u8]) -> u32
     ensures { IsLink (link_of given.now) port.old op.now result port.new }
 {
     match link_in(given) {
-        Ok(link) => done(port.set_link(op.place != 0, link)),
+        Ok(link) => done(port.set_link(op.is_up != 0, link)),
         Err(refusal) => refusal.number(),
     }
 }
@@ -652,11 +711,19 @@ fn tell_statuses(status: Option<ProviderStatus>, op: &mut Op) -> u32
 {
     match status {
         Some(status) => {
-            put(op, &[status.iops, status.data_status.0]);
+            tell_status(status, op);
             0
         }
         None => NO_FRAME,
     }
+}
+
+// What the controller says of a value.
+fn tell_status(status: ProviderStatus, op: &mut Op)
+    ensures { op.new ≡ with_statuses status op.old }
+{
+    op.iops = u32::from(status.iops);
+    op.data_status = u32::from(status.data_status.0);
 }
 
 // The output of a submodule in the last accepted frame, with what the controller says of it.
@@ -690,8 +757,7 @@ fn tell_found(found: Option<ReceivedValue<'_>>, op: &mut Op) -> u32
     match found {
         Some(value) => {
             put(op, value.octets);
-            op.sector = u32::from(value.status.iops);
-            op.place = u32::from(value.status.data_status.0);
+            tell_status(value.status, op);
             0
         }
         None => NO_FRAME,
@@ -701,7 +767,7 @@ fn tell_found(found: Option<ReceivedValue<'_>>, op: &mut Op) -> u32
 // A parameter record that the relation accepted, by its number.
 #[inline(never)]
 fn tell_taken(port: &Port, op: &mut Op) -> u32
-    ensures { IsRecordOf (closed port.now.port.stage) (slice_get (taken_of port.now.port.device.live.rest.link) op.old.place) op.old result op.new }
+    ensures { IsRecordOf (closed port.now.port.stage) (slice_get (taken_of port.now.port.device.live.rest.link) op.old.number) op.old result op.new }
 {
     match port.taken() {
         Ok(records) => tell_record(records, op),
@@ -711,9 +777,9 @@ fn tell_taken(port: &Port, op: &mut Op) -> u32
 
 // One of these records.
 fn tell_record(records: &[TakenRecord], op: &mut Op) -> u32
-    ensures { IsRecordAt (slice_get records.now op.old.place) op.old result op.new }
+    ensures { IsRecordAt (slice_get records.now op.old.number) op.old result op.new }
 {
-    match records.get(op.place as usize) {
+    match records.get(op.number as usize) {
         Some(entry) => tell_one(entry, op),
         None => NO_RECORD,
     }
@@ -725,7 +791,7 @@ fn tell_one(entry: &TakenRecord, op: &mut Op) -> u32
 {
     op.slot = u32::from(entry.slot);
     op.subslot = u32::from(entry.subslot);
-    op.place = u32::from(entry.index);
+    op.index = u32::from(entry.index);
     put(op, entry.value.as_slice());
     0
 }
@@ -733,7 +799,7 @@ fn tell_one(entry: &TakenRecord, op: &mut Op) -> u32
 // A parameter record that the relation passed on, counted back from the last one.
 #[inline(never)]
 fn tell_passed_record(port: &Port, op: &mut Op) -> u32
-    ensures { IsRecordOf (closed port.now.port.stage) (back_at (passed_of port.now.port.device.live.rest.link).last op.old.place) op.old result op.new }
+    ensures { IsRecordOf (closed port.now.port.stage) (back_at (passed_of port.now.port.device.live.rest.link).last op.old.number) op.old result op.new }
 {
     match port.passed() {
         Ok(records) => tell_back(records, op),
@@ -743,9 +809,9 @@ fn tell_passed_record(port: &Port, op: &mut Op) -> u32
 
 // One of these records, counted back from the last one.
 fn tell_back(records: &[TakenRecord], op: &mut Op) -> u32
-    ensures { IsRecordAt (back_at records.now op.old.place) op.old result op.new }
+    ensures { IsRecordAt (back_at records.now op.old.number) op.old result op.new }
 {
-    let back = op.place as usize;
+    let back = op.number as usize;
     if back >= records.len() {
         return NO_RECORD;
     }

@@ -5,7 +5,7 @@ use Rattle.std.specs.List.{AllByRecursion}
 use Rattle.flash_model.specs.declared.flash.Flash.{Ghosts as Flash}
 use Rattle.relations.specs.RelationState.{RelationState}
 use Rattle.device_frames.specs.declared.event.Event.{Event}
-use Rattle.device_frames.specs.declared.event.Event.TheVariants.{Frame, Call as Joined, Tick, Input, Alarm, Status, Diagnosis, Neighbour, Ready}
+use Rattle.device_frames.specs.declared.event.Event.TheVariants.{Frame}
 use Rattle.device_frames.specs.declared.note.Note.{Note}
 use Rattle.device_frames.specs.declared.note.Note.TheVariants.{Done, NotMine, Fault, Filter, OldCall, NoRelation, StaleCycle, Refused}
 use Rattle.device_frames.specs.Heard.{heard_of}
@@ -54,14 +54,7 @@ told_calls station live services false = refl
 told_completing : (station : Station) (live : Live) (services : Serving) (news : Bool) (event : Event) → completing (told_if news station live services).services event ≡ completing services event
 told_completing station live services true (Frame frame) = refl
 told_completing station live services false (Frame frame) = refl
-told_completing station live services news (Joined caller address octets) = refl
-told_completing station live services news Tick = refl
-told_completing station live services news (Input slot subslot value) = refl
-told_completing station live services news (Alarm slot subslot octets) = refl
-told_completing station live services news (Status slot subslot is_good) = refl
-told_completing station live services news (Diagnosis slot subslot channel error appears) = refl
-told_completing station live services news (Neighbour neighbour) = refl
-told_completing station live services news Ready = refl
+told_completing station live services news event = refl
 
 -- ---- a call that an event completes
 
@@ -84,14 +77,7 @@ completed_by true services note (Frame frame) call e = absurd cc
 completed_by false services note (Frame frame) call e =
     cond_both (is_dropped note) _ _ (λ (found : Option Event). found ≡ Some call → IsCompleted services note (Frame frame) call)
     (λ dropped e. record { dropped = dropped; is = e }) (λ _ e. absurd cc) e
-completed_by lost services note (Joined caller address octets) call e = absurd cc
-completed_by lost services note Tick call e = absurd cc
-completed_by lost services note (Input slot subslot value) call e = absurd cc
-completed_by lost services note (Alarm slot subslot octets) call e = absurd cc
-completed_by lost services note (Status slot subslot is_good) call e = absurd cc
-completed_by lost services note (Diagnosis slot subslot channel error appears) call e = absurd cc
-completed_by lost services note (Neighbour neighbour) call e = absurd cc
-completed_by lost services note Ready call e = absurd cc
+completed_by lost services note event call e = absurd cc
 
 -- ---- the step
 

@@ -1,5 +1,6 @@
 -- Two devices that are the same but for the answers stored for others take the same step, at anything but a call of others.
 use Rattle.std.proofs.Common.{◌≡◌, ◌&&◌, ℕ, Bool, true, false, List, Option, Some, None, Result, Ok, Err, if◌then◌else◌, refl, sym, ap, subst, ◌∙◌}
+use Rattle.arrayvec.specs.ArrayVec.{ArrayVec}
 use Rattle.pn_values.specs.declared.mac.Mac.{Mac}
 use Rattle.frame_codec.specs.declared.udp.Caller.{Caller}
 use Rattle.dcp_core.specs.declared.request.Service.{Service}
@@ -37,9 +38,11 @@ use Rattle.relations.specs.Exchanged.{given_to, heard_by, hearing, raised_to, re
 use Rattle.relations.specs.Phases.{updated}
 use Rattle.relations.specs.Ready.{answer_of as ready_answer}
 use Rattle.relations.specs.RelationState.{RelationState, is_alarm_of, is_preparing, phase_of, uuid_of}
-use Rattle.device_frames.specs.Heard.{Heard, Ticks, Unreadable, Elsewhere, Asks, Resolves, Reported, Cyclic, Alarms, LowReplies, LowConfirms, Given, Raised, Rated, Met, Diagnosed, Readied, Said, Calls, Responds, Garbled}
+use Rattle.device_frames.specs.Heard.{Heard, Ticks, Unreadable, Elsewhere, Asks, Resolves, Reported, Cyclic, Alarms, LowReplies, LowConfirms, Met, Applied, Said, Calls, Responds, Garbled}
+use Rattle.device_frames.specs.declared.local.Local.{Local}
+use Rattle.device_frames.specs.declared.local.Local.TheVariants as local
 use Rattle.device_core.specs.State.{Live, Station, alias_in}
-use Rattle.device_core.specs.Handled.{Handled, Refuses, Sets, Writes, WritesEach, Moves, handled, handled_alarm, handled_answer, handled_blocks, handled_call, handled_change, handled_effect, handled_input, handled_looked, handled_low, handled_low_pdu, handled_new, handled_notice, handled_pdu, handled_received, handled_request, handled_said, handled_write, is_request, is_running, kept_status, may_be_diagnosed}
+use Rattle.device_core.specs.Handled.{Handled, Refuses, Sets, Writes, WritesEach, Moves, change_of, handled, handled_alarm, handled_answer, handled_blocks, handled_call, handled_change, handled_effect, handled_input, handled_local, handled_looked, handled_low, handled_low_pdu, handled_new, handled_notice, handled_pdu, handled_received, handled_request, handled_said, handled_write, is_request, is_running, kept_status, may_be_diagnosed}
 use Rattle.strangers_law.specs.Calling.{IsOwn, IsRecent}
 use Rattle.strangers_law.proofs.CallingStore.{own_first, own_recent}
 
@@ -185,6 +188,17 @@ module _ (own : List ℕ) (others : List (List ℕ)) (station : Station) (live :
   change_same change (Some diagnoses) = (calls, refl, kept, recent)
   change_same change None = refl
 
+  local_same : (said : Local (ArrayVec ℕ)) → Alike (handled_local station live said) (handled_local station there said)
+  local_same (local.Input slot subslot value) = input_same (given_to slot subslot value.items live.rest.link)
+  local_same (local.Alarm slot subslot octets) = notice_same (raised_to station.real.modules.items slot subslot octets.items live.rest.link)
+  local_same (local.Status slot subslot is_good) =
+      status_same slot subslot is_good
+      (statuses_at station.real.modules.items (record { slot = slot; subslot = subslot; is_good = is_good }) live.rest.statuses)
+  local_same (local.Diagnosis slot subslot channel error appears) =
+      let change : Change = change_of slot subslot channel error appears in
+      either (may_be_diagnosed station live change) _ _ _ _ (change_same change (changed change live.rest.diagnoses)) refl
+  local_same local.Ready = either (is_preparing (phase_of live.rest.link)) _ _ _ _ (calls, refl, kept, recent) refl
+
   pub handled_same : (heard : Heard) → IsOwn own heard → Same own others (handled station live heard) (handled station (swapped calls live) heard)
   handled_same (Asks asker request) is = request_same asker request.service request
   handled_same (Resolves asker packet) is =
@@ -195,14 +209,8 @@ module _ (own : List ℕ) (others : List (List ℕ)) (station : Station) (live :
   handled_same (LowConfirms source header told) is = either (has_sent_low live.rest.link) _ _ _ _ (low_same source header told) refl
   handled_same (Cyclic source frame_id body) is =
       received_same (received_by source frame_id body live.rest.link) (updated (receiving source frame_id body live.rest.link) live.rest.link)
-  handled_same (Given slot subslot value) is = input_same (given_to slot subslot value live.rest.link)
-  handled_same (Raised slot subslot octets) is = notice_same (raised_to station.real.modules.items slot subslot octets live.rest.link)
-  handled_same (Rated slot subslot is_good) is =
-      status_same slot subslot is_good
-      (statuses_at station.real.modules.items (record { slot = slot; subslot = subslot; is_good = is_good }) live.rest.statuses)
+  handled_same (Applied said) is = local_same said
   handled_same (Met peer) is = (calls, refl, kept, recent)
-  handled_same (Diagnosed change) is = either (may_be_diagnosed station live change) _ _ _ _ (change_same change (changed change live.rest.diagnoses)) refl
-  handled_same Readied is = either (is_preparing (phase_of live.rest.link)) _ _ _ _ (calls, refl, kept, recent) refl
   handled_same Ticks is = (calls, refl, kept, recent)
   handled_same Unreadable is = refl
   handled_same Elsewhere is = refl

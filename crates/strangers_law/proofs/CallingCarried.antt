@@ -5,6 +5,7 @@ use Rattle.pn_values.specs.declared.identity.Identity.{Identity}
 use Rattle.record_blocks.specs.declared.alarm_notification.AlarmNotification.{AlarmNotification}
 use Rattle.diagnosis.specs.declared.reports.priority.Priority.{Priority}
 use Rattle.relations.specs.RelationState.{RelationState}
+use Rattle.device_frames.specs.declared.local.Local.TheVariants as local
 use Rattle.device_core.specs.State.{State}
 use Rattle.controller_messages.specs.declared.setup.Setup.{Setup}
 use Rattle.controller_core.specs.stored.State.{Controlling}
@@ -115,7 +116,7 @@ module _ {F : Type 0} (others : List (List ℕ)) where
   -- ---- alarms
 
   same_raised : (called alone : World F) → AreAlike others called alone → (one : Move) → raised_with called one ≡ raised_with alone one
-  same_raised called alone like (move.Alarm slot subslot octets) =
+  same_raised called alone like (move.Application (local.Alarm slot subslot octets)) =
       sym (ap (λ (d : State F). raised_in (raised_to d.station.real.modules.items slot subslot octets.items d.live.rest.link)) like.device.is)
   same_raised called alone like one = refl
 

@@ -21,7 +21,7 @@ use Rattle.relations.specs.RelationState.{RelationState, uuid_of}
 use Rattle.relations.specs.declared.phase.Partner.{Partner}
 use Rattle.device_records.specs.Reading.{implicit_read, relation_read}
 use Rattle.device_records.specs.declared.log_data.entry.LogEntry.{LogEntry}
-use Rattle.device_frames.specs.Heard.{Heard, Ticks, Unreadable, Elsewhere, Asks, Resolves, Reported, Cyclic, Alarms, LowReplies, LowConfirms, Given, Raised, Rated, Met, Diagnosed, Readied, Said, Calls, Responds, Garbled}
+use Rattle.device_frames.specs.Heard.{Heard, Unreadable, Elsewhere, Resolves, Reported, Said, Calls, Responds, Garbled}
 use Rattle.device_core.specs.State.{Live, Rest, Station}
 use Rattle.device_core.specs.Handled.{Handled, Refuses, Sets, Writes, WritesEach, Moves, handled, handled_blocks, handled_call, handled_looked, handled_new, handled_said, handled_write, implicitly, is_request, is_running, known_of, partner_of}
 use Rattle.device_core.specs.Log.{release_log}
@@ -218,15 +218,4 @@ module _ (others : List (List ℕ)) (station : Station) (live : Live) where
         cond_both (is_request packet.operation && is_running live.values.running packet.target.address) _ _ Left (λ _. inl refl) (λ _. tt)
     left Unreadable hears other = tt
     left Elsewhere hears other = tt
-    left (Asks asker request) hears other = absurd hears
-    left (Cyclic source frame_id body) hears other = absurd hears
-    left (Alarms source header told) hears other = absurd hears
-    left (LowReplies source header told) hears other = absurd hears
-    left (LowConfirms source header told) hears other = absurd hears
-    left Ticks hears other = absurd hears
-    left (Given slot subslot value) hears other = absurd hears
-    left (Raised slot subslot octets) hears other = absurd hears
-    left (Rated slot subslot is_good) hears other = absurd hears
-    left (Met peer) hears other = absurd hears
-    left (Diagnosed change) hears other = absurd hears
-    left Readied hears other = absurd hears
+    left heard hears other = absurd hears

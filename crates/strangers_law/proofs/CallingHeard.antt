@@ -31,7 +31,7 @@ use Rattle.rpc_core.specs.declared.interface.Interface.TheVariants.{Device}
 use Rattle.rpc_core.specs.Call.{Asked as Called, IsCall, call_of}
 use Rattle.rpc_core.specs.Response.{Answered, response_of}
 use Rattle.rpc_core.proofs.Sound.{call_behind, call_takes, response_behind, response_takes}
-use Rattle.device_frames.specs.Heard.{Heard, Ticks, Unreadable, Elsewhere, Asks, Resolves, Reported, Cyclic, Alarms, LowReplies, LowConfirms, Given, Raised, Rated, Met, Diagnosed, Readied, Calls, Responds, Garbled}
+use Rattle.device_frames.specs.Heard.{Heard, Unreadable, Elsewhere, Resolves, Reported, Calls, Garbled}
 use Rattle.device_frames.specs.Heard.{broadcast, heard_alarm, heard_content, heard_frame, heard_low, heard_of, heard_reply, heard_request, is_own, is_taken, said_by, said_else, said_first}
 use Rattle.octets_law.specs.Octets.{activity_of, number, untagged}
 use Rattle.octets_law.proofs.Bare.{IsBare, bare_of}
@@ -62,23 +62,11 @@ call_activity interface bytes meaning spells =
 abbrev pub IsCallHeard : List ℕ → Heard → Type 0
 IsCallHeard frame (Reported caller address (Calls call)) =
     (activity_of (drop 42 frame) ≡ call.header.activity) × (operation_in (drop 42 frame) ≡ call.header.operation)
-IsCallHeard frame (Reported caller address (Responds response)) = ⊥
 IsCallHeard frame (Reported caller address Garbled) = Unit {0}
 IsCallHeard frame (Resolves asker packet) = Unit {0}
 IsCallHeard frame Unreadable = Unit {0}
 IsCallHeard frame Elsewhere = Unit {0}
-IsCallHeard frame (Asks asker request) = ⊥
-IsCallHeard frame (Cyclic source frame_id body) = ⊥
-IsCallHeard frame (Alarms source header told) = ⊥
-IsCallHeard frame (LowReplies source header told) = ⊥
-IsCallHeard frame (LowConfirms source header told) = ⊥
-IsCallHeard frame Ticks = ⊥
-IsCallHeard frame (Given slot subslot value) = ⊥
-IsCallHeard frame (Raised slot subslot octets) = ⊥
-IsCallHeard frame (Rated slot subslot is_good) = ⊥
-IsCallHeard frame (Met peer) = ⊥
-IsCallHeard frame (Diagnosed change) = ⊥
-IsCallHeard frame Readied = ⊥
+IsCallHeard frame heard = ⊥
 
 -- What is read at the places of a call.
 record IsPlaced (frame : List ℕ) : Type 0 where

@@ -9,7 +9,7 @@ use Rattle.rpc_core.specs.Cache.{Kept as Answer, kept_of}
 use Rattle.connects.specs.requests.Request.{Request}
 use Rattle.records.specs.declared.writes.taken.TakenRecord.{TakenRecord}
 use Rattle.relations.specs.RelationState.{RelationState}
-use Rattle.device_frames.specs.Heard.{Heard, Ticks, Reported, Given, Raised, Rated, Met, Readied, Calls, diagnosed}
+use Rattle.device_frames.specs.Heard.{Heard, Ticks, Reported, Met, Applied, Calls}
 use Rattle.device_core.specs.State.{State, Station}
 use Rattle.controller_messages.specs.declared.setup.Setup.{Setup}
 use Rattle.controller_core.specs.declared.stored.event.Event.{Event}
@@ -145,12 +145,8 @@ module _ {F : Type 0} {S : ℕ} (as_flash : Flash F S) (others : List (List ℕ)
         (subst (λ (sent : List (List ℕ)). Delivers as_flash (slice_get sent number) before Controller after) like.sent happens)
     goes_on (move.Tick Device) meant happens = goes_at_device Ticks tt happens
     goes_on (move.Tick Controller) meant happens = goes_at_controller controller.Tick happens
-    goes_on (move.Input slot subslot value) meant happens = goes_at_device (Given slot subslot value.items) tt happens
-    goes_on (move.Alarm slot subslot octets) meant happens = goes_at_device (Raised slot subslot octets.items) tt happens
-    goes_on (move.Status slot subslot is_good) meant happens = goes_at_device (Rated slot subslot is_good) tt happens
+    goes_on (move.Application local) meant happens = goes_at_device (Applied local) tt happens
     goes_on (move.Neighbour neighbour) meant happens = goes_at_device (Met (option_map peer_as neighbour)) tt happens
-    goes_on (move.Diagnosis slot subslot channel error appears) meant happens = goes_at_device (diagnosed slot subslot channel error appears) tt happens
-    goes_on move.Ready meant happens = goes_at_device Readied tt happens
     goes_on (move.Give slot subslot value) meant happens = goes_at_controller (controller.Give slot subslot value) happens
     goes_on (move.OutputStatus slot subslot is_good) meant happens = goes_at_controller (controller.Status slot subslot is_good) happens
     goes_on (move.Read slot subslot index) meant happens = goes_at_controller (controller.Read slot subslot index) happens

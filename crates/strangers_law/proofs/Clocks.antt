@@ -1,7 +1,6 @@
 -- What an event does to the clocks of a relation.
 use Rattle.std.proofs.Common.{◌≡◌, ◌⊎◌, ◌≤◌, ◌+◌, ◌*◌, ◌==◌, ◌++◌, ◌&&◌, inl, inr, ℕ, min, max, nat_le, Bool, true, false, List, [], ◌∷◌}
-use Rattle.std.proofs.Common.{length, Option, Some, None, option_map, refl, sym, ap, subst, ◌∙◌, if◌then◌else◌, arith}
-use Rattle.std.proofs.lemmas.Bool.{cond_both}
+use Rattle.std.proofs.Common.{Option, Some, None, refl, sym, ap, subst, ◌∙◌, if◌then◌else◌, arith}
 use Rattle.std.proofs.lemmas.Bool.Decides.{nat_tests}
 use Rattle.pn_values.specs.declared.mac.Mac.{Mac}
 use Rattle.pn_values.specs.declared.set_item.BlockError.{BlockError}
@@ -12,47 +11,34 @@ use Rattle.dcp_core.specs.Request.{Asked}
 use Rattle.dcp_core.specs.Identify.{matches}
 use Rattle.dcp_core.specs.Set.{plan_of}
 use Rattle.connects.specs.requests.Request.{Request}
-use Rattle.module_diff.specs.Plugged.{module_ident, submodule_ident}
-use Rattle.diagnosis.specs.Existing.{changed as changed_list}
-use Rattle.diagnosis.specs.declared.diagnosis.Change.{Change}
-use Rattle.diagnosis.specs.declared.diagnosis.Diagnosis.{Diagnosis}
 use Rattle.pn_alarms.specs.declared.abort.Abort.{Abort}
 use Rattle.pn_alarms.specs.declared.abort.Abort.TheVariants.{Activity, DataHold, Other}
 use Rattle.pn_alarms.specs.declared.repeats.Due.{Due as AlarmDue}
 use Rattle.pn_alarms.specs.declared.repeats.Due.TheVariants.{Nothing, Again, Spent}
-use Rattle.pn_alarms.specs.Device.{end_with}
-use Rattle.pn_alarms.specs.Sender.{notice_of}
-use Rattle.cyclic_data.specs.declared.place.PlaceKind.TheVariants.{Data}
 use Rattle.cyclic_data.specs.declared.exchange.route.Route.{Route}
-use Rattle.cyclic_data.specs.Image.{cell_at, changed, has_size, with_value}
 use Rattle.cyclic_data.specs.Timing.{Hearing, held_on}
 use Rattle.cyclic_data.specs.exchange.Cyclic.{Cyclic}
 use Rattle.cyclic_data.specs.exchange.Units.{ending_by, is_silent, tick_by}
-use Rattle.relations.specs.declared.exchange.statuses.InputStatus.{InputStatus}
 use Rattle.relations.specs.declared.phase.Phase.{Phase}
-use Rattle.relations.specs.declared.phase.Phase.TheVariants.{Started, Preparing, Awaiting, Exchanging}
-use Rattle.relations.specs.exchange.Diagnosis.{diagnosed}
 use Rattle.relations.specs.exchange.Flow.{Flow}
-use Rattle.relations.specs.exchange.Marks.{awaits}
-use Rattle.relations.specs.exchange.Notices.{may_raise, raised_at, raised_by}
-use Rattle.relations.specs.exchange.Process.{given_at, rated_at, remarked, with_cyclic, with_input}
-use Rattle.relations.specs.exchange.Statuses.{statuses_at}
 use Rattle.relations.specs.exchange.Units.{alarm_due, tick_of}
 use Rattle.relations.specs.Farewells.{farewell_of}
-use Rattle.relations.specs.Phases.{Prepared, passing, passing_by, prepared_from, updated, with_flow}
-use Rattle.relations.specs.RelationState.{RelationState, is_preparing, phase_of}
+use Rattle.relations.specs.Phases.{passing, passing_by, updated}
+use Rattle.relations.specs.RelationState.{RelationState}
 use Rattle.relations.specs.Timers.{due_by, ending_of, is_over, is_timed, limit_of, unit_later}
-use Rattle.device_frames.specs.Heard.{Heard, Ticks, Unreadable, Elsewhere, Asks, Resolves, Reported, Cyclic as HearsCyclic, Alarms}
-use Rattle.device_frames.specs.Heard.{LowReplies, LowConfirms, Given, Raised, Rated, Met, Diagnosed, Readied}
-use Rattle.device_frames.specs.Relation.{due_frames, ready_calls}
+use Rattle.device_frames.specs.Heard.{Heard, Ticks, Unreadable, Elsewhere, Asks, Resolves}
+use Rattle.device_frames.specs.Heard.{Met, Applied}
+use Rattle.device_frames.specs.Relation.{due_frames}
 use Rattle.device_frames.specs.Sent.{Sent, ArpReply, Ends, IdentifyAnswer, SetAnswer}
 use Rattle.device_frames.specs.declared.note.Note.{Note}
 use Rattle.device_frames.specs.declared.note.Note.TheVariants as note
 use Rattle.settings_journal.specs.settings_store.Machine.{Outcome, carried}
 use Rattle.device_core.specs.State.{Live, Station, alias_in, counter_of, units_after}
-use Rattle.device_core.specs.Handled.{Handled, Refuses, Moves, handled, handled_change, handled_input, handled_notice}
-use Rattle.device_core.specs.Handled.{handled_request, is_request, is_running, kept_status, may_be_diagnosed}
+use Rattle.device_core.specs.Handled.{Handled, Refuses, Moves, handled}
+use Rattle.device_core.specs.Handled.{handled_request, is_request, is_running}
 use Rattle.device_core.specs.Machine.{farewells_at, finished, handled_step, heard_step, items_in, link_after, resets}
+use Rattle.device_core.specs.Local.{IsLinkOf, IsPhaseOf, IsRelationOf}
+use Rattle.device_core.proofs.Applied.{local_is}
 use Rattle.strangers_law.specs.Silence.{IsDue, IsTimed, hold_of, left_of, remaining, silence_limit}
 
 -- ---- numbers
@@ -139,21 +125,12 @@ Lasts link (Some next) = clock_of next ≡ clock_of link
 -- What is heard of the device itself, but for a unit: what its application and its neighbour say. And a DCP request or an ARP packet of anybody.
 abbrev pub IsBeside : Heard → Type 0
 IsBeside (Asks source request) = Unit {0}
-IsBeside (Given slot subslot value) = Unit {0}
-IsBeside (Raised slot subslot octets) = Unit {0}
-IsBeside (Rated slot subslot is_good) = Unit {0}
 IsBeside (Met peer) = Unit {0}
-IsBeside (Diagnosed change) = Unit {0}
-IsBeside Readied = Unit {0}
-IsBeside Ticks = ⊥
+IsBeside (Applied local) = Unit {0}
 IsBeside (Resolves asker packet) = Unit {0}
-IsBeside (Reported caller address said) = ⊥
-IsBeside (HearsCyclic source frame_id body) = ⊥
-IsBeside (Alarms source header told) = ⊥
-IsBeside (LowReplies source header told) = ⊥
-IsBeside (LowConfirms source header told) = ⊥
 IsBeside Unreadable = Unit {0}
 IsBeside Elsewhere = Unit {0}
+IsBeside heard = ⊥
 
 -- With an event that ends it, the ERR of the relation is sent first.
 pub record IsSaid (link : RelationState) (sent : List Sent) : Type 0 where
@@ -164,9 +141,6 @@ pub record IsSaid (link : RelationState) (sent : List Sent) : Type 0 where
 pub record Goes (link : RelationState) (after : Option RelationState) (sent : List Sent) : Type 0 where
   pub lasts : Lasts link after
   pub says : after ≡ None → IsSaid link sent
-
-flow_lasts : (link : RelationState) (flow : Flow) → times_of flow ≡ times_of link.flow → clock_of (with_flow flow link) ≡ clock_of link
-flow_lasts link flow same = ap (λ t. record (clock_of link) { times = t }) same
 
 no_none : {A : Type 0} {P : Type 0} (x : A) → Some x ≡ None → P
 no_none x e = absurd (never e)
@@ -209,96 +183,27 @@ module _ (station : Station) (before : Live) (link : RelationState) where
 
   -- ---- what the application says
 
-  abbrev Kept : Option Flow → Type 0
-  Kept None = Unit {0}
-  Kept (Some flow) = times_of flow ≡ times_of link.flow
+  phase_timed : (before after : Phase) → IsPhaseOf before after → is_timed after ≡ is_timed before
+  phase_timed before after (inl same) = ap is_timed same
+  phase_timed before after (inr (was, is)) = ap is_timed is ∙ sym (ap is_timed was)
 
-  with_input_kept : (slot subslot : ℕ) (cyclic : Cyclic) (awaited : Bool) → times_of (with_cyclic link.flow cyclic) ≡ times_of link.flow
-      → Kept (Some (if awaited then remarked (with_cyclic link.flow cyclic) slot subslot None else with_cyclic link.flow cyclic))
-  with_input_kept slot subslot cyclic true same = same
-  with_input_kept slot subslot cyclic false same = same
+  same_clock : (next : RelationState) → IsLinkOf link next → clock_of next ≡ clock_of link
+  same_clock next same =
+      let timed : is_timed next.phase ≡ is_timed link.phase = phase_timed link.phase next.phase same.phase in
+      rw (same.request, same.inactive, timed, same.flow.route, same.flow.begun, same.flow.hearing, same.flow.endpoint) refl
 
-  given_kept : (slot subslot : ℕ) (value : List ℕ) (fits : Bool)
-      → Kept (option_map (with_input link.flow slot subslot)
-      (if fits then Some (record link.flow.cyclic { shown = changed Data slot subslot (with_value value) link.flow.cyclic.shown }) else None))
-  given_kept slot subslot value true =
-      with_input_kept slot subslot (record link.flow.cyclic { shown = changed Data slot subslot (with_value value) link.flow.cyclic.shown })
-      (awaits slot subslot link.flow.marks) refl
-  given_kept slot subslot value false = tt
-
-  gives : (given : Option Flow) → Kept given → Done (handled_input related given)
-  gives (Some flow) kept = λ answers. stands (with_flow flow link) [] (flow_lasts link flow kept)
-  gives None kept = refuses note.Refused
-
-  rates : (slot subslot : ℕ) (is_good : Bool) (statuses : Option (List InputStatus)) → Done (kept_status related slot subslot is_good statuses)
-  rates slot subslot is_good (Some statuses) = λ answers. stands (with_flow (rated_at link.flow slot subslot is_good) link) [] refl
-  rates slot subslot is_good None = refuses note.Refused
-
-  raised_kept : (slot subslot : ℕ) (octets : List ℕ) (ident part : Option ℕ) → Kept (raised_by link.flow slot subslot octets ident part)
-  raised_kept slot subslot octets (Some ident) (Some part) = by_may (may_raise link.flow octets)
-    where
-      by_may : (b : Bool)
-          → Kept (if b then Some (record link.flow {
-            alarms = end_with link.flow.alarms
-                (notice_of link.flow.alarms.sender.specifier slot subslot ident part octets);
-          }) else None)
-      by_may true = refl
-      by_may false = tt
-  raised_kept slot subslot octets (Some ident) None = tt
-  raised_kept slot subslot octets None part = tt
-
-  notices : (raised : Option Flow) → Kept raised → Done (handled_notice related raised)
-  notices (Some flow) kept = λ answers. stands (with_flow flow link) _ (flow_lasts link flow kept)
-  notices None kept = refuses note.Refused
-
-  changes : (change : Change) (later : Option (List Diagnosis)) → Done (handled_change station related change later)
-  changes change (Some later) = λ answers. stands (with_flow (diagnosed station.real.modules.items change later link.flow) link) _ refl
-  changes change None = refuses note.Refused
-
-  diagnoses : (change : Change) (may : Bool)
-      → Done (if may then handled_change station related change (changed_list change related.rest.diagnoses) else Refuses note.Refused)
-  diagnoses change true = changes change (changed_list change related.rest.diagnoses)
-  diagnoses change false = refuses note.Refused
-
-  prepared_timed : (phase : Phase) → is_preparing (Some phase) ≡ true → true ≡ is_timed phase
-  prepared_timed Started is = refl
-  prepared_timed Preparing is = refl
-  prepared_timed Awaiting is = refl
-  prepared_timed Exchanging is = absurd cc
-
-  prepared_lasts : clock_of (prepared_from link) ≡ clock_of link
-  prepared_lasts = cond_both (is_preparing (Some link.phase)) _ _ (λ (l : RelationState). clock_of l ≡ clock_of link)
-      (λ is. ap (λ t. record (clock_of link) { timed = t }) (prepared_timed link.phase is)) (λ _. refl)
-
-  readies : (preparing : Bool) → Done (if preparing
-      then (let after = updated Prepared related.rest.link in
-      Moves (record related.rest { link = after }) (ready_calls related.values.running.suite.address after))
-      else Refuses note.Refused)
-  readies true = λ answers. stands (prepared_from link) _ prepared_lasts
-  readies false = refuses note.Refused
+  local_goes : (after : Option RelationState) (sent : List Sent) → IsRelationOf (Some link) after → Goes link after sent
+  local_goes None sent same = absurd same
+  local_goes (Some next) sent same = stands next sent (same_clock next same)
 
   goes : (heard : Heard) → IsBeside heard → Done (handled station related heard)
   goes (Asks asker request) beside = requests asker request.service request
-  goes (Given slot subslot value) beside =
-      gives (given_at link.flow slot subslot value) (given_kept slot subslot value
-      (has_size (length value) (cell_at Data slot subslot link.flow.cyclic.shown.cells)))
-  goes (Raised slot subslot octets) beside =
-      notices (raised_at link.flow station.real.modules.items slot subslot octets)
-      (raised_kept slot subslot octets (module_ident station.real.modules.items slot) (submodule_ident station.real.modules.items slot subslot))
-  goes (Rated slot subslot is_good) beside =
-      rates slot subslot is_good (statuses_at station.real.modules.items (record { slot = slot; subslot = subslot; is_good = is_good }) related.rest.statuses)
   goes (Met peer) beside = λ answers. stands link [] refl
-  goes (Diagnosed change) beside = diagnoses change (may_be_diagnosed station related change)
-  goes Readied beside = readies (is_preparing (phase_of related.rest.link))
-  goes Ticks beside = absurd beside
+  goes (Applied local) beside = λ answers. local_goes _ _ ((local_is station related local).link answers)
   goes (Resolves asker packet) beside = resolves asker packet (is_request packet.operation && is_running related.values.running packet.target.address)
-  goes (Reported caller address said) beside = absurd beside
-  goes (HearsCyclic source frame_id body) beside = absurd beside
-  goes (Alarms source header told) beside = absurd beside
-  goes (LowReplies source header told) beside = absurd beside
-  goes (LowConfirms source header told) beside = absurd beside
   goes Unreadable beside = refuses note.Fault
   goes Elsewhere beside = refuses note.NotMine
+  goes heard beside = absurd beside
 
 step_of_link : (outcomes : List Outcome) (station : Station) (live : Live) (link : RelationState) (heard : Heard) → IsBeside heard
     → let step = heard_step outcomes station (record live { rest = record live.rest { link = Some link } }) heard in Goes link step.live.rest.link step.sent
@@ -502,38 +407,14 @@ module _ (station : Station) (before : Live) where
   resolves_free asker packet true = λ answers. refl
   resolves_free asker packet false = λ answers. refl
 
-  status_free : (slot subslot : ℕ) (is_good : Bool) (statuses : Option (List InputStatus)) → StaysFree (kept_status free slot subslot is_good statuses)
-  status_free slot subslot is_good (Some statuses) = λ answers. refl
-  status_free slot subslot is_good None = λ answers. refl
-
-  change_free : (change : Change) (later : Option (List Diagnosis)) → StaysFree (handled_change station free change later)
-  change_free change (Some later) = λ answers. refl
-  change_free change None = λ answers. refl
-
-  diagnosis_free : (change : Change) (may : Bool)
-      → StaysFree (if may then handled_change station free change (changed_list change free.rest.diagnoses) else Refuses note.Refused)
-  diagnosis_free change true = change_free change (changed_list change free.rest.diagnoses)
-  diagnosis_free change false = λ answers. refl
-
   beside_free : (heard : Heard) → IsBeside heard → StaysFree (handled station free heard)
   beside_free (Asks asker request) beside = request_free asker request.service request
   beside_free (Resolves asker packet) beside = resolves_free asker packet (is_request packet.operation && is_running free.values.running packet.target.address)
-  beside_free (Given slot subslot value) beside = λ answers. refl
-  beside_free (Raised slot subslot octets) beside = λ answers. refl
-  beside_free (Rated slot subslot is_good) beside =
-      status_free slot subslot is_good
-      (statuses_at station.real.modules.items (record { slot = slot; subslot = subslot; is_good = is_good }) free.rest.statuses)
   beside_free (Met peer) beside = λ answers. refl
-  beside_free (Diagnosed change) beside = diagnosis_free change (may_be_diagnosed station free change)
-  beside_free Readied beside = λ answers. refl
+  beside_free (Applied local) beside = (local_is station free local).link
   beside_free Unreadable beside = λ answers. refl
   beside_free Elsewhere beside = λ answers. refl
-  beside_free Ticks beside = absurd beside
-  beside_free (Reported caller address said) beside = absurd beside
-  beside_free (HearsCyclic source frame_id body) beside = absurd beside
-  beside_free (Alarms source header told) beside = absurd beside
-  beside_free (LowReplies source header told) beside = absurd beside
-  beside_free (LowConfirms source header told) beside = absurd beside
+  beside_free heard beside = absurd beside
 
 free_live : (live : Live) → live.rest.link ≡ None → record live { rest = record live.rest { link = None } } ≡ live
 free_live live is = sym (ap (λ (l : Option RelationState). record live { rest = record live.rest { link = l } }) is)

@@ -39,7 +39,7 @@ use Rattle.controller_messages.specs.declared.request.Request.{Request}
 use Rattle.controller_messages.specs.Access.{is_rejected, is_reply}
 use Rattle.controller_messages.specs.Heard.{Heard, Answers, Responds, Refuses, Calls, Cyclic, Alarms, heard_alarm, heard_answer, heard_body, heard_call, heard_content, heard_first, heard_of, heard_read, heard_real_time, heard_refusal, heard_response, is_to}
 use Rattle.controller_messages.specs.Refusal.{refusal_of}
-use Rattle.controller_core.specs.declared.stored.event.Event.TheVariants.{Frame, Tick, Give, Status, Read, Write, Stop}
+use Rattle.controller_core.specs.declared.stored.event.Event.TheVariants.{Frame}
 use Rattle.controller_core.specs.declared.stored.state.State.{State}
 use Rattle.controller_core.specs.declared.stored.state.State.TheVariants.{Looking, Addressing, Connecting, Writing, Ending, Waiting, Exchanging, Ended}
 use Rattle.controller_core.specs.stored.Alarms.{is_alarm as is_alarm_in}
@@ -348,12 +348,7 @@ module _ (controlling : Controlling) where
 pub leaves_controllers : LeavesControllers
 unfolding step_of
 leaves_controllers controlling (Frame bytes) strange = ap (stepped controlling) (heard_rests controlling bytes.items strange)
-leaves_controllers controlling Tick strange = absurd strange
-leaves_controllers controlling (Give slot subslot value) strange = absurd strange
-leaves_controllers controlling (Status slot subslot is_good) strange = absurd strange
-leaves_controllers controlling (Read slot subslot index) strange = absurd strange
-leaves_controllers controlling (Write slot subslot index octets) strange = absurd strange
-leaves_controllers controlling Stop strange = absurd strange
+leaves_controllers controlling event strange = absurd strange
 
 pub are_as_without : AreAsWithout
 are_as_without controlling [] few is = (ap (after_events controlling) (sym is), ap (sent_at controlling) (sym is))

@@ -10,7 +10,7 @@ use Rattle.pn_alarms.specs.declared.abort.Abort.TheVariants.{Other}
 use Rattle.relations.specs.Farewells.{farewell_of}
 use Rattle.relations.specs.RelationState.{RelationState}
 use Rattle.device_frames.specs.declared.event.Event.{Event}
-use Rattle.device_frames.specs.declared.event.Event.TheVariants.{Frame, Call as Joined, Tick, Input, Alarm, Status, Diagnosis, Neighbour, Ready}
+use Rattle.device_frames.specs.declared.event.Event.TheVariants.{Frame, Call as Joined, Tick, Neighbour, Application}
 use Rattle.device_frames.specs.Heard.{Ticks, heard_of}
 use Rattle.device_frames.specs.Sent.{Ends, bytes_of}
 use Rattle.device_frames.specs.declared.note.Note.{Note}
@@ -154,12 +154,7 @@ module _ (outcomes : List Outcome) (station : Station) (live : Live) (link : Rel
       by_own true is = beside_moves (Frame bytes) refl (reset_beside station.identity station.identity.mac.octets (marks_of link) bytes.items silent is)
   moves (Joined caller address octets) silent = strange_moves (Joined caller address octets) refl silent
   moves Tick silent = unit_moves
-  moves (Input slot subslot value) silent = beside_moves (Input slot subslot value) refl tt
-  moves (Alarm slot subslot octets) silent = beside_moves (Alarm slot subslot octets) refl tt
-  moves (Status slot subslot is_good) silent = beside_moves (Status slot subslot is_good) refl tt
-  moves (Diagnosis slot subslot channel error appears) silent = beside_moves (Diagnosis slot subslot channel error appears) refl tt
-  moves (Neighbour neighbour) silent = beside_moves (Neighbour neighbour) refl tt
-  moves Ready silent = beside_moves Ready refl tt
+  moves event silent = beside_moves event refl tt
 
 -- ---- any events
 
@@ -255,15 +250,10 @@ ends_or_hears station live link outcomes events exists timed many = by_any (list
 quiet_heard : (station : Station) (event : Event) → is_received event ≡ false
     → (heard_of station.identity event ≡ Ticks) ⊎ IsBeside (heard_of station.identity event)
 unfolding heard_of
-quiet_heard station (Frame bytes) none = absurd cc
-quiet_heard station (Joined caller address octets) none = absurd cc
 quiet_heard station Tick none = inl refl
-quiet_heard station (Input slot subslot value) none = inr tt
-quiet_heard station (Alarm slot subslot octets) none = inr tt
-quiet_heard station (Status slot subslot is_good) none = inr tt
-quiet_heard station (Diagnosis slot subslot channel error appears) none = inr tt
+quiet_heard station (Application local) none = inr tt
 quiet_heard station (Neighbour neighbour) none = inr tt
-quiet_heard station Ready none = inr tt
+quiet_heard station event none = absurd cc
 
 free_stays : (outcomes : List Outcome) (station : Station) (live : Live) (event : Event) → is_received event ≡ false → live.rest.link ≡ None
     → (step_of outcomes station live event).live.rest.link ≡ None
@@ -298,12 +288,8 @@ unplugged_silent station link (event ∷ events) none = (by_event event none.0, 
     by_event (Frame bytes) none = absurd cc
     by_event (Joined caller address octets) none = absurd cc
     by_event Tick none = refl
-    by_event (Input slot subslot value) none = refl
-    by_event (Alarm slot subslot octets) none = refl
-    by_event (Status slot subslot is_good) none = refl
-    by_event (Diagnosis slot subslot channel error appears) none = refl
+    by_event (Application local) none = refl
     by_event (Neighbour neighbour) none = refl
-    by_event Ready none = refl
 
 pub ends_unplugged : (station : Station) (live : Live) (outcomes : List (List Outcome)) (events : List Event)
     → AreTimed live.rest.link → AreUnplugged events → limit_in live.rest.link ≤ units_in events → (run_of outcomes station live events).live.rest.link ≡ None

@@ -10,7 +10,7 @@ use Rattle.device_frames.specs.Relation.{due_frames}
 use Rattle.device_frames.specs.Sent.{bytes_of}
 use Rattle.pn_alarms.specs.declared.abort.Abort.{Abort}
 use Rattle.device_frames.specs.declared.event.Event.{Event}
-use Rattle.device_frames.specs.declared.event.Event.TheVariants.{Frame, Call as Joined, Tick, Input, Alarm, Status, Diagnosis, Neighbour, Ready}
+use Rattle.device_frames.specs.declared.event.Event.TheVariants.{Tick}
 use Rattle.device_frames.specs.Heard.{heard_of}
 use Rattle.flash_model.specs.declared.flash.Flash.{Ghosts as Flash}
 use Rattle.device_frames.specs.declared.note.Note.{Note}
@@ -97,15 +97,8 @@ tick_link outcomes station live link exists = ap (λ (l : Option RelationState).
 -- ---- all events
 
 no_unit : (station : Station) (link : RelationState) (event : Event) → IsStrange station link event → is_unit event ≡ false
-no_unit station link (Frame frame) strange = refl
-no_unit station link (Joined caller address octets) strange = refl
 no_unit station link Tick strange = absurd cc
-no_unit station link (Input slot subslot value) strange = refl
-no_unit station link (Alarm slot subslot octets) strange = refl
-no_unit station link (Status slot subslot is_good) strange = refl
-no_unit station link (Diagnosis slot subslot channel error appears) strange = refl
-no_unit station link (Neighbour neighbour) strange = refl
-no_unit station link Ready strange = refl
+no_unit station link event strange = refl
 
 module _ (station : Station) where
   abbrev AreOf : Marks → List Event → Type 0

@@ -9,7 +9,7 @@ use Rattle.dcp_core.specs.Set.{plan_of}
 use Rattle.rpc_core.specs.Call.{Asked as Call}
 use Rattle.cyclic_data.specs.exchange.Received.{is_of_partner}
 use Rattle.relations.specs.RelationState.{RelationState, is_alarm_of}
-use Rattle.device_frames.specs.Heard.{Heard, Ticks, Unreadable, Elsewhere, Asks, Resolves, Reported, Cyclic, Alarms, LowReplies, LowConfirms, Given, Raised, Rated, Met, Diagnosed, Readied, Calls, Responds, Garbled}
+use Rattle.device_frames.specs.Heard.{Heard, Unreadable, Elsewhere, Asks, Resolves, Reported, Cyclic, Alarms, LowReplies, LowConfirms, Calls, Responds, Garbled}
 use Rattle.octets_law.specs.Octets.{part}
 
 -- An item of a Set that asks nothing of the settings.
@@ -40,10 +40,4 @@ IsHarmless link (LowReplies source header told) = is_alarm_of source header.dest
 IsHarmless link (LowConfirms source header told) = is_alarm_of source header.destination header.source (Some link) ≡ false
 IsHarmless link Unreadable = Unit {0}
 IsHarmless link Elsewhere = Unit {0}
-IsHarmless link Ticks = ⊥
-IsHarmless link (Given slot subslot value) = ⊥
-IsHarmless link (Raised slot subslot octets) = ⊥
-IsHarmless link (Rated slot subslot is_good) = ⊥
-IsHarmless link (Met peer) = ⊥
-IsHarmless link (Diagnosed change) = ⊥
-IsHarmless link Readied = ⊥
+IsHarmless link heard = ⊥

@@ -42,7 +42,7 @@ use Rattle.diagnosis.specs.reports.Priority.{priority_of}
 use Rattle.diagnosis.specs.reports.Message.{low_message_of}
 use Rattle.relations.specs.RelationState.{RelationState}
 use Rattle.device_frames.specs.declared.event.Event.{Event}
-use Rattle.device_frames.specs.declared.event.Event.TheVariants.{Frame, Call as Joined, Tick, Input, Alarm, Status, Diagnosis, Neighbour, Ready}
+use Rattle.device_frames.specs.declared.event.Event.TheVariants.{Frame, Call as Joined}
 use Rattle.device_frames.specs.Heard.{Heard, Reported, broadcast, heard_alarm, heard_content, heard_frame, heard_low, heard_of, heard_reply, heard_request, is_own, is_taken, said_by, said_else, said_first}
 use Rattle.octets_law.specs.Octets.{dcp_blocks, is_dcp, number, part, untagged}
 use Rattle.octets_law.proofs.Bare.{IsBare, bare_of}
@@ -231,10 +231,4 @@ module _ (identity : Identity) (link : RelationState) where
   strange_harmless (Frame bytes) strange = frame_harmless bytes.items strange (frame_of bytes.items) refl
   strange_harmless (Joined caller address octets) strange =
       said_harmless caller address octets.items [] (subst (λ l. is_said_of marks l ≡ false) (sym (append-nil octets.items)) strange)
-  strange_harmless Tick strange = absurd cc
-  strange_harmless (Input slot subslot value) strange = absurd cc
-  strange_harmless (Alarm slot subslot octets) strange = absurd cc
-  strange_harmless (Status slot subslot is_good) strange = absurd cc
-  strange_harmless (Diagnosis slot subslot channel error appears) strange = absurd cc
-  strange_harmless (Neighbour neighbour) strange = absurd cc
-  strange_harmless Ready strange = absurd cc
+  strange_harmless event strange = absurd cc

@@ -8,7 +8,7 @@ use Rattle.frame_codec.specs.FrameId.{is_alarm, is_cyclic}
 use Rattle.relations.specs.Numbers.{number_of, output_id}
 use Rattle.relations.specs.RelationState.{RelationState}
 use Rattle.device_frames.specs.declared.event.Event.{Event}
-use Rattle.device_frames.specs.declared.event.Event.TheVariants.{Frame, Call as Joined, Tick, Input, Alarm, Status, Diagnosis, Neighbour, Ready}
+use Rattle.device_frames.specs.declared.event.Event.TheVariants.{Frame}
 use Rattle.settings_journal.specs.settings_store.Machine.{Outcome}
 use Rattle.device_core.specs.State.{Live, Station}
 use Rattle.device_core.specs.Machine.{run_of}
@@ -217,24 +217,10 @@ module _ (station : Station) (live : Live) (earlier later : RelationState) (outc
 pub late_alarms : LateAlarmsAreRefused
 late_alarms station live earlier later outcomes events (Frame frame) follows is =
     refused station live earlier later outcomes events follows (Frame frame) (late_alarm station live earlier later outcomes events follows (untagged frame.items) is)
-late_alarms station live earlier later outcomes events (Joined caller address octets) follows is = absurd is
-late_alarms station live earlier later outcomes events Tick follows is = absurd is
-late_alarms station live earlier later outcomes events (Input slot subslot value) follows is = absurd is
-late_alarms station live earlier later outcomes events (Alarm slot subslot octets) follows is = absurd is
-late_alarms station live earlier later outcomes events (Status slot subslot is_good) follows is = absurd is
-late_alarms station live earlier later outcomes events (Diagnosis slot subslot channel error appears) follows is = absurd is
-late_alarms station live earlier later outcomes events (Neighbour neighbour) follows is = absurd is
-late_alarms station live earlier later outcomes events Ready follows is = absurd is
+late_alarms station live earlier later outcomes events event follows is = absurd is
 
 pub late_outputs : LateOutputsAreRefused
 late_outputs station live earlier later outcomes events (Frame frame) follows was now is =
     refused station live earlier later outcomes events follows (Frame frame)
     (late_output station live earlier later outcomes events follows (untagged frame.items) ((apart station live earlier later outcomes events follows).frame_id was now) is)
-late_outputs station live earlier later outcomes events (Joined caller address octets) follows was now is = absurd is
-late_outputs station live earlier later outcomes events Tick follows was now is = absurd is
-late_outputs station live earlier later outcomes events (Input slot subslot value) follows was now is = absurd is
-late_outputs station live earlier later outcomes events (Alarm slot subslot octets) follows was now is = absurd is
-late_outputs station live earlier later outcomes events (Status slot subslot is_good) follows was now is = absurd is
-late_outputs station live earlier later outcomes events (Diagnosis slot subslot channel error appears) follows was now is = absurd is
-late_outputs station live earlier later outcomes events (Neighbour neighbour) follows was now is = absurd is
-late_outputs station live earlier later outcomes events Ready follows was now is = absurd is
+late_outputs station live earlier later outcomes events event follows was now is = absurd is

@@ -45,8 +45,8 @@ use Rattle.relations.specs.Ready.{answer_of as ready_answer}
 use Rattle.device_records.specs.Reading.{implicit_read, relation_read}
 use Rattle.device_frames.specs.declared.note.Note.{Note}
 use Rattle.device_frames.specs.declared.note.Note.TheVariants as note
-use Rattle.device_frames.specs.Heard.{Heard, Ticks, Unreadable, Elsewhere, Asks, Resolves, Reported, Cyclic, Alarms, LowReplies, LowConfirms}
-use Rattle.device_frames.specs.Heard.{Given, Raised, Rated, Met, Diagnosed, Readied, Said, Calls, Responds, Garbled}
+use Rattle.device_frames.specs.Heard.{Heard, Ticks, Reported, Cyclic, Alarms, LowReplies, LowConfirms}
+use Rattle.device_frames.specs.Heard.{Said, Calls, Responds, Garbled}
 use Rattle.settings_journal.specs.settings_store.Machine.{Outcome, carried}
 use Rattle.device_core.specs.Handled.{handled_call, handled_effect, handled_looked, handled_low, handled_low_message}
 use Rattle.device_core.specs.Handled.{handled_low_pdu, handled_message, handled_new, handled_pdu, handled_received, handled_said}
@@ -297,13 +297,4 @@ module _ (station : Station) (live : Live) where
   step_moves outcomes (LowConfirms source header message) =
       heard_moves outcomes (LowConfirms source header message) (confirms source header message (has_sent_low live.rest.link))
   step_moves outcomes Ticks = tick_moves outcomes
-  step_moves outcomes (Asks asker request) = beside_moves outcomes (Asks asker request) tt
-  step_moves outcomes (Resolves asker packet) = beside_moves outcomes (Resolves asker packet) tt
-  step_moves outcomes (Given slot subslot value) = beside_moves outcomes (Given slot subslot value) tt
-  step_moves outcomes (Raised slot subslot octets) = beside_moves outcomes (Raised slot subslot octets) tt
-  step_moves outcomes (Rated slot subslot is_good) = beside_moves outcomes (Rated slot subslot is_good) tt
-  step_moves outcomes (Met peer) = beside_moves outcomes (Met peer) tt
-  step_moves outcomes (Diagnosed change) = beside_moves outcomes (Diagnosed change) tt
-  step_moves outcomes Readied = beside_moves outcomes Readied tt
-  step_moves outcomes Unreadable = beside_moves outcomes Unreadable tt
-  step_moves outcomes Elsewhere = beside_moves outcomes Elsewhere tt
+  step_moves outcomes heard = beside_moves outcomes heard tt

@@ -54,7 +54,7 @@ use Rattle.relations.specs.Phases.{updated}
 use Rattle.relations.specs.Ready.{answer_of as ready_answer, is_wanted}
 use Rattle.relations.specs.RelationState.{RelationState, is_alarm_of, is_awaiting}
 use Rattle.device_frames.specs.declared.event.Event.TheVariants.{Frame}
-use Rattle.device_frames.specs.Heard.{Heard, Ticks, Unreadable, Elsewhere, Asks, Resolves, Reported, Cyclic, Alarms, LowReplies, LowConfirms, Given, Raised, Rated, Met, Diagnosed, Readied, Said, Calls, Responds, Garbled}
+use Rattle.device_frames.specs.Heard.{Heard, Unreadable, Elsewhere, Asks, Resolves, Reported, Cyclic, Alarms, LowReplies, LowConfirms, Said, Calls, Responds, Garbled}
 use Rattle.device_frames.specs.Heard.{broadcast, heard_alarm, heard_content, heard_frame, heard_low, heard_of, heard_reply, heard_request, is_own, is_taken, said_by, said_else, said_first}
 use Rattle.device_frames.specs.Sent.{Sent, IdentifyAnswer, GetAnswer, SetAnswer, ArpReply, CallAnswer, Again, ReadyCall, Ends, Exchanges, bytes_of}
 use Rattle.device_frames.specs.Sendable.{AreSendable, IsSendable}
@@ -171,13 +171,7 @@ IsUnasking link asker (LowReplies source header told) = Unit {0}
 IsUnasking link asker (LowConfirms source header told) = Unit {0}
 IsUnasking link asker Unreadable = Unit {0}
 IsUnasking link asker Elsewhere = Unit {0}
-IsUnasking link asker Ticks = ⊥
-IsUnasking link asker (Given slot subslot value) = ⊥
-IsUnasking link asker (Raised slot subslot octets) = ⊥
-IsUnasking link asker (Rated slot subslot is_good) = ⊥
-IsUnasking link asker (Met peer) = ⊥
-IsUnasking link asker (Diagnosed change) = ⊥
-IsUnasking link asker Readied = ⊥
+IsUnasking link asker heard = ⊥
 
 module _ (identity : Identity) (link : Option RelationState) (bytes : List ℕ) (meaning : Meaning) (bare : IsBare bytes meaning)
     (sender : part 6 6 (untagged bytes) ≡ meaning.source.octets) (quiet : is_asking identity.mac.octets link (untagged bytes) ≡ false)
@@ -382,13 +376,7 @@ module _ (asker : List ℕ) (station : Station) (live : Live) where
       cond_both (has_sent_low live.rest.link) _ _ Leaves (λ _. low_stays source header told foreign) (λ _. tt)
   stays Unreadable none other = tt
   stays Elsewhere none other = tt
-  stays Ticks none other = absurd none
-  stays (Given slot subslot value) none other = absurd none
-  stays (Raised slot subslot octets) none other = absurd none
-  stays (Rated slot subslot is_good) none other = absurd none
-  stays (Met peer) none other = absurd none
-  stays (Diagnosed change) none other = absurd none
-  stays Readied none other = absurd none
+  stays heard none other = absurd none
 
 -- ---- the step
 

@@ -39,7 +39,7 @@ use Rattle.relations.specs.declared.hearing.ReadyAnswer.TheVariants as to_ready
 use Rattle.relations.specs.Ready.{answer_of as ready_answer, is_wanted}
 use Rattle.relations.specs.RelationState.{RelationState, is_alarm_of, is_awaiting, uuid_of}
 use Rattle.device_records.specs.Reading.{implicit_read, relation_read}
-use Rattle.device_frames.specs.Heard.{Heard, Ticks, Unreadable, Elsewhere, Asks, Resolves, Reported, Cyclic, Alarms, LowReplies, LowConfirms, Given, Raised, Rated, Met, Diagnosed, Readied, Said, Calls, Responds, Garbled}
+use Rattle.device_frames.specs.Heard.{Heard, Unreadable, Elsewhere, Asks, Resolves, Reported, Cyclic, Alarms, LowReplies, LowConfirms, Said, Calls, Responds, Garbled}
 use Rattle.device_frames.specs.Sent.{Sent, IdentifyAnswer, GetAnswer, SetAnswer, ArpReply, CallAnswer, Again, ReadyCall, Ends, Exchanges}
 use Rattle.settings_journal.specs.settings_store.State.{Values}
 use Rattle.settings_journal.specs.settings_store.Machine.{Outcome, carried, rest_of}
@@ -326,10 +326,4 @@ module _ (station : Station) (live : Live) (link : RelationState) (exists : live
       cond_both (has_sent_low live.rest.link) _ _ (Remains live) (λ _. low_remains source header told other) (λ _. tt)
   remains Unreadable other = tt
   remains Elsewhere other = tt
-  remains Ticks other = absurd other
-  remains (Given slot subslot value) other = absurd other
-  remains (Raised slot subslot octets) other = absurd other
-  remains (Rated slot subslot is_good) other = absurd other
-  remains (Met peer) other = absurd other
-  remains (Diagnosed change) other = absurd other
-  remains Readied other = absurd other
+  remains heard other = absurd other

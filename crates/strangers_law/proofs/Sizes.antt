@@ -21,7 +21,7 @@ use Rattle.lldp.specs.Frame.{told_in}
 use Rattle.lldp.specs.Peer.{Told}
 use Rattle.lldp.specs.State as near
 use Rattle.device_frames.specs.declared.event.Event.{Event}
-use Rattle.device_frames.specs.declared.event.Event.TheVariants.{Frame, Call as Given, Tick, Input, Alarm, Status, Neighbour, Diagnosis, Ready}
+use Rattle.device_frames.specs.declared.event.Event.TheVariants.{Frame, Tick}
 use Rattle.device_frames.specs.declared.note.Note.{Note}
 use Rattle.station.specs.Beside.{Beside, beside, event_beside, is_dropped}
 use Rattle.station.specs.Serving.{Serving, after_piece, met, observed, overheard, pieced}
@@ -122,13 +122,7 @@ event_sizes identity services note (Frame bytes) sizes =
     (λ _. overheard_sizes (pieced (met services bytes.items) bytes.items) bytes.items (pieced_sizes (met services bytes.items) bytes.items (met_sizes services bytes.items sizes)))
     (λ _. overheard_sizes services bytes.items sizes)
 event_sizes identity services note Tick sizes = record { ip = sizes.ip; near = sizes.near; calls = older_headed 1 services.pieces.calls sizes.calls }
-event_sizes identity services note (Given caller address octets) sizes = sizes
-event_sizes identity services note (Input slot subslot value) sizes = sizes
-event_sizes identity services note (Alarm slot subslot octets) sizes = sizes
-event_sizes identity services note (Status slot subslot is_good) sizes = sizes
-event_sizes identity services note (Neighbour neighbour) sizes = sizes
-event_sizes identity services note (Diagnosis slot subslot channel error appears) sizes = sizes
-event_sizes identity services note Ready sizes = sizes
+event_sizes identity services note event sizes = sizes
 
 beside_sizes : (identity : Identity) (services : Serving) (values : Values) (note : Note) (event : Event) → HaveSizes services → HaveSizes (beside identity services values note event).services
 beside_sizes identity services values note event sizes =

@@ -23,7 +23,7 @@ use Rattle.lldp.specs.Announcement as lldp
 use Rattle.lldp.specs.State as near
 use Rattle.relations.specs.RelationState.{RelationState}
 use Rattle.device_frames.specs.declared.event.Event.{Event}
-use Rattle.device_frames.specs.declared.event.Event.TheVariants.{Frame, Call as Given, Tick, Input, Alarm, Status, Neighbour, Diagnosis, Ready}
+use Rattle.device_frames.specs.declared.event.Event.TheVariants.{Frame, Call as Given, Tick}
 use Rattle.device_frames.specs.declared.note.Note.{Note}
 use Rattle.device_frames.specs.Heard.{heard_of}
 use Rattle.device_core.specs.State.{Live, Station}
@@ -241,13 +241,7 @@ module _ (controlling : Controlling) (identity : Identity) (services : Serving) 
       fate_to controlling it.0 services.ip.mac.octets bytes.items frame other it.1)
   event_strange Tick other =
       all_both _ _ _ (ip_ticks _ services.ip sizes.ip (other_to controlling)) (lldp_ticks _ (announces services) (said_of services) sizes.near (other_to controlling))
-  event_strange (Given caller address octets) other = tt
-  event_strange (Input slot subslot value) other = tt
-  event_strange (Alarm slot subslot octets) other = tt
-  event_strange (Status slot subslot is_good) other = tt
-  event_strange (Neighbour neighbour) other = tt
-  event_strange (Diagnosis slot subslot channel error appears) other = tt
-  event_strange Ready other = tt
+  event_strange event other = tt
 
   beside_strange : (values : Values) (event : Event) → IsNoPacketOf controlling services.ip.mac.octets event
       → AreStrangeTo controlling (beside identity services values note event).sent

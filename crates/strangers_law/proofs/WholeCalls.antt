@@ -17,7 +17,7 @@ use Rattle.rpc_services.specs.pieces.Piece.{Piece, is_fragment, is_piece, piece_
 use Rattle.rpc_services.specs.pieces.State as calls
 use Rattle.rpc_services.specs.endpoint_mapper.Mapper.{mapped, mapped_by, mapped_call, operation_answer}
 use Rattle.device_frames.specs.declared.event.Event.{Event}
-use Rattle.device_frames.specs.declared.event.Event.TheVariants.{Frame, Call as Given, Tick, Input, Alarm, Status, Neighbour, Diagnosis, Ready}
+use Rattle.device_frames.specs.declared.event.Event.TheVariants.{Frame}
 use Rattle.device_frames.specs.declared.note.Note.{Note}
 use Rattle.station.specs.Beside.{Beside, beside, is_dropped}
 use Rattle.station.specs.Serving.{Serving, answer_by, answered, or_else, piece_by as piece_for, piece_of as piece_from}
@@ -100,14 +100,7 @@ beside_silent : (identity : Identity) (services : Serving) (values : Values) (no
 beside_silent identity services values note (Frame bytes) it =
     cond_both values.is_lost _ _ (λ (b : Beside). b.sent ≡ []) (λ _. refl)
     (λ _. cond_both (is_dropped note) _ _ (λ (o : Option (List ℕ)). ip.frames_in o ≡ []) (λ _. ap ip.frames_in (unanswered bytes.items it identity services)) (λ _. refl))
-beside_silent identity services values note Tick it = absurd it
-beside_silent identity services values note (Given caller address octets) it = absurd it
-beside_silent identity services values note (Input slot subslot value) it = absurd it
-beside_silent identity services values note (Alarm slot subslot octets) it = absurd it
-beside_silent identity services values note (Status slot subslot is_good) it = absurd it
-beside_silent identity services values note (Neighbour neighbour) it = absurd it
-beside_silent identity services values note (Diagnosis slot subslot channel error appears) it = absurd it
-beside_silent identity services values note Ready it = absurd it
+beside_silent identity services values note event it = absurd it
 
 pub services_leave_calls : {F : Type 0} {S : ℕ} (as_flash : Flash F S) → ServicesLeaveCalls as_flash
 services_leave_calls as_flash old new event frames said takes it =

@@ -37,7 +37,7 @@ pub fn strangers_leave_a_device<F: Flash<S>, const S: usize>()
 /// A step of a device (`Device::step`), whatever was done to the device before.
 pub fn step_device<F: Flash<S>, const S: usize>(
     device: &mut Device<F, S>,
-    event: &Event,
+    event: &Event<'_>,
     outbox: &mut Outbox,
 ) -> Note
     // An event of a stranger leaves the relation as it was.

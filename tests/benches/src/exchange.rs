@@ -1,7 +1,7 @@
 //! A device in an exchange: it takes the events of lines one after another, and what it sends is counted.
 use arrayvec::ArrayVec;
 use pn_values::{Real, RealModule, RealSubmodule, demo_identity};
-use device_core::{Device, Event, Note};
+use device_core::{Device, Event, Note, Octets};
 use flash_model::MemoryFlash;
 use frame_codec::{Bytes, Outbox};
 use rattle_std::alloc::Global;
@@ -64,7 +64,7 @@ impl Turns {
     pub fn take_line(&mut self, line: &str) -> Option<()> {
         let (word, rest) = line.split_once(' ')?;
         match word {
-            "frame" => self.take_frame(octets(rest)?),
+            "frame" => self.take_frame(&octets(rest)?),
             "tick" => {
                 for _ in 0..rest.parse::<u16>().ok()? {
                     self.take(&Event::Tick);
@@ -72,11 +72,11 @@ impl Turns {
             }
             "input" => {
                 let (slot, value) = rest.split_once(' ')?;
-                self.take(&Event::Input(slot.parse().ok()?, 1, octets(value)?));
+                self.take(&Event::input(slot.parse().ok()?, 1, &octets(value)?));
             }
             "alarm" => {
                 let (slot, value) = rest.split_once(' ')?;
-                self.take(&Event::Alarm(slot.parse().ok()?, 1, octets(value)?));
+                self.take(&Event::alarm(slot.parse().ok()?, 1, &octets(value)?));
             }
             _ => return None,
         }
@@ -84,16 +84,16 @@ impl Turns {
     }
 
     /// Takes a frame. After a frame that is neither cyclic nor an alarm (their EtherType follows a VLAN tag) the count begins again.
-    fn take_frame(&mut self, bytes: Bytes) {
+    fn take_frame(&mut self, bytes: &[u8]) {
         let is_tagged = bytes.get(12) == Some(&0x81);
-        self.take(&Event::Frame(bytes));
+        self.take(&Event::Frame(Octets::of(bytes)));
         if !is_tagged {
             self.tally = Tally::default();
         }
     }
 
     /// Takes an event.
-    fn take(&mut self, event: &Event) {
+    fn take(&mut self, event: &Event<'_>) {
         if turn(&mut self.device, event, &mut self.outbox) == Note::Done {
             self.tally.done += 1;
         }
@@ -107,7 +107,7 @@ impl Turns {
 
 /// One step. It is not inlined, so that its instructions can be counted.
 #[inline(never)]
-fn turn(device: &mut Station, event: &Event, outbox: &mut Outbox) -> Note {
+fn turn(device: &mut Station, event: &Event<'_>, outbox: &mut Outbox) -> Note {
     device.step(event, outbox)
 }
 

@@ -7,10 +7,10 @@ use flash_model::MemoryFlash;
 use frame_codec::Outbox;
 use rattle_std::Vec;
 use rattle_std::alloc::{AllocError, Global};
-use test_stations::{Station, plugged, station, step};
+use test_stations::{Station, frame as heard, plugged, station, step};
 
 /// A Read Implicit of I&M0 by the activity whose octets are all this number.
-fn call(alloc: Global, activity: u8, sequence: u32) -> Event {
+fn call(alloc: Global, activity: u8, sequence: u32) -> Vec<u8> {
     let (mut octets, head) = frame(alloc, CALL, &[]);
     let packet = octets.as_mut_slice().get_mut(head..).expect("a packet");
     for octet in packet.iter_mut().skip(68).take(16) {
@@ -19,7 +19,7 @@ fn call(alloc: Global, activity: u8, sequence: u32) -> Event {
     put(Order::Big, packet, 92, 4, sequence);
     put(Order::Big, packet, 162, 2, 0xAFF0);
     mend(packet);
-    test_stations::frame(octets.as_slice())
+    octets
 }
 
 /// Calls by activity and sequence number at a station that has answered the activities 1 to 4 under 5: each of those again;
@@ -43,7 +43,7 @@ pub(crate) struct Trial {
     alloc: Global,
     station: Station,
     /// The second of the calls, and its answer.
-    again: Event,
+    again: Vec<u8>,
     kept: Vec<u8>,
 }
 
@@ -52,7 +52,7 @@ impl Trial {
         let mut outbox = Outbox::new();
         let mut station = called(alloc);
         let again = call(alloc, 2, 5);
-        let _ = step(&mut station, &again, &mut outbox);
+        let _ = step(&mut station, &heard(again.as_slice()), &mut outbox);
         let kept = octets_of(alloc, &outbox).unwrap();
         Trial {
             alloc,
@@ -79,7 +79,7 @@ impl Trial {
     /// The second call is answered as it was, after these octets.
     fn calls_again(&mut self, octets: &[u8]) {
         let mut outbox = Outbox::new();
-        let note = step(&mut self.station, &self.again, &mut outbox);
+        let note = step(&mut self.station, &heard(self.again.as_slice()), &mut outbox);
         let kept = octets_of(self.alloc, &outbox).unwrap();
         assert!(
             note == Note::Done && kept.as_slice() == self.kept.as_slice(),
@@ -91,7 +91,8 @@ impl Trial {
     pub(crate) fn end(mut self) {
         let mut other = called(self.alloc);
         for (activity, sequence, note) in PROBES {
-            let event = call(self.alloc, activity, sequence);
+            let octets = call(self.alloc, activity, sequence);
+            let event = heard(octets.as_slice());
             let (found, came) = answer_at(self.alloc, &mut self.station, &event).unwrap();
             let (_note, wanted) = answer_at(self.alloc, &mut other, &event).unwrap();
             assert_eq!((activity, found), (activity, note));
@@ -104,7 +105,7 @@ impl Trial {
 fn answer_at(
     alloc: Global,
     station: &mut Station,
-    event: &Event,
+    event: &Event<'_>,
 ) -> Result<(Note, Vec<u8>), AllocError> {
     let mut outbox = Outbox::new();
     let note = step(station, event, &mut outbox);
@@ -114,7 +115,7 @@ fn answer_at(
 /// What becomes of a frame at a station.
 fn fate_at(station: &mut Station, octets: &[u8]) -> Option<Fate> {
     let mut outbox = Outbox::new();
-    let note = step(station, &test_stations::frame(octets), &mut outbox);
+    let note = step(station, &heard(octets), &mut outbox);
     outcome(note, &outbox)
 }
 
@@ -123,7 +124,7 @@ fn called(alloc: Global) -> Station {
     let mut outbox = Outbox::new();
     let mut station = station(plugged(), MemoryFlash::blank()).expect("starts");
     for activity in 1..5 {
-        let _ = step(&mut station, &call(alloc, activity, 5), &mut outbox);
+        let _ = step(&mut station, &heard(call(alloc, activity, 5).as_slice()), &mut outbox);
     }
     station
 }

@@ -28,12 +28,8 @@ fn a_cycle_with_a_loss() {
     let mut flash = MemoryFlash::<768>::blank();
     // The last call of the second commit: the gate of its slot.
     flash.fuse(4, [0x55; 8]);
-    let events = [
-        set_pump(b'1'),
-        Event::Tick,
-        set_pump(b'2'),
-        frame(&IDENTIFY),
-    ];
+    let (one, two) = (set_pump(b'1'), set_pump(b'2'));
+    let events = [frame(&one), Event::Tick, frame(&two), frame(&IDENTIFY)];
     let device = cycle(
         demo_identity(),
         no_modules(),

@@ -19,7 +19,7 @@ fn faulted() -> Tried {
         after: 0,
         mask: [0xFF; 8],
     });
-    device.take(&set_pump(b'2'));
+    device.take(&frame(&set_pump(b'2')));
     device
 }
 
@@ -29,12 +29,12 @@ fn a_set_is_refused_until_the_next_start() {
     let mut device = faulted();
     device.sent(&REFUSED);
     assert!(!device.station.is_lost());
-    device.sends(&set_pump(b'3'), &REFUSED);
+    device.sends(&frame(&set_pump(b'3')), &REFUSED);
     device.is_named(b"pump-1");
     device.keeps(b"pump-1");
     let mut device = device.restart();
     device.is_named(b"pump-1");
-    device.sends(&set_pump(b'3'), &DONE);
+    device.sends(&frame(&set_pump(b'3')), &DONE);
 }
 
 #[test]

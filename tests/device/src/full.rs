@@ -55,7 +55,7 @@ const RESETS: [[u8; 6]; 3] = [
 // A name, and each reset: each answered with BlockError 4, and nothing changes.
 fn nothing_is_carried_out(version: u8) {
     let mut device = Tried::new(start(full(version)));
-    device.sends(&set_pump(b'2'), &FULL);
+    device.sends(&frame(&set_pump(b'2')), &FULL);
     for block in RESETS {
         let (request, answer) = reset(block);
         device.sends(&frame(&request), &answer);

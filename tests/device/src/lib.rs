@@ -47,17 +47,17 @@ impl Tried {
     }
 
     /// It takes an event, whatever becomes of it.
-    fn take(&mut self, event: &Event) {
+    fn take(&mut self, event: &Event<'_>) {
         let _ = step(&mut self.station, event, &mut self.last);
     }
 
     /// This becomes of an event.
-    fn notes(&mut self, event: &Event, note: Note) {
+    fn notes(&mut self, event: &Event<'_>, note: Note) {
         assert_eq!(step(&mut self.station, event, &mut self.last), note);
     }
 
     /// An event is accepted, and one frame is sent: these octets, filled up.
-    fn sends(&mut self, event: &Event, octets: &[u8]) {
+    fn sends(&mut self, event: &Event<'_>, octets: &[u8]) {
         self.notes(event, Note::Done);
         self.sent(octets);
     }
@@ -74,7 +74,7 @@ impl Tried {
     }
 
     /// This becomes of an event, and nothing is sent.
-    fn sends_none(&mut self, event: &Event, note: Note) {
+    fn sends_none(&mut self, event: &Event<'_>, note: Note) {
         self.notes(event, note);
         assert_eq!(self.last.len(), 0);
     }

@@ -2,13 +2,13 @@
 use crate::Tried;
 use device_core::Note;
 use flash_model::{Order, Sector};
-use test_stations::set_pump;
+use test_stations::{frame, set_pump};
 
 // A station that was named "pump-1", and then "pump-2".
 fn named_twice() -> Tried {
     let mut device = Tried::blank();
-    device.take(&set_pump(b'1'));
-    device.take(&set_pump(b'2'));
+    device.take(&frame(&set_pump(b'1')));
+    device.take(&frame(&set_pump(b'2')));
     device
 }
 
@@ -37,7 +37,7 @@ impl Tried {
 #[test]
 fn the_first_name_lies_in_the_first_sector() {
     let mut device = Tried::blank();
-    device.take(&set_pump(b'1'));
+    device.take(&frame(&set_pump(b'1')));
     device.begins(Sector::First, b"PNJ\x02\xff\xfe\x06pump-1");
     device.lies_at(Sector::First, 511, 0);
     device.is_erased(Sector::Second);
@@ -57,7 +57,7 @@ fn the_second_name_lies_in_the_slot_behind_it() {
 #[test]
 fn the_third_name_lies_in_the_other_sector() {
     let mut device = named_twice();
-    device.take(&set_pump(b'3'));
+    device.take(&frame(&set_pump(b'3')));
     device.begins(Sector::Second, b"PNJ\x02\xff\xfd\x06pump-3");
     device.lies_at(Sector::Second, 511, 0);
 }
@@ -74,7 +74,7 @@ const MASKS: [[u8; 8]; 4] = [
 fn after_loss(after: u32, mask: [u8; 8]) -> Tried {
     let mut device = named_twice();
     device.station.arm(Order::Cut { after, mask });
-    device.take(&set_pump(b'3'));
+    device.take(&frame(&set_pump(b'3')));
     assert!(device.station.is_lost());
     device.restart()
 }
@@ -82,7 +82,7 @@ fn after_loss(after: u32, mask: [u8; 8]) -> Tried {
 // It is named as it was left, and takes and keeps another name.
 fn goes_on(mut device: Tried, left: &[u8]) {
     device.is_named(left);
-    device.notes(&set_pump(b'4'), Note::Done);
+    device.notes(&frame(&set_pump(b'4')), Note::Done);
     device.restart().keeps(b"pump-4");
 }
 

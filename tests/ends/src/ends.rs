@@ -134,7 +134,7 @@ impl Ends {
     }
 
     /// This becomes of an event at the device.
-    fn notes(&mut self, event: &Event, note: Note) {
+    fn notes(&mut self, event: &Event<'_>, note: Note) {
         assert_eq!(step(&mut self.device, event, &mut self.answers), note);
     }
 
@@ -197,7 +197,7 @@ fn one(outbox: &Outbox) -> Option<Bytes> {
 }
 
 /// The two frames in a box, as they come to a device.
-fn two(outbox: &Outbox) -> Option<(Event, Event)> {
+fn two(outbox: &Outbox) -> Option<(Event<'_>, Event<'_>)> {
     match outbox.as_slice() {
         [first, second] => Some((frame(first.as_slice()), frame(second.as_slice()))),
         _ => None,
@@ -289,7 +289,8 @@ fn other_modules_are_told() {
 #[test]
 fn an_identify_answer_of_another_transaction_is_ignored() {
     let mut ends = Ends::new(Global, PUMP);
-    ends.notes(&frame(ends.sent.as_slice()), Note::Done);
+    let request = octets(ends.sent.as_slice());
+    ends.notes(&frame(&request), Note::Done);
     let answer = one(&ends.answers).expect("an answer");
     for xid in [0, 2, 0x0000_0101, 0x0001_0001, 0x0100_0001, u32::MAX] {
         let mut other = octets(answer.as_slice());
@@ -327,7 +328,8 @@ fn an_answer_to_a_connect_without_a_block_is_ignored() {
     let mut ends = Ends::new(Global, OTHER_MODULES);
     ends.turns(2);
     ends.is_at(State::Connecting);
-    ends.notes(&frame(ends.sent.as_slice()), Note::Done);
+    let request = octets(ends.sent.as_slice());
+    ends.notes(&frame(&request), Note::Done);
     let answer = one(&ends.answers).expect("an answer");
     let [needed @ .., differing] = ANSWERED;
     for (from, to) in needed {
@@ -375,13 +377,13 @@ fn no_name_is_set_before_the_release() {
     let mut ends = Ends::started(Global);
     let mut refused = DONE;
     refused[32] = 6;
-    ends.notes(&set_pump(b'9'), Note::Done);
+    ends.notes(&frame(&set_pump(b'9')), Note::Done);
     ends.is_answer(&refused);
     let stopped = told(&mut ends.controller, &ControllerEvent::Stop);
     ends.sent = one(&stopped).expect("a Release");
     ends.turn();
     ends.is_related(None);
-    ends.notes(&set_pump(b'9'), Note::Done);
+    ends.notes(&frame(&set_pump(b'9')), Note::Done);
     ends.is_answer(&DONE);
 }
 
@@ -389,12 +391,12 @@ fn no_name_is_set_before_the_release() {
 #[test]
 fn an_alarm_is_taken() {
     let mut ends = Ends::started(Global);
-    let raised = Event::Alarm(1, 1, octets(&[0xAA, 0xBB]));
+    let raised = Event::alarm(1, 1, &[0xAA, 0xBB]);
     ends.notes(&raised, Note::Done);
     let alarm = one(&ends.answers).expect("an alarm");
     let acks = told(&mut ends.controller, &ControllerEvent::Frame(alarm));
     assert!(is_alarm_shown(&ends.controller));
-    let again = Event::Alarm(1, 1, octets(&[0xCC]));
+    let again = Event::alarm(1, 1, &[0xCC]);
     ends.notes(&again, Note::Refused);
     let (ack, alarm_ack) = two(&acks).expect("an ACK and an AlarmAck");
     ends.notes(&ack, Note::Done);
@@ -622,7 +624,7 @@ fn what_the_device_says_of_its_inputs() {
     for (slot, subslot) in [(2, 1), (1, 2), (3, 1), (0x101, 1), (1, 0x101)] {
         assert_eq!(ends.provided(slot, subslot), None, "{slot} {subslot}");
     }
-    ends.notes(&Event::Status(1, 1, false), Note::Done);
+    ends.notes(&Event::status(1, 1, false), Note::Done);
     ends.hear_inputs(0x25);
     assert_eq!(ends.provided(1, 1), Some((0, 0x25)));
     assert_eq!(ends.provided(0, 1), Some((0x80, 0x25)));

@@ -27,13 +27,13 @@ struct Read {
     what: u32,
     answer: u32,
     phase: u32,
-    note: u32,
+    cause: u32,
     octets: Vec<u8>,
 }
 
 fn read_of(after: usize, op: &Op, answer: u32) -> Read {
     let octets = op.octets.get(..op.length as usize).map_or(Vec::new(), <[u8]>::to_vec);
-    Read { after, what: op.what, answer, phase: op.phase, note: op.note, octets }
+    Read { after, what: op.what, answer, phase: op.phase, cause: op.cause, octets }
 }
 
 impl Patient {
@@ -206,7 +206,7 @@ fn hosts_that_read_something_else() {
     late.read[2].phase = late.read[0].phase;
     assert!(!are_shown(&late));
     let mut other = reader();
-    other.read[2].note += 1;
+    other.read[2].cause += 1;
     assert!(!are_shown(&other));
     let mut input = reader();
     input.read[1].octets.push(1);

@@ -93,7 +93,7 @@ fn placed(what: u32, slot: u16, subslot: u16, index: u16) -> c_layout::Op {
     let mut op = asked(what);
     op.slot = u32::from(slot);
     op.subslot = u32::from(subslot);
-    op.place = u32::from(index);
+    op.index = u32::from(index);
     op
 }
 
@@ -158,10 +158,10 @@ impl Scene {
         taken(&mut self.port)
     }
 
-    /// What the library for C reports by this operation about what `place` names; `None` if it returns this number.
-    fn told(&mut self, what: u32, place: u32, none: u32) -> Option<c_layout::Op> {
+    /// What the library for C reports by this operation about what `number` and `is_low` name; `None` if it returns this number.
+    fn told(&mut self, what: u32, number: u32, none: u32) -> Option<c_layout::Op> {
         let mut op = asked(what);
-        op.place = place;
+        (op.number, op.is_low) = (number, number);
         let answer = serve(&mut self.port, &mut op, &[]);
         assert!(answer == 0 || answer == none, "{}: {answer}", self.name);
         (answer == 0).then_some(op)
@@ -170,7 +170,7 @@ impl Scene {
     /// The answer to the last request of the application, as the library for C reports it.
     fn told_answer(&mut self) -> std::string::String {
         match self.told(32, 0, 27) {
-            Some(op) => format!("{:08x} {}", op.units, digits_of(told_octets(&op))),
+            Some(op) => format!("{:08x} {}", op.status, digits_of(told_octets(&op))),
             None => "-".into(),
         }
     }
@@ -178,7 +178,7 @@ impl Scene {
     /// The last alarm of high priority, as the library for C reports it.
     fn told_alarm(&mut self) -> std::string::String {
         match self.told(12, 0, 9) {
-            Some(op) => format!("{} {} {} {} {}", op.note, op.slot, op.subslot, op.units, hex_of(told_octets(&op))),
+            Some(op) => format!("{} {} {} {} {}", op.alarm_type, op.slot, op.subslot, op.specifier, hex_of(told_octets(&op))),
             None => "-".into(),
         }
     }
@@ -188,12 +188,12 @@ impl Scene {
         let Some(op) = self.told(34, u32::from(is_low), 9) else {
             return "-".into();
         };
-        let user_structure = match op.more {
+        let user_structure = match op.structure {
             65536 => "-".into(),
             number => number.to_string(),
         };
         let data = digits_of(told_octets(&op));
-        format!("{} {} {} {} {} {user_structure} {data}", op.sector, op.note, op.slot, op.subslot, op.units)
+        format!("{} {} {} {} {} {user_structure} {data}", op.sequence, op.alarm_type, op.slot, op.subslot, op.specifier)
     }
 
     /// Nothing is left that was sent and not wanted, and no number that was not compared.
@@ -312,13 +312,13 @@ impl Scene {
     fn told_diagnoses(&mut self) -> std::string::String {
         let all = self.told(35, 0, 0).expect("a number");
         let mut words = std::vec::Vec::new();
-        for place in 0..all.units {
+        for place in 0..all.count {
             let one = self.told(36, place, 9).expect("a diagnosis");
-            words.push(format!("{} {} {} {}", one.slot, one.subslot, one.more, one.note));
+            words.push(format!("{} {} {} {}", one.slot, one.subslot, one.channel, one.error));
         }
-        assert!(self.told(36, all.units, 9).is_none(), "{}", self.name);
+        assert!(self.told(36, all.count, 9).is_none(), "{}", self.name);
         assert!(self.told(36, u32::MAX, 9).is_none(), "{}", self.name);
-        diagnoses_words(all.more, words)
+        diagnoses_words(all.left_out, words)
     }
 
     /// The last alarm of a priority, in words.
@@ -386,12 +386,12 @@ impl Scene {
             "deviates" => assert_eq!(self.controller.deviates(), rest == "yes", "{name}"),
             "refusal" => {
                 assert_eq!(self.refusal(), rest, "{name}");
-                let told = self.told(20, 0, 25).map_or("-".into(), |told| format!("{:08x}", told.units));
+                let told = self.told(20, 0, 25).map_or("-".into(), |told| format!("{:08x}", told.status));
                 assert_eq!(told, rest, "{name}");
             }
             "refused" => {
                 assert_eq!(self.refused_record(), rest, "{name}");
-                let told = self.told(33, 0, 25).map_or("-".into(), |told| format!("{} {:08x}", told.place, told.units));
+                let told = self.told(33, 0, 25).map_or("-".into(), |told| format!("{} {:08x}", told.number, told.status));
                 assert_eq!(told, rest, "{name}");
             }
             "alarm" => {

@@ -35,15 +35,39 @@ pub(crate) fn asked(what: u32) -> Op {
         what,
         slot: 0,
         subslot: 0,
+        index: 0,
+        number: 0,
+        channel: 0,
+        error: 0,
+        appears: 0,
+        is_good: 0,
+        is_up: 0,
+        is_low: 0,
         units: 0,
+        due: 0,
         note: 0,
+        reason: 0,
         phase: 0,
+        cause: 0,
+        lamp: 0,
+        iops: 0,
+        data_status: 0,
+        count: 0,
+        left_out: 0,
+        commits: 0,
+        status: 0,
+        block_error: 0,
+        alarm_type: 0,
+        specifier: 0,
+        structure: 0,
+        sequence: 0,
+        port_length: 0,
+        chassis_length: 0,
         work: 0,
         more: 0,
         sector: 0,
         place: 0,
         length: 0,
-        due: 0,
         octets: [0; 1520],
     }
 }
@@ -73,14 +97,14 @@ fn next(port: &mut Port) -> u32 {
 fn due(port: &mut Port) -> u32 {
     let mut op = asked(15);
     assert_eq!(serve(port, &mut op, &[]), 0);
-    op.units
+    op.due
 }
 
 /// How many conflicts were heard.
 fn conflicts(port: &mut Port) -> u32 {
     let mut op = asked(19);
     assert_eq!(serve(port, &mut op, &[]), 0);
-    op.units
+    op.count
 }
 
 /// Lets units pass, and how many of them remain.
@@ -126,7 +150,7 @@ fn heard(port: &mut Port, digits: &str) -> Vec<Vec<u8>> {
 fn state(port: &mut Port) -> (u32, u32) {
     let mut op = asked(9);
     let _ = serve(port, &mut op, &[]);
-    (op.phase, op.note)
+    (op.phase, op.cause)
 }
 
 #[test]
@@ -191,11 +215,11 @@ fn a_status_is_given_where_the_plan_has_an_output() {
     let mut port = begun(Global);
     assert_eq!(next(&mut port), 3);
     for (slot, subslot, wanted) in [(2, 1, 0), (1, 1, 9), (0, 1, 9), (2, 2, 9), (3, 1, 9), (2, 65536 + 1, 9)] {
-        for place in [0, 1, u32::MAX] {
+        for is_good in [0, 1, u32::MAX] {
             let mut op = asked_of(16, slot, subslot);
-            op.place = place;
+            op.is_good = is_good;
             assert_eq!(serve(&mut port, &mut op, &[]), wanted, "{slot} {subslot}");
-            assert_eq!((op.place, op.work), (place, 0));
+            assert_eq!((op.is_good, op.work), (is_good, 0));
         }
     }
     for (slot, subslot) in [(1, 1), (2, 1), (65536 + 1, 1)] {
@@ -219,7 +243,7 @@ fn what_is_due_is_told() {
     let mut op = asked(15);
     op.work = 9;
     assert_eq!(serve(&mut port, &mut op, &[]), 0);
-    assert_eq!((op.units, op.work, op.note), (SECOND - 12, 9, 0));
+    assert_eq!((op.due, op.work, op.units), (SECOND - 12, 9, 0));
 }
 
 #[test]
@@ -272,12 +296,12 @@ fn a_neighbour_is_told() {
     let mut port = begun(Global);
     let _ = all_of(&mut port, 2 * SECOND + 1);
     let mut op = asked(37);
-    (op.units, op.more, op.length) = (7, 8, 9);
+    (op.port_length, op.chassis_length, op.length) = (7, 8, 9);
     assert_eq!(serve(&mut port, &mut op, &[]), 9);
-    assert_eq!((op.units, op.more, op.length), (7, 8, 9));
+    assert_eq!((op.port_length, op.chassis_length, op.length), (7, 8, 9));
     assert_eq!(heard(&mut port, NEIGHBOUR), Vec::<Vec<u8>>::new());
     assert_eq!(serve(&mut port, &mut op, &[]), 0);
-    assert_eq!((op.units, op.more, op.length), (8, 8, 22));
+    assert_eq!((op.port_length, op.chassis_length, op.length), (8, 8, 22));
     assert_eq!(op.octets[..6], [2, 0, 0, 0, 0, 0x44]);
     assert_eq!(&op.octets[6..22], b"port-003switch-a");
     assert_eq!(answer(&mut port, 13), 0);

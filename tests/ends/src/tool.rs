@@ -152,9 +152,9 @@ fn the_only_nameless_station_gets_the_name() {
     assert_eq!(tool.xid, SETS.xid);
     assert_eq!(told(&op), padded(&wanted.replace(' ', "")));
     for (frame, answer, error) in [(DONE, 0, 0), (FAILED, 0, 5), (NAMELESS, 27, 9)] {
-        op.note = 9;
+        op.block_error = 9;
         assert_eq!(outcome(&SETS, &found, &spelled(frame), &mut op), answer);
-        assert_eq!(op.note, error);
+        assert_eq!(op.block_error, error);
     }
     let mut of_another = spelled(DONE);
     of_another[11] = 3;
@@ -172,13 +172,13 @@ fn the_only_nameless_station_gets_the_name() {
     let mut unsupported = spelled(DONE);
     unsupported[17] = 5;
     assert_eq!(outcome(&SETS, &found, &unsupported, &mut op), 0);
-    assert_eq!(op.note, 1);
+    assert_eq!(op.block_error, 1);
     // An answer to the Set that tells no outcome.
     let mut silent = spelled(DONE);
     silent[25] = 0;
-    op.note = 9;
+    op.block_error = 9;
     assert_eq!(outcome(&SETS, &found, &silent, &mut op), 0);
-    assert_eq!(op.note, 1);
+    assert_eq!(op.block_error, 1);
 }
 
 #[test]
@@ -223,20 +223,20 @@ fn no_other_station_gets_it() {
 #[test]
 fn a_record_is_read() {
     let mut op = asked(0);
-    op.place = 0xF841;
+    op.index = 0xF841;
     assert_eq!(read(&TOOL, &TARGET, &ACTIVITY, &mut op), 0);
     assert_eq!(told(&op), spelled(ASK));
     assert_eq!(record(&TOOL, &ACTIVITY, &spelled(ANSWER), &mut op), 0);
-    assert_eq!((op.units, told(&op)), (0, &[0xC0, 0xFF, 0xEE, 0x01][..]));
+    assert_eq!((op.status, told(&op)), (0, &[0xC0, 0xFF, 0xEE, 0x01][..]));
     assert_eq!(record(&TOOL, &ACTIVITY, &spelled(REFUSAL), &mut op), 0);
-    assert_eq!((op.units, op.length), (0xDE80_B000, 4));
+    assert_eq!((op.status, op.length), (0xDE80_B000, 4));
     let mut another = ACTIVITY;
     another[0] = 0;
     for (activity, frame) in [(&another, ANSWER), (&another, REFUSAL), (&ACTIVITY, ASK), (&ACTIVITY, NAMELESS)] {
         assert_eq!(record(&TOOL, activity, &spelled(frame), &mut op), 27);
     }
     for (slot, subslot, index) in [(65536, 0, 0), (0, 65536, 0), (0, 0, 65536)] {
-        (op.slot, op.subslot, op.place, op.length) = (slot, subslot, index, 5);
+        (op.slot, op.subslot, op.index, op.length) = (slot, subslot, index, 5);
         assert_eq!(read(&TOOL, &TARGET, &ACTIVITY, &mut op), 9);
         assert_eq!(op.length, 5);
     }

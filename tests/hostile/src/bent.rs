@@ -87,8 +87,7 @@ fn alarms_under_the_other_frame_id() {
     takes(&mut device, &alarm(), &mut outbox);
     is_noted(&mut device, &elsewhere(&NACK), Note::Filter);
     is_noted(&mut device, &elsewhere(&ACK), Note::Done);
-    let acknowledged = frame(elsewhere(&ALARM_ACK).as_slice());
-    takes(&mut device, &acknowledged, &mut outbox);
+    takes(&mut device, &frame(&elsewhere(&ALARM_ACK)), &mut outbox);
     let sent = outbox.as_slice().first().expect("is answered");
     assert!(sent.as_slice().starts_with(&TAKEN));
     takes(&mut device, &alarm(), &mut outbox);

@@ -53,8 +53,8 @@ pub(crate) fn front(bytes: &[u8], length: usize) -> Bytes {
 }
 
 /// The application raises an alarm of the module in slot 1.
-pub(crate) fn alarm() -> Event {
-    Event::Alarm(1, 1, octets(&[0xAA]))
+pub(crate) fn alarm() -> Event<'static> {
+    Event::alarm(1, 1, &[0xAA])
 }
 
 /// Nothing is sent for a frame, and this becomes of it.
@@ -66,7 +66,7 @@ pub(crate) fn is_noted(device: &mut Station, bytes: &Bytes, note: Note) {
 }
 
 /// A station takes an event; what it sends is in the box.
-pub(crate) fn takes(device: &mut Station, event: &Event, outbox: &mut Outbox) {
+pub(crate) fn takes(device: &mut Station, event: &Event<'_>, outbox: &mut Outbox) {
     assert_eq!(step(device, event, outbox), Note::Done);
 }
 
@@ -98,7 +98,7 @@ fn are_sent_alike(outbox: &Outbox, wanted: &Outbox) {
 }
 
 /// Two stations answer an event alike, and show the same after it.
-fn is_alike((device, other): (&mut Station, &mut Station), event: &Event) {
+fn is_alike((device, other): (&mut Station, &mut Station), event: &Event<'_>) {
     let (mut outbox, mut wanted) = (Outbox::new(), Outbox::new());
     let note = step(device, event, &mut outbox);
     assert_eq!(note, step(other, event, &mut wanted));
@@ -109,18 +109,18 @@ fn is_alike((device, other): (&mut Station, &mut Station), event: &Event) {
     assert_eq!(date, other.running().im2.as_bytes());
 }
 
-/// The rest of the start-up of a relation, and what is exchanged in it.
-fn further_events() -> [Event; 13] {
+/// The rest of the start-up of a relation, by these calls, and what is exchanged in it.
+fn further_events([connect, end, ready, read]: &[Bytes; 4]) -> [Event<'_>; 13] {
     [
         alarm(),
         frame(&ACK),
         frame(&ALARM_ACK),
         frame(&OUTPUTS),
-        Event::Input(1, 1, octets(&[0x12, 0x34])),
-        frame(call(CONNECT, 0, &BLOCKS).as_slice()),
-        frame(call(CONTROL, 1, &PRM_END).as_slice()),
-        frame(response().as_slice()),
-        frame(call(READ, 2, &ASKED).as_slice()),
+        Event::input(1, 1, &[0x12, 0x34]),
+        frame(connect),
+        frame(end),
+        frame(ready),
+        frame(read),
         alarm(),
         frame(&ACK),
         frame(&ALARM_ACK),
@@ -132,7 +132,8 @@ fn further_events() -> [Event; 13] {
 /// in this phase does that met none.
 pub(crate) fn is_untouched(mut device: Station, phase: Option<Phase>) {
     let mut other = at(phase);
-    for event in &further_events() {
+    let calls = [call(CONNECT, 0, &BLOCKS), call(CONTROL, 1, &PRM_END), response(), call(READ, 2, &ASKED)];
+    for event in &further_events(&calls) {
         is_alike((&mut device, &mut other), event);
     }
     is_in(&device, Some(Phase::Exchanging));

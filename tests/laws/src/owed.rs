@@ -1,6 +1,6 @@
 //! A whole new Write to the running address is answered in its step, with a status of its own and one for its record (`octets_law::step`:
 //! `owed`).
-use device_core::Event;
+use device_core::{Event, Octets};
 use frame_codec::{Bytes, Outbox};
 use relations::Phase;
 use test_stations::{BLOCKS, CONNECT, Station, WRITE, addressed, call};
@@ -40,7 +40,7 @@ fn holds(came: &[u8], sent: &[Vec<u8>]) -> bool {
 
 fn stepped(device: &mut Station, bytes: &Bytes) -> Vec<Vec<u8>> {
     let mut outbox = Outbox::new();
-    device.step(&Event::Frame(bytes.clone()), &mut outbox);
+    device.step(&Event::Frame(Octets::of(bytes)), &mut outbox);
     outbox.as_slice().iter().map(|frame| frame.as_slice().to_vec()).collect()
 }
 

@@ -1,14 +1,14 @@
 //! A device with an input in slot 1 and outputs in slots 2 and 3, its controller, and what is seen of each move of both.
 use configurator::plan_from_json;
 use controller_core::{Controller, State};
-use device_core::Device;
+use device_core::{Device, Local};
 use flash_model::MemoryFlash;
 use frame_codec::Outbox;
 use network_world::{End, Move, World};
 use pn_values::{Real, RealModule, RealSubmodule, demo_identity};
 use rattle_std::alloc::Global;
 use relations::{DeviceOptions, Phase};
-use test_stations::{Station, no_modules, octets, set_pump, step};
+use test_stations::{Station, frame, no_modules, octets, set_pump, step};
 use uuid::Uuid;
 
 /// The catalogue of the station, with no records.
@@ -84,7 +84,7 @@ pub(crate) fn as_planned() -> Real {
 /// The station "pump-1", in which this is plugged.
 pub(crate) fn station() -> Station {
     let mut named: Station = Device::boot(demo_identity(), no_modules(), MemoryFlash::blank()).ok().expect("a station");
-    step(&mut named, &set_pump(b'1'), &mut Outbox::new());
+    step(&mut named, &frame(&set_pump(b'1')), &mut Outbox::new());
     Device::boot_with(demo_identity(), as_planned(), DeviceOptions::default(), named.into_flash()).ok().expect("a station")
 }
 
@@ -160,16 +160,16 @@ impl Plant {
     }
 
     pub(crate) fn input(&mut self, value: [u8; 2]) {
-        self.make(Done::Input(value), Vec::new(), Move::Input(1, 1, octets(&value)));
+        self.make(Done::Input(value), Vec::new(), Move::Application(Local::Input(1, 1, octets(&value))));
     }
 
     pub(crate) fn input_status(&mut self, is_good: bool) {
-        self.make(Done::InputStatus(is_good), Vec::new(), Move::Status(1, 1, is_good));
+        self.make(Done::InputStatus(is_good), Vec::new(), Move::Application(Local::Status(1, 1, is_good)));
     }
 
     pub(crate) fn diagnosis(&mut self, fault: Fault, appears: bool) {
         let (slot, subslot, channel, error) = fault;
-        self.make(Done::Changed(fault, appears), Vec::new(), Move::Diagnosis(slot, subslot, channel, error, appears));
+        self.make(Done::Changed(fault, appears), Vec::new(), Move::Application(Local::Diagnosis(slot, subslot, channel, error, appears)));
     }
 
     pub(crate) fn stop(&mut self) {

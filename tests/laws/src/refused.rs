@@ -3,7 +3,7 @@ use crate::plant::station;
 use device_core::{Event, Note};
 use flash_model::Sector;
 use frame_codec::Outbox;
-use test_stations::{BLOCKS, CONNECT, PRM_END, Station, call, frame, octets, set_pump};
+use test_stations::{BLOCKS, CONNECT, PRM_END, Station, call, frame, set_pump};
 
 /// What a device shows, and its flash.
 #[derive(Clone, Debug, PartialEq)]
@@ -40,17 +40,18 @@ fn run() -> Vec<Entry> {
     let mut device = station();
     let mut elsewhere = [0; 60];
     elsewhere[..14].copy_from_slice(&[2, 0, 0, 0, 0, 7, 2, 0, 0, 0, 0, 2, 0x88, 0x92]);
+    let (connect, end, set) = (call(CONNECT, 7, 1, &BLOCKS), call(4, 7, 2, &PRM_END), set_pump(b'2'));
     let events = [
         frame(&elsewhere),
         frame(&[1, 2, 3]),
-        Event::Input(9, 1, octets(&[1, 2])),
-        Event::Alarm(1, 1, octets(&[1])),
-        Event::Ready,
-        Event::Diagnosis(9, 1, 0x8000, 6, true),
-        Event::Frame(call(CONNECT, 7, 1, &BLOCKS)),
-        Event::Frame(call(4, 7, 2, &PRM_END)),
+        Event::input(9, 1, &[1, 2]),
+        Event::alarm(1, 1, &[1]),
+        Event::ready(),
+        Event::diagnosis(9, 1, 0x8000, 6, true),
+        frame(&connect),
+        frame(&end),
         Event::Tick,
-        set_pump(b'2'),
+        frame(&set),
     ];
     let mut entries = Vec::new();
     for event in events {

@@ -71,7 +71,7 @@ fn identified(frames: &[Vec<u8>]) -> Vec<u8> {
 }
 
 /// The frames that a device sends at an event: none if it loses its power in it.
-fn stepped(device: &mut Station, event: &Event) -> Vec<Vec<u8>> {
+fn stepped(device: &mut Station, event: &Event<'_>) -> Vec<Vec<u8>> {
     let mut outbox = Outbox::new();
     device.step(event, &mut outbox);
     if device.is_lost() {
@@ -87,13 +87,13 @@ fn image<const S: usize>(flash: &MemoryFlash<S>) -> Vec<u8> {
 /// A device that has the name "pump-1" is given others. In the last Set power is lost in this call of the flash.
 fn cycle(after: u32, mask: [u8; 8]) -> Cycle {
     let mut device = start(MemoryFlash::blank()).expect("a station");
-    stepped(&mut device, &set_pump(b'1'));
+    stepped(&mut device, &frame(&set_pump(b'1')));
     let mut sets = Vec::new();
     for digit in [b'2', b'3', b'4'] {
         if digit == b'4' {
             device.arm(Order::Cut { after, mask });
         }
-        let sent = stepped(&mut device, &set_pump(digit));
+        let sent = stepped(&mut device, &frame(&set_pump(digit)));
         sets.push(Set { digit, answer: answer(&sent) });
     }
     let mut flash = device.into_flash();
@@ -212,7 +212,8 @@ fn host(after: u32, mask: [u8; 8]) -> (Result<(), FlashFault>, Cycle) {
     chip.fuse(after, mask);
     let mut sent = Sent(Vec::new());
     let digits = [b'2', b'3', b'4'];
-    let mut operations: Vec<Operation> = digits.iter().map(|digit| Operation::Happens(set_pump(*digit))).collect();
+    let asked = digits.map(set_pump);
+    let mut operations: Vec<Operation> = asked.iter().map(|octets| Operation::Happens(frame(octets))).collect();
     operations.push(Operation::Happens(Event::Tick));
     let done = play(&mut port, &mut chip, &operations, &mut sent);
     // The Sets are answered in order; those that were not handed in are not part of the cycle.

@@ -8,7 +8,7 @@ use configurator::plan_from_json;
 use controller_core::{Cause, Controller, ControllerOptions, State};
 use device_core::{Device, Event, Note};
 use flash_model::MemoryFlash;
-use frame_codec::{Bytes, Outbox};
+use frame_codec::Outbox;
 use pn_values::{ParameterRecord, Real, RealModule, RealSubmodule, demo_identity};
 use rattle_std::alloc::Global;
 use relations::Phase;
@@ -74,7 +74,7 @@ fn ends(catalogue: &str, ar: u8, options: ControllerOptions) -> (Station, Contro
     let real = copied(plan.real());
     let mut named: Station =
         Device::boot(demo_identity(), no_modules(), MemoryFlash::blank()).ok().expect("starts");
-    let _ = named.step(&set_pump(b'1'), &mut Outbox::new());
+    let _ = named.step(&frame(&set_pump(b'1')), &mut Outbox::new());
     let device = Device::boot(demo_identity(), real, named.into_flash()).ok().expect("starts");
     let uuid = |octet| Uuid::from_bytes([octet; 16]);
     (device, Controller::new_with(plan, uuid(ar), uuid(ar ^ 0x80), options))
@@ -85,7 +85,7 @@ fn same_frames(one: &Outbox, other: &Outbox) -> bool {
         && one.as_slice().iter().zip(other.as_slice()).all(|(a, b)| a.as_slice() == b.as_slice())
 }
 
-fn events_of(outbox: &Outbox) -> impl Iterator<Item = Event> {
+fn events_of(outbox: &Outbox) -> impl Iterator<Item = Event<'_>> {
     outbox.as_slice().iter().map(|sent| frame(sent.as_slice()))
 }
 
@@ -125,7 +125,7 @@ impl Devices {
         }
     }
 
-    fn step(&mut self, event: &Event) -> (Note, Outbox) {
+    fn step(&mut self, event: &Event<'_>) -> (Note, Outbox) {
         let (mut one, mut other) = (Outbox::new(), Outbox::new());
         let note = self.leaping.step(event, &mut one);
         assert_eq!(note, self.ticking.step(event, &mut other));
@@ -219,8 +219,8 @@ struct Losses {
     acyclic: bool,
 }
 
-fn is_cyclic(event: &Bytes) -> bool {
-    matches!(event.as_slice(), [_, _, _, _, _, _, _, _, _, _, _, _, 0x81, 0x00, _, _, 0x88, 0x92, 0x80..=0xF7, ..])
+fn is_cyclic(octets: &[u8]) -> bool {
+    matches!(octets, [_, _, _, _, _, _, _, _, _, _, _, _, 0x81, 0x00, _, _, 0x88, 0x92, 0x80..=0xF7, ..])
 }
 
 impl Losses {
@@ -241,11 +241,11 @@ impl Losses {
         }
     }
 
-    fn loses(&self, event: &Event, per_cent: u32, random: &mut Random) -> bool {
+    fn loses(&self, event: &Event<'_>, per_cent: u32, random: &mut Random) -> bool {
         let Event::Frame(bytes) = event else {
             return false;
         };
-        (self.acyclic && !is_cyclic(bytes) && random.below(100) < 80) || random.below(100) < per_cent
+        (self.acyclic && !is_cyclic(bytes.as_slice()) && random.below(100) < 80) || random.below(100) < per_cent
     }
 }
 
@@ -293,7 +293,7 @@ impl Net {
                 continue;
             };
             let before = self.controllers.leaping.state();
-            let answers = self.controllers.step(&controller_core::Event::Frame(bytes));
+            let answers = self.controllers.step(&controller_core::Event::Frame(octets(bytes.as_slice())));
             if before != State::Exchanging && self.controllers.leaping.state() == State::Exchanging {
                 self.seen.exchanging += 1;
             }
@@ -309,14 +309,13 @@ impl Net {
                 self.to_controller(&sent, 4);
             }
             1 | 2 => {
-                let octets = octets(&[1, 2, 3]);
-                let (note, sent) = self.devices.step(&Event::Alarm(1, 1, octets));
+                let (note, sent) = self.devices.step(&Event::alarm(1, 1, &[1, 2, 3]));
                 self.seen.alarms += u64::from(note == Note::Done);
                 self.to_controller(&sent, 4);
             }
             3 => {
                 let value = [self.random.below(256) as u8, 7];
-                let _ = self.devices.step(&Event::Input(1, 1, octets(&value)));
+                let _ = self.devices.step(&Event::input(1, 1, &value));
             }
             4 => {
                 let value = [self.random.below(256) as u8, 9];

@@ -28,7 +28,7 @@ impl Product for Pump {
 struct Diary(Vec<Told>);
 
 impl Witness for Diary {
-    fn tell(&mut self, event: &Event, frames: &Outbox) {
+    fn tell(&mut self, event: &Event<'_>, frames: &Outbox) {
         let given = match event {
             Event::Frame(octets) => Given::Frame(octets.as_slice().to_vec()),
             Event::Call(_, _, call) => Given::Call(call.as_slice().to_vec()),
@@ -39,7 +39,7 @@ impl Witness for Diary {
 }
 
 /// The events of these cycles.
-fn events(cycles: &[Cycle]) -> Vec<Events<Event>> {
+fn events(cycles: &[Cycle]) -> Vec<Events<Event<'_>>> {
     cycles
         .iter()
         .map(|cycle| {

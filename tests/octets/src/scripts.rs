@@ -1,7 +1,7 @@
 //! Random scripts, given to the device over a flash in memory.
 use crate::judge::{Given, Settings, Told, Verdict, judge};
 use arrayvec::ArrayVec;
-use device_core::{Caller, Device, Event, LongCall};
+use device_core::{Caller, Device, Event, Octets};
 use flash_model::{MemoryFlash, Order};
 use frame_codec::{Endpoint, Outbox};
 use pn_values::{Mac, demo_identity};
@@ -243,12 +243,10 @@ fn given(random: &mut Random, place: usize, before: &[Told], next: &mut u16) -> 
     }
 }
 
-pub(crate) fn event(given: &Given) -> Event {
+pub(crate) fn event(given: &Given) -> Event<'_> {
     match given {
         Given::Frame(octets) => frame(octets),
         Given::Call(octets) => {
-            let mut call = LongCall::new();
-            let _ = call.try_extend_from_slice(octets);
             let caller = Caller {
                 mac: Mac {
                     octets: [2, 0, 0, 0, 0, 2],
@@ -258,7 +256,7 @@ pub(crate) fn event(given: &Given) -> Event {
                     port: 0x8894,
                 },
             };
-            Event::Call(caller, [192, 168, 0, 2], call)
+            Event::Call(caller, [192, 168, 0, 2], Octets::of(octets))
         }
         Given::Other => Event::Tick,
     }

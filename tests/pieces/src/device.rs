@@ -1,7 +1,7 @@
 //! A call in fragments at a device: joined, and handed to it as one call.
 
 use super::passes::{body, connect, joined};
-use device_core::{Caller, Event, LongCall, Note};
+use device_core::{Caller, Event, Note, Octets};
 use frame_codec::{Endpoint, Outbox};
 use pn_values::Mac;
 use test_stations::{addressed, step};
@@ -17,10 +17,8 @@ const CALLER: Caller = Caller {
 };
 
 /// The event of a joined call.
-fn event(octets: &[u8]) -> Event {
-    let mut whole = LongCall::new();
-    whole.try_extend_from_slice(octets).expect("room");
-    Event::Call(CALLER, [192, 168, 0, 2], whole)
+fn event(octets: &[u8]) -> Event<'_> {
+    Event::Call(CALLER, [192, 168, 0, 2], Octets::of(octets))
 }
 
 #[test]
@@ -38,14 +36,12 @@ fn a_connect_of_64_modules_is_accepted() {
     assert!(device.phase().is_some());
     // A repeat gets the same answer.
     assert_eq!(
-        device.step_call(&CALLER, [192, 168, 0, 2], &whole, &mut outbox),
+        step(&mut device, &event(&whole), &mut outbox),
         Note::Done
     );
     assert_eq!(outbox.as_slice()[0].as_slice(), answer.as_slice());
     // To another address it is not the device's.
-    assert_eq!(
-        device.step_call(&CALLER, [192, 168, 0, 3], &whole, &mut outbox),
-        Note::NotMine
-    );
+    let elsewhere = Event::Call(CALLER, [192, 168, 0, 3], Octets::of(&whole));
+    assert_eq!(step(&mut device, &elsewhere, &mut outbox), Note::NotMine);
     assert!(outbox.as_slice().is_empty());
 }

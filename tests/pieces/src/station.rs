@@ -2,19 +2,19 @@
 
 use super::passes::{body, connect, write};
 use super::writer::{Packet, fragment};
-use device_core::{Event, Note};
+use device_core::Note;
 use flash_model::MemoryFlash;
 use frame_codec::{Bytes, Outbox, ones_sum};
 use station::{IoStation, StationOutbox};
-use test_stations::addressed;
+use test_stations::{addressed, frame as heard};
 
 /// The frame that takes the body of a datagram from 192.168.0.1 to the station.
-fn frame(datagram: &[u8]) -> Event {
+fn frame(datagram: &[u8]) -> Bytes {
     frame_from([192, 168, 0, 1], datagram)
 }
 
 /// The same from another IP address.
-fn frame_from(address: [u8; 4], datagram: &[u8]) -> Event {
+fn frame_from(address: [u8; 4], datagram: &[u8]) -> Bytes {
     let length = u16::try_from(datagram.len()).expect("a length");
     let mut packet = vec![0x45, 0];
     packet.extend((length + 28).to_be_bytes());
@@ -34,7 +34,7 @@ fn frame_from(address: [u8; 4], datagram: &[u8]) -> Event {
     ] {
         bytes.try_extend_from_slice(part).expect("room");
     }
-    Event::Frame(bytes)
+    bytes
 }
 
 /// Gives a station the fragments of a call, whose sender wants acknowledgements or not. All fragments but the last one may be known
@@ -59,7 +59,7 @@ fn answered(
             ..piece
         };
         assert_eq!(
-            station.step(&frame(&piece.octets()), &mut outbox),
+            station.step(&heard(&frame(&piece.octets())), &mut outbox),
             Note::Done
         );
         if last {
@@ -108,7 +108,7 @@ fn a_connect_of_64_modules_in_fragments_is_answered() {
     };
     let mut outbox = StationOutbox::new();
     assert_eq!(
-        station.step(&frame(&last.octets()), &mut outbox),
+        station.step(&heard(&frame(&last.octets())), &mut outbox),
         Note::Done
     );
     assert_eq!(outbox.device()[0].as_slice(), first);
@@ -151,7 +151,7 @@ fn an_unknown_operation_in_fragments_is_rejected_as_one_in_a_datagram() {
                 ..piece(0, false)
             };
             assert_eq!(
-                station.step(&frame(&single.octets()), &mut outbox),
+                station.step(&heard(&frame(&single.octets())), &mut outbox),
                 Note::Done
             );
             let rejection = bodies(&outbox);
@@ -163,14 +163,14 @@ fn an_unknown_operation_in_fragments_is_rejected_as_one_in_a_datagram() {
             assert_eq!(rejection[0][..3], [4, 6, 8]);
             assert_eq!(rejection[0][80..84], status);
             assert_eq!(
-                station.step(&frame(&piece(0, false).octets()), &mut outbox),
+                station.step(&heard(&frame(&piece(0, false).octets())), &mut outbox),
                 Note::Done
             );
             assert_eq!(bodies(&outbox), [piece(0, false).fack(0)]);
             // A repeat of the last fragment is rejected again.
             for _ in 0..2 {
                 assert_eq!(
-                    station.step(&frame(&piece(1, true).octets()), &mut outbox),
+                    station.step(&heard(&frame(&piece(1, true).octets())), &mut outbox),
                     Note::Done
                 );
                 assert_eq!(bodies(&outbox), rejection);
@@ -188,13 +188,13 @@ fn a_fragment_that_is_neither_joined_nor_acknowledged_has_the_note_of_the_device
         ..fragment(1, 7, number, &[1, 2, 3], false)
     };
     let mut note = |datagram: &[u8]| {
-        let note = station.step(&frame(datagram), &mut outbox);
+        let note = station.step(&heard(&frame(datagram)), &mut outbox);
         assert!(bodies(&outbox).len() <= 1);
         note
     };
     let alone = addressed()
         .expect("a device")
-        .step(&frame(&quiet(1).octets()), &mut Outbox::new());
+        .step(&heard(&frame(&quiet(1).octets())), &mut Outbox::new());
     assert_ne!(alone, Note::Done);
     // It has no call here.
     assert_eq!(note(&quiet(1).octets()), alone);
@@ -236,7 +236,7 @@ fn fragments_are_joined_only_if_another_station_may_have_sent_them() {
     ] {
         let mut station = IoStation::new(addressed().expect("a device"));
         let mut outbox = StationOutbox::new();
-        station.step(&frame_from(address, &first), &mut outbox);
+        station.step(&heard(&frame_from(address, &first)), &mut outbox);
         assert_eq!(bodies(&outbox).len(), facks, "{address:?}");
     }
 }

@@ -1,10 +1,10 @@
 //! The reference host over a chip in memory: a name is set, and each call of the chip is struck in turn.
 use crate::stations::booted;
 use pn_values::demo_identity;
-use device_core::{Device, Event, Sink};
+use device_core::{Device, Event, Octets, Sink};
 use device_abi::{Operation, play};
 use flash_model::MemoryFlash;
-use frame_codec::{Bytes, Frame};
+use frame_codec::Frame;
 use test_stations::{DONE, SET, plugged};
 
 type Chip = MemoryFlash<4096>;
@@ -22,13 +22,6 @@ impl Sink for Sent {
     }
 }
 
-/// The octets of a frame, as an event.
-fn event(octets: &[u8]) -> Event {
-    let mut bytes = Bytes::new();
-    bytes.try_extend_from_slice(octets).expect("room");
-    Event::Frame(bytes)
-}
-
 /// The host sets the name "pump-1", then lets a unit pass.
 fn set_a_name(chip: &mut Chip) -> (bool, Sent) {
     let mut port = booted();
@@ -37,7 +30,7 @@ fn set_a_name(chip: &mut Chip) -> (bool, Sent) {
         last: Frame::new(),
     };
     let operations = [
-        Operation::Happens(event(&SET)),
+        Operation::Happens(Event::Frame(Octets::of(&SET))),
         Operation::Happens(Event::Tick),
     ];
     let done = play(&mut port, chip, &operations, &mut sent).is_ok();

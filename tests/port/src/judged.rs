@@ -54,7 +54,7 @@ fn station() -> Station {
 fn fault(change: fn(&mut Station)) -> u32 {
     let mut station = station();
     change(&mut station);
-    judge(88064, 5, 1568, &station)
+    judge(79872, 6, 1664, &station)
 }
 
 #[test]
@@ -106,7 +106,7 @@ fn each_fault_has_its_number() {
 #[test]
 fn another_header_or_a_small_room() {
     let station = station();
-    for (size, abi, op_size, wanted) in [(88064, 4, 1568, 2), (88064, 6, 1568, 2), (88064, 5, 1564, 2), (88063, 5, 1568, 3)] {
+    for (size, abi, op_size, wanted) in [(79872, 5, 1664, 2), (79872, 7, 1664, 2), (79872, 6, 1660, 2), (79871, 6, 1664, 3)] {
         assert_eq!(judge(size, abi, op_size, &station), wanted);
     }
 }

@@ -1,9 +1,18 @@
 //! Operations as a host in C calls them: numbers, answers, and where the reported values are.
 use crate::served::{alone, booted, busy, lost, made};
 use c_layout::Op;
-use station_abi::{hand_out, serve};
+use station_abi::{Reason, hand_out, serve};
 use device_abi::Port;
+use std::mem::offset_of;
 use test_stations::SET;
+
+/// The header of the device.
+const HEADER: &str = include_str!("../../../include/nandutable.h");
+
+/// The lines of the header from this one on, up to the one that ends it.
+fn lines_of(begin: &str) -> impl Iterator<Item = &'static str> {
+    HEADER.lines().skip_while(move |line| !line.starts_with(begin)).skip(1).take_while(|line| !line.starts_with('}'))
+}
 
 /// An operation of this number, with nothing else in it.
 pub(crate) fn asked(what: u32) -> Op {
@@ -11,15 +20,39 @@ pub(crate) fn asked(what: u32) -> Op {
         what,
         slot: 0,
         subslot: 0,
+        index: 0,
+        number: 0,
+        channel: 0,
+        error: 0,
+        appears: 0,
+        is_good: 0,
+        is_up: 0,
+        is_low: 0,
         units: 0,
+        due: 0,
         note: 0,
+        reason: 0,
         phase: 0,
+        cause: 0,
+        lamp: 0,
+        iops: 0,
+        data_status: 0,
+        count: 0,
+        left_out: 0,
+        commits: 0,
+        status: 0,
+        block_error: 0,
+        alarm_type: 0,
+        specifier: 0,
+        structure: 0,
+        sequence: 0,
+        port_length: 0,
+        chassis_length: 0,
         work: 0,
         more: 0,
         sector: 0,
         place: 0,
         length: 0,
-        due: 0,
         octets: [0; 1520],
     }
 }
@@ -103,12 +136,9 @@ fn a_frame_is_handed_out_where_it_lies() {
 #[test]
 fn an_event_without_work_tells_none() {
     let mut port = alone();
-    for what in [3, 4, 5] {
-        let mut op = asked(what);
-        op.work = 3;
-        op.units = 1000;
-        op.slot = 1;
-        op.subslot = 1;
+    for what in [3, 4, 16] {
+        let mut op = asked_of(what, 1, 1);
+        (op.work, op.units) = (3, 1000);
         assert_eq!(serve(&mut port, &mut op, &[1, 2]), 0);
         assert_eq!(op.work, 0);
     }
@@ -119,7 +149,7 @@ fn an_event_without_work_tells_none() {
 fn what_is_due_is_told() {
     let mut op = asked(15);
     assert_eq!(serve(&mut alone(), &mut op, &[]), 0);
-    assert_eq!((op.units, op.work), (u32::MAX, 0));
+    assert_eq!((op.due, op.work), (u32::MAX, 0));
     let mut op = asked(4);
     (op.units, op.due) = (9, 8);
     assert_eq!(serve(&mut busy(), &mut op, &[]), 7);
@@ -156,16 +186,52 @@ fn asked_of(what: u32, slot: u32, subslot: u32) -> Op {
     op
 }
 
-// A status is that of what is plugged; without a relation too. The number of `place` that is not 0 is good.
+/// What the device refused: the answer 44, and the reason. What was there before stays.
+const REFUSED: u32 = 44;
+
+// A status is that of what is plugged; without a relation too. The number of `is_good` that is not 0 is good. A refused one says
+// why, and no other field changes.
 #[test]
 fn a_status_is_given_to_what_is_plugged() {
-    for (slot, subslot, place, answer, note) in
-        [(1, 1, 0, 0, 0), (1, 1, 1, 0, 0), (2, 1, 9, 0, 0), (0, 1, 0, 0, 0), (1, 2, 0, 0, 7), (9, 1, 1, 0, 7), (65536 + 1, 1, 1, 9, 5), (1, 65536 + 1, 1, 9, 5)]
-    {
+    for (slot, subslot, is_good, answer, note, reason) in [
+        (1, 1, 0, 0, 0, 8),
+        (1, 1, 1, 0, 0, 8),
+        (2, 1, 9, 0, 0, 8),
+        (0, 1, 0, 0, 0, 8),
+        (1, 2, 0, REFUSED, 5, 1),
+        (9, 1, 1, REFUSED, 5, 1),
+        (65536 + 1, 1, 1, 9, 5, 8),
+        (1, 65536 + 1, 1, 9, 5, 8),
+    ] {
         let mut op = asked_of(16, slot, subslot);
-        (op.place, op.note) = (place, 5);
+        (op.is_good, op.note, op.reason) = (is_good, 5, 8);
         assert_eq!(serve(&mut booted(), &mut op, &[]), answer, "{slot} {subslot}");
-        assert_eq!((op.note, op.work, op.place), (note, 0, place), "{slot} {subslot}");
+        assert_eq!((op.note, op.work, op.is_good, op.reason), (note, 0, is_good, reason), "{slot} {subslot}");
+    }
+}
+
+// Without a relation each input and alarm is refused: of what is not plugged, of another length, or for want of a relation.
+#[test]
+fn inputs_and_alarms_without_a_relation() {
+    let long = [0; 2000];
+    for (what, slot, subslot, length, reason) in [
+        (5, 9, 1, 2, 1),
+        (5, 1, 2, 2, 1),
+        (5, 1, 1, 1, 3),
+        (5, 1, 1, 3, 3),
+        (5, 1, 1, 1519, 3),
+        (5, 1, 1, 2000, 3),
+        (5, 1, 1, 2, 2),
+        (5, 2, 1, 2, 3),
+        (5, 2, 1, 0, 2),
+        (6, 9, 1, 1, 1),
+        (6, 1, 1, 33, 3),
+        (6, 1, 1, 32, 2),
+        (6, 1, 1, 0, 2),
+    ] {
+        let mut op = asked_of(what, slot, subslot);
+        assert_eq!(serve(&mut booted(), &mut op, &long[..length]), REFUSED, "{what} {slot} {subslot} {length}");
+        assert_eq!((op.reason, op.note, op.work, op.length), (reason, 0, 0, 0), "{what} {slot} {subslot} {length}");
     }
 }
 
@@ -173,25 +239,39 @@ fn a_status_is_given_to_what_is_plugged() {
 #[test]
 fn a_diagnosis_is_given_to_what_is_plugged() {
     let mut port = booted();
-    for (slot, subslot, channel, error, appears, answer, note) in [
+    for (slot, subslot, channel, error, appears, answer, reason) in [
         (1, 1, 3, 6, 1, 0, 0),
-        (1, 1, 3, 6, 9, 0, 7),
+        (1, 1, 3, 6, 9, REFUSED, 8),
         (1, 1, 3, 6, 0, 0, 0),
-        (1, 1, 3, 6, 0, 0, 7),
+        (1, 1, 3, 6, 0, REFUSED, 9),
         (2, 1, 0x8000, 0xFFFF, 1, 0, 0),
-        (2, 1, 0x8001, 1, 1, 0, 7),
-        (2, 1, 1, 0, 1, 0, 7),
-        (1, 2, 1, 1, 1, 0, 7),
-        (65536 + 1, 1, 1, 1, 1, 9, 5),
-        (1, 65536 + 1, 1, 1, 1, 9, 5),
-        (1, 1, 65536 + 1, 1, 1, 9, 5),
-        (1, 1, 1, 65536 + 1, 1, 9, 5),
+        (2, 1, 0x8001, 1, 1, REFUSED, 7),
+        (2, 1, 1, 0, 1, REFUSED, 7),
+        (2, 1, 1, 0, 0, REFUSED, 7),
+        (1, 2, 1, 1, 1, REFUSED, 1),
+        (1, 2, 0x8001, 0, 1, REFUSED, 1),
+        (65536 + 1, 1, 1, 1, 1, 9, 0),
+        (1, 65536 + 1, 1, 1, 1, 9, 0),
+        (1, 1, 65536 + 1, 1, 1, 9, 0),
+        (1, 1, 1, 65536 + 1, 1, 9, 0),
     ] {
         let mut op = asked_of(19, slot, subslot);
-        (op.units, op.sector, op.place, op.note) = (channel, error, appears, 5);
+        (op.channel, op.error, op.appears, op.note) = (channel, error, appears, 5);
         assert_eq!(serve(&mut port, &mut op, &[]), answer, "{slot} {subslot} {channel} {error} {appears}");
-        assert_eq!((op.note, op.work), (note, 0), "{slot} {subslot} {channel} {error} {appears}");
-        assert_eq!((op.units, op.sector, op.place), (channel, error, appears));
+        let note = if answer == 0 { 0 } else { 5 };
+        assert_eq!((op.note, op.work, op.reason), (note, 0, reason), "{slot} {subslot} {channel} {error} {appears}");
+        assert_eq!((op.channel, op.error, op.appears), (channel, error, appears));
+    }
+}
+
+// The list has room for 32.
+#[test]
+fn a_33rd_diagnosis_finds_no_room() {
+    let mut port = booted();
+    for (channel, answer, reason) in (0..32).map(|channel| (channel, 0, 0)).chain([(32, REFUSED, 10), (31, REFUSED, 8)]) {
+        let mut op = asked_of(19, 1, 1);
+        (op.channel, op.error, op.appears) = (channel, 1, 1);
+        assert_eq!((serve(&mut port, &mut op, &[]), op.reason), (answer, reason), "{channel}");
     }
 }
 
@@ -199,8 +279,8 @@ fn a_diagnosis_is_given_to_what_is_plugged() {
 #[test]
 fn ready_and_the_provider_need_a_relation() {
     let mut op = asked(17);
-    assert_eq!(serve(&mut booted(), &mut op, &[]), 0);
-    assert_eq!((op.note, op.work), (7, 0));
+    assert_eq!(serve(&mut booted(), &mut op, &[]), REFUSED);
+    assert_eq!((op.reason, op.note, op.work), (2, 0, 0));
     for (slot, subslot) in [(2, 1), (9, 9), (65536 + 2, 1)] {
         let mut op = asked_of(18, slot, subslot);
         op.length = 5;
@@ -227,10 +307,83 @@ fn settings_are_told() {
 
 // A blank flash takes 65,535 bases with 14 slots each; a Set takes one of these commits.
 #[test]
-fn commits_that_are_left_are_told_at_the_place() {
+fn commits_that_are_left_are_told() {
     for (mut port, left) in [(booted(), 983_025), (busy(), 983_024)] {
         let mut op = asked(14);
         assert_eq!(serve(&mut port, &mut op, &[]), 0);
-        assert_eq!((op.place, op.units, op.note), (left, 0, 0));
+        assert_eq!((op.commits, op.count, op.note), (left, 0, 0));
     }
+}
+
+// Each field of an operation lies where the header says: all but the octets are numbers of four octets, in this order.
+#[test]
+fn the_fields_are_those_of_the_header() {
+    let named: Vec<&str> = lines_of("typedef struct pn_op {").filter_map(|line| line.trim().strip_prefix("uint32_t ")?.split(';').next()).collect();
+    let fields = [
+        ("what", offset_of!(Op, what)),
+        ("slot", offset_of!(Op, slot)),
+        ("subslot", offset_of!(Op, subslot)),
+        ("index", offset_of!(Op, index)),
+        ("number", offset_of!(Op, number)),
+        ("channel", offset_of!(Op, channel)),
+        ("error", offset_of!(Op, error)),
+        ("appears", offset_of!(Op, appears)),
+        ("is_good", offset_of!(Op, is_good)),
+        ("is_up", offset_of!(Op, is_up)),
+        ("is_low", offset_of!(Op, is_low)),
+        ("units", offset_of!(Op, units)),
+        ("due", offset_of!(Op, due)),
+        ("note", offset_of!(Op, note)),
+        ("reason", offset_of!(Op, reason)),
+        ("phase", offset_of!(Op, phase)),
+        ("cause", offset_of!(Op, cause)),
+        ("lamp", offset_of!(Op, lamp)),
+        ("iops", offset_of!(Op, iops)),
+        ("data_status", offset_of!(Op, data_status)),
+        ("count", offset_of!(Op, count)),
+        ("left_out", offset_of!(Op, left_out)),
+        ("commits", offset_of!(Op, commits)),
+        ("status", offset_of!(Op, status)),
+        ("block_error", offset_of!(Op, block_error)),
+        ("alarm_type", offset_of!(Op, alarm_type)),
+        ("specifier", offset_of!(Op, specifier)),
+        ("structure", offset_of!(Op, structure)),
+        ("sequence", offset_of!(Op, sequence)),
+        ("port_length", offset_of!(Op, port_length)),
+        ("chassis_length", offset_of!(Op, chassis_length)),
+        ("work", offset_of!(Op, work)),
+        ("more", offset_of!(Op, more)),
+        ("sector", offset_of!(Op, sector)),
+        ("place", offset_of!(Op, place)),
+        ("length", offset_of!(Op, length)),
+    ];
+    assert_eq!(named.len(), fields.len());
+    for (place, (name, offset)) in fields.into_iter().enumerate() {
+        assert_eq!((named[place], 4 * place), (name, offset));
+    }
+    assert_eq!((offset_of!(Op, octets), size_of::<Op>()), (4 * named.len(), 1664));
+}
+
+#[test]
+fn the_reasons_are_those_of_the_header() {
+    let numbers: Vec<(&str, u32)> = lines_of("enum pn_reason {")
+        .filter_map(|line| line.trim().strip_prefix("PN_WHY_")?.split_once(" = "))
+        .filter_map(|(name, rest)| Some((name, rest.split([',', ' ']).next()?.parse().ok()?)))
+        .collect();
+    let reasons = [
+        ("NOT_PLUGGED", Reason::NotPlugged),
+        ("NO_RELATION", Reason::NoRelation),
+        ("BAD_LENGTH", Reason::BadLength),
+        ("NO_PLACE", Reason::NoPlace),
+        ("NO_EXCHANGE", Reason::NoExchange),
+        ("ALARM_OPEN", Reason::AlarmOpen),
+        ("BAD_NUMBER", Reason::BadNumber),
+        ("EXISTS", Reason::Exists),
+        ("ABSENT", Reason::Absent),
+        ("FULL", Reason::Full),
+        ("CHANGES_WAIT", Reason::ChangesWait),
+        ("TOO_EARLY", Reason::TooEarly),
+        ("TOO_LATE", Reason::TooLate),
+    ];
+    assert_eq!(numbers, reasons.map(|(name, reason)| (name, reason.number())));
 }

@@ -66,11 +66,11 @@ fn write(port: &mut Port, sequence: u8, value: [u8; 2]) {
 /// An operation with a number in its place: its answer, slot, subslot, index and octets.
 fn record(port: &mut Port, what: u32, number: u32) -> Option<(u32, u32, u32, Vec<u8>)> {
     let mut op = asked(what);
-    op.place = number;
+    op.number = number;
     match serve(port, &mut op, &[]) {
-        0 => Some((op.slot, op.subslot, op.place, op.octets[..op.length as usize].to_vec())),
+        0 => Some((op.slot, op.subslot, op.index, op.octets[..op.length as usize].to_vec())),
         refused => {
-            assert_eq!((refused, op.place), (15, number));
+            assert_eq!((refused, op.number), (15, number));
             None
         }
     }
@@ -80,7 +80,7 @@ fn record(port: &mut Port, what: u32, number: u32) -> Option<(u32, u32, u32, Vec
 fn passed_on(port: &mut Port) -> u32 {
     let mut op = asked(23);
     assert_eq!(serve(port, &mut op, &[]), 0);
-    op.units
+    op.count
 }
 
 #[test]

@@ -3,7 +3,7 @@
 use crate::operations::asked;
 use crate::stations::demo;
 use device_abi::{Operation, Port, play};
-use device_core::{Device, Event, Sink};
+use device_core::{Device, Event, Octets, Sink};
 use flash_model::{MemoryFlash, Sector};
 use pn_values::demo_identity;
 use relations::DeviceOptions;
@@ -130,7 +130,7 @@ fn pass_each(port: &mut Port, units: u32) -> (u32, u32, Vec<Vec<u8>>) {
 fn conflicts(port: &mut Port) -> u32 {
     let mut op = asked(20);
     assert_eq!(serve(port, &mut op, &[]), 0);
-    op.units
+    op.count
 }
 
 #[test]
@@ -195,9 +195,9 @@ fn the_host_says_what_the_link_is() {
     let mut port = booted();
     let announced = |port: &mut Port, digits: &str| holds(&pass(port, 160_000).2[0], digits);
     assert!(!announced(&mut port, "00120f01"));
-    let said = |port: &mut Port, place: u32, given: &[u8]| {
+    let said = |port: &mut Port, is_up: u32, given: &[u8]| {
         let mut op = asked(21);
-        op.place = place;
+        op.is_up = is_up;
         serve(port, &mut op, given)
     };
     assert_eq!(said(&mut port, 1, &[3, 0x6C, 0, 0, 30]), 0);
@@ -236,16 +236,14 @@ impl Model {
         Model { station: IoStation::new(device.ok().expect("starts")), outbox: StationOutbox::new() }
     }
 
-    fn step(&mut self, event: &Event) -> Vec<Vec<u8>> {
+    fn step(&mut self, event: &Event<'_>) -> Vec<Vec<u8>> {
         let _ = self.station.step(event, &mut self.outbox);
         let all = [self.outbox.device(), self.outbox.services()];
         all.iter().flat_map(|frames| frames.iter().map(|frame| frame.as_slice().to_vec())).collect()
     }
 
     fn hear(&mut self, digits: &str) -> Vec<Vec<u8>> {
-        let mut bytes = frame_codec::Bytes::new();
-        bytes.try_extend_from_slice(&octets(digits)).expect("room");
-        self.step(&Event::Frame(bytes))
+        self.step(&Event::Frame(Octets::of(&octets(digits))))
     }
 
     /// Up to the first unit that sends something.
@@ -296,13 +294,10 @@ impl Sink for Sent {
 
 #[test]
 fn the_reference_host_drives_the_device_and_its_services() {
-    let event = |digits: &str| {
-        let mut bytes = frame_codec::Bytes::new();
-        bytes.try_extend_from_slice(&octets(digits)).expect("room");
-        Operation::Happens(Event::Frame(bytes))
-    };
+    let frames = [SWITCH, ADDRESS, PING, BY_ALIAS].map(octets);
+    let [switch, address, ping, by_alias] = frames.each_ref().map(|octets| Operation::Happens(Event::Frame(Octets::of(octets))));
     let mut sent = Sent(Vec::new());
-    let operations = [event(SWITCH), event(ADDRESS), event(PING), Operation::Works, event(BY_ALIAS), Operation::Works];
+    let operations = [switch, address, ping, Operation::Works, by_alias, Operation::Works];
     let mut port = booted();
     assert!(play(&mut port, &mut MemoryFlash::<4096>::blank(), &operations, &mut sent).is_ok());
     // The services answer the ping, and the device answers by the name that it has of its neighbour.

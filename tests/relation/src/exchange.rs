@@ -3,7 +3,7 @@ use crate::Tried;
 use crate::connects::{MOVED, THREE, connect};
 use crate::requests::{exchanging, exchanging_by, related, served};
 use device_core::{Event, Note};
-use frame_codec::Outbox;
+use frame_codec::{Bytes, Outbox};
 use relations::Phase;
 use test_stations::{
     CONNECT, CONTROL, END, PRM_END, RELEASE, Station, call, frame, is_filled, octets, response, set,
@@ -54,8 +54,8 @@ const SPENT: [u8; 36] =
     \x00\x01\x00\x01\x14\x01\xff\xff\xff\xfe\x00\x04\xcf\x81\xfd\x0d";
 
 // The application raises an alarm of the module in slot 1.
-fn alarm(bytes: &[u8]) -> Event {
-    Event::Alarm(1, 1, octets(bytes))
+fn alarm(bytes: &[u8]) -> Event<'_> {
+    Event::alarm(1, 1, bytes)
 }
 
 impl Tried {
@@ -88,7 +88,7 @@ fn inputs_are_sent_each_interval() {
         (&[0x12], Note::Refused),
         (&[], Note::Refused),
     ] {
-        let given = Event::Input(1, 1, octets(value));
+        let given = Event::input(1, 1, value);
         device.sends_none(&given, note);
     }
     device.sends_interval([0x12, 0x34]);
@@ -114,7 +114,7 @@ fn an_alarm_of_another_submodule() {
     let mut notified = NOTIFIED;
     notified[44..48].copy_from_slice(&[0x00, 0x00, 0x80, 0x00]);
     notified[48..56].copy_from_slice(&[0, 0, 0, 1, 0, 0, 0, 2]);
-    let raised = Event::Alarm(0, 0x8000, octets(&[0xAA, 0xBB]));
+    let raised = Event::alarm(0, 0x8000, &[0xAA, 0xBB]);
     device.sends(&raised, &notified);
 }
 
@@ -166,13 +166,13 @@ fn an_alarm_that_nobody_acknowledges() {
 }
 
 /// A cyclic frame with this CycleCounter and this output.
-pub(crate) fn outputs(counter: u16, [first, second]: [u8; 2]) -> Event {
+pub(crate) fn outputs(counter: u16, [first, second]: [u8; 2]) -> Bytes {
     let [high, low] = counter.to_be_bytes();
     let mut bytes = octets(&OUTPUTS);
     for (place, octet) in [(20, first), (21, second), (60, high), (61, low)] {
         set(&mut bytes, place, octet);
     }
-    Event::Frame(bytes)
+    bytes
 }
 
 // Cyclic frames by their CycleCounter and their output, the note of each, and the output after it.
@@ -190,7 +190,7 @@ fn outputs_are_those_of_the_newest_frame() {
     let mut device = Tried::new(exchanging());
     device.is_output([0, 0]);
     for (counter, value, note, shown) in NEWER_AND_OLDER {
-        device.sends_none(&outputs(counter, value), note);
+        device.sends_none(&frame(&outputs(counter, value)), note);
         device.is_output(shown);
     }
 }

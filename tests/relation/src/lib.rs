@@ -38,18 +38,18 @@ impl Tried {
     }
 
     /// This becomes of an event.
-    fn notes(&mut self, event: &Event, note: Note) {
+    fn notes(&mut self, event: &Event<'_>, note: Note) {
         assert_eq!(step(&mut self.station, event, &mut self.last), note);
     }
 
     /// An event is accepted, and one frame is sent: these octets, filled up.
-    fn sends(&mut self, event: &Event, octets: &[u8]) {
+    fn sends(&mut self, event: &Event<'_>, octets: &[u8]) {
         self.notes(event, Note::Done);
         assert!(is_padded(&self.last, octets));
     }
 
     /// This becomes of an event, and nothing is sent.
-    fn sends_none(&mut self, event: &Event, note: Note) {
+    fn sends_none(&mut self, event: &Event<'_>, note: Note) {
         self.notes(event, note);
         assert_eq!(self.last.len(), 0);
     }

@@ -7,7 +7,7 @@ use device_core::{Device, Event, Note};
 use flash_model::MemoryFlash;
 use pn_values::{demo_identity, demo_modules};
 use relations::Phase;
-use test_stations::{READ, call, frame, octets as octets_of};
+use test_stations::{READ, call, frame};
 
 /// The name, the address, a Connect, PrmEnd, and the answer to ApplicationReady, of the demo station.
 const BEFORE: [&str; 5] = [
@@ -102,7 +102,7 @@ const DATA: [(&str, &str); 2] = [
 fn the_data_that_is_exchanged_is_read() {
     for (call, answer) in DATA {
         let mut device = exchanging();
-        device.notes(&Event::Input(1, 1, octets_of(&[0x12, 0x34])), Note::Done);
+        device.notes(&Event::input(1, 1, &[0x12, 0x34]), Note::Done);
         device.notes(&frame(&octets(OUTPUTS)), Note::Done);
         device.sends(&frame(&octets(call)), &octets(answer));
     }
@@ -179,18 +179,18 @@ fn the_status_of_the_last_frame_is_read() {
     let mut device = Tried::new(related(600, THREE));
     // No frame was sent yet, whatever diagnosis exists.
     assert_eq!(told_status(&mut device, 1), 0);
-    device.notes(&Event::Diagnosis(1, 1, 0x8000, 1, true), Note::Done);
+    device.notes(&Event::diagnosis(1, 1, 0x8000, 1, true), Note::Done);
     assert_eq!(told_status(&mut device, 2), 0);
     assert_eq!(sent_status(&mut device), 0x15);
     assert_eq!(told_status(&mut device, 3), 0x15);
     // A change is in the next frame, and not in the last one.
-    device.notes(&Event::Diagnosis(1, 1, 0x8000, 1, false), Note::Done);
+    device.notes(&Event::diagnosis(1, 1, 0x8000, 1, false), Note::Done);
     assert_eq!(told_status(&mut device, 4), 0x15);
-    device.notes(&Event::Diagnosis(1, 1, 0x8000, 2, true), Note::Done);
-    device.notes(&Event::Diagnosis(1, 1, 0x8000, 2, false), Note::Done);
+    device.notes(&Event::diagnosis(1, 1, 0x8000, 2, true), Note::Done);
+    device.notes(&Event::diagnosis(1, 1, 0x8000, 2, false), Note::Done);
     assert_eq!(told_status(&mut device, 5), 0x15);
     assert_eq!(sent_status(&mut device), 0x35);
-    device.notes(&Event::Diagnosis(1, 1, 0x8000, 3, true), Note::Done);
+    device.notes(&Event::diagnosis(1, 1, 0x8000, 3, true), Note::Done);
     assert_eq!(told_status(&mut device, 6), 0x35);
     // The next relation has sent none.
     let _ = crate::requests::served(&mut device.station, &call(1, 7, 100, &test_stations::END));

@@ -4,14 +4,14 @@ use crate::connects::{Blocks, THREE, connect};
 use crate::exchange::outputs;
 use crate::records::many;
 use crate::requests::{served, write};
-use device_core::{Device, Event, Note};
+use device_core::{Device, Note};
 use flash_model::MemoryFlash;
 use frame_codec::{Bytes, Outbox};
 use pn_values::{Real, demo_identity};
 use relations::{DeviceOptions, Phase};
 use test_stations::{
-    CONNECT, CONTROL, END, PRM_END, READ, RELEASE, Station, WRITE, call, mend, octets, plugged,
-    response, set, set_address,
+    CONNECT, CONTROL, END, PRM_END, READ, RELEASE, Station, WRITE, call, frame, mend, octets,
+    plugged, response, set, set_address,
 };
 
 /// A station with an address and these options, in which these modules are plugged.
@@ -293,24 +293,21 @@ fn numbered(numbers_from: Option<u16>) -> Tried {
 }
 
 /// The same frame with this number at a place.
-fn with_number(frame: &[u8], place: usize, number: u16) -> Event {
+fn with_number(frame: &[u8], place: usize, number: u16) -> Bytes {
     let mut bytes = octets(frame);
     for (place, octet) in (place..).zip(number.to_be_bytes()) {
         set(&mut bytes, place, octet);
     }
-    Event::Frame(bytes)
+    bytes
 }
 
 /// A frame of outputs with this FrameID, CycleCounter and output.
-fn brings(frame_id: u16, counter: u16, value: u8) -> Event {
-    let Event::Frame(bytes) = outputs(counter, [value, value]) else {
-        panic!("is a frame");
-    };
-    with_number(bytes.as_slice(), 18, frame_id)
+fn brings(frame_id: u16, counter: u16, value: u8) -> Bytes {
+    with_number(&outputs(counter, [value, value]), 18, frame_id)
 }
 
 /// The ERR of the controller to this endpoint of the device.
-fn ends(endpoint: u16) -> Event {
+fn ends(endpoint: u16) -> Bytes {
     with_number(&ENDED, 20, endpoint)
 }
 
@@ -343,7 +340,7 @@ fn second(numbers_from: Option<u16>, first: (u16, u16), second: (u16, u16)) -> T
     let mut device = numbered(numbers_from);
     let blocks = connect(0x11, 600, THREE);
     device.is_related(0, &blocks, first);
-    device.sends_none(&brings(first.0, 32, 0xAA), Note::Done);
+    device.sends_none(&frame(&brings(first.0, 32, 0xAA)), Note::Done);
     device.has_output(0xAA);
     device.is_released(2);
     device.is_related(3, &blocks, second);
@@ -355,14 +352,14 @@ fn second(numbers_from: Option<u16>, first: (u16, u16), second: (u16, u16)) -> T
 fn late_frames_of_the_relation_before_are_refused() {
     let before = (0xC000 + 14_335, 14_336);
     let mut device = second(Some(14_335), before, (0xC000, 1));
-    device.sends_none(&brings(before.0, 64, 0x55), Note::NoRelation);
+    device.sends_none(&frame(&brings(before.0, 64, 0x55)), Note::NoRelation);
     device.has_output(0);
-    device.sends_none(&ends(before.1), Note::NoRelation);
+    device.sends_none(&frame(&ends(before.1)), Note::NoRelation);
     device.is_at(Some(Phase::Exchanging));
     // Its own are accepted.
-    device.sends_none(&brings(0xC000, 64, 0x77), Note::Done);
+    device.sends_none(&frame(&brings(0xC000, 64, 0x77)), Note::Done);
     device.has_output(0x77);
-    device.sends_none(&ends(1), Note::Done);
+    device.sends_none(&frame(&ends(1)), Note::Done);
     device.is_at(None);
 }
 
@@ -370,9 +367,9 @@ fn late_frames_of_the_relation_before_are_refused() {
 fn without_the_option_they_are_accepted() {
     let always = (0xC000, 1);
     let mut device = second(None, always, always);
-    device.sends_none(&brings(0xC000, 64, 0x55), Note::Done);
+    device.sends_none(&frame(&brings(0xC000, 64, 0x55)), Note::Done);
     device.has_output(0x55);
-    device.sends_none(&ends(1), Note::Done);
+    device.sends_none(&frame(&ends(1)), Note::Done);
     device.is_at(None);
 }
 
@@ -399,8 +396,8 @@ fn a_frame_id_that_is_asked_for_is_kept() {
     for (numbers_from, endpoint) in [(Some(14_335), 14_336), (None, 1)] {
         let mut device = numbered(numbers_from);
         device.is_related(0, &blocks, (0xC123, endpoint));
-        device.sends_none(&brings(0xC000 + 14_335, 32, 0x55), Note::NoRelation);
-        device.sends_none(&brings(0xC123, 32, 0x55), Note::Done);
+        device.sends_none(&frame(&brings(0xC000 + 14_335, 32, 0x55)), Note::NoRelation);
+        device.sends_none(&frame(&brings(0xC123, 32, 0x55)), Note::Done);
         device.has_output(0x55);
     }
 }

@@ -48,7 +48,7 @@ fn is_ready(sent: &Frame) -> bool {
 impl Tried {
     /// This word of the application sends ApplicationReady, and nothing else.
     fn gets_ready(&mut self) {
-        self.notes(&Event::Ready, Note::Done);
+        self.notes(&Event::ready(), Note::Done);
         assert_eq!(self.last.len(), 1);
         assert!(self.last.as_slice().iter().all(is_ready));
         self.is_at(Some(Phase::Awaiting));
@@ -78,16 +78,16 @@ fn application_ready_follows_the_word_of_the_application() {
 #[test]
 fn it_counts_once_and_only_after_the_parameters() {
     let mut device = Tried::new(told(true, 600));
-    device.sends_none(&Event::Ready, Note::Refused);
+    device.sends_none(&Event::ready(), Note::Refused);
     device.is_at(Some(Phase::Started));
     let mut device = waiting(600);
     device.gets_ready();
-    device.sends_none(&Event::Ready, Note::Refused);
+    device.sends_none(&Event::ready(), Note::Refused);
     device.sends_none(&frame(response().as_slice()), Note::Done);
-    device.sends_none(&Event::Ready, Note::Refused);
+    device.sends_none(&Event::ready(), Note::Refused);
     device.is_at(Some(Phase::Exchanging));
     device.serves(&call(RELEASE, 7, 2, &END), (1, 174, [0; 4]));
-    device.sends_none(&Event::Ready, Note::Refused);
+    device.sends_none(&Event::ready(), Note::Refused);
 }
 
 #[test]
@@ -101,11 +101,11 @@ fn an_answer_that_comes_before_it_is_not_wanted() {
 #[test]
 fn a_station_without_the_option_refuses_it() {
     let mut device = Tried::new(told(false, 600));
-    device.sends_none(&Event::Ready, Note::Refused);
+    device.sends_none(&Event::ready(), Note::Refused);
     device.serves(&call(CONTROL, 7, 1, &PRM_END), (2, 174, [0; 4]));
     assert!(device.last.as_slice().iter().skip(1).all(is_ready));
     device.is_at(Some(Phase::Awaiting));
-    device.sends_none(&Event::Ready, Note::Refused);
+    device.sends_none(&Event::ready(), Note::Refused);
 }
 
 #[test]
@@ -137,7 +137,7 @@ fn the_activity_timer_runs_on() {
     device.is_at(Some(Phase::Preparing));
     device.notes(&Event::Tick, Note::Done);
     device.is_at(None);
-    device.sends_none(&Event::Ready, Note::Refused);
+    device.sends_none(&Event::ready(), Note::Refused);
 }
 
 #[test]
@@ -170,10 +170,10 @@ fn a_restart_forgets_the_wait() {
     // The power fails, and the device starts again in place.
     assert!(device.station.load().is_ok());
     device.is_at(None);
-    device.sends_none(&Event::Ready, Note::Refused);
+    device.sends_none(&Event::ready(), Note::Refused);
     let blocks = connect(0x11, 600, THREE);
     let _ = served(&mut device.station, &call(CONNECT, 7, 0, blocks.as_slice()));
-    device.sends_none(&Event::Ready, Note::Refused);
+    device.sends_none(&Event::ready(), Note::Refused);
     device.serves(&call(CONTROL, 7, 1, &PRM_END), (1, 174, [0; 4]));
     device.gets_ready();
 }

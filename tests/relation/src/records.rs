@@ -107,8 +107,8 @@ fn a_date_is_refused_after_a_fault() {
         (16, Note::Done),
         (65_520, Note::StaleCycle),
     ] {
-        let event = outputs(counter, [0xAA, 0x55]);
-        device.sends_none(&event, note);
+        let octets = outputs(counter, [0xAA, 0x55]);
+        device.sends_none(&frame(&octets), note);
     }
     device.sends_interval([0, 0]);
     device.is_at(Some(Phase::Exchanging));

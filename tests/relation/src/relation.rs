@@ -228,11 +228,11 @@ fn no_name_is_set_before_the_release() {
     let mut device = Tried::new(related(600, THREE));
     let mut refused = DONE;
     refused[32] = 6;
-    device.sends(&set_pump(b'9'), &refused);
+    device.sends(&frame(&set_pump(b'9')), &refused);
     let release = call(RELEASE, 7, 1, &END);
     device.serves(&release, (1, 174, [0; 4]));
     device.is_at(None);
-    device.sends(&set_pump(b'9'), &DONE);
+    device.sends(&frame(&set_pump(b'9')), &DONE);
 }
 
 #[test]

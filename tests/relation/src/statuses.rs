@@ -10,7 +10,7 @@ use frame_codec::{Bytes, Outbox};
 use pn_values::demo_identity;
 use relations::DeviceOptions;
 use test_stations::{
-    CONNECT, CONTROL, END, PRM_END, RELEASE, call, octets, plugged, response, set, set_address,
+    CONNECT, CONTROL, END, PRM_END, RELEASE, call, frame, plugged, response, set, set_address,
 };
 
 // The data of a frame of inputs: the IOPS of the access point and of its two ports, two octets of input in slot 1 and their
@@ -46,17 +46,17 @@ impl Tried {
 
     // The application says this of the inputs of a submodule.
     fn rates(&mut self, slot: u16, subslot: u16, is_good: bool, note: Note) {
-        self.sends_none(&Event::Status(slot, subslot, is_good), note);
+        self.sends_none(&Event::status(slot, subslot, is_good), note);
     }
 
     // The application gives the input of the module in slot 1.
     fn gives(&mut self, value: &[u8], note: Note) {
-        self.sends_none(&Event::Input(1, 1, octets(value)), note);
+        self.sends_none(&Event::input(1, 1, value), note);
     }
 
     // A diagnosis appears or disappears: a submodule, a channel and a ChannelErrorType.
     fn diagnoses(&mut self, (slot, subslot, channel, error): (u16, u16, u16, u16), appears: bool) {
-        let event = Event::Diagnosis(slot, subslot, channel, error, appears);
+        let event = Event::diagnosis(slot, subslot, channel, error, appears);
         self.sends_none(&event, Note::Done);
     }
 
@@ -207,13 +207,11 @@ fn a_status_is_that_of_the_submodule_and_not_of_a_place() {
 }
 
 /// A frame of outputs with this CycleCounter, IOPS and DataStatus.
-fn provided(counter: u16, iops: u8, data_status: u8) -> Event {
-    let Event::Frame(mut bytes) = outputs(counter, [0xAA, 0x55]) else {
-        panic!("is a frame");
-    };
+fn provided(counter: u16, iops: u8, data_status: u8) -> Bytes {
+    let mut bytes = outputs(counter, [0xAA, 0x55]);
     set(&mut bytes, 22, iops);
     set(&mut bytes, 62, data_status);
-    Event::Frame(bytes)
+    bytes
 }
 
 // Bit 4 of DataStatus is clear while the controller is stopped.
@@ -234,7 +232,7 @@ fn what_the_controller_says_of_its_output() {
         (128, 0x60, 0x15, Note::Done, (0x60, 0x15)),
         (160, 0x80, 0x31, Note::StaleCycle, (0x60, 0x15)),
     ] {
-        device.sends_none(&provided(counter, iops, data_status), note);
+        device.sends_none(&frame(&provided(counter, iops, data_status)), note);
         device.hears(Some(told));
     }
     for (slot, subslot) in [(1, 1), (0, 1), (2, 2), (3, 1)] {

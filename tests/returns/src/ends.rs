@@ -6,7 +6,7 @@ use crate::tokens::{is_cyclic, is_datagram, number, token, type_at};
 use arrayvec::ArrayVec;
 use configurator::plan_from_json;
 use controller_core::{Controller, ControllerOptions, Event as ControllerEvent, State};
-use device_core::{Caller, Device, Event as DeviceEvent, LongCall};
+use device_core::{Caller, Device, Event as DeviceEvent, Octets};
 use flash_model::{MemoryFlash, Order};
 use frame_codec::{Endpoint, Outbox};
 use pn_values::{Identity, Mac, Real, RealModule, RealSubmodule, demo_identity};
@@ -350,7 +350,7 @@ impl World {
         for heard in frames {
             let sending = match from {
                 End::Device => self.controller_end.step(&ControllerEvent::Frame(octets(&heard))),
-                End::Controller if self.is_on => self.device_end.step(&DeviceEvent::Frame(octets(&heard))),
+                End::Controller if self.is_on => self.device_end.step(&DeviceEvent::Frame(Octets::of(&heard))),
                 End::Controller => Sending::default(),
             };
             for octets in sending.own {
@@ -383,7 +383,7 @@ impl World {
     }
 
     /// An event at the device, if it has power.
-    pub fn at_device(&mut self, event: &DeviceEvent) {
+    pub fn at_device(&mut self, event: &DeviceEvent<'_>) {
         if self.is_on {
             let sending = self.device_end.step(event);
             self.send_all(End::Device, sending);
@@ -409,7 +409,7 @@ impl World {
         let identity = || Identity { mac: Mac { octets: [2, 0, 0, 0, 0, 8] }, device_id: 0x0999, ..demo_identity() };
         let mut other = station_of(identity, Real { modules: ArrayVec::new() }, "pump-1", DeviceOptions::default());
         let mut outbox = Outbox::new();
-        let _ = other.step(&DeviceEvent::Frame(octets(heard)), &mut outbox);
+        let _ = other.step(&DeviceEvent::Frame(Octets::of(heard)), &mut outbox);
         for sent in outbox.as_slice() {
             self.send(End::Device, sent.as_slice().to_vec());
         }
@@ -426,7 +426,7 @@ impl World {
 
     /// These octets come to the device.
     pub fn hear_at_device(&mut self, heard: &[u8]) {
-        self.at_device(&DeviceEvent::Frame(octets(heard)));
+        self.at_device(&DeviceEvent::Frame(Octets::of(heard)));
     }
 
     /// A call comes to the device as one that was joined from fragments.
@@ -439,14 +439,12 @@ impl World {
             return;
         };
         let heard = heard.as_slice();
-        let mut call = LongCall::new();
-        let _ = call.try_extend_from_slice(&heard[42..end]);
         let caller = Caller {
             mac: Mac { octets: heard[6..12].try_into().expect("six octets") },
             endpoint: Endpoint { address: heard[26..30].try_into().expect("four octets"), port: number(heard, 34) },
         };
         let to = heard[30..34].try_into().expect("four octets");
-        self.at_device(&DeviceEvent::Call(caller, to, call));
+        self.at_device(&DeviceEvent::Call(caller, to, Octets::of(&heard[42..end])));
     }
 
     /// Units pass at the device, one by one or by leaps.

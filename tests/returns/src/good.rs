@@ -15,7 +15,7 @@ fn take_one(world: &mut World, end: End, before: usize) -> bool {
     let sent = world.flight.remove(place);
     world.come(end, &sent.octets);
     if world.is_preparing() {
-        world.at_device(&DeviceEvent::Ready);
+        world.at_device(&DeviceEvent::ready());
     }
     true
 }
@@ -27,7 +27,7 @@ fn settle(world: &mut World) {
         world.make_controller();
     }
     if world.is_preparing() {
-        world.at_device(&DeviceEvent::Ready);
+        world.at_device(&DeviceEvent::ready());
     }
     let sent = world.count;
     while take_one(world, End::Device, sent) {}

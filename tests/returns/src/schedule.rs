@@ -99,7 +99,7 @@ impl Schedule<'_> {
     }
 
     fn ready(&mut self) -> String {
-        self.world.at_device(&DeviceEvent::Ready);
+        self.world.at_device(&DeviceEvent::ready());
         String::from("ready")
     }
 
@@ -207,21 +207,21 @@ impl Schedule<'_> {
                 format!("rate {slot} {}", u8::from(is_good))
             }
             4..6 => {
-                self.world.at_device(&DeviceEvent::Input(1, 1, octets(&value)));
+                self.world.at_device(&DeviceEvent::input(1, 1, &value));
                 format!("input {spelled}")
             }
             6 => {
                 let is_good = !self.draws.one_in(3);
-                self.world.at_device(&DeviceEvent::Status(1, 1, is_good));
+                self.world.at_device(&DeviceEvent::status(1, 1, is_good));
                 format!("status {}", u8::from(is_good))
             }
             7..9 => {
-                self.world.at_device(&DeviceEvent::Alarm(1, 1, octets(&value)));
+                self.world.at_device(&DeviceEvent::alarm(1, 1, &value));
                 format!("alarm {spelled}")
             }
             9 => {
                 let (channel, appears) = (1 + self.draws.below(5) as u16, self.draws.one_in(2));
-                self.world.at_device(&DeviceEvent::Diagnosis(1, 1, channel, 1, appears));
+                self.world.at_device(&DeviceEvent::diagnosis(1, 1, channel, 1, appears));
                 format!("diagnosis {channel} {}", u8::from(appears))
             }
             _ => self.request(value),

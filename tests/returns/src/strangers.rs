@@ -4,7 +4,7 @@ use crate::draws::Draws;
 use crate::ends::{End, controller_of, modules_of, numbered, station_of};
 use crate::tokens::{entries, is_datagram, number, tagged, token, type_at};
 use controller_core::{ControllerOptions, Event as ControllerEvent};
-use device_core::Event as DeviceEvent;
+use device_core::{Event as DeviceEvent, Octets};
 use frame_codec::{Outbox, ones_sum};
 use pn_values::{Identity, Mac, demo_identity};
 use relations::DeviceOptions;
@@ -86,15 +86,15 @@ fn scene(identity: fn() -> Identity, name: &str, plan: &str) -> Frames {
             let (end, heard) = waiting.remove(0);
             match end {
                 End::Device => {
-                    let _ = device.step(&DeviceEvent::Frame(octets(&heard)), &mut outbox);
+                    let _ = device.step(&DeviceEvent::Frame(Octets::of(&heard)), &mut outbox);
                 }
                 End::Controller => controller.step(&ControllerEvent::Frame(octets(&heard)), &mut outbox),
             }
             waiting.extend(to_other(end, keep(&mut frames, end, &outbox)));
         }
         let event = match unit {
-            50_000 => DeviceEvent::Alarm(1, 1, octets(b"xy")),
-            50_010 => DeviceEvent::Diagnosis(1, 1, 7, 1, true),
+            50_000 => DeviceEvent::alarm(1, 1, b"xy"),
+            50_010 => DeviceEvent::diagnosis(1, 1, 7, 1, true),
             _ => DeviceEvent::Tick,
         };
         let _ = device.step(&event, &mut outbox);

@@ -1,18 +1,18 @@
 //! The example of the README, as it is printed there: `bench/gate/documents` compares them.
 
-use super::stations::{PING, PINGED, SET_ADDRESS, frame};
+use super::stations::{PING, PINGED, SET_ADDRESS};
 use super::octets;
-use device_core::{Device, Event, Note};
+use device_core::{Device, Event, Note, Octets};
 use flash_model::MemoryFlash;
 use pn_values::{Identity, Real, demo_identity, demo_modules};
 use station::{IoStation, StationOutbox};
 
 /// The host of the example, until its events end. It hands on the frames to be sent, and what its application learns.
-fn host(
+fn host<'a>(
     identity: Identity,
     real: Real,
     flash: MemoryFlash<4096>,
-    mut next_event: impl FnMut() -> Option<Event>,
+    mut next_event: impl FnMut() -> Option<Event<'a>>,
     mut send: impl FnMut(&[u8]),
     mut act: impl FnMut(Note, Option<&[u8]>),
 ) {
@@ -32,7 +32,8 @@ fn host(
 
 #[test]
 fn the_example_of_the_readme_sets_an_address_and_answers_a_ping() {
-    let mut events = [frame(SET_ADDRESS), frame(PING)].into_iter();
+    let came = [octets(SET_ADDRESS), octets(PING)];
+    let mut events = came.iter().map(|octets| Event::Frame(Octets::of(octets)));
     let (mut sent, mut notes) = (Vec::new(), Vec::new());
     host(
         demo_identity(),

@@ -1,7 +1,7 @@
 //! A device and the services beside it: a run and a cycle of them, and several units at once.
 
 use super::{ANNOUNCEMENT, octets};
-use device_core::{Device, Event, Note, Sink};
+use device_core::{Device, Event, Note, Octets, Sink};
 use flash_model::MemoryFlash;
 use frame_codec::Frame;
 use lldp::Link;
@@ -29,10 +29,8 @@ impl Sink for Taken {
 }
 
 /// A frame that arrives.
-pub fn frame(digits: &str) -> Event {
-    let mut bytes = frame_codec::Bytes::new();
-    bytes.try_extend_from_slice(&octets(digits)).expect("room");
-    Event::Frame(bytes)
+fn frame(octets: &[u8]) -> Event<'_> {
+    Event::Frame(Octets::of(octets))
 }
 
 /// The station of a demo device with a blank flash.
@@ -46,7 +44,8 @@ fn blank() -> IoStation<MemoryFlash<768>, 768> {
 fn a_run_hands_on_what_both_send() {
     let mut sink = Taken(Vec::new());
     let mut station = blank();
-    station.run(&[frame(SET_ADDRESS), Event::Tick, frame(PING)], &mut sink);
+    let (set, ping) = (octets(SET_ADDRESS), octets(PING));
+    station.run(&[frame(&set), Event::Tick, frame(&ping)], &mut sink);
     // The answer to the Set is the device's; then come the announcement, LLDP, and the echo reply of the services.
     let begins: Vec<bool> = [(1, ANNOUNCEMENT), (2, LLDP), (3, PINGED)]
         .iter()
@@ -58,13 +57,8 @@ fn a_run_hands_on_what_both_send() {
 
 #[test]
 fn a_cycle_hands_on_what_both_send_and_its_next_start_announces_the_address() {
-    let events = [
-        frame(SET_ADDRESS),
-        Event::Tick,
-        frame(PING),
-        frame(SET_ADDRESS),
-        frame(PING),
-    ];
+    let (set, ping) = (octets(SET_ADDRESS), octets(PING));
+    let events = [frame(&set), Event::Tick, frame(&ping), frame(&set), frame(&ping)];
     let mut flash = MemoryFlash::<768>::blank();
     // The power is lost in the second commit, in its first call.
     flash.fuse(3, [0; 8]);
@@ -92,8 +86,8 @@ fn a_leap_does_what_as_many_units_do() {
     let (mut one, mut other) = (blank(), blank());
     let (mut sent, mut leapt) = (StationOutbox::new(), StationOutbox::new());
     assert_eq!(one.due(), 1);
-    one.step(&frame(SET_ADDRESS), &mut sent);
-    other.step(&frame(SET_ADDRESS), &mut leapt);
+    one.step(&frame(&octets(SET_ADDRESS)), &mut sent);
+    other.step(&frame(&octets(SET_ADDRESS)), &mut leapt);
     let mut announced = Vec::new();
     for unit in 1..=160_001_u32 {
         one.step(&Event::Tick, &mut sent);
@@ -115,8 +109,8 @@ fn a_leap_does_what_as_many_units_do() {
 }
 
 /// LLDP of the port `port-003` of `sw-1`, for this many seconds.
-fn lldp(seconds: u8) -> Event {
-    frame(&format!("0180c200000e0200000000aa88cc02050773772d31040907706f72742d30303306020{seconds:03x}0000"))
+fn lldp(seconds: u8) -> Vec<u8> {
+    octets(&format!("0180c200000e0200000000aa88cc02050773772d31040907706f72742d30303306020{seconds:03x}0000"))
 }
 
 /// Whether its device knows a neighbour.
@@ -129,8 +123,8 @@ fn knows(station: &IoStation<MemoryFlash<768>, 768>) -> bool {
 fn a_neighbour_is_told_and_forgotten_in_time() {
     let mut station = blank();
     let mut outbox = StationOutbox::new();
-    let mut takes = |station: &mut IoStation<_, 768>, event: &Event| station.step(event, &mut outbox);
-    assert_eq!(takes(&mut station, &lldp(1)), Note::Done);
+    let mut takes = |station: &mut IoStation<_, 768>, event: &Event<'_>| station.step(event, &mut outbox);
+    assert_eq!(takes(&mut station, &frame(&lldp(1))), Note::Done);
     assert!(!knows(&station));
     // 32,000 units: in the last one it is forgotten.
     for _ in 1..=32_000 {
@@ -140,10 +134,10 @@ fn a_neighbour_is_told_and_forgotten_in_time() {
     takes(&mut station, &Event::Tick);
     assert!(!knows(&station));
     // A message for no time forgets it at once; one that is not complete is no message.
-    takes(&mut station, &lldp(9));
-    takes(&mut station, &lldp(0));
+    takes(&mut station, &frame(&lldp(9)));
+    takes(&mut station, &frame(&lldp(0)));
     assert!(knows(&station));
-    assert_eq!(takes(&mut station, &frame("0180c200000e0200000000aa88cc0205077377")), Note::Fault);
+    assert_eq!(takes(&mut station, &frame(&octets("0180c200000e0200000000aa88cc0205077377"))), Note::Fault);
     assert!(!knows(&station));
 }
 

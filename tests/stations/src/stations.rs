@@ -1,6 +1,6 @@
 //! The station, over the smallest flash, and frames that were worked out by hand.
 use arrayvec::ArrayVec;
-use device_core::{Device, Event, Note};
+use device_core::{Device, Event, Note, Octets};
 use flash_model::{Flash, FlashFault, MemoryFlash, Sector};
 use frame_codec::{Bytes, Frame, Outbox};
 use pn_values::{Real, RealModule, RealSubmodule, demo_identity};
@@ -95,7 +95,7 @@ pub fn addressed() -> Option<Station> {
 }
 
 /// A Set of the suite 192.168.0.2, 255.255.255.0, to be kept.
-pub fn set_address() -> Event {
+pub fn set_address() -> Event<'static> {
     frame(&SET_ADDRESS)
 }
 
@@ -114,15 +114,15 @@ pub fn octets(bytes: &[u8]) -> Bytes {
 }
 
 /// A frame of these octets comes.
-pub fn frame(bytes: &[u8]) -> Event {
-    Event::Frame(octets(bytes))
+pub fn frame(bytes: &[u8]) -> Event<'_> {
+    Event::Frame(Octets::of(bytes))
 }
 
 /// The Set with another last digit of the name.
-pub fn set_pump(digit: u8) -> Event {
+pub fn set_pump(digit: u8) -> [u8; 38] {
     let mut bytes = SET;
     bytes[37] = digit;
-    frame(&bytes)
+    bytes
 }
 
 /// A frame is these bytes, filled up with zeros to at least 60.
@@ -158,6 +158,6 @@ pub fn write_last(
 }
 
 /// What a station makes of an event.
-pub fn step(device: &mut Station, event: &Event, outbox: &mut Outbox) -> Note {
+pub fn step(device: &mut Station, event: &Event<'_>, outbox: &mut Outbox) -> Note {
     device.step(event, outbox)
 }

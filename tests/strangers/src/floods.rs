@@ -3,7 +3,7 @@
 use crate::octets::{belongs, belongs_to};
 use crate::plant::{ACTIVITY, Plant, at, at_controller, at_device, by, bytes};
 use controller_core::{Event as ControllerEvent, State};
-use device_core::Event;
+use device_core::{Event, Octets};
 use test_stations::mend;
 
 /// How many frames are made.
@@ -59,7 +59,7 @@ fn a_flood_changes_nothing() {
             own += 1;
         } else {
             strange[0] += 1;
-            at(&mut flooded.device, &Event::Frame(bytes(&frame)));
+            at(&mut flooded.device, &Event::Frame(Octets::of(&frame)));
         }
         if !belongs_to(&at_controller(), State::Exchanging, &ACTIVITY, &frame) {
             strange[1] += 1;

@@ -2,7 +2,7 @@
 use crate::octets::Marks;
 use configurator::plan_from_json;
 use controller_core::{Controller, Event as ControllerEvent, State};
-use device_core::{Device, Event};
+use device_core::{Device, Event, Octets};
 use flash_model::MemoryFlash;
 use frame_codec::{Bytes, Outbox};
 use pn_values::demo_identity;
@@ -45,13 +45,13 @@ pub(crate) fn at_controller() -> Marks {
     Marks { station: CONTROLLER, partner: DEVICE, uuid: RELATION, frame_id: 0xC001, own_endpoint: 1, their_endpoint: 1 }
 }
 
-/// The octets of a frame as an event has them.
+/// The octets of a frame as an event of the controller has them.
 pub(crate) fn bytes(frame: &[u8]) -> Bytes {
     octets(frame)
 }
 
 /// The frames that a device sends at an event.
-pub(crate) fn at(device: &mut Pump, event: &Event) -> Vec<Vec<u8>> {
+pub(crate) fn at(device: &mut Pump, event: &Event<'_>) -> Vec<Vec<u8>> {
     let mut outbox = Outbox::new();
     let _ = step_device(device, event, &mut outbox);
     outbox.as_slice().iter().map(|frame| frame.as_slice().to_vec()).collect()
@@ -71,14 +71,14 @@ impl Plant {
         real.modules[1].submodules[0].input = 2;
         real.modules[2].submodules[0].output = 2;
         let mut device = Device::boot(demo_identity(), real, MemoryFlash::blank()).ok().expect("starts");
-        at(&mut device, &set_pump(b'1'));
+        at(&mut device, &Event::Frame(Octets::of(&set_pump(b'1'))));
         Plant { device, controller: Controller::new(plan, Uuid::from_bytes(RELATION), Uuid::from_bytes(ACTIVITY)) }
     }
 
     /// A frame comes to its end. Returns what is then sent.
     pub(crate) fn one(&mut self, frame: &[u8]) -> Vec<Vec<u8>> {
         if frame[6..12] == CONTROLLER {
-            at(&mut self.device, &Event::Frame(bytes(frame)))
+            at(&mut self.device, &Event::Frame(Octets::of(frame)))
         } else {
             by(&mut self.controller, &ControllerEvent::Frame(bytes(frame)))
         }

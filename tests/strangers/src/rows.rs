@@ -3,7 +3,7 @@
 use crate::octets::{belongs, belongs_to};
 use crate::plant::{ACTIVITY, CONTROLLER, Came, DEVICE, Plant, at, at_controller, at_device, by, bytes};
 use controller_core::{Event as ControllerEvent, State};
-use device_core::Event;
+use device_core::{Event, Octets};
 use relations::Phase;
 use test_stations::mend;
 
@@ -13,7 +13,7 @@ pub(crate) fn exchange(plant: &mut Plant) -> Vec<Came> {
     for unit in 0..200 {
         came.extend(plant.tick());
         if unit == 100 {
-            let sent = at(&mut plant.device, &Event::Alarm(1, 1, bytes(&[7])));
+            let sent = at(&mut plant.device, &Event::alarm(1, 1, &[7]));
             came.extend(plant.deliver(sent));
         }
     }
@@ -125,7 +125,7 @@ fn frames_of_strangers_leave_a_device() {
         let (mut plant, mut alone) = (Plant::new(), Plant::new());
         exchange(&mut plant);
         exchange(&mut alone);
-        let sent = at(&mut plant.device, &Event::Frame(bytes(&frame)));
+        let sent = at(&mut plant.device, &Event::Frame(Octets::of(&frame)));
         assert!(sent.iter().all(|frame| frame[12..14] != [0x81, 0x00] && frame[6..12] == DEVICE), "{name}");
         for _ in 0..400 {
             assert_eq!(plant.device.phase(), alone.device.phase(), "{name}");
@@ -145,7 +145,7 @@ fn answers_of_strangers_confirm_nothing() {
         let frame = with(response, &[(6, &[2, 0, 0, 0, 0, 9]), (82, &[9; 16]), (122, &status)]);
         assert!(!belongs(&at_device(), &frame));
         let (mut plant, mut alone) = (awaiting(), awaiting());
-        assert!(at(&mut plant.device, &Event::Frame(bytes(&frame))).is_empty());
+        assert!(at(&mut plant.device, &Event::Frame(Octets::of(&frame))).is_empty());
         let mut sent = 0;
         for _ in 0..70_000 {
             assert_eq!(plant.device.phase(), Some(Phase::Awaiting));
@@ -169,13 +169,13 @@ fn strangers_confirm_no_alarm() {
         for _ in 0..101 {
             plant.tick();
         }
-        assert_eq!(at(&mut plant.device, &Event::Alarm(1, 1, bytes(&[7]))).len(), 1);
+        assert_eq!(at(&mut plant.device, &Event::alarm(1, 1, &[7])).len(), 1);
         for came in &replies {
             let frame = with(&came.frame, &[(6, &[2, 0, 0, 0, 0, sender])]);
             assert_eq!(belongs(&at_device(), &frame), sender == 2);
-            at(&mut plant.device, &Event::Frame(bytes(&frame)));
+            at(&mut plant.device, &Event::Frame(Octets::of(&frame)));
         }
-        assert_eq!(at(&mut plant.device, &Event::Alarm(1, 1, bytes(&[8]))).len(), sent);
+        assert_eq!(at(&mut plant.device, &Event::alarm(1, 1, &[8])).len(), sent);
     }
 }
 
@@ -233,7 +233,7 @@ fn frames_that_belong_end_a_relation() {
         assert!(belongs(&at_device(), &frame));
         let mut plant = Plant::new();
         exchange(&mut plant);
-        at(&mut plant.device, &Event::Frame(bytes(&frame)));
+        at(&mut plant.device, &Event::Frame(Octets::of(&frame)));
         assert_eq!(plant.device.phase(), None, "{frame:02x?}");
     }
     assert_eq!(CONTROLLER[5], 2);

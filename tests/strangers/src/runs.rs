@@ -5,7 +5,7 @@ use crate::octets::{belongs_to, ends, is_quiet, sender};
 use crate::plant::{ACTIVITY, CONTROLLER, Came, DEVICE, Plant, at, at_controller, at_device, by, bytes};
 use crate::rows::{exchange, strange};
 use controller_core::{Event as ControllerEvent, State};
-use device_core::Event;
+use device_core::{Event, Octets};
 use flash_model::Sector;
 use pn_values::IpSuite;
 
@@ -50,13 +50,13 @@ impl Strangers {
     fn come(&mut self, plant: &mut Plant, frame: &[u8]) {
         if is_quiet(&at_device(), plant.device.phase().is_some(), frame) {
             self.came[0] += 1;
-            for answer in at(&mut plant.device, &Event::Frame(bytes(frame))) {
+            for answer in at(&mut plant.device, &Event::Frame(Octets::of(frame))) {
                 let (to, from) = ends(&answer);
                 assert_eq!((to, from), (sender(frame).as_slice(), &DEVICE[..]));
                 self.answered += 1;
                 if to != DEVICE && to != CONTROLLER {
                     assert!(is_quiet(&at_device(), plant.device.phase().is_some(), &answer));
-                    assert!(at(&mut plant.device, &Event::Frame(bytes(&answer))).is_empty());
+                    assert!(at(&mut plant.device, &Event::Frame(Octets::of(&answer))).is_empty());
                     assert!(!belongs_to(&at_controller(), plant.controller.state(), &ACTIVITY, &answer));
                     assert!(by(&mut plant.controller, &ControllerEvent::Frame(bytes(&answer))).is_empty());
                 }
@@ -116,8 +116,8 @@ fn made(plant: &mut Plant, next: &Next) -> Vec<Vec<u8>> {
             sent.extend(at(&mut plant.device, &Event::Tick));
             sent
         }
-        Next::Input(value) => at(&mut plant.device, &Event::Input(1, 1, bytes(&[0, *value]))),
-        Next::Alarm => at(&mut plant.device, &Event::Alarm(1, 1, bytes(&[7]))),
+        Next::Input(value) => at(&mut plant.device, &Event::input(1, 1, &[0, *value])),
+        Next::Alarm => at(&mut plant.device, &Event::alarm(1, 1, &[7])),
         Next::Output(value) => by(&mut plant.controller, &ControllerEvent::Give(2, 1, bytes(&[0, *value]))),
         Next::Stop => by(&mut plant.controller, &ControllerEvent::Stop),
     }

@@ -1,4 +1,5 @@
 //! What may happen next, and schedules from a seed.
+use device_core::Local;
 use network_world::{End, Move};
 use test_stations::octets;
 
@@ -29,8 +30,8 @@ impl Choice {
         match self {
             Choice::Deliver(end, number) => Move::Deliver(end, number),
             Choice::Tick(end) => Move::Tick(end),
-            Choice::Input(value) => Move::Input(1, 1, octets(&value)),
-            Choice::Alarm(data) => Move::Alarm(1, 1, octets(&data)),
+            Choice::Input(value) => Move::Application(Local::Input(1, 1, octets(&value))),
+            Choice::Alarm(data) => Move::Application(Local::Alarm(1, 1, octets(&data))),
             Choice::Give(slot, value) => Move::Give(slot, 1, octets(&value)),
             Choice::Read(index) => Move::Read(1, 1, index),
             Choice::Write(index, value) => Move::Write(1, 1, index, octets(&value)),

@@ -4,6 +4,7 @@
 use crate::otherwise::{RECORDS, as_planned, module, station};
 use configurator::plan_from_json;
 use controller_core::{Controller, Diagnosis, State};
+use device_core::Local;
 use network_world::{End, Move, World};
 use pn_values::demo_identity;
 use rattle_std::alloc::Global;
@@ -284,7 +285,7 @@ impl Both {
             Move::Deliver(end, number) => Some((*end, said(self.frame(*number)))),
             _ => None,
         };
-        if let Move::Diagnosis(slot, subslot, channel, error, appears) = &one {
+        if let Move::Application(Local::Diagnosis(slot, subslot, channel, error, appears)) = &one {
             self.model.change((*slot, *subslot, *channel, *error), *appears);
         }
         if let Some((end, Some(said))) = came {
@@ -357,7 +358,7 @@ impl Both {
             0..=5 => {
                 let appears = draws.below(2) == 0;
                 let (slot, subslot, channel, error) = self.drawn_fault(draws, appears);
-                self.make(Move::Diagnosis(slot, subslot, channel, error, appears));
+                self.make(Move::Application(Local::Diagnosis(slot, subslot, channel, error, appears)));
             }
             6..=12 if !self.low.is_empty() => {
                 let back = draws.below(4).min(self.low.len() - 1);
@@ -372,7 +373,7 @@ impl Both {
                 let number = draws.below(self.count);
                 self.make(Move::Deliver(end, number));
             }
-            17 => self.make(Move::Alarm(1, 1, octets(&[7]))),
+            17 => self.make(Move::Application(Local::Alarm(1, 1, octets(&[7])))),
             18 if draws.below(15) == 0 => self.pass(RESEND),
             _ => self.pass(1),
         }
@@ -385,7 +386,7 @@ fn played(seed: u64) -> Both {
     let mut both = Both::new();
     for _ in 0..draws.below(12) {
         let (slot, subslot, channel, error) = both.drawn_fault(&mut draws, true);
-        both.make(Move::Diagnosis(slot, subslot, channel, error, true));
+        both.make(Move::Application(Local::Diagnosis(slot, subslot, channel, error, true)));
     }
     while !both.exchanges() {
         let from = both.count;

@@ -6,6 +6,7 @@ use both_ends::{can_meet, play_both_ends};
 use configurator::plan_from_json;
 use controller_core::State;
 use controller_messages::{ControllerOptions, Setup};
+use device_core::Local;
 use network_world::{End, Move};
 use pn_values::demo_identity;
 use rattle_std::alloc::Global;
@@ -90,7 +91,7 @@ fn exchange_and_release(world: &mut Net, connect: usize, value: [u8; 2]) {
     moves.extend((0..INTERVAL).map(|_| Move::Tick(End::Device)));
     moves.push(to_controller(next + 1));
     // An alarm, its ACK, its AlarmAck and the ACK of that.
-    moves.push(Move::Alarm(1, 1, octets(&value)));
+    moves.push(Move::Application(Local::Alarm(1, 1, octets(&value))));
     moves.extend([to_controller(next + 2), to_device(next + 3), to_device(next + 4), to_controller(next + 5)]);
     assert!(world.play(&moves).is_ok());
     assert_eq!(world.device().output(2, 1), Some(value.as_slice()));

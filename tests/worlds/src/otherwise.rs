@@ -11,7 +11,7 @@ use frame_codec::Outbox;
 use network_world::World;
 use rattle_std::alloc::Global;
 use relations::{DeviceOptions, Phase};
-use test_stations::{Station, no_modules, set_pump, step};
+use test_stations::{Station, frame, no_modules, set_pump, step};
 use uuid::Uuid;
 use world_monitor::{Choice, Fresh, Kind, Schedule, Watched};
 
@@ -86,7 +86,7 @@ pub(crate) fn station_with(real: Real, options: DeviceOptions) -> Station {
     let mut named: Station = Device::boot(demo_identity(), no_modules(), MemoryFlash::blank())
         .ok()
         .expect("a station");
-    step(&mut named, &set_pump(b'1'), &mut Outbox::new());
+    step(&mut named, &frame(&set_pump(b'1')), &mut Outbox::new());
     let mut device = Device::unstarted(demo_identity(), real, options, named.into_flash());
     device.load().ok().expect("a station");
     device

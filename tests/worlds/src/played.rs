@@ -5,6 +5,7 @@ use both_ends::play_both_ends;
 use configurator::plan_from_json;
 use controller_core::{Cause, State};
 use controller_messages::{ControllerOptions, Setup};
+use device_core::Local;
 use pn_values::{ParameterRecord, Real, demo_identity};
 use network_world::{End, Move};
 use rattle_std::alloc::Global;
@@ -167,14 +168,14 @@ fn a_start_up_whose_application_is_ready_later() {
     let options = DeviceOptions { ready_by_application: true, ..DeviceOptions::default() };
     let mut moves = start_up();
     // Frame 16, ApplicationReady, is not there yet: nothing is delivered.
-    moves.extend([Move::Status(1, 1, false), to_device(14), to_device(17)]);
+    moves.extend([Move::Application(Local::Status(1, 1, false)), to_device(14), to_device(17)]);
     let waits = played_at(station_with(as_planned(), options), RECORDS, &moves);
     // PrmEnd is answered again as frame 16.
     are_sent(&waits, &[&START_UP[..16], &[Kind::Positive]].concat());
     assert_eq!(waits.controller().state(), State::Waiting);
     assert_eq!(waits.device().phase(), Some(Phase::Preparing));
     are_taken(&waits);
-    moves.extend([Move::Ready, Move::Ready, to_controller(17), to_device(18)]);
+    moves.extend([Move::Application(Local::Ready), Move::Application(Local::Ready), to_controller(17), to_device(18)]);
     let ready = played_at(station_with(as_planned(), options), RECORDS, &moves);
     are_sent(&ready, &[&START_UP[..16], &[Kind::Positive, Kind::Ready, Kind::Confirm]].concat());
     assert_eq!(ready.controller().state(), State::Exchanging);
@@ -215,10 +216,10 @@ fn outputs_and_alarms_over_a_network_that_loses_frames() {
     moves.push(Move::Give(3, 1, octets(&[3, 4])));
     wait(&mut moves, INTERVAL);
     // Frame 22 is an alarm, 23 its ACK, 24 its AlarmAck and 25 the ACK of that.
-    moves.push(Move::Alarm(1, 1, octets(&[0xAA, 0x01])));
+    moves.push(Move::Application(Local::Alarm(1, 1, octets(&[0xAA, 0x01]))));
     moves.extend([to_controller(22), to_device(23), to_device(24)]);
     // Frame 26, the next alarm, is lost.
-    moves.push(Move::Alarm(1, 1, octets(&[0xAA, 0x02])));
+    moves.push(Move::Application(Local::Alarm(1, 1, octets(&[0xAA, 0x02]))));
     let world = played(&moves);
     let rest = [
         Kind::Outputs,

@@ -17,7 +17,8 @@ use Rattle.controller_core.specs.stored.Alarms.{is_alarm}
 use Rattle.controller_core.specs.Machine.{end_of}
 use Rattle.controller_core.specs.stored.State.{Controlling, Live}
 use Rattle.end_laws.specs.turns.Alarms.{is_priority, last_of}
-use Rattle.network_world.specs.declared.moves.End.TheVariants.{Device, Controller}
+use Rattle.device_frames.specs.declared.local.Local.TheVariants as local
+use Rattle.network_world.specs.declared.moves.End.TheVariants.{Controller}
 use Rattle.network_world.specs.declared.moves.Move.{Move}
 use Rattle.network_world.specs.declared.moves.Move.TheVariants as move
 use Rattle.network_world.specs.World.{World, is_skipped}
@@ -37,20 +38,9 @@ raised_in (Some flow) = one_in flow.alarms.sender.standing
 module _ {F : Type 0} where
   -- an alarm is raised if the device has a relation in which it may be, and then it is the unconfirmed one
   abbrev pub raised_with : World F → Move → List AlarmNotification
-  raised_with world (move.Alarm slot subslot octets) =
+  raised_with world (move.Application (local.Alarm slot subslot octets)) =
       raised_in (raised_to world.device.station.real.modules.items slot subslot octets.items world.device.live.rest.link)
-  raised_with world (move.Deliver end number) = []
-  raised_with world (move.Tick end) = []
-  raised_with world (move.Input slot subslot value) = []
-  raised_with world (move.Status slot subslot is_good) = []
-  raised_with world (move.Neighbour neighbour) = []
-  raised_with world (move.Diagnosis slot subslot channel error appears) = []
-  raised_with world move.Ready = []
-  raised_with world (move.Give slot subslot value) = []
-  raised_with world (move.OutputStatus slot subslot is_good) = []
-  raised_with world (move.Read slot subslot index) = []
-  raised_with world (move.Write slot subslot index octets) = []
-  raised_with world move.Stop = []
+  raised_with world other = []
 
   -- the alarms raised over a run, in order
   abbrev pub raised_over : World F → List (Move × World F) → List AlarmNotification
@@ -127,19 +117,7 @@ module _ {F : Type 0} where
   -- those accepted with a move
   abbrev pub taken_with : Priority → World F → Move → List AlarmNotification
   taken_with priority world (move.Deliver Controller number) = taken_from priority world (slice_get world.sent number)
-  taken_with priority world (move.Deliver Device number) = []
-  taken_with priority world (move.Tick end) = []
-  taken_with priority world (move.Input slot subslot value) = []
-  taken_with priority world (move.Alarm slot subslot octets) = []
-  taken_with priority world (move.Status slot subslot is_good) = []
-  taken_with priority world (move.Neighbour neighbour) = []
-  taken_with priority world (move.Diagnosis slot subslot channel error appears) = []
-  taken_with priority world move.Ready = []
-  taken_with priority world (move.Give slot subslot value) = []
-  taken_with priority world (move.OutputStatus slot subslot is_good) = []
-  taken_with priority world (move.Read slot subslot index) = []
-  taken_with priority world (move.Write slot subslot index octets) = []
-  taken_with priority world move.Stop = []
+  taken_with priority world other = []
 
   -- those accepted over a run, in order
   abbrev pub taken_over : Priority → World F → List (Move × World F) → List AlarmNotification

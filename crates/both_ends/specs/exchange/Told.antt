@@ -11,6 +11,7 @@ use Rattle.diagnosis.specs.declared.reports.priority.Priority.TheVariants.{Low a
 use Rattle.record_blocks.specs.declared.alarm_notification.AlarmNotification.{AlarmNotification}
 use Rattle.diagnosis.specs.reported.Followed.{Reports, at_places}
 use Rattle.diagnosis.specs.reported.Reported.{Reported}
+use Rattle.device_frames.specs.declared.local.Local.TheVariants as local
 use Rattle.network_world.specs.declared.moves.Move.{Move}
 use Rattle.network_world.specs.declared.moves.Move.TheVariants as move
 use Rattle.network_world.specs.World.{World}
@@ -78,7 +79,7 @@ AreKnown diagnoses = AreNew [] diagnoses
 
 -- ChannelErrorType has 16 bits.
 abbrev pub IsSizedMove : Move → Type 0
-IsSizedMove (move.Diagnosis slot subslot channel error appears) = error < 65536
+IsSizedMove (move.Application (local.Diagnosis slot subslot channel error appears)) = error < 65536
 IsSizedMove _ = Unit {0}
 
 -- Each of these moves has its sizes.

@@ -10,7 +10,7 @@ use Rattle.records.specs.declared.writes.taken.TakenRecord.{TakenRecord}
 use Rattle.plans.specs.declared.parts.PlanRecord.{PlanRecord}
 use Rattle.both_ends.specs.startup.request.Request.{request_for}
 use Rattle.device_frames.specs.declared.event.Event.TheVariants.{Frame}
-use Rattle.device_frames.specs.Heard.{Calls, Heard, Ticks, Given, Raised, Rated, Met, Readied, diagnosed, heard_of}
+use Rattle.device_frames.specs.Heard.{Calls, Heard, Ticks, Applied, Met, heard_of}
 use Rattle.device_frames.specs.Sendable.{AreSendable}
 use Rattle.device_core.specs.State.{Station}
 use Rattle.device_core.specs.Machine.{heard_step}
@@ -77,12 +77,8 @@ move_of (move.Deliver Device number) = small.ComesToDevice number
 move_of (move.Deliver Controller number) = small.ComesToController number
 move_of (move.Tick Device) = small.AtDevice
 move_of (move.Tick Controller) = small.AtController
-move_of (move.Input slot subslot value) = small.AtDevice
-move_of (move.Alarm slot subslot octets) = small.AtDevice
-move_of (move.Status slot subslot is_good) = small.AtDevice
+move_of (move.Application local) = small.AtDevice
 move_of (move.Neighbour neighbour) = small.AtDevice
-move_of (move.Diagnosis slot subslot channel error appears) = small.AtDevice
-move_of move.Ready = small.AtDevice
 move_of (move.Give slot subslot value) = small.AtController
 move_of (move.OutputStatus slot subslot is_good) = small.AtController
 move_of (move.Read slot subslot index) = small.AtController
@@ -125,12 +121,8 @@ IsMeant world (move.Deliver Controller number) =
     (octets : List ℕ) → slice_get world.sent number ≡ Some octets → IsMeantAtController world (controller.Frame (record { items = octets }))
 IsMeant world (move.Tick Device) = IsMeantAtDevice world Ticks
 IsMeant world (move.Tick Controller) = IsMeantAtController world controller.Tick
-IsMeant world (move.Input slot subslot value) = IsMeantAtDevice world (Given slot subslot value.items)
-IsMeant world (move.Alarm slot subslot octets) = IsMeantAtDevice world (Raised slot subslot octets.items)
-IsMeant world (move.Status slot subslot is_good) = IsMeantAtDevice world (Rated slot subslot is_good)
+IsMeant world (move.Application local) = IsMeantAtDevice world (Applied local)
 IsMeant world (move.Neighbour neighbour) = IsMeantAtDevice world (Met (option_map peer_as neighbour))
-IsMeant world (move.Diagnosis slot subslot channel error appears) = IsMeantAtDevice world (diagnosed slot subslot channel error appears)
-IsMeant world move.Ready = IsMeantAtDevice world Readied
 IsMeant world (move.Give slot subslot value) = IsMeantAtController world (controller.Give slot subslot value)
 IsMeant world (move.OutputStatus slot subslot is_good) = IsMeantAtController world (controller.Status slot subslot is_good)
 IsMeant world (move.Read slot subslot index) = IsMeantAtController world (controller.Read slot subslot index)

@@ -4,6 +4,7 @@ ghost use Rattle.std.specs.List.{AllByRecursion};
 ghost use Rattle.both_ends.specs.exchange.Sized.{AreSizedModules, IsSizedPart};
 ghost use Rattle.both_ends.specs.exchange.Told.{IsSizedMove};
 
+use device_core::Local;
 use network_world::Move;
 use pn_values::{Real, RealModule, RealSubmodule};
 
@@ -55,7 +56,7 @@ pub fn modules_are_sized(real: &Real)
 fn move_is_sized(one: &Move)
     ensures { IsSizedMove one.now }
 {
-    if let Move::Diagnosis(_, _, _, error, _) = one {
+    if let Move::Application(Local::Diagnosis(_, _, _, error, _)) = one {
         has_16_bits(*error);
     }
 }

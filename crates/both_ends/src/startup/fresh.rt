@@ -8,9 +8,9 @@ use crate::startup::{begin_world, can_meet};
 use arrayvec::ArrayVec;
 use configurator::plan_from_json;
 use controller_messages::{ControllerOptions, Setup};
-use device_core::{Device, Event, Note};
+use device_core::{Device, Event, Note, Octets};
 use flash_model::{MemoryFlash, Order};
-use frame_codec::{Bytes, Outbox};
+use frame_codec::Outbox;
 use network_world::World;
 use plans::Plan;
 use pn_values::{ParameterRecord, Real, RealModule, RealSubmodule, demo_identity};
@@ -34,13 +34,6 @@ pub struct Fresh {
     pub net: Net,
     /// The number of records that its controller writes.
     pub records: usize,
-}
-
-/// The first of these octets, as many as there is room for.
-fn octets(bytes: &[u8]) -> Bytes {
-    let mut octets = Bytes::new();
-    let _ = octets.try_extend_from_slice(bytes);
-    octets
 }
 
 fn copied_parameters(parameters: &[ParameterRecord]) -> ArrayVec<ParameterRecord, 2> {
@@ -92,7 +85,7 @@ fn plan_of(alloc: Global, catalogue: &str) -> Option<Plan> {
 }
 
 /// What a station makes of an event. It has no contract: what a step promises is read here alone.
-fn step(device: &mut Station, event: &Event, outbox: &mut Outbox) -> Note {
+fn step(device: &mut Station, event: &Event<'_>, outbox: &mut Outbox) -> Note {
     device.step(event, outbox)
 }
 
@@ -103,7 +96,11 @@ fn named_flash() -> Option<MemoryFlash<768>> {
         no_modules(),
         MemoryFlash::blank(),
     ).ok()?;
-    let _ = step(&mut device, &Event::Frame(octets(&SET)), &mut Outbox::new());
+    let _ = step(
+        &mut device,
+        &Event::Frame(Octets::of(&SET)),
+        &mut Outbox::new(),
+    );
     Some(device.into_flash())
 }
 

@@ -5,7 +5,7 @@ use Rattle.flash_model.specs.declared.flash.Sector.{Sector}
 use Rattle.pn_values.specs.declared.identity.Identity.{Identity}
 use Rattle.settings_journal.specs.settings_store.State.{Values}
 use Rattle.device_frames.specs.declared.event.Event.{Event}
-use Rattle.device_frames.specs.declared.event.Event.TheVariants.{Frame, Call, Tick, Input, Alarm, Status, Neighbour, Diagnosis, Ready}
+use Rattle.device_frames.specs.declared.event.Event.TheVariants.{Frame, Call, Tick, Neighbour, Application}
 use Rattle.device_frames.specs.declared.note.Note.{Note}
 use Rattle.device_frames.specs.declared.note.Note.TheVariants.{Done}
 use Rattle.station.specs.Beside.{beside, has_any, is_dropped, joined_beside}
@@ -182,10 +182,6 @@ RestsFor units (Some state) values = (values.is_lost ≡ false) × (state.has_ne
 abbrev pub IsOfApplication : Event → Type 0
 IsOfApplication (Frame bytes) = ⊥
 IsOfApplication Tick = ⊥
-IsOfApplication (Input slot subslot value) = ⊤
-IsOfApplication (Alarm slot subslot octets) = ⊤
-IsOfApplication (Status slot subslot is_good) = ⊤
+IsOfApplication (Application local) = ⊤
 IsOfApplication (Neighbour peer) = ⊤
 IsOfApplication (Call caller address octets) = ⊤
-IsOfApplication (Diagnosis slot subslot channel error appears) = ⊤
-IsOfApplication Ready = ⊤

@@ -5,7 +5,7 @@ use Rattle.flash_model.specs.Calls.{Call}
 use Rattle.flash_model.specs.Image.{IsImage, IsSectorSize}
 use Rattle.flash_model.specs.Memory as memory
 use Rattle.settings_journal.specs.Cut.{AreWrites}
-use Rattle.device_abi.specs.recorded.Record.{Record, image_of, record_of, after_one, after_all, IsAsked}
+use Rattle.device_abi.specs.recorded.Record.{HaveBytes, Record, image_of, record_of, after_one, after_all, IsAsked}
 use Rattle.device_abi.specs.declared.recorded.flash.RecordedFlash.{RecordedFlash}
 
 -- the count of failed calls, which never rises
@@ -34,7 +34,7 @@ has_power-of flash reliable = refl
 
 -- no calls change nothing
 pub asked_nothing-of : {S : ℕ} (flash : RecordedFlash S) → IsAsked flash [] flash
-asked_nothing-of flash none = refl
+asked_nothing-of flash = (tt, λ none. refl)
 
 -- calls followed by more calls
 pub after_all-append : (before : Record) (front back : List Call) → after_all before (front ++ back) ≡ after_all (after_all before front) back
@@ -51,7 +51,14 @@ pub back_recorded : (front back : List Call) → AreWrites (front ++ back) → A
 back_recorded [] back are = are
 back_recorded (call ∷ front) back are = back_recorded front back are.1
 
+-- Calls that program bytes, followed by more of them.
+pub have_both : (front back : List Call) → HaveBytes front → HaveBytes back → HaveBytes (front ++ back)
+have_both [] back f b = b
+have_both (call ∷ front) back f b = (f.0, have_both front back f.1 b)
+
 -- Calls that were asked of a recorded flash one after the other.
 pub asked_more-of : {S : ℕ} (old between new : RecordedFlash S) (front back : List Call) → IsAsked old front between → IsAsked between back new → IsAsked old (front ++ back) new
-asked_more-of old between new front back first second are =
-    second (back_recorded front back are) ∙ ap (λ r. after_all r back) (first (front_recorded front back are)) ∙ sym (after_all-append (record_of old) front back)
+asked_more-of old between new front back first second = (
+  have_both front back first.0 second.0,
+  λ are. second.1 (back_recorded front back are) ∙ ap (λ r. after_all r back) (first.1 (front_recorded front back are)) ∙ sym (after_all-append (record_of old) front back),
+)

@@ -1,14 +1,25 @@
 -- The calls of accepted commands, and the state of a chip whose host carries them out and is cut off.
-use Rattle.std.specs.Prelude.{◌≡◌, ◌⊎◌, ◌-◌, ℕ, false, List, [], ◌∷◌, ◌++◌}
+use Rattle.std.specs.Prelude.{◌≡◌, ◌⊎◌, ◌+◌, ◌-◌, ℕ, false, List, [], ◌∷◌, ◌++◌, length}
 use Rattle.pn_values.specs.Command.{apply}
 use Rattle.pn_values.specs.declared.settings.Settings.{Settings}
-use Rattle.flash_model.specs.Calls.{Call}
+use Rattle.flash_model.specs.Calls.{Call, Programs, Erases, Arms}
 use Rattle.flash_model.specs.Image.{Image, IsImage}
 use Rattle.settings_journal.specs.Calls.{CommitCalls}
 use Rattle.settings_journal.specs.Cut.{CutOff, all_carried_out}
 use Rattle.settings_journal.specs.Image.{BootsTo, LeftByDevice, StartsWith}
 use Rattle.settings_journal.specs.settings_store.Legal.{LegalEnd, made_of}
 use Rattle.settings_journal.specs.settings_store.Machine.{Accepted}
+
+-- how many bytes a call programs
+abbrev pub size_of : Call → ℕ
+size_of (Programs sector place bytes) = length bytes
+size_of (Erases sector) = 0
+size_of (Arms order) = 0
+
+-- how many bytes these calls program together
+abbrev pub sum_of : List Call → ℕ
+sum_of [] = 0
+sum_of (call ∷ calls) = size_of call + sum_of calls
 
 -- The calls of accepted commands on an image that is read as these settings, with room for this many commits: those of
 -- each commit, in order, on the image that the commands before it left. A start on the last image gives the settings

@@ -115,8 +115,7 @@ fn give(port: &mut DevicePort, call: &JoinedCall, attended: Attended) -> Note
     match attended {
         Attended::Noted(note) => note,
         Attended::Joined => {
-            let (caller, address, octets) = call.parts();
-            let _ = port.take_call(&caller, address, octets);
+            let _ = port.take(&call.event());
             Note::Done
         }
     }

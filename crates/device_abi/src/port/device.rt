@@ -7,8 +7,9 @@ ghost use denote.Follow.{follows_so};
 ghost use Rattle.flash_model.specs.Image.{erased};
 ghost use Rattle.device_abi.specs.recorded.Entry.{call_of};
 ghost use Rattle.device_abi.specs.recorded.Fits.{fits_in};
-ghost use Rattle.device_abi.specs.recorded.Record.{image_of, record_of};
-ghost use Rattle.device_frames.specs.declared.event.Event.TheVariants.{Call as Joined, Frame as Framed, Input};
+ghost use Rattle.device_abi.specs.recorded.Record.{image_of, recalled, record_of};
+ghost use Rattle.device_frames.specs.declared.event.Event.TheVariants.{Application, Frame as Framed};
+ghost use Rattle.device_frames.specs.declared.local.Local.TheVariants.{Input};
 ghost use Rattle.device_abi.specs.port.State.{IsIdle, IsNext, IsRead, advanced, barred, closed, has_some, has_work as is_left, kind_of, lost, waiting as kind_in, work_kind};
 ghost use Rattle.device_abi.specs.port.State.{past_start as too_late};
 ghost use Rattle.device_abi.specs.port.Steps.{KnowsOrNot, Passes, PassesOrNot, StartsOrNot, Takes, Ticks};
@@ -16,10 +17,8 @@ ghost use Rattle.device_core.specs.Leaps.{live_due_in};
 ghost use Rattle.frame_codec.specs.Outbox.{boxed};
 
 use crate::port::{Refusal, Stage};
-use crate::{
-    Recorded, RecordedFlash, leap, skip, step, step_call, step_cyclic, step_frame, step_input, unit,
-};
-use device_core::{Caller, Device, Event, Note};
+use crate::{Recorded, RecordedFlash, leap, skip, step, step_cyclic, step_input, unit};
+use device_core::{Device, Event, Note};
 use flash_model::Sector;
 use frame_codec::{Frame, Outbox};
 use pn_values::{Identity, Real};
@@ -49,7 +48,7 @@ pub(crate) struct DevicePort {
 impl Model for DevicePort {
     ghost use Rattle.std.specs.Prelude.{◌≤◌, length, drop};
     ghost use Rattle.frame_codec.specs.Outbox.{boxed};
-    ghost use Rattle.device_abi.specs.recorded.Record.{record_of};
+    ghost use Rattle.device_abi.specs.recorded.Record.{recalled};
     ghost use Rattle.device_abi.specs.port.State.{State, IsCounted, IsSteady};
 
     ghost Value = { State };
@@ -57,15 +56,15 @@ impl Model for DevicePort {
     ghost view = { λ port. record {
       device = port.device;
       stage = port.stage;
-      calls = drop port.calls_past (record_of port.device.flash).recent;
+      calls = drop port.calls_past (recalled port.device.flash);
       frames = drop port.frames_past (boxed port.outbox);
     } };
 
-    ghost invariant = { λ port. (port.calls_past ≤ length (record_of port.device.flash).recent)
+    ghost invariant = { λ port. (port.calls_past ≤ length (recalled port.device.flash))
         × (port.frames_past ≤ length port.outbox.items)
-        × IsSteady port.stage port.device.live.values.has_failed (drop port.calls_past (record_of port.device.flash).recent)
+        × IsSteady port.stage port.device.live.values.has_failed (drop port.calls_past (recalled port.device.flash))
         (drop port.frames_past (boxed port.outbox))
-        × IsCounted port.due port.device.live port.stage (drop port.calls_past (record_of port.device.flash).recent) };
+        × IsCounted port.due port.device.live port.stage (drop port.calls_past (recalled port.device.flash)) };
 }
 
 /// What units of time left to do.
@@ -187,6 +186,8 @@ impl DevicePort {
             return Err(Refusal::BadLength);
         }
         self.device.fill(&Chip { sector, octets });
+        // No stored call is one of a step.
+        self.calls_past = self.device.flash().stored();
         self.due = None;
         Ok(())
     }
@@ -357,7 +358,7 @@ impl DevicePort {
     }
 
     // Handles an event. All work of the step before is fetched.
-    pub(crate) fn take(&mut self, event: &Event) -> Note
+    pub(crate) fn take(&mut self, event: &Event<'_>) -> Note
         requires { barred self.old ≡ None }
         ensures { Takes self.old event.now result self.new }
     {
@@ -366,34 +367,6 @@ impl DevicePort {
         self.calls_past = older(before, self.device.flash());
         self.frames_past = 0;
         self.due = None; // the event may change it
-        note
-    }
-
-    // The same with a received frame, which is only read.
-    pub(crate) fn take_frame(&mut self, octets: &[u8]) -> Note
-        requires { barred self.old ≡ None }
-        ensures { Takes self.old (Framed (record { items = octets.now })) result self.new }
-    {
-        let before = counted(self.device.flash());
-        let note = step_frame(&mut self.device, octets, &mut self.outbox);
-        let past = older(before, self.device.flash());
-        self.calls_past = past;
-        self.frames_past = 0;
-        self.due = None; // the frame may change it
-        note
-    }
-
-    // The same with a joined call, whose octets are only read.
-    pub(crate) fn take_call(&mut self, caller: &Caller, address: [u8; 4], octets: &[u8]) -> Note
-        requires { barred self.old ≡ None }
-        ensures { Takes self.old (Joined caller.now address (record { items = octets.now })) result self.new }
-    {
-        let before = counted(self.device.flash());
-        let note = step_call(&mut self.device, caller, address, octets, &mut self.outbox);
-        let past = older(before, self.device.flash());
-        self.calls_past = past;
-        self.frames_past = 0;
-        self.due = None; // the call may change it
         note
     }
 
@@ -413,7 +386,7 @@ impl DevicePort {
     #[inline(always)]
     pub(crate) fn give(&mut self, slot: u16, subslot: u16, octets: &[u8]) -> Note
         requires { barred self.old ≡ None }
-        ensures takes { Takes self.old (Input slot subslot (record { items = octets.now })) result self.new }
+        ensures takes { Takes self.old (Application (Input slot subslot (record { items = octets.now }))) result self.new }
         ensures free { barred self.new ≡ None }
         ensures due { live_due_in self.new.device.live ≡ live_due_in self.old.device.live }
     {
@@ -605,10 +578,10 @@ fn counted(flash: &RecordedFlash<4096>) -> u32
 
 // The number of stored calls that are older than those recorded since the count was `before`.
 fn older(before: u32, flash: &RecordedFlash<4096>) -> usize
-    ensures most { result ≤ length (record_of flash.now).recent }
-    ensures exact { (calls : ℕ) → (record_of flash.now).count ≡ (before + calls) % 2 ^ 32 → calls ≤ length (record_of flash.now).recent →
+    ensures most { result ≤ length (recalled flash.now) }
+    ensures exact { (calls : ℕ) → (record_of flash.now).count ≡ (before + calls) % 2 ^ 32 → calls ≤ length (recalled flash.now) →
         calls ≤ 48 →
-        result ≡ length (record_of flash.now).recent - calls }
+        result ≡ length (recalled flash.now) - calls }
 {
     let newer = flash.count().wrapping_sub(before) as usize;
     flash.stored().saturating_sub(newer)

@@ -4,20 +4,21 @@ ghost use Rattle.flash_model.specs.Torn.{HasCause};
 ghost use Rattle.device_abi.specs.recorded.Entry.{call_of};
 ghost use Rattle.device_abi.specs.recorded.Fits.{fits_in};
 ghost use Rattle.device_frames.specs.declared.event.Event.{Event};
+ghost use Rattle.device_frames.specs.declared.event.Event.TheVariants.{Application};
 ghost use Rattle.device_abi.specs.port.Host.{Begun, Carries, EndsBy, GoesOn, HandsIn, IsFresh, Performs, Settles, Stands, begun_by, events_of};
 ghost use Rattle.device_abi.specs.port.Plays.{Plays, point, settled};
 ghost use Rattle.device_abi.specs.port.Served.{advanced_both, frames_of};
 
 use crate::Recorded;
 use crate::port::{Port, Stage, Work};
-use device_core::{Event, Sink};
+use device_core::{Event, Local, Octets, Sink};
 use flash_model::{Flash, FlashFault};
 
 /// What a host does next.
 #[derive(Drop)]
-pub enum Operation {
+pub enum Operation<'a> {
     /// It hands in an event, after it has fetched all work of the one before.
-    Happens(Event),
+    Happens(Event<'a>),
     /// It fetches one piece of work.
     Works,
 }
@@ -27,7 +28,7 @@ pub enum Operation {
 pub fn play<C: Flash<4096>, K: Sink>(
     port: &mut Port,
     chip: &mut C,
-    operations: &[Operation],
+    operations: &[Operation<'_>],
     sink: &mut K,
 ) -> Result<(), FlashFault>
     requires { IsFresh port.old (C.image chip.old) }
@@ -53,7 +54,7 @@ pub fn play<C: Flash<4096>, K: Sink>(
 fn go_on<C: Flash<4096>, K: Sink>(
     port: &mut Port,
     chip: &mut C,
-    operation: &Operation,
+    operation: &Operation<'_>,
     sink: &mut K,
 ) -> Result<(), FlashFault>
     ensures ends { (begun : Begun) (events : List Event) → Stands begun events (K.taken sink.old) port.old (C.image chip.old) →
@@ -95,7 +96,7 @@ fn settle<C: Flash<4096>, K: Sink>(
 }
 
 // Hands in an event, as a product does.
-fn hand_in(port: &mut Port, event: &Event)
+fn hand_in(port: &mut Port, event: &Event<'_>)
     ensures { HandsIn port.old event.now port.new }
 {
     match event {
@@ -105,26 +106,35 @@ fn hand_in(port: &mut Port, event: &Event)
         Event::Tick => {
             let _ = port.tick(1);
         }
-        Event::Input(slot, subslot, octets) => {
-            let _ = port.input(*slot, *subslot, octets.as_slice());
-        }
-        Event::Alarm(slot, subslot, octets) => {
-            let _ = port.alarm(*slot, *subslot, octets.as_slice());
-        }
-        Event::Status(slot, subslot, is_good) => {
-            let _ = port.status(*slot, *subslot, *is_good);
-        }
-        Event::Diagnosis(slot, subslot, channel, error, appears) => {
-            let _ = port.diagnosis(*slot, *subslot, *channel, *error, *appears);
-        }
-        Event::Ready => {
-            let _ = port.ready();
-        }
+        Event::Application(local) => hand_on(port, local),
         Event::Call(..) => {
             let _ = port.apply(event);
         }
         Event::Neighbour(_) => {
             let _ = port.apply(event);
+        }
+    }
+}
+
+// Hands in what the application says.
+fn hand_on(port: &mut Port, local: &Local<Octets<'_, 1519>>)
+    ensures { HandsIn port.old (Application local.now) port.new }
+{
+    match local {
+        Local::Input(slot, subslot, octets) => {
+            let _ = port.input(*slot, *subslot, octets.as_slice());
+        }
+        Local::Alarm(slot, subslot, octets) => {
+            let _ = port.alarm(*slot, *subslot, octets.as_slice());
+        }
+        Local::Status(slot, subslot, is_good) => {
+            let _ = port.status(*slot, *subslot, *is_good);
+        }
+        Local::Diagnosis(slot, subslot, channel, error, appears) => {
+            let _ = port.diagnosis(*slot, *subslot, *channel, *error, *appears);
+        }
+        Local::Ready => {
+            let _ = port.ready();
         }
     }
 }

@@ -3,7 +3,8 @@ ghost use Rattle.std.specs.Prelude.{◌≡◌, ◌≢◌, ◌==◌, ◌<◌, ◌
 ghost use Rattle.std.specs.Option.{option_map};
 ghost use Rattle.device_abi.specs.port.State.{IsIdle, IsRead, closed, has_some, has_work as is_left, waiting as waiting_in};
 ghost use Rattle.device_abi.specs.declared.port.stage.Stage.TheVariants.{Booted, Made};
-ghost use Rattle.device_frames.specs.declared.event.Event.TheVariants.{Alarm, Diagnosis, Frame as Framed, Input, Ready, Status};
+ghost use Rattle.device_frames.specs.declared.event.Event.TheVariants.{Application, Frame as Framed};
+ghost use Rattle.device_frames.specs.declared.local.Local.TheVariants.{Alarm, Diagnosis, Input, Ready, Status};
 ghost use Rattle.device_abi.specs.port.Pace.{AreCalm};
 ghost use Rattle.device_abi.specs.port.Served.{IsFetched, IsNextBoth, advanced_both, barred_both, conflicts_of, due_both, frames_of, linked_both, lost_both, or_own as kind_or_own, waiting_both};
 ghost use Rattle.device_abi.specs.port.ServedSteps.{AnswersBoth, HearsBoth, IsOfApplication, KnowsBothOrNot, PassesBothOrNot, PassesOneOrNot, QuietOrNot, SkipsOrNot};
@@ -15,9 +16,9 @@ use crate::port::beside::{
 use crate::port::device::{DevicePort, Passed, Work};
 use crate::port::{Refusal, Stage};
 use crate::{Recorded, RecordedFlash};
-use device_core::{Device, Event, Note};
+use device_core::{Device, Event, Note, Octets};
 use flash_model::Sector;
-use frame_codec::{Bytes, Frame, Outbox};
+use frame_codec::{Frame, Outbox};
 use lldp::Link;
 use pn_values::{Identity, Real};
 use relations::DeviceOptions;
@@ -117,6 +118,13 @@ impl Port {
         self.port.closed()
     }
 
+    /// The device, which a host reads while the port is open.
+    pub fn device(&self) -> &Device<RecordedFlash<4096>, 4096>
+        ensures { result.now ≡ self.now.port.device }
+    {
+        self.port.device()
+    }
+
     // The device, if the port is open. No commit of it fails.
     pub(crate) fn open(&self) -> Result<&Device<RecordedFlash<4096>, 4096>, Refusal>
         ensures { IsRead (closed self.now.port.stage) (λ device. (device.now ≡ self.now.port.device)
@@ -207,7 +215,7 @@ impl Port {
             Some(refusal) => Err(refusal),
             None => {
                 self.tell();
-                Ok(self.take_frame(at_most(octets, 1519)))
+                Ok(self.take_frame(octets))
             }
         }
     }
@@ -215,13 +223,14 @@ impl Port {
     // The same once the device knows its neighbour.
     fn take_frame(&mut self, octets: &[u8]) -> Note
         requires { barred_both self.old ≡ None }
-        ensures { StepsBoth self.old (Framed (record { items = octets.now })) result self.new }
+        ensures { StepsBoth self.old (Framed (record { items = take 1519 octets.now })) result self.new }
     {
         conflicts_are_noticed();
         catch_up(&mut self.services, self.limit - self.rest);
         self.rest = 0;
         self.limit = 0;
-        let note = self.port.take_frame(octets);
+        let octets = at_most(octets, 1519);
+        let note = self.port.take(&Event::Frame(Octets::of(octets)));
         self.frames_past = 0;
         follow(
             &mut self.port,
@@ -255,7 +264,7 @@ impl Port {
     /// Sets the input of a submodule. Returns `None` if it was accepted in silence, as most are: the note is `Done`, and no work remains.
     #[inline(always)]
     pub fn input(&mut self, slot: u16, subslot: u16, octets: &[u8]) -> Option<Result<Note, Refusal>>
-        ensures { HearsBoth self.old (Input slot subslot (record { items = take 1519 octets.now })) result self.new }
+        ensures { HearsBoth self.old (Application (Input slot subslot (record { items = take 1519 octets.now }))) result self.new }
     {
         if self.rest == 0 {
             return Some(self.get_input(slot, subslot, octets));
@@ -273,25 +282,25 @@ impl Port {
     // Any input.
     #[inline(never)]
     fn get_input(&mut self, slot: u16, subslot: u16, octets: &[u8]) -> Result<Note, Refusal>
-        ensures { AnswersBoth self.old (Input slot subslot (record { items = take 1519 octets.now })) result self.new }
+        ensures { AnswersBoth self.old (Application (Input slot subslot (record { items = take 1519 octets.now }))) result self.new }
     {
-        self.apply(&Event::Input(slot, subslot, first_of(octets)))
+        self.apply(&Event::input(slot, subslot, octets))
     }
 
     /// Raises an alarm of a submodule.
     #[inline(never)]
     pub fn alarm(&mut self, slot: u16, subslot: u16, octets: &[u8]) -> Result<Note, Refusal>
-        ensures { AnswersBoth self.old (Alarm slot subslot (record { items = take 1519 octets.now })) result self.new }
+        ensures { AnswersBoth self.old (Application (Alarm slot subslot (record { items = take 1519 octets.now }))) result self.new }
     {
-        self.apply(&Event::Alarm(slot, subslot, first_of(octets)))
+        self.apply(&Event::alarm(slot, subslot, octets))
     }
 
     /// Sets the status of the inputs of a submodule.
     #[inline(never)]
     pub fn status(&mut self, slot: u16, subslot: u16, is_good: bool) -> Result<Note, Refusal>
-        ensures { AnswersBoth self.old (Status slot subslot is_good) result self.new }
+        ensures { AnswersBoth self.old (Application (Status slot subslot is_good)) result self.new }
     {
-        self.apply(&Event::Status(slot, subslot, is_good))
+        self.apply(&Event::status(slot, subslot, is_good))
     }
 
     /// A diagnosis of a submodule appears or disappears: of this channel, and with this ChannelErrorType.
@@ -304,22 +313,22 @@ impl Port {
         error: u16,
         appears: bool,
     ) -> Result<Note, Refusal>
-        ensures { AnswersBoth self.old (Diagnosis slot subslot channel error appears) result self.new }
+        ensures { AnswersBoth self.old (Application (Diagnosis slot subslot channel error appears)) result self.new }
     {
-        self.apply(&Event::Diagnosis(slot, subslot, channel, error, appears))
+        self.apply(&Event::diagnosis(slot, subslot, channel, error, appears))
     }
 
     /// The application is ready.
     #[inline(never)]
     pub fn ready(&mut self) -> Result<Note, Refusal>
-        ensures { AnswersBoth self.old Ready result self.new }
+        ensures { AnswersBoth self.old (Application Ready) result self.new }
     {
-        self.apply(&Event::Ready)
+        self.apply(&Event::ready())
     }
 
     // Any event but a frame and a unit of time: of the services it only lets them see the running settings.
     #[inline(never)]
-    pub(crate) fn apply(&mut self, event: &Event) -> Result<Note, Refusal>
+    pub(crate) fn apply(&mut self, event: &Event<'_>) -> Result<Note, Refusal>
         requires { IsOfApplication event.now }
         ensures { AnswersBoth self.old event.now result self.new }
     {
@@ -333,7 +342,7 @@ impl Port {
     }
 
     // The same once the device knows its neighbour.
-    fn take(&mut self, event: &Event) -> Note
+    fn take(&mut self, event: &Event<'_>) -> Note
         requires free { barred_both self.old ≡ None }
         requires kind { IsOfApplication event.now }
         ensures { StepsBoth self.old event.now result self.new }
@@ -772,15 +781,6 @@ impl Port {
         tell_neighbour(&mut self.port, &mut self.services);
         pass_both(&mut self.port, &mut self.services, most, &mut self.outbox)
     }
-}
-
-// The given octets, cut to the most that an event has.
-fn first_of(octets: &[u8]) -> Bytes
-    ensures { result ≡ record { items = take 1519 octets.now } }
-{
-    let mut bytes = Bytes::new();
-    let _ = bytes.try_extend_from_slice(at_most(octets, 1519));
-    bytes
 }
 
 // The kind of the piece after one of a port, if this is the kind of the next one of the services.

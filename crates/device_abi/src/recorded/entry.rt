@@ -8,11 +8,7 @@ pub const MOST_CALLS: usize = 48;
 /// The maximum number of bytes of a program call that is recorded: those of a base.
 pub const MOST_BYTES: usize = 437;
 
-/// The maximum number of bytes of all stored program calls together: those of a Set of 16 commands, a base and a gate for
-/// each.
-pub const MOST_OCTETS: usize = 7008;
-
-/// A call that was recorded. Its bytes lie in the record.
+/// A call that was recorded. Its bytes lie in the sector that it programmed.
 #[derive(Drop)]
 pub enum Recorded<'a> {
     /// Bytes programmed from a position in a sector on.
@@ -27,7 +23,7 @@ pub enum Recorded<'a> {
     },
 }
 
-/// A stored call. The bytes of a program call follow those of the program calls before it.
+/// A stored call: where it was, and for how many bytes. The bytes are those of the sector.
 #[derive(Clone, Copy)]
 pub enum Entry {
     /// That many bytes programmed from a position in a sector on.

@@ -7,26 +7,28 @@ ghost use Rattle.flash_model.specs.Calls.{Programs, Erases, Arms};
 ghost use Rattle.flash_model.specs.Image.{IsSectorSize, sector_of, with_sector, programmed, erased};
 ghost use Rattle.flash_model.specs.Memory.{IsReliable};
 ghost use Rattle.flash_model.specs.Torn.{Torn, HasCause, StaysLost};
-ghost use Rattle.device_abi.specs.recorded.Fits.{fits_in};
+ghost use Rattle.device_abi.specs.recorded.Fits.{entry_fits, fits_in};
 
-use crate::recorded::calls::Calls;
-use crate::recorded::entry::{MOST_BYTES, Recorded};
+use crate::recorded::entries::{entry_at, part, push};
+use crate::recorded::entry::{Entry, MOST_BYTES, Recorded};
+use arrayvec::ArrayVec;
 use flash_model::{Flash, FlashFault, MemoryFlash, Order, Sector};
 
-/// Both sectors in memory, and the last calls that changed them. No call fails. Orders are ignored.
+/// Both sectors in memory, and the last calls that changed them: where each was, and for how many bytes. No call fails. Orders are
+/// ignored.
 #[derive(Drop)]
 pub struct RecordedFlash<const S: usize> {
     memory: MemoryFlash<S>,
-    calls: Calls,
+    entries: ArrayVec<Entry, 48>,
     count: u32,
     ghost reliable: { IsReliable memory } by { Prim.hlevel props },
-    ghost fits: { list_all (fits_in S) calls ≡ true } by { Prim.hlevel props },
+    ghost fits: { list_all (entry_fits S) entries.items ≡ true } by { Prim.hlevel props },
 }
 
 impl<const S: usize> RecordedFlash<S> {
     ghost use Rattle.device_abi.specs.recorded.Entry.{call_of};
     ghost use Rattle.device_abi.specs.recorded.Pushed.{pushed};
-    ghost use Rattle.device_abi.specs.recorded.Record.{image_of, record_of, after_one, filled};
+    ghost use Rattle.device_abi.specs.recorded.Record.{image_of, record_of, recalled, after_one, entry_of, filled};
 
     /// A flash with both sectors erased and no recorded call. The count begins at the maximum: only its growth has a
     /// meaning.
@@ -36,8 +38,7 @@ impl<const S: usize> RecordedFlash<S> {
     {
         RecordedFlash {
             memory: MemoryFlash::blank(),
-            calls: Calls::new(),
-            // With a zero here, the empty list of 7,008 octets would be copied from the stack when a flash is made.
+            entries: ArrayVec::new(),
             count: u32::MAX,
         }
     }
@@ -75,39 +76,63 @@ impl<const S: usize> RecordedFlash<S> {
 
     /// How many calls are stored: the last ones.
     pub fn stored(&self) -> usize
-        ensures { result ≡ length (record_of self.now).recent }
+        ensures { result ≡ length (recalled self.now) }
     {
-        self.calls.len()
+        self.entries.len()
     }
 
-    /// The stored call at this position. The oldest one is first.
+    /// The stored call at this position. The oldest one is first. Its bytes are those that its sector has now: the ones that it
+    /// programmed, as long as no later call changed them.
     pub fn call(&self, index: usize) -> Recorded<'_>
-        requires { index < length (record_of self.now).recent }
-        ensures at { slice_get (record_of self.now).recent index ≡ Some (call_of result) }
+        requires { index < length (recalled self.now) }
+        ensures at { slice_get (recalled self.now) index ≡ Some (call_of result) }
         // It lies in its sector, and programs at most 437 bytes.
         ensures fits { fits_in S (call_of result) ≡ true }
     {
-        self.calls.get(index)
+        match entry_at(self.entries.as_slice(), index) {
+            Entry::Program {
+                sector,
+                place,
+                length,
+            } => Recorded::Program {
+                sector: *sector,
+                place: *place,
+                bytes: part(
+                    self.memory.sector(*sector),
+                    *place as usize,
+                    *length as usize,
+                ),
+            },
+            Entry::Erase { sector } => Recorded::Erase { sector: *sector },
+        }
     }
 
     // Records a program call.
     fn record_program(&mut self, sector: Sector, place: u32, bytes: &[u8])
         requires { fits_in S (Programs sector place bytes.now) ≡ true }
         ensures memory { self.new.memory ≡ self.old.memory }
-        ensures recent { (record_of self.new).recent ≡ pushed (record_of self.old).recent (Programs sector place bytes.now) }
+        ensures recent { (record_of self.new).recent ≡ pushed (record_of self.old).recent (entry_of (Programs sector place bytes.now)) }
         ensures count { (record_of self.new).count ≡ (after_one (record_of self.old) (Programs sector place bytes.now)).count }
     {
-        self.calls.push_program(sector, place, bytes);
+        let length = bytes.len() as u16;
+        push(
+            &mut self.entries,
+            Entry::Program {
+                sector,
+                place,
+                length,
+            },
+        );
         self.count = self.count.wrapping_add(1);
     }
 
     // Records an erase call.
     fn record_erase(&mut self, sector: Sector)
         ensures memory { self.new.memory ≡ self.old.memory }
-        ensures recent { (record_of self.new).recent ≡ pushed (record_of self.old).recent (Erases sector) }
+        ensures recent { (record_of self.new).recent ≡ pushed (record_of self.old).recent (entry_of (Erases sector)) }
         ensures count { (record_of self.new).count ≡ (after_one (record_of self.old) (Erases sector)).count }
     {
-        self.calls.push_erase(sector);
+        push(&mut self.entries, Entry::Erase { sector });
         self.count = self.count.wrapping_add(1);
     }
 }

@@ -1,7 +1,8 @@
 // One step, and what it records for the host.
 ghost use Rattle.std.specs.Prelude.{◌≡◌, ◌≤◌, false, true, []};
 ghost use Rattle.device_core.specs.Machine.{step_of};
-ghost use Rattle.device_frames.specs.declared.event.Event.TheVariants.{Call as Joined, Frame as Framed, Input};
+ghost use Rattle.device_frames.specs.declared.event.Event.TheVariants.{Application, Frame as Framed};
+ghost use Rattle.device_frames.specs.declared.local.Local.TheVariants.{Input};
 ghost use Rattle.device_core.specs.Leaps.{live_due_in};
 ghost use Rattle.device_core.specs.Steps.{IsExactStep};
 ghost use Rattle.device_abi.specs.recording.Leaps.{StepsAlone};
@@ -9,14 +10,15 @@ ghost use Rattle.device_abi.specs.recording.Recorded.{Records};
 ghost use Rattle.frame_codec.specs.Outbox.{boxed};
 
 use crate::RecordedFlash;
-use device_core::{Caller, Device, Event, Note};
+use device_core::{Device, Event, Note};
 use frame_codec::Outbox;
 
 /// Handles an event, and puts the frames to send into the outbox. The calls that the step makes to the flash are
-/// recorded. A host carries them out on its chip, call by call, and then sends the frames.
-pub fn step<const S: usize>(
-    device: &mut Device<RecordedFlash<S>, S>,
-    event: &Event,
+/// recorded. A host carries them out on its chip, call by call, and then sends the frames. A sector has 14 slots, so the 16 commands of a
+/// Set write two bases at most, and none of their calls changes what another one wrote.
+pub fn step(
+    device: &mut Device<RecordedFlash<4096>, 4096>,
+    event: &Event<'_>,
     outbox: &mut Outbox,
 ) -> Note
     requires { device.old.live.values.has_failed ≡ false }
@@ -32,28 +34,6 @@ pub fn step<const S: usize>(
     // The stored settings are what a restart finds, before the step too.
     let _ = device.stored();
     device.step(event, outbox)
-}
-
-/// The same with a received frame, whose octets are only read and not kept.
-pub fn step_frame<const S: usize>(
-    device: &mut Device<RecordedFlash<S>, S>,
-    octets: &[u8],
-    outbox: &mut Outbox,
-) -> Note
-    requires { device.old.live.values.has_failed ≡ false }
-    // The step is exactly that of the definition, with the frames in the outbox.
-    ensures exact { IsExactStep device.old (Framed (record { items = octets.now })) (boxed outbox.new) result device.new }
-    // No commit has failed after the step.
-    ensures going { device.new.live.values.has_failed ≡ false }
-
-    // The record is exactly the calls of the commands that the step accepts, in order. If a host is cut off anywhere
-    // while it carries them out, its chip is a legal end.
-    ensures records { Records device.old
-        (step_of [] device.old.station device.old.live (Framed (record { items = octets.now }))).accepted device.new }
-{
-    // The stored settings are what a restart finds, before the step too.
-    let _ = device.stored();
-    device.step_frame(octets, outbox)
 }
 
 /// The same with a cyclic frame that the relation accepts. It sends nothing, and makes no call to the flash. Returns whether the octets
@@ -80,7 +60,7 @@ pub fn step_input<const S: usize>(
     value: &[u8],
 ) -> Note
     requires { device.old.live.values.has_failed ≡ false }
-    ensures alone { StepsAlone device.old (Input slot subslot (record { items = value.now })) [] result device.new }
+    ensures alone { StepsAlone device.old (Application (Input slot subslot (record { items = value.now }))) [] result device.new }
     ensures flash { device.new.flash ≡ device.old.flash }
     ensures going { device.new.live.values.has_failed ≡ false }
     // It changes nothing that is due.
@@ -89,29 +69,4 @@ pub fn step_input<const S: usize>(
     // The stored settings are what a restart finds.
     let _ = device.stored();
     device.give_input(slot, subslot, value)
-}
-
-/// The same with a call that came in fragments and was joined, from this caller to this IP address. Its octets are only read and not
-/// kept.
-pub fn step_call<const S: usize>(
-    device: &mut Device<RecordedFlash<S>, S>,
-    caller: &Caller,
-    address: [u8; 4],
-    octets: &[u8],
-    outbox: &mut Outbox,
-) -> Note
-    requires { device.old.live.values.has_failed ≡ false }
-    // The step is exactly that of the definition, with the frames in the outbox.
-    ensures exact { IsExactStep device.old (Joined caller.now address (record { items = octets.now })) (boxed outbox.new) result device.new }
-    // No commit has failed after the step.
-    ensures going { device.new.live.values.has_failed ≡ false }
-
-    // The record is exactly the calls of the commands that the step accepts, in order. If a host is cut off anywhere
-    // while it carries them out, its chip is a legal end.
-    ensures records { Records device.old
-        (step_of [] device.old.station device.old.live (Joined caller.now address (record { items = octets.now }))).accepted device.new }
-{
-    // The stored settings are what a restart finds, before the step too.
-    let _ = device.stored();
-    device.step_call(caller, address, octets, outbox)
 }

@@ -24,7 +24,8 @@ use Rattle.relations.specs.declared.phase.Phase.TheVariants.{Exchanging}
 use Rattle.relations.specs.Phases.{made_of}
 use Rattle.relations.specs.RelationState.{RelationState, phase_of}
 use Rattle.device_frames.specs.declared.event.Event.{Event}
-use Rattle.device_frames.specs.Heard.{Heard, Ticks, Cyclic, Given, heard_of}
+use Rattle.device_frames.specs.declared.local.Local.TheVariants.{Input}
+use Rattle.device_frames.specs.Heard.{Heard, Ticks, Cyclic, Applied, heard_of}
 use Rattle.device_frames.specs.Sent.{Sent, Ends, Exchanges}
 use Rattle.settings_journal.specs.settings_store.Machine.{Outcome}
 use Rattle.device_core.specs.State.{Live, Station}
@@ -72,8 +73,8 @@ units_in station (one ∷ more) = if is_unit (heard_of station.identity one.even
 -- The value that the application gives with an event to the input of a submodule, whose place has this many octets, the octet
 -- of IOPS included; and the last one that it gave.
 abbrev pub given_with : ℕ → ℕ → ℕ → Heard → Option (List ℕ)
-given_with slot subslot size (Given to_slot to_subslot value) =
-    if ((slot == to_slot) && (subslot == to_subslot)) && (size == length value + 1) then Some value else None
+given_with slot subslot size (Applied (Input to_slot to_subslot value)) =
+    if ((slot == to_slot) && (subslot == to_subslot)) && (size == length value.items + 1) then Some value.items else None
 given_with slot subslot size heard = None
 
 -- The value that the application gave last for the input of a submodule, of this size, if it gave one.

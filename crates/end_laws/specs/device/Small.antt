@@ -29,7 +29,7 @@ use Rattle.relations.specs.declared.phase.Phase.{Phase}
 use Rattle.relations.specs.declared.phase.Phase.TheVariants.{Started, Preparing, Awaiting, Exchanging}
 use Rattle.relations.specs.RelationState.{RelationState}
 use Rattle.relations.specs.Ready.{confirmed_block}
-use Rattle.device_frames.specs.Heard.{Heard, Ticks, Unreadable, Elsewhere, Asks, Resolves, Reported, Cyclic, Alarms, LowReplies, LowConfirms, Given, Raised, Rated, Met, Diagnosed, Readied, Said, Calls, Responds, Garbled}
+use Rattle.device_frames.specs.Heard.{Heard, Reported, Said, Calls, Responds, Garbled}
 use Rattle.device_frames.specs.Sent.{Sent, IdentifyAnswer, GetAnswer, SetAnswer, ArpReply, CallAnswer, Again, ReadyCall, Ends, Exchanges, bytes_of}
 use Rattle.device_core.specs.State.{Live}
 use Rattle.device_core.specs.Several.{Judged, judged_each}
@@ -100,21 +100,7 @@ said_to planned Garbled = small.Idle
 -- calls and responses; everything else says nothing of a start-up
 abbrev pub heard_as : Planned → Heard → ToDevice
 heard_as planned (Reported caller address said) = said_to planned said
-heard_as planned Ticks = small.Idle
-heard_as planned Unreadable = small.Idle
-heard_as planned Elsewhere = small.Idle
-heard_as planned (Asks source request) = small.Idle
-heard_as planned (Resolves asker packet) = small.Idle
-heard_as planned (Cyclic source frame_id body) = small.Idle
-heard_as planned (Alarms source header message) = small.Idle
-heard_as planned (LowReplies source header message) = small.Idle
-heard_as planned (LowConfirms source header message) = small.Idle
-heard_as planned (Given slot subslot value) = small.Idle
-heard_as planned (Raised slot subslot octets) = small.Idle
-heard_as planned (Rated slot subslot is_good) = small.Idle
-heard_as planned (Met peer) = small.Idle
-heard_as planned (Diagnosed change) = small.Idle
-heard_as planned Readied = small.Idle
+heard_as planned other = small.Idle
 
 -- ---- the calls of a start-up
 
@@ -182,21 +168,7 @@ IsPlannedIn rules activity real Garbled = Unit {0}
 -- if a call is heard, it is one of the start-up or of the application
 abbrev pub IsPlanned : Rules TakenRecord Request → List ℕ → Real → Heard → Type 0
 IsPlanned rules activity real (Reported caller address said) = IsPlannedIn rules activity real said
-IsPlanned rules activity real Ticks = Unit {0}
-IsPlanned rules activity real Unreadable = Unit {0}
-IsPlanned rules activity real Elsewhere = Unit {0}
-IsPlanned rules activity real (Asks source request) = Unit {0}
-IsPlanned rules activity real (Resolves asker packet) = Unit {0}
-IsPlanned rules activity real (Cyclic source frame_id body) = Unit {0}
-IsPlanned rules activity real (Alarms source header message) = Unit {0}
-IsPlanned rules activity real (LowReplies source header message) = Unit {0}
-IsPlanned rules activity real (LowConfirms source header message) = Unit {0}
-IsPlanned rules activity real (Given slot subslot value) = Unit {0}
-IsPlanned rules activity real (Raised slot subslot octets) = Unit {0}
-IsPlanned rules activity real (Rated slot subslot is_good) = Unit {0}
-IsPlanned rules activity real (Met peer) = Unit {0}
-IsPlanned rules activity real (Diagnosed change) = Unit {0}
-IsPlanned rules activity real Readied = Unit {0}
+IsPlanned rules activity real other = Unit {0}
 
 -- ---- what it says
 

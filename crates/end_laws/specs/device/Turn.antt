@@ -48,7 +48,8 @@ use Rattle.relations.specs.Farewells.{farewell_of}
 use Rattle.relations.specs.RelationState.{RelationState, flow_of, is_exchanging}
 use Rattle.relations.specs.Phases.{exchanging_from, made_of, updated, with_flow}
 use Rattle.relations.specs.Timers.{unit_later}
-use Rattle.device_frames.specs.Heard.{Heard, Alarms, Calls, Cyclic, Diagnosed, LowConfirms, LowReplies, Raised, Ticks, Reported}
+use Rattle.device_frames.specs.declared.local.Local.TheVariants as local
+use Rattle.device_frames.specs.Heard.{Heard, Alarms, Calls, Cyclic, LowConfirms, LowReplies, Applied, Ticks, Reported}
 use Rattle.device_frames.specs.Relation.{alarms_of, low_alarms_of, low_replies_of, replies_of, where_due}
 use Rattle.device_frames.specs.Sent.{Sent, IdentifyAnswer, GetAnswer, SetAnswer, ArpReply, CallAnswer, Again, ReadyCall, Ends, Exchanges}
 use Rattle.device_core.specs.State.{Live, Rest, Station}
@@ -139,12 +140,20 @@ pub record Makes (calls : List Kept) (before : Option RelationState) (heard : He
   pub made : after ≡ Some (made_of request partner rows options starting)
   pub calm : AreCalm before sent
 
+-- the application sets the input of a submodule
+abbrev pub input_heard : (slot subslot : ℕ) → List ℕ → Heard
+input_heard slot subslot value = Applied (local.Input slot subslot (record { items = value }))
+
+-- the application raises an alarm, with these octets
+abbrev pub alarm_heard : (slot subslot : ℕ) → List ℕ → Heard
+alarm_heard slot subslot octets = Applied (local.Alarm slot subslot (record { items = octets }))
+
 -- an alarm is raised
 pub record Raises (real : List RealModule) (before : Option RelationState) (heard : Heard) (after : Option RelationState) (sent : List Sent) : Type 0 where
   pub slot : ℕ
   pub subslot : ℕ
   pub octets : List ℕ
-  pub is : heard ≡ Raised slot subslot octets
+  pub is : heard ≡ alarm_heard slot subslot octets
   pub link : RelationState
   pub was : before ≡ Some link
   pub flow : Flow
@@ -161,7 +170,7 @@ pub record Refused (real : List RealModule) (before : Option RelationState) (slo
 -- an alarm is raised, or it is refused
 abbrev pub IsRaise : List RealModule → Option RelationState → ℕ → ℕ → List ℕ → Option RelationState → List Sent → Type 0
 IsRaise real before slot subslot octets after sent =
-    Raises real before (Raised slot subslot octets) after sent ⊎ Refused real before slot subslot octets after sent
+    Raises real before (alarm_heard slot subslot octets) after sent ⊎ Refused real before slot subslot octets after sent
 
 -- it is heard as one of high priority, or under the FrameID of low priority before the device sent data of that
 abbrev pub IsHigh : Heard → Mac → Header → ToDevice → Type 0
@@ -228,10 +237,15 @@ pub record Begins (real : List RealModule) (diagnoses : List Diagnosis) (before 
   pub sends : sent ≡ where_due (begins_with_one real diagnoses (exchanging_from link).flow)
       (low_alarms_of (Some (diagnoses_begun real diagnoses (exchanging_from link).flow)))
 
+-- the application says that a diagnosis appears or disappears
+abbrev pub change_heard : Change → Heard
+change_heard change =
+    Applied (local.Diagnosis change.diagnosis.slot change.diagnosis.subslot change.diagnosis.channel change.diagnosis.error change.appears)
+
 -- a diagnosis appears or disappears, after which these exist
 pub record Diagnoses (real : List RealModule) (diagnoses later : List Diagnosis) (before : Option RelationState) (heard : Heard) (after : Option RelationState) (sent : List Sent) : Type 0 where
   pub change : Change
-  pub is : heard ≡ Diagnosed change
+  pub is : heard ≡ change_heard change
   pub open_room : is_full_in before ≡ false
   pub changes : changed change diagnoses ≡ Some later
   pub becomes : after ≡ updated (diagnosing real change later before) before

@@ -1,7 +1,6 @@
 -- LogData as a reader finds it: numbers and octets at their places, the highest octet of a number first (IEC 61158-6-10, 5.2.3). It shares
 -- nothing with the definition of what is written.
-use Rattle.std.specs.Prelude.{◌≡◌, ◌+◌, ◌^◌, ◌<◌, ◌≤◌, ℕ, zero, suc, List, [], ◌∷◌, drop, length, slice_index, take}
-use Rattle.std.specs.List.{AllByRecursion}
+use Rattle.std.specs.Prelude.{◌≡◌, ◌+◌, ◌^◌, ◌<◌, ℕ, zero, suc, List, [], ◌∷◌, drop, length, take}
 use Rattle.wire.specs.Formats.{big_number}
 use Rattle.rpc_core.specs.declared.response.Status.{Status}
 use Rattle.device_records.specs.declared.log_data.entry.LogEntry.{LogEntry}

@@ -10,6 +10,7 @@ ghost use Rattle.device_core.specs.State.{State};
 ghost use Rattle.device_core.specs.Steps.{Steps};
 ghost use Rattle.end_laws.specs.answers.Whole.{AreStoredWhole, IsAnsweredWhole};
 
+use device_core::application_is_local;
 use flash_model::Flash;
 use frame_codec::frames_are_read;
 use rpc_core::responses_are_read;
@@ -29,4 +30,5 @@ pub fn answers_are_one_datagram<F: Flash<S>, const S: usize>()
 {
     frames_are_read();
     responses_are_read();
+    application_is_local();
 }

@@ -3,14 +3,14 @@ ghost use Rattle.std.specs.Prelude.{List, ℕ};
 ghost use Rattle.settings_journal.specs.settings_store.Machine.{Outcome};
 ghost use Rattle.connects.specs.requests.Request.{Request};
 ghost use Rattle.records.specs.declared.writes.taken.TakenRecord.{TakenRecord};
-ghost use Rattle.device_frames.specs.Heard.{Heard, Raised};
+ghost use Rattle.device_frames.specs.Heard.{Heard};
 ghost use Rattle.relations.specs.Numbers.{IsNumber};
 ghost use Rattle.device_core.specs.State.{Station, Live};
 ghost use Rattle.device_core.specs.Handled.{number_now};
 ghost use Rattle.device_core.specs.Machine.{heard_step};
 ghost use Rattle.end_laws.specs.both.Small.{Rules};
 ghost use Rattle.end_laws.specs.device.Small.{IsPlanned};
-ghost use Rattle.end_laws.specs.device.Turn.{BeginsNumbered, IsRaise, Turn};
+ghost use Rattle.end_laws.specs.device.Turn.{BeginsNumbered, IsRaise, Turn, alarm_heard};
 
 /// Each turn of a device: the operation and the outcome of each response, what is sent, and the relation afterwards. This
 /// is a law of the machine by which each step of a device is specified. The laws of start-up, of outputs and of alarms use
@@ -34,6 +34,6 @@ pub fn device_turns()
     // An alarm is raised and sent, or it is refused and nothing changes.
     ensures raises { (outcomes : List Outcome) (station : Station) (live : Live) (slot subslot : ℕ) (octets : List ℕ)
         → IsRaise station.real.modules.items live.rest.link slot subslot octets
-        (heard_step outcomes station live (Raised slot subslot octets)).live.rest.link
-        (heard_step outcomes station live (Raised slot subslot octets)).sent }
+        (heard_step outcomes station live (alarm_heard slot subslot octets)).live.rest.link
+        (heard_step outcomes station live (alarm_heard slot subslot octets)).sent }
 {}

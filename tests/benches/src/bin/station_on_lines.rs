@@ -7,9 +7,8 @@
 //! ```
 //!
 //! Octets are in hex. It prints `out OCTETS` for each frame that is sent, and then `done`.
-use device_core::{Device, Event};
+use device_core::{Device, Event, Octets};
 use flash_model::MemoryFlash;
-use frame_codec::Bytes;
 use pn_values::{demo_identity, demo_modules};
 use station::{IoStation, StationOutbox};
 use std::io::{self, BufRead, ErrorKind, Write};
@@ -19,7 +18,7 @@ const SECTOR: usize = 4096;
 
 /// What a line asks for.
 enum Turn {
-    Event(Event),
+    Frame(Vec<u8>),
     Units(u32),
 }
 
@@ -32,12 +31,7 @@ fn octets_of(digits: &str) -> Option<Vec<u8>> {
 /// The meaning of a line.
 fn turn_of(line: &str) -> Option<Turn> {
     match line.split_once(' ')? {
-        ("frame", digits) => {
-            let octets = octets_of(digits)?;
-            let mut bytes = Bytes::new();
-            bytes.try_extend_from_slice(octets.get(..1519).unwrap_or(&octets)).ok()?;
-            Some(Turn::Event(Event::Frame(bytes)))
-        }
+        ("frame", digits) => octets_of(digits).map(Turn::Frame),
         ("tick", units) => units.parse().ok().map(Turn::Units),
         _ => None,
     }
@@ -62,8 +56,8 @@ fn main() -> io::Result<()> {
     let mut out = io::stdout().lock();
     for line in io::stdin().lock().lines() {
         match turn_of(&line?).ok_or(ErrorKind::InvalidData)? {
-            Turn::Event(event) => {
-                station.step(&event, &mut outbox);
+            Turn::Frame(octets) => {
+                station.step(&Event::Frame(Octets::of(&octets)), &mut outbox);
                 print(&outbox, &mut out)?;
             }
             Turn::Units(mut units) => {

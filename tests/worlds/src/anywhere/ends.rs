@@ -8,7 +8,7 @@ use flash_model::{MemoryFlash, Sector};
 use frame_codec::Outbox;
 use pn_values::demo_identity;
 use relations::{DeviceOptions, Phase};
-use test_stations::{Station, octets, set_address, step};
+use test_stations::{Station, frame as heard, octets, set_address, step};
 
 /// The octets of a frame.
 pub(crate) type Octets = Vec<u8>;
@@ -82,7 +82,7 @@ impl Ends {
         let mut to_device = std::mem::take(&mut self.to_device);
         to_device.retain(|frame| !is_lost(frame));
         for frame in to_device {
-            let _ = self.device.step_frame(&frame, &mut outbox);
+            let _ = step(&mut self.device, &heard(&frame), &mut outbox);
             append(&mut arriving, &outbox);
         }
         arriving.retain(|frame| !is_lost(frame));

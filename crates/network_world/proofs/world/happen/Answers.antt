@@ -1,6 +1,8 @@
 use Rattle.std.proofs.Common.{◌≡◌, ◌++◌, ℕ, List, Option, refl, subst, ◌∙◌}
+use Rattle.arrayvec.specs.ArrayVec.{ArrayVec}
 use Rattle.lldp.specs.Peer.{Peer}
-use Rattle.device_frames.specs.Heard.{Given, Met, Raised, heard_of}
+use Rattle.device_frames.specs.declared.local.Local.{Local}
+use Rattle.device_frames.specs.Heard.{Applied, Met, heard_of}
 use Rattle.controller_core.specs.declared.stored.event.Event.{Event as ControllerEvent}
 use Rattle.controller_core.specs.declared.stored.event.Event.TheVariants as controller
 use Rattle.controller_core.specs.stored.State.{Controlling}
@@ -8,33 +10,13 @@ use Rattle.controller_core.specs.Machine.{step_of}
 use Rattle.network_world.specs.World.{IsHeard, World, at_controller, world_of}
 use Rattle.network_world.proofs.world.happen.Goals as goal
 
-pub returns-in-Input : goal.returns-in-Input
+pub returns-in-Application : goal.returns-in-Application
 unfolding heard_of
-returns-in-Input g c = rw c.in-Input.is (record {
-  hears = subst (λ (octets : List ℕ). IsHeard g.F.Flash c.args.device.now c.args.sent.now.frames (Given c.in-Input.slot c.in-Input.subslot octets) c.happen_at_device.new.device c.happen_at_device.new.sent.frames)
-      (c.bytes_of.ensures ∙ c.as_slice.ensures.value) c.happen_at_device.ensures;
+returns-in-Application g c = rw c.in-Application.is (record {
+  hears = subst (λ (local : Local (ArrayVec ℕ)). IsHeard g.F.Flash c.args.device.now c.args.sent.now.frames (Applied local) c.happen_at_device.new.device c.happen_at_device.new.sent.frames)
+      c.borrowed.ensures c.happen_at_device.ensures;
   controller = refl;
 })
-
-pub returns-in-Alarm : goal.returns-in-Alarm
-unfolding heard_of
-returns-in-Alarm g c = rw c.in-Alarm.is (record {
-  hears = subst (λ (octets : List ℕ). IsHeard g.F.Flash c.args.device.now c.args.sent.now.frames (Raised c.in-Alarm.slot c.in-Alarm.subslot octets) c.happen_at_device-in-Alarm.new.device c.happen_at_device-in-Alarm.new.sent.frames)
-      (c.bytes_of-in-Alarm.ensures ∙ c.as_slice-in-Alarm.ensures.value) c.happen_at_device-in-Alarm.ensures;
-  controller = refl;
-})
-
-pub returns-in-Status : goal.returns-in-Status
-unfolding heard_of
-returns-in-Status g c = rw c.in-Status.is (record { hears = c.happen_at_device-in-Status.ensures; controller = refl })
-
-pub returns-in-Diagnosis : goal.returns-in-Diagnosis
-unfolding heard_of
-returns-in-Diagnosis g c = rw c.in-Diagnosis.is (record { hears = c.happen_at_device-in-Diagnosis.ensures; controller = refl })
-
-pub returns-in-Ready : goal.returns-in-Ready
-unfolding heard_of
-returns-in-Ready g c = rw c.in-Ready.is (record { hears = c.happen_at_device-in-Ready.ensures; controller = refl })
 
 pub returns-in-Neighbour : goal.returns-in-Neighbour
 unfolding heard_of
@@ -54,8 +36,8 @@ returns-in-Give g c =
     let before = world_of c.args.device.now c.args.controller.now c.args.sent.now in
     rw c.in-Give.is (subst (λ (octets : List ℕ). world_of c.args.device.now c.happen_at_controller.new.controller c.happen_at_controller.new.sent
     ≡ at_controller before (controller.Give c.in-Give.slot c.in-Give.subslot (record { items = octets })))
-    (c.bytes_of-in-Give.ensures ∙ c.as_slice-in-Give.ensures.value)
-    (given_at before (controller.Give c.in-Give.slot c.in-Give.subslot c.bytes_of-in-Give.result) c.happen_at_controller.new.controller c.happen_at_controller.new.sent.frames
+    (c.bytes_of.ensures ∙ c.as_slice.ensures.value)
+    (given_at before (controller.Give c.in-Give.slot c.in-Give.subslot c.bytes_of.result) c.happen_at_controller.new.controller c.happen_at_controller.new.sent.frames
     c.happen_at_controller.ensures.state c.happen_at_controller.ensures.frames))
 
 pub returns-in-Write : goal.returns-in-Write

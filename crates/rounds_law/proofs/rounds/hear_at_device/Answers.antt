@@ -1,4 +1,5 @@
-use Rattle.std.proofs.Common.{ℕ, List, ap, subst, ◌∙◌, ◌++◌}
+use Rattle.std.proofs.Common.{◌≤◌, ℕ, List, length, ap, subst, ◌∙◌, ◌++◌, arith}
+use Rattle.arrayvec.specs.ArrayVec.{ArrayVec}
 use Rattle.frame_codec.specs.Outbox.{boxed}
 use Rattle.device_frames.specs.declared.event.Event.TheVariants.{Frame as comes}
 use Rattle.device_frames.specs.Heard.{heard_of}
@@ -9,13 +10,16 @@ use Rattle.rounds_law.proofs.rounds.hear_at_device.Goals as goal
 
 pub returns : goal.returns
 returns g c = λ reliable.
-    let stays = c.step_frame.ensures.reliable reliable.flash reliable.unfailed in
+    let stays = c.step.ensures.reliable reliable.flash reliable.unfailed in
     let device = c.args.device.now in
     let sent = octets_of c.args.sent.now.items in
-    subst (λ (octets : List ℕ). Adds g.F.Flash device (heard_of device.station.identity (comes (record { items = octets }))) sent c.step_frame.new.self
+    let most : length c.as_slice.result.now ≤ 1518 = c.as_slice.ensures.most in
+    let few : length c.as_slice.result.now ≤ 1519 = omega arith in
+    let whole = c.of.ensures.whole few ∙ ap (λ (items : List ℕ). let octets : ArrayVec ℕ = record { items = items } in octets) c.as_slice.ensures.value in
+    subst (λ (octets : ArrayVec ℕ). Adds g.F.Flash device (heard_of device.station.identity (comes octets)) sent c.step.new.self
     (octets_of c.append.new.all.items))
-    c.as_slice.ensures.value
-    (added g.F.Flash device (heard_of device.station.identity (comes (record { items = c.as_slice.result.now }))) sent
-    (boxed c.step_frame.new.outbox) c.step_frame.result
-    c.step_frame.new.self (octets_of c.append.new.all.items) reliable c.step_frame.ensures.steps (record { flash = stays.0; unfailed = stays.1 })
+    whole
+    (added g.F.Flash device (heard_of device.station.identity (comes c.of.result)) sent
+    (boxed c.step.new.outbox) c.step.result
+    c.step.new.self (octets_of c.append.new.all.items) reliable c.step.ensures.steps (record { flash = stays.0; unfailed = stays.1 })
     (c.in_ok-append.ensures ∙ ap (λ frames. sent ++ octets_of frames) c.as_slice-2.ensures.value))

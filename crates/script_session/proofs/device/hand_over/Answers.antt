@@ -1,4 +1,4 @@
-use Rattle.std.proofs.Common.{◌∷◌, ◌+◌, drop, sym, ap, subst, ◌∙◌, ◌++◌}
+use Rattle.std.proofs.Common.{◌∷◌, ◌+◌, ◌≤◌, drop, length, sym, ap, subst, ◌∙◌, ◌++◌, arith}
 use Rattle.std.proofs.lemmas.List.{drop_more}
 use Rattle.std.proofs.lemmas.Bool.{false≢true}
 use Rattle.device_frames.specs.declared.event.Event.TheVariants as event
@@ -20,7 +20,9 @@ loop-frame-preserved c = (
       let handing = c.loop-frame.invariant.1 station runs in
       let here = drop_more c.args.frames.now c.loop-frame.frame-index c.frame-item.result c.loop-frame-test.true ∙ ap (λ f. f ∷ drop (c.loop-frame.frame-index + 1) c.args.frames.now) (sym c.frame-item.is) in
       let first = subst (λ left. IsHanding (device_run station (frames_for_device (octets_of c.args.frames.now))) (frames_for_device (octets_of left)) handing.0 c.loop-frame.device c.args.to_controller.now.items c.loop-frame.to_controller.items) here handing.1 in
-      let event_is = ap (λ octets. event.Frame octets) c.copied.ensures ∙ ap (λ items. event.Frame (record { items = items })) c.as_slice.ensures.value in
+      let most : length c.as_slice.result.now ≤ 1518 = c.as_slice.ensures.most in
+      let few : length c.as_slice.result.now ≤ 1519 = omega arith in
+      let event_is = ap (λ octets. event.Frame octets) (c.of.ensures.whole few) ∙ ap (λ items. event.Frame (record { items = items })) c.as_slice.ensures.value in
       let stepped = rw event_is at (c.step.ensures.steps handing.0 first.runs) in (
         _,
         handing_on _ (event.Frame (record { items = c.frame-item.result.items })) _ handing.0 _ _ _ _ _ first stepped.runs

@@ -1,9 +1,9 @@
--- It is accepted, or refused.
+-- Of a place.
 use Rattle.std.proofs.Common.{refl, sym}
 use Rattle.station_abi.proofs.serving.status.Goals as goal
 
 pub returns-in-Some : goal.returns-in-Some
-returns-in-Some c = rw (sym c.in-Some.ensures) (c.status-outcome.result, c.status-outcome.ensures, c.noted.ensures.answer, c.noted.ensures.reported)
+returns-in-Some c = rw (sym c.in-Some.ensures) c.rate.ensures
 
 pub returns-in-None : goal.returns-in-None
 returns-in-None c = rw (sym c.in-None.ensures) (refl, refl, refl)

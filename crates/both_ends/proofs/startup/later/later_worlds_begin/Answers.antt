@@ -1,4 +1,4 @@
-use Rattle.std.proofs.Common.{◌≡◌, List, None, [], ap, sym, ◌∙◌}
+use Rattle.std.proofs.Common.{List, [], ap, sym, ◌∙◌}
 use Rattle.rpc_core.specs.Cache.{Kept, kept_of}
 use Rattle.controller_messages.specs.declared.setup.Setup.{Setup}
 use Rattle.device_core.specs.State.{State, Station}

@@ -2,8 +2,9 @@
 use Rattle.std.proofs.Common.{Ok, Err, refl, sym, ap, ◌∙◌}
 use Rattle.std.proofs.lemmas.Result.{err_from_is_err_and}
 use Rattle.device_abi.specs.port.Plays.{point, settled}
-use Rattle.device_abi.proofs.PortHosted.{idle_of, smaller, worked}
+use Rattle.device_abi.proofs.PortHosted.{smaller, worked}
 use Rattle.device_abi.proofs.PortPlays.{piece, settled_idle, settles_on, stage_on}
+use Rattle.device_abi.proofs.ServedBarring.{fetched_of}
 use Rattle.device_abi.proofs.port.host.settle.Goals as goal
 
 pub loop-port-init : goal.loop-port-init
@@ -35,9 +36,9 @@ returns-in_err-work-clause-ends g c =
 
 pub returns-clause-ends : goal.returns-clause-ends
 returns-clause-ends g c = λ begun events s.
-    (c.loop-port.invariant.ends begun events s, idle_of c.loop-port.port (sym c.has_work.ensures ∙ c.loop-port-test.false))
+    (c.loop-port.invariant.ends begun events s, fetched_of c.loop-port.port (sym c.has_work.ensures ∙ c.loop-port-test.false))
 
 pub returns-clause-settled : goal.returns-clause-settled
 returns-clause-settled g c = λ booted.
-    settled_idle (point c.loop-port.port (g.C.Flash.image c.loop-port.chip) (g.K.Sink.taken c.loop-port.sink)) (idle_of c.loop-port.port (sym c.has_work.ensures ∙ c.loop-port-test.false))
+    settled_idle (point c.loop-port.port (g.C.Flash.image c.loop-port.chip) (g.K.Sink.taken c.loop-port.sink)) (fetched_of c.loop-port.port (sym c.has_work.ensures ∙ c.loop-port-test.false))
     ∙ (c.loop-port.invariant.settled booted).1

@@ -9,7 +9,7 @@ use Rattle.device_abi.proofs.RecordingPlaced.{as_recorded}
 use Rattle.device_abi.proofs.recording.recorded_step.step.Goals as goal
 
 pub returns-clause-records : goal.returns-clause-records
-returns-clause-records g c =
+returns-clause-records c =
     let s = c.step.ensures.steps in
     let old = c.args.device.now in
     let going = (c.step.ensures.reliable tt c.requires).1 in

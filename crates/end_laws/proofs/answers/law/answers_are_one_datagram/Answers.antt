@@ -10,5 +10,5 @@ returns-clause-first g c = λ settings room. tt
 
 pub returns-clause-step : goal.returns-clause-step
 returns-clause-step g c = λ old new heard sent said steps stored.
-    let good = step_good c.frames_are_read.ensures.udp c.responses_are_read.ensures.read steps.outcomes old.station old.live heard steps.sendable stored in
+    let good = step_good c.frames_are_read.ensures.udp c.responses_are_read.ensures.read c.application_is_local.ensures steps.outcomes old.station old.live heard steps.sendable stored in
     (good.0, subst (λ (live : Live). AreStoredWhole live.rest.calls) (sym steps.live) good.1)

@@ -11,11 +11,11 @@ returns-in-Frame-clause-obeys c plans network right are plain = rw c.in-Frame.is
 
 pub returns-in-Input-clause-obeys : goal.returns-in-Input-clause-obeys
 unfolding said
-returns-in-Input-clause-obeys c plans network right are plain = rw c.in-Input.is (always_obeys _ _ _ _ _ _ (c.give.ensures.obeys network are) c.always-in-Input.ensures)
+returns-in-Input-clause-obeys c plans network right are plain = rw c.in-Input.is (always_obeys _ _ _ _ _ _ (rw c.of.ensures.value at (c.say.ensures.obeys network are)) c.always-in-Input.ensures)
 
 pub returns-in-Alarm-clause-obeys : goal.returns-in-Alarm-clause-obeys
 unfolding said
-returns-in-Alarm-clause-obeys c plans network right are plain = rw c.in-Alarm.is (always_obeys _ _ _ _ _ _ (c.alarm.ensures.obeys network are) c.always-in-Alarm.ensures)
+returns-in-Alarm-clause-obeys c plans network right are plain = rw c.in-Alarm.is (always_obeys _ _ _ _ _ _ (rw c.of-in-Alarm.ensures.value at (c.say-in-Alarm.ensures.obeys network are)) c.always-in-Alarm.ensures)
 
 pub returns-in-Restart-clause-obeys : goal.returns-in-Restart-clause-obeys
 unfolding said
@@ -41,15 +41,15 @@ returns-in-Choose-clause-obeys c plans network right are plain =
 
 pub returns-in-Ready-clause-obeys : goal.returns-in-Ready-clause-obeys
 unfolding said
-returns-in-Ready-clause-obeys c plans network right are plain = rw c.in-Ready.is (always_obeys _ _ _ _ _ _ (c.ready.ensures.obeys network are) c.always-in-Ready.ensures)
+returns-in-Ready-clause-obeys c plans network right are plain = rw c.in-Ready.is (always_obeys _ _ _ _ _ _ (c.say-in-Ready.ensures.obeys network are) c.always-in-Ready.ensures)
 
 pub returns-in-Status-clause-obeys : goal.returns-in-Status-clause-obeys
 unfolding said
-returns-in-Status-clause-obeys c plans network right are plain = rw c.in-Status.is (always_obeys _ _ _ _ _ _ (c.status.ensures.obeys network are) c.always-in-Status.ensures)
+returns-in-Status-clause-obeys c plans network right are plain = rw c.in-Status.is (always_obeys _ _ _ _ _ _ (c.say-in-Status.ensures.obeys network are) c.always-in-Status.ensures)
 
 pub returns-in-Diagnosis-clause-obeys : goal.returns-in-Diagnosis-clause-obeys
 unfolding said
-returns-in-Diagnosis-clause-obeys c plans network right are plain = rw c.in-Diagnosis.is (always_obeys _ _ _ _ _ _ (c.diagnose.ensures.obeys network are) c.always-in-Diagnosis.ensures)
+returns-in-Diagnosis-clause-obeys c plans network right are plain = rw c.in-Diagnosis.is (always_obeys _ _ _ _ _ _ (c.say-in-Diagnosis.ensures.obeys network are) c.always-in-Diagnosis.ensures)
 
 pub returns-in-Provider-clause-obeys : goal.returns-in-Provider-clause-obeys
 unfolding said
@@ -78,19 +78,19 @@ pub returns-in-Frame-clause-lost : goal.returns-in-Frame-clause-lost
 returns-in-Frame-clause-lost c handed there gone = rw c.in-Frame.is (always_tells _ _ _ (c.hand_in.ensures.lost there gone) c.always.ensures)
 
 pub returns-in-Input-clause-lost : goal.returns-in-Input-clause-lost
-returns-in-Input-clause-lost c handed there gone = rw c.in-Input.is (always_tells _ _ _ (c.give.ensures.lost there gone) c.always-in-Input.ensures)
+returns-in-Input-clause-lost c handed there gone = rw c.in-Input.is (always_tells _ _ _ (c.say.ensures.lost there gone) c.always-in-Input.ensures)
 
 pub returns-in-Alarm-clause-lost : goal.returns-in-Alarm-clause-lost
-returns-in-Alarm-clause-lost c handed there gone = rw c.in-Alarm.is (always_tells _ _ _ (c.alarm.ensures.lost there gone) c.always-in-Alarm.ensures)
+returns-in-Alarm-clause-lost c handed there gone = rw c.in-Alarm.is (always_tells _ _ _ (c.say-in-Alarm.ensures.lost there gone) c.always-in-Alarm.ensures)
 
 pub returns-in-Ready-clause-lost : goal.returns-in-Ready-clause-lost
-returns-in-Ready-clause-lost c handed there gone = rw c.in-Ready.is (always_tells _ _ _ (c.ready.ensures.lost there gone) c.always-in-Ready.ensures)
+returns-in-Ready-clause-lost c handed there gone = rw c.in-Ready.is (always_tells _ _ _ (c.say-in-Ready.ensures.lost there gone) c.always-in-Ready.ensures)
 
 pub returns-in-Status-clause-lost : goal.returns-in-Status-clause-lost
-returns-in-Status-clause-lost c handed there gone = rw c.in-Status.is (always_tells _ _ _ (c.status.ensures.lost there gone) c.always-in-Status.ensures)
+returns-in-Status-clause-lost c handed there gone = rw c.in-Status.is (always_tells _ _ _ (c.say-in-Status.ensures.lost there gone) c.always-in-Status.ensures)
 
 pub returns-in-Diagnosis-clause-lost : goal.returns-in-Diagnosis-clause-lost
-returns-in-Diagnosis-clause-lost c handed there gone = rw c.in-Diagnosis.is (always_tells _ _ _ (c.diagnose.ensures.lost there gone) c.always-in-Diagnosis.ensures)
+returns-in-Diagnosis-clause-lost c handed there gone = rw c.in-Diagnosis.is (always_tells _ _ _ (c.say-in-Diagnosis.ensures.lost there gone) c.always-in-Diagnosis.ensures)
 
 pub returns-in-Deliver-clause-lost : goal.returns-in-Deliver-clause-lost
 returns-in-Deliver-clause-lost c handed there gone = rw c.in-Deliver.is (if_there_tells _ _ _ (c.deliver.ensures.lost there gone) c.if_there-in-Deliver.ensures)

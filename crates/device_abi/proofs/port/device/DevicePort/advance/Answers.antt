@@ -1,7 +1,7 @@
 -- A piece of work is fetched.
 use Rattle.std.proofs.Common.{◌<◌, ℕ, List, length, map, refl, sym, ap, ◌∙◌, arith}
 use Rattle.std.proofs.lemmas.List.{length-map}
-use Rattle.device_abi.specs.recorded.Record.{record_of}
+use Rattle.device_abi.specs.recorded.Record.{recalled}
 use Rattle.device_abi.specs.port.State.{advanced}
 use Rattle.device_abi.specs.contracts.port.device.DevicePort.{the_view}
 use Rattle.device_abi.proofs.PortLeft.{call_taken, counted_call, frame_taken, steady_call, steady_frame}
@@ -10,9 +10,9 @@ use Rattle.device_abi.proofs.port.device.DevicePort.advance.Goals as goal
 pub invariant_of-self : goal.invariant_of-self
 invariant_of-self c =
     let port = c.self.inside in
-    let all = ap (λ f. length (record_of f).recent) c.flash.ensures in
-    let some : port.calls_past < length (record_of port.device.flash).recent = omega (arith, c.if-self-stored.true, c.stored.ensures, all) in
-    (omega (arith, some), c.self.invariant.1, steady_call port.stage port.device.live.values.has_failed port.calls_past (record_of port.device.flash).recent _ some c.self.invariant.2, counted_call port.due port.device.live port.stage port.calls_past (record_of port.device.flash).recent some c.self.invariant.3)
+    let all = ap (λ f. length (recalled f)) c.flash.ensures in
+    let some : port.calls_past < length (recalled port.device.flash) = omega (arith, c.if-self-stored.true, c.stored.ensures, all) in
+    (omega (arith, some), c.self.invariant.1, steady_call port.stage port.device.live.values.has_failed port.calls_past (recalled port.device.flash) _ some c.self.invariant.2, counted_call port.due port.device.live port.stage port.calls_past (recalled port.device.flash) some c.self.invariant.3)
 
 pub invariant_of-self-then-self-len : goal.invariant_of-self-then-self-len
 invariant_of-self-then-self-len c =
@@ -25,12 +25,12 @@ invariant_of-self-then-self-len c =
 pub returns-then-self-stored : goal.returns-then-self-stored
 returns-then-self-stored c =
     let port = c.self.inside in
-    let all = ap (λ f. length (record_of f).recent) c.flash.ensures in
-    sym (call_taken (the_view port) port.calls_past (record_of port.device.flash).recent (omega (arith, c.if-self-stored.true, c.stored.ensures, all))) ∙ ap advanced c.self.view_is
+    let all = ap (λ f. length (recalled f)) c.flash.ensures in
+    sym (call_taken (the_view port) port.calls_past (recalled port.device.flash) (omega (arith, c.if-self-stored.true, c.stored.ensures, all))) ∙ ap advanced c.self.view_is
 
 pub returns-then-self-len : goal.returns-then-self-len
 returns-then-self-len c =
     let port = c.self.inside in
-    let all = ap (λ f. length (record_of f).recent) c.flash.ensures in
-    sym (frame_taken (the_view port) port.calls_past port.frames_past (record_of port.device.flash).recent (map (λ frame. frame.items) port.outbox.items)
+    let all = ap (λ f. length (recalled f)) c.flash.ensures in
+    sym (frame_taken (the_view port) port.calls_past port.frames_past (recalled port.device.flash) (map (λ frame. frame.items) port.outbox.items)
     (omega (arith, c.if-self-stored.false, c.stored.ensures, all)) refl) ∙ ap advanced c.self.view_is

@@ -1,12 +1,12 @@
 -- Whether flash calls remain.
 use Rattle.std.proofs.Common.{◌∙◌, length, sym, ap}
 use Rattle.std.specs.Prelude.{nat_lt}
-use Rattle.device_abi.specs.recorded.Record.{record_of}
+use Rattle.device_abi.specs.recorded.Record.{recalled}
 use Rattle.device_abi.proofs.PortLeft.{some_left}
 use Rattle.device_abi.proofs.port.device.DevicePort.has_calls.Goals as goal
 
 pub returns : goal.returns
 returns c =
     let port = c.self.inside in
-    let count = c.stored.ensures ∙ ap (λ f. length (record_of f).recent) c.flash.ensures in
-    rw (← c.self.view_is) (ap (nat_lt port.calls_past) count ∙ sym (some_left port.calls_past (record_of port.device.flash).recent))
+    let count = c.stored.ensures ∙ ap (λ f. length (recalled f)) c.flash.ensures in
+    rw (← c.self.view_is) (ap (nat_lt port.calls_past) count ∙ sym (some_left port.calls_past (recalled port.device.flash)))

@@ -1,6 +1,7 @@
 -- A start, or a foreign chip.
 use Rattle.std.proofs.Common.{◌≡◌, None, refl, sym, ap, subst, ◌∙◌}
 use Rattle.std.specs.Prelude.{drop}
+use Rattle.device_abi.specs.recorded.Record.{calls_in}
 use Rattle.device_abi.specs.port.State.{past_start}
 use Rattle.device_abi.proofs.PortStages.{early_of, made_of, foreign_alone}
 use Rattle.device_abi.proofs.port.device.DevicePort.start.Goals as goal
@@ -10,12 +11,12 @@ returns-in-Ok c =
     let port = c.self.inside in
     let early : past_start port.stage ≡ None = subst (λ p. past_start p.stage ≡ None) (sym c.self.view_is) c.requires in
     let steady = made_of port.stage _ _ _ (early_of port.stage early) c.self.invariant.2 in
-    let same = c.load.ensures.calls tt in
+    let same = c.load.ensures.calls.1 tt in
     rw (← c.self.view_is) (
       early,
       record {
         stage = refl;
-        leaves = record { flash = same; station = c.load.ensures.station; idle = (ap (λ r. drop port.calls_past r.recent) same ∙ steady.1, steady.2) };
+        leaves = record { flash = same; station = c.load.ensures.station; idle = (ap (λ r. drop port.calls_past (calls_in r)) same ∙ steady.1, steady.2) };
         starts = c.in-Ok.ensures.starts;
         fresh = c.in-Ok.ensures.fresh;
         known = λ settings room is. c.in-Ok.ensures.known settings room is;
@@ -28,13 +29,13 @@ returns-in-Err c =
     let early : past_start port.stage ≡ None = subst (λ p. past_start p.stage ≡ None) (sym c.self.view_is) c.requires in
     let made = early_of port.stage early in
     let steady = made_of port.stage _ _ _ made c.self.invariant.2 in
-    let same = c.load.ensures.calls tt in
+    let same = c.load.ensures.calls.1 tt in
     let foreign = (c.in-Err.ensures.reliable tt).1 in
     rw (← c.self.view_is) (rw early (
       refl,
       record {
         stage = made;
-        leaves = record { flash = same; station = c.load.ensures.station; idle = (ap (λ r. drop port.calls_past r.recent) same ∙ steady.1, steady.2) };
+        leaves = record { flash = same; station = c.load.ensures.station; idle = (ap (λ r. drop port.calls_past (calls_in r)) same ∙ steady.1, steady.2) };
         foreign = c.in-Err.ensures.foreign foreign;
         not_left = λ left. foreign_alone _ foreign (c.in-Err.ensures.left left);
       },

@@ -1,14 +1,14 @@
 -- A piece of work is fetched.
-use Rattle.std.proofs.Common.{◌+◌, ◌-◌, ◌∙◌, ℕ, List, map, drop, refl, subst, sym, ap, arith}
+use Rattle.std.proofs.Common.{◌+◌, ◌∙◌, ℕ, List, map, drop, refl, subst, sym, ap, arith}
 use Rattle.std.proofs.lemmas.List.{drop_all, length-map}
 use Rattle.settings_journal.specs.settings_store.State.{Values}
-use Rattle.device_abi.specs.port.Pace.{IsPaced, caught_up}
+use Rattle.device_abi.specs.port.Pace.{IsPaced}
 use Rattle.device_abi.specs.port.Served.{advanced_both}
-use Rattle.device_abi.proofs.ServedBarring.{idle_port}
+use Rattle.device_abi.specs.contracts.port.served.Port.{the_view}
+use Rattle.device_abi.proofs.PortLeft.{is_left}
+use Rattle.device_abi.proofs.PortStages.{idle_of}
 use Rattle.device_abi.proofs.ServedFetching.{after_none, after_own, after_work, same_device, with_port}
-use Rattle.device_abi.proofs.ServedLeft.{some_left}
 use Rattle.device_abi.proofs.ServedPacing.{some_paced}
-use Rattle.device_abi.proofs.ServedTicking.{at}
 use Rattle.device_abi.proofs.port.served.Port.advance.Goals as goal
 
 pub invariant_of-self : goal.invariant_of-self
@@ -23,30 +23,26 @@ invariant_of-self-then-self-len c =
     let all = c.self.inside in
     let frames : List (List ℕ) = map (λ frame. frame.items) all.outbox.items in
     let long = length-map all.outbox.items (λ frame. frame.items) in
-    let some = some_left all.frames_past frames (omega (arith, c.if-self-len.true, c.len.ensures.value, long)) in
+    let some = is_left all.frames_past frames (omega (arith, c.if-self-len.true, c.len.ensures.value, long)) in
     some_paced all.rest all.limit all.port.device.live.values all.services (drop all.frames_past frames) (drop (all.frames_past + 1) frames) some c.self.invariant
 
 pub returns-then-has_work : goal.returns-then-has_work
 returns-then-has_work c =
     let all = c.self.inside in
-    let frames : List (List ℕ) = map (λ frame. frame.items) all.outbox.items in
-    let served = at all.serves all.port (caught_up (all.limit - all.rest) all.services) (drop all.frames_past frames) in
-    ap (with_port served) c.advance.ensures ∙ after_work served (sym c.has_work.ensures ∙ c.if-has_work.true) ∙ ap advanced_both c.self.view_is
+    ap (with_port (the_view all)) c.advance.ensures ∙ after_work (the_view all) (sym c.has_work.ensures ∙ c.if-has_work.true) ∙ ap advanced_both c.self.view_is
 
 pub returns-then-self-len : goal.returns-then-self-len
 returns-then-self-len c =
     let all = c.self.inside in
     let frames : List (List ℕ) = map (λ frame. frame.items) all.outbox.items in
-    let served = at all.serves all.port (caught_up (all.limit - all.rest) all.services) (drop all.frames_past frames) in
-    let idle = idle_port all.port.calls all.port.frames (sym c.has_work.ensures ∙ c.if-has_work.false) in
-    after_own served all.frames_past frames idle.0 idle.1 refl ∙ ap advanced_both c.self.view_is
+    let idle = idle_of all.port.calls all.port.frames (sym c.has_work.ensures ∙ c.if-has_work.false) in
+    after_own (the_view all) all.frames_past frames idle.0 idle.1 refl ∙ ap advanced_both c.self.view_is
 
 pub returns-else-self-len : goal.returns-else-self-len
 returns-else-self-len c =
     let all = c.self.inside in
     let frames : List (List ℕ) = map (λ frame. frame.items) all.outbox.items in
-    let served = at all.serves all.port (caught_up (all.limit - all.rest) all.services) (drop all.frames_past frames) in
-    let idle = idle_port all.port.calls all.port.frames (sym c.has_work.ensures ∙ c.if-has_work.false) in
+    let idle = idle_of all.port.calls all.port.frames (sym c.has_work.ensures ∙ c.if-has_work.false) in
     let long = length-map all.outbox.items (λ frame. frame.items) in
     let none = drop_all all.frames_past frames (omega (arith, c.if-self-len.false, c.len.ensures.value, long)) in
-    sym c.self.view_is ∙ after_none served idle.0 idle.1 none ∙ ap advanced_both c.self.view_is
+    sym c.self.view_is ∙ after_none (the_view all) idle.0 idle.1 none ∙ ap advanced_both c.self.view_is

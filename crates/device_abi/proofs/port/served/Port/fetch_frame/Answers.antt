@@ -1,19 +1,17 @@
 -- The first frame of the device is the first of all.
-use Rattle.std.proofs.Common.{◌≡◌, ◌-◌, ◌∙◌, ℕ, [], true, drop, refl, subst, sym, ap}
+use Rattle.std.proofs.Common.{◌≡◌, ◌∙◌, ℕ, [], true, drop, refl, subst, sym, ap}
 use Rattle.std.specs.Prelude.{option_map}
 use Rattle.frame_codec.specs.Outbox.{boxed}
 use Rattle.device_abi.specs.port.State.{has_some, waiting}
-use Rattle.device_abi.specs.port.Pace.{caught_up}
 use Rattle.device_abi.specs.port.Served.{Served, advanced_both, or_own}
+use Rattle.device_abi.specs.contracts.port.served.Port.{the_view}
 use Rattle.device_abi.proofs.ServedFetching.{after_frame, first_of_port, with_port}
-use Rattle.device_abi.proofs.ServedTicking.{at}
 use Rattle.device_abi.proofs.port.served.Port.fetch_frame.Goals as goal
 
 pub returns : goal.returns
 returns c =
     let all = c.self.inside in
     let frames = drop all.frames_past (boxed all.outbox) in
-    let served = at all.serves all.port (caught_up (all.limit - all.rest) all.services) frames in
     let some = subst (λ (s : Served). has_some s.port.frames ≡ true) (sym c.self.view_is) c.requires.frames in
     let none = subst (λ (s : Served). s.port.calls ≡ []) (sym c.self.view_is) c.requires.calls in
     let fetched = c.fetch_frame-frame.follows.holds-at-none in
@@ -23,7 +21,7 @@ returns c =
         (λ _. tt),
         (
           rw (← c.self.view_is) (first_of_port all.port.frames frames (option_map (λ frame. frame.now.items) c.fetch_frame-frame.result) some fetched.0),
-          ap (with_port served) fetched.1 ∙ after_frame served none some ∙ ap advanced_both c.self.view_is,
+          ap (with_port (the_view all)) fetched.1 ∙ after_frame (the_view all) none some ∙ ap advanced_both c.self.view_is,
           c.or_own.ensures ∙ (ap (λ (n : ℕ). or_own n c.waiting_own-own.result) fetched.2 ∙ ap (or_own (waiting c.fetch_frame-frame.follows.lender-at-none.calls c.fetch_frame-frame.follows.lender-at-none.frames)) own),
         ),
       ),

@@ -6,7 +6,7 @@ use Rattle.station.specs.Serving.{Serving}
 use Rattle.device_abi.specs.port.Pace.{AreCalm, caught_up, soonest}
 use Rattle.device_abi.specs.port.Served.{Served, barred_both, due_both}
 use Rattle.device_abi.specs.port.ServedSteps.{TicksBoth}
-use Rattle.device_abi.proofs.ServedBarring.{barred_alone, free_parts}
+use Rattle.device_abi.proofs.ServedBarring.{barred_alone, free_fetched}
 use Rattle.device_abi.proofs.ServedComposed.{passed_paced, ticks_calm}
 use Rattle.device_abi.proofs.ServedPacing.{caught_zero, due_soonest, few_soonest, renewed, resting_of}
 use Rattle.device_abi.proofs.ServedTicking.{at}
@@ -18,7 +18,7 @@ invariant_of-self c =
     let frames = drop all.frames_past (boxed all.outbox) in
     let rest = c.rest_of-rest.result in
     let free = sym c.barred.ensures ∙ c.in_default.is in
-    let fetched = ap (λ (s : Served). s.frames) c.self.view_is ∙ (free_parts c.args.self.now free).2 in
+    let fetched = ap (λ (s : Served). s.frames) c.self.view_is ∙ (free_fetched c.args.self.now free).1 in
     renewed rest all.port.device.live.values c.catch_up.new.services frames fetched c.rest_of-rest.ensures.calm
 
 -- None passes: something is due of the services with the next one, or they have something to see or to tell first.
@@ -53,7 +53,7 @@ invariant_of-self-2 c =
     let frames = drop all.frames_past (boxed all.outbox) in
     let rest = c.rest_of-rest.result in
     let free = sym c.barred.ensures ∙ c.in_default.is in
-    let fetched = ap (λ (s : Served). s.frames) c.self.view_is ∙ (free_parts c.args.self.now free).2 in
+    let fetched = ap (λ (s : Served). s.frames) c.self.view_is ∙ (free_fetched c.args.self.now free).1 in
     let paced = renewed rest all.port.device.live.values c.catch_up.new.services frames fetched c.rest_of-rest.ensures.calm in
     let few : c.min-quiet.result < rest = omega (arith, c.if-rest-le1.false, c.min-first.ensures, c.min-quiet.ensures) in
     passed_paced c.min-quiet.result rest rest all.port c.pass_quietly.new.self c.catch_up.new.services frames few paced c.pass_quietly.ensures.ticks
@@ -69,7 +69,7 @@ returns c =
     let laws = c.quiet_units_are_ticks.ensures in
     let new = c.pass_quietly.new.self in
     let free = sym c.barred.ensures ∙ c.in_default.is in
-    let fetched = ap (λ (s : Served). s.frames) c.self.view_is ∙ (free_parts c.args.self.now free).2 in
+    let fetched = ap (λ (s : Served). s.frames) c.self.view_is ∙ (free_fetched c.args.self.now free).1 in
     let paced = renewed rest values services frames fetched c.rest_of-rest.ensures.calm in
     let few : quiet < rest = omega (arith, c.if-rest-le1.false, c.min-first.ensures, c.min-quiet.ensures) in
     let value : c.due-due.result ≡ live_due_in all.port.device.live = c.due-due.ensures.value ∙ ap (λ d. live_due_in d.live) c.device.ensures in

@@ -1,41 +1,50 @@
 -- What the services do beside the step of the device.
-use Rattle.std.proofs.Common.{◌≡◌, ◌-◌, Option, None, drop, subst, sym}
+use Rattle.std.proofs.Common.{◌≡◌, ◌-◌, ℕ, List, Option, None, drop, subst, sym}
+use Rattle.arrayvec.specs.ArrayVec.{ArrayVec}
 use Rattle.frame_codec.specs.Outbox.{boxed}
 use Rattle.device_frames.specs.declared.event.Event.{Event}
 use Rattle.device_frames.specs.declared.event.Event.TheVariants.{Frame}
 use Rattle.station.specs.Serving.{Serving}
 use Rattle.device_abi.specs.port.Pace.{caught_up}
 use Rattle.device_abi.specs.port.Served.{Served, barred_both}
-use Rattle.device_abi.specs.port.ServedSteps.{GivesAny, IsBeside}
+use Rattle.device_abi.specs.port.Steps.{Takes}
+use Rattle.device_abi.specs.port.ServedSteps.{GivesAny, IsBeside, StepsBoth}
+use Rattle.device_abi.specs.contracts.port.served.Port.{the_view}
 use Rattle.device_abi.proofs.ServedBarring.{free_port}
 use Rattle.device_abi.proofs.ServedComposed.{dropped_free, frame_steps, noticed_of}
 use Rattle.device_abi.proofs.ServedTicking.{at}
 use Rattle.device_abi.proofs.port.served.Port.take_frame.Goals as goal
 
-pub take_frame-note-requires : goal.take_frame-note-requires
-take_frame-note-requires c =
+pub take-note-requires : goal.take-note-requires
+take-note-requires c =
     let all = c.self.inside in
-    let served = at all.serves all.port (caught_up (all.limit - all.rest) all.services) (drop all.frames_past (boxed all.outbox)) in
-    free_port served (subst (λ (s : Served). barred_both s ≡ None) (sym c.self.view_is) c.requires)
+    free_port (the_view all) (subst (λ (s : Served). barred_both s ≡ None) (sym c.self.view_is) c.requires)
 
 pub follow-requires-clause-known : goal.follow-requires-clause-known
 follow-requires-clause-known c =
-    noticed_of c.conflicts_are_noticed.ensures c.self.inside.port c.take_frame-note.new.self (record { items = c.args.octets.now }) c.take_frame-note.result c.catch_up.new.services c.take_frame-note.ensures
+    let takes : Takes c.self.inside.port (Frame (record { items = c.at_most-octets.result.now })) c.take-note.result c.take-note.new.self =
+    subst (λ (o : ArrayVec ℕ). Takes c.self.inside.port (Frame o) c.take-note.result c.take-note.new.self) (c.of.ensures.whole c.at_most-octets.ensures.few) c.take-note.ensures in
+    noticed_of c.conflicts_are_noticed.ensures c.self.inside.port c.take-note.new.self (record { items = c.at_most-octets.result.now }) c.take-note.result c.catch_up.new.services takes
 
 -- A frame that was dropped leaves no work.
 pub follow-requires-clause-dropped : goal.follow-requires-clause-dropped
 follow-requires-clause-dropped c =
-    dropped_free c.self.inside.port c.take_frame-note.new.self (Frame (record { items = c.args.octets.now })) c.take_frame-note.result c.take_frame-note.ensures
+    let takes : Takes c.self.inside.port (Frame (record { items = c.at_most-octets.result.now })) c.take-note.result c.take-note.new.self =
+    subst (λ (o : ArrayVec ℕ). Takes c.self.inside.port (Frame o) c.take-note.result c.take-note.new.self) (c.of.ensures.whole c.at_most-octets.ensures.few) c.take-note.ensures in
+    dropped_free c.self.inside.port c.take-note.new.self (Frame (record { items = c.at_most-octets.result.now })) c.take-note.result takes
 
 pub returns : goal.returns
 returns c =
     let all = c.self.inside in
-    let middle = c.take_frame-note.new.self in
+    let takes : Takes c.self.inside.port (Frame (record { items = c.at_most-octets.result.now })) c.take-note.result c.take-note.new.self =
+    subst (λ (o : ArrayVec ℕ). Takes c.self.inside.port (Frame o) c.take-note.result c.take-note.new.self) (c.of.ensures.whole c.at_most-octets.ensures.few) c.take-note.ensures in
+    let middle = c.take-note.new.self in
     let new = c.follow.new.port in
-    let event : Event = Frame (record { items = c.args.octets.now }) in
-    let note = c.take_frame-note.result in
+    let event : Event = Frame (record { items = c.at_most-octets.result.now }) in
+    let note = c.take-note.result in
     let after = c.follow.new.services in
     let sent = boxed c.follow.new.outbox in
     let beside = subst (λ (o : Option Serving). IsBeside o middle.device.station.identity middle.device.live.values note event after sent c.follow.result) c.catch_up.ensures c.follow.ensures.beside in
     let gives = subst (λ (o : Option Serving). GivesAny o middle.device.live.values note event middle new) c.catch_up.ensures c.follow.ensures.gives in
-    rw (← c.self.view_is) (frame_steps (all.limit - all.rest) all.serves all.port middle new all.services after (drop all.frames_past (boxed all.outbox)) sent event note c.follow.result c.take_frame-note.ensures beside gives)
+    rw (← c.self.view_is) (subst (λ (b : List ℕ). StepsBoth (the_view all) (Frame (record { items = b })) c.follow.result (at all.serves new (caught_up 0 after) sent)) c.at_most-octets.ensures.value
+    (frame_steps (all.limit - all.rest) all.serves all.port middle new all.services after (drop all.frames_past (boxed all.outbox)) sent event note c.follow.result takes beside gives))

@@ -1,9 +1,8 @@
 -- More units pass, or work stops them.
 use Rattle.std.proofs.Common.{◌≡◌, ◌-◌, ◌+◌, ◌∙◌, sym, ap, subst, arith}
-use Rattle.device_abi.specs.port.State.{closed}
 use Rattle.device_abi.specs.port.Served.{due_both}
 use Rattle.device_abi.specs.port.ServedSteps.{TicksBoth}
-use Rattle.device_abi.proofs.ServedBarring.{busy_barred, free_barred}
+use Rattle.device_abi.proofs.PortStages.{free_of, working_of}
 use Rattle.device_abi.proofs.ServedComposed.{passes_on}
 use Rattle.device_abi.proofs.ServedTicking.{ticks_on}
 use Rattle.device_abi.proofs.port.served.Port.tick_both.Goals.{else-loop-left-test, then-loop-left-test+then-has_work}
@@ -18,7 +17,7 @@ loop-left-preserved c =
       few = omega (arith, known.few);
       ticks = subst (λ n. TicksBoth n c.args.self.now new) count
           (ticks_on (c.args.units - c.loop-left.left) c.leap-left.result c.args.self.now c.loop-left.self new known.ticks c.leap-left.ensures.ticks);
-      free = free_barred new.port.stage _ (ap closed c.leap-left.ensures.stage) (sym c.has_work.ensures ∙ c.if-has_work.false);
+      free = free_of new.port.stage _ c.leap-left.ensures.stage (sym c.has_work.ensures ∙ c.if-has_work.false);
     }
 
 pub returns : goal.returns
@@ -34,7 +33,7 @@ returns c =
             let count : w.leap-left.result + (c.args.units - c.loop-left.left) ≡ c.args.units - c.loop-left-test.left = omega (arith, known.few, w.leap-left.ensures.most, w.left-is) in
             passes_on c.args.units c.loop-left-test.left c.args.self.now new c.count.new.self (omega (arith, w.left-is, known.few))
             (subst (λ n. TicksBoth n c.args.self.now new) count (ticks_on (c.args.units - c.loop-left.left) w.leap-left.result c.args.self.now c.loop-left.self new known.ticks w.leap-left.ensures.ticks)) (c.count.ensures.same ∙ w.self-is)
-            (λ some. busy_barred new.port.stage _ (ap closed w.leap-left.ensures.stage) (sym w.has_work.ensures ∙ w.if-has_work.true))
+            (λ some. working_of new.port.stage _ w.leap-left.ensures.stage (sym w.has_work.ensures ∙ w.if-has_work.true))
       ],
       c.count.ensures.due ∙ ap (λ s. due_both s) (sym c.count.ensures.same),
     )

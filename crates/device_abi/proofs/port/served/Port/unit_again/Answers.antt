@@ -5,7 +5,7 @@ use Rattle.station.specs.Serving.{Serving}
 use Rattle.device_abi.specs.port.Pace.{AreCalm, caught_up}
 use Rattle.device_abi.specs.port.Served.{Served}
 use Rattle.device_abi.specs.port.ServedSteps.{PassesBoth}
-use Rattle.device_abi.proofs.ServedBarring.{free_parts}
+use Rattle.device_abi.proofs.ServedBarring.{free_fetched}
 use Rattle.device_abi.proofs.ServedComposed.{due_calm, passed_paced, passes_calm}
 use Rattle.device_abi.proofs.ServedPacing.{caught_zero, none_of, renewed}
 use Rattle.device_abi.proofs.ServedTicking.{at}
@@ -17,7 +17,7 @@ invariant_of-self c =
     let frames = drop all.frames_past (boxed all.outbox) in
     let rest = c.rest_of-rest.result in
     let free = sym c.barred.ensures ∙ none_of c.barred.result (sym c.is_some.ensures ∙ c.if-is_some.false) in
-    let fetched = ap (λ (s : Served). s.frames) c.self.view_is ∙ (free_parts c.args.self.now free).2 in
+    let fetched = ap (λ (s : Served). s.frames) c.self.view_is ∙ (free_fetched c.args.self.now free).1 in
     let paced = renewed rest all.port.device.live.values c.catch_up.new.services frames fetched c.rest_of-rest.ensures.calm in
     paced
 
@@ -33,7 +33,7 @@ invariant_of-self-2 c =
     let frames = drop all.frames_past (boxed all.outbox) in
     let rest = c.rest_of-rest.result in
     let free = sym c.barred.ensures ∙ none_of c.barred.result (sym c.is_some.ensures ∙ c.if-is_some.false) in
-    let fetched = ap (λ (s : Served). s.frames) c.self.view_is ∙ (free_parts c.args.self.now free).2 in
+    let fetched = ap (λ (s : Served). s.frames) c.self.view_is ∙ (free_fetched c.args.self.now free).1 in
     let paced = renewed rest all.port.device.live.values c.catch_up.new.services frames fetched c.rest_of-rest.ensures.calm in
     let new = c.unit-due.new.self in
     let few : 1 < rest = omega (arith, c.if-rest-le1.false) in
@@ -45,7 +45,7 @@ returns-clause-passes c =
     let frames = drop all.frames_past (boxed all.outbox) in
     let rest = c.rest_of-rest.result in
     let free = sym c.barred.ensures ∙ none_of c.barred.result (sym c.is_some.ensures ∙ c.if-is_some.false) in
-    let fetched = ap (λ (s : Served). s.frames) c.self.view_is ∙ (free_parts c.args.self.now free).2 in
+    let fetched = ap (λ (s : Served). s.frames) c.self.view_is ∙ (free_fetched c.args.self.now free).1 in
     let paced = renewed rest all.port.device.live.values c.catch_up.new.services frames fetched c.rest_of-rest.ensures.calm in
     let services = c.catch_up.new.services in
     let laws = c.quiet_units_are_ticks.ensures in

@@ -1,0 +1,24 @@
+-- What the application says is handed in as what it is.
+use Rattle.std.proofs.Common.{ℕ}
+use Rattle.arrayvec.specs.ArrayVec.{ArrayVec}
+use Rattle.device_frames.specs.declared.event.Event.TheVariants.{Application}
+use Rattle.device_frames.specs.declared.local.Local.TheVariants.{Alarm, Input}
+use Rattle.device_abi.proofs.PortHanded.{answered_in, heard_in, whole_in}
+use Rattle.device_abi.proofs.port.host.hand_on.Goals as goal
+
+pub returns-in-Input : goal.returns-in-Input
+returns-in-Input c =
+    rw c.in-Input.is (whole_in (λ (octets : ArrayVec ℕ). Application (Input c.in-Input.slot c.in-Input.subslot octets)) _ _ _ _ c.as_slice.ensures.value c.as_slice.ensures.few (heard_in _ _ _ _ c.input.ensures))
+
+pub returns-in-Alarm : goal.returns-in-Alarm
+returns-in-Alarm c =
+    rw c.in-Alarm.is (whole_in (λ (octets : ArrayVec ℕ). Application (Alarm c.in-Alarm.slot c.in-Alarm.subslot octets)) _ _ _ _ c.as_slice-in-Alarm.ensures.value c.as_slice-in-Alarm.ensures.few (answered_in _ _ _ _ c.alarm.ensures))
+
+pub returns-in-Status : goal.returns-in-Status
+returns-in-Status c = rw c.in-Status.is (answered_in _ _ _ _ c.status.ensures)
+
+pub returns-in-Diagnosis : goal.returns-in-Diagnosis
+returns-in-Diagnosis c = rw c.in-Diagnosis.is (answered_in _ _ _ _ c.diagnosis.ensures)
+
+pub returns-in-Ready : goal.returns-in-Ready
+returns-in-Ready c = rw c.in-Ready.is (answered_in _ _ _ _ c.ready.ensures)

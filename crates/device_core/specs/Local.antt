@@ -1,0 +1,66 @@
+-- What holds of whatever the application says to the device.
+use Rattle.std.specs.Prelude.{◌≡◌, ◌⊎◌, ℕ, Bool, List, [], Option, Some, None}
+use Rattle.std.specs.List.{AllByRecursion}
+use Rattle.arrayvec.specs.ArrayVec.{ArrayVec}
+use Rattle.pn_values.specs.declared.set_item.BlockError.{BlockError}
+use Rattle.cyclic_data.specs.declared.exchange.route.Route.{Route}
+use Rattle.cyclic_data.specs.Timing.{Hearing}
+use Rattle.relations.specs.declared.phase.Phase.{Phase}
+use Rattle.relations.specs.declared.phase.Phase.TheVariants.{Preparing, Awaiting}
+use Rattle.relations.specs.exchange.Flow.{Flow}
+use Rattle.relations.specs.RelationState.{RelationState}
+use Rattle.device_frames.specs.declared.local.Local.{Local}
+use Rattle.device_frames.specs.Sent.{Sent, IdentifyAnswer, GetAnswer, SetAnswer, ArpReply, CallAnswer, Again, ReadyCall, Ends, Exchanges}
+use Rattle.device_core.specs.State.{Station, Rest, Live}
+use Rattle.device_core.specs.Handled.{Handled, handled_local}
+use Rattle.device_core.specs.Machine.{finished, items_in}
+
+-- The phase is the one before, or the application is ready.
+abbrev pub IsPhaseOf : Phase → Phase → Type 0
+IsPhaseOf before after = (after ≡ before) ⊎ ((before ≡ Preparing) × (after ≡ Awaiting))
+
+-- The frames of the exchange are known by the same numbers, and what it received is that of before, with the time of the last.
+pub record IsFlowOf (before after : Flow) : Type 0 where
+  pub route : after.cyclic.route ≡ before.cyclic.route
+  pub begun : after.cyclic.begun ≡ before.cyclic.begun
+  pub hearing : after.cyclic.hearing ≡ before.cyclic.hearing
+  pub endpoint : after.endpoint ≡ before.endpoint
+
+-- It is the same relation, and what ends it in time has not moved: the units of its activity and of the data hold.
+pub record IsLinkOf (before after : RelationState) : Type 0 where
+  pub phase : IsPhaseOf before.phase after.phase
+  pub request : after.request ≡ before.request
+  pub inactive : after.inactive ≡ before.inactive
+  pub flow : IsFlowOf before.flow after.flow
+
+-- There is a relation after it exactly if there was one before, and it is that one.
+abbrev pub IsRelationOf : Option RelationState → Option RelationState → Type 0
+IsRelationOf None after = after ≡ None
+IsRelationOf (Some before) None = ⊥
+IsRelationOf (Some before) (Some after) = IsLinkOf before after
+
+-- A message of the relation: a frame of its exchange, or ApplicationReady.
+abbrev pub IsOfRelation : Sent → Type 0
+IsOfRelation (IdentifyAnswer asker running xid) = ⊥
+IsOfRelation (GetAnswer asker running alias request) = ⊥
+IsOfRelation (SetAnswer asker request answers) = ⊥
+IsOfRelation (ArpReply asker address target) = ⊥
+IsOfRelation (CallAnswer caller address answer) = ⊥
+IsOfRelation (Again frame) = ⊥
+IsOfRelation (ReadyCall address ready) = Unit {0}
+IsOfRelation (Ends farewell) = ⊥
+IsOfRelation (Exchanges route frame) = Unit {0}
+
+-- It asks nothing of the settings. Of the rest only the relation, the statuses and the diagnoses can change, whatever the
+-- settings answer: the lamp, the stored answers, the units, the log, the neighbour and the count of relations stay. The
+-- relation stays too, with the time that it has. Only frames of the relation are sent.
+pub record IsLocal (station : Station) (live : Live) (what : Handled) : Type 0 where
+  pub asks : items_in what ≡ []
+  pub keeps : (answers : List BlockError) → let rest = (finished station.identity live.rest what answers).rest in
+      rest ≡ record live.rest { link = rest.link; statuses = rest.statuses; diagnoses = rest.diagnoses }
+  pub link : (answers : List BlockError) → IsRelationOf live.rest.link (finished station.identity live.rest what answers).rest.link
+  pub sends : (answers : List BlockError) → AllByRecursion IsOfRelation (finished station.identity live.rest what answers).sent
+
+-- Each event of the application is such.
+abbrev pub ApplicationIsLocal : Type 0
+ApplicationIsLocal = (station : Station) (live : Live) (said : Local (ArrayVec ℕ)) → IsLocal station live (handled_local station live said)

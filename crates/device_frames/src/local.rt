@@ -1,0 +1,19 @@
+//! What an application says to its device.
+
+/// What an application says to its device, with its octets as `B`.
+#[derive(Drop)]
+#[repr(u8)]
+pub enum Local<B> {
+    /// The input of the submodule in this slot and subslot.
+    Input(u16, u16, B),
+    /// A process alarm of the submodule in this slot and subslot, with these octets.
+    Alarm(u16, u16, B),
+    /// Whether the inputs of the submodule in this slot and subslot are good. Without data, it is the IOPS of the submodule.
+    Status(u16, u16, bool),
+    /// A diagnosis of the submodule in this slot and subslot, of this channel (0 to 0x7FFF, or 0x8000 for the submodule
+    /// itself) and with this ChannelErrorType, appears or disappears.
+    Diagnosis(u16, u16, u16, u16, bool),
+    /// The application is ready. It counts once in a relation: after PrmEnd, at a device whose application says when it is
+    /// ready.
+    Ready,
+}

@@ -1,8 +1,0 @@
-use Rattle.std.proofs.Common.{subst, sym}
-use Rattle.script_session.specs.Session.{Are}
-use Rattle.script_session.proofs.session.Session.alarm.Goals as goal
-
-pub returns-clause-obeys : goal.returns-clause-obeys
-returns-clause-obeys c network are =
-    let ends = subst (Are network) (sym c.self.view_is) are in
-    rw c.handed.ensures at (c.answered.ensures.obeys network ends.0 ends.1)

@@ -1,0 +1,110 @@
+-- Why a device refuses what its application says: from what is plugged, what the relation waits for, and the diagnoses that exist, all
+-- before the event. Each reason is that of an event that was refused: the last one of each list is then the only one that remains.
+use Rattle.std.specs.Prelude.{◌==◌, ℕ, Bool, not, nat_le, nat_lt, List, length, if◌then◌else◌, Option, Some, None, is_some, option_map}
+use Rattle.std.specs.List.{find}
+use Rattle.diagnosis.specs.Existing.{exists, is_valid}
+use Rattle.diagnosis.specs.declared.diagnosis.Change.{Change}
+use Rattle.diagnosis.specs.declared.diagnosis.Diagnosis.{Diagnosis}
+use Rattle.module_diff.specs.Plugged.{module_in, submodule_ident}
+use Rattle.pn_values.specs.declared.real.RealModule.{RealModule}
+use Rattle.relations.specs.declared.phase.Phase.{Phase}
+use Rattle.relations.specs.declared.phase.Phase.TheVariants.{Started, Preparing, Awaiting, Exchanging}
+use Rattle.station_abi.specs.declared.reason.Reason.{Reason}
+use Rattle.station_abi.specs.declared.reason.Reason.TheVariants.{NotPlugged, NoRelation, BadLength, NoPlace, NoExchange, AlarmOpen, BadNumber, Exists, Absent, Full, ChangesWait, TooEarly, TooLate}
+
+-- The number of each reason, as C sees it.
+abbrev pub reason_number : Reason → ℕ
+reason_number NotPlugged = 1
+reason_number NoRelation = 2
+reason_number BadLength = 3
+reason_number NoPlace = 4
+reason_number NoExchange = 5
+reason_number AlarmOpen = 6
+reason_number BadNumber = 7
+reason_number Exists = 8
+reason_number Absent = 9
+reason_number Full = 10
+reason_number ChangesWait = 11
+reason_number TooEarly = 12
+reason_number TooLate = 13
+
+-- ---- inputs
+
+-- The octets of the input of the submodule in a subslot, if there is a module.
+abbrev pub part_size : Option RealModule → ℕ → Option ℕ
+part_size None subslot = None
+part_size (Some entry) subslot = option_map (λ part. part.input) (find (λ part. part.subslot == subslot) entry.submodules.items)
+
+-- The octets of the input of the submodule that is plugged there, if one is.
+abbrev pub input_size : List RealModule → ℕ → ℕ → Option ℕ
+input_size modules slot subslot = part_size (module_in modules slot) subslot
+
+-- Without a relation; otherwise the relation has no input of the submodule with this length.
+abbrev pub why_unplaced : Option Phase → Reason
+why_unplaced None = NoRelation
+why_unplaced (Some phase) = NoPlace
+
+-- Nothing is plugged there, the submodule has another length, or the relation has no place for its input.
+abbrev pub why_no_value : Option ℕ → ℕ → Option Phase → Reason
+why_no_value None size phase = NotPlugged
+why_no_value (Some input) size phase = if input == size then why_unplaced phase else BadLength
+
+-- Why an input of this size is refused.
+abbrev pub why_no_input : List RealModule → ℕ → ℕ → ℕ → Option Phase → Reason
+why_no_input modules slot subslot size phase = why_no_value (input_size modules slot subslot) size phase
+
+-- ---- alarms
+
+-- Without a relation; before data is exchanged; otherwise the alarm before it is not over.
+abbrev pub why_unraised : Option Phase → Reason
+why_unraised None = NoRelation
+why_unraised (Some Started) = NoExchange
+why_unraised (Some Preparing) = NoExchange
+why_unraised (Some Awaiting) = NoExchange
+why_unraised (Some Exchanging) = AlarmOpen
+
+-- Why an alarm with this many octets is refused.
+abbrev pub why_no_alarm : List RealModule → ℕ → ℕ → ℕ → Option Phase → Reason
+why_no_alarm modules slot subslot size phase =
+    if is_some (submodule_ident modules slot subslot)
+    then (if nat_le size 32 then why_unraised phase else BadLength)
+    else NotPlugged
+
+-- ---- statuses
+
+-- Why a status is refused: nothing is plugged there. There is room for one of each submodule.
+abbrev pub why_no_status : List RealModule → ℕ → ℕ → Reason
+why_no_status modules slot subslot = if is_some (submodule_ident modules slot subslot) then Full else NotPlugged
+
+-- ---- diagnoses
+
+-- One that appears: it exists already, or the list is full; otherwise too many changes wait.
+abbrev pub why_not_added : Diagnosis → List Diagnosis → Reason
+why_not_added diagnosis diagnoses =
+    if exists diagnosis diagnoses then Exists else (if nat_lt (length diagnoses) 32 then ChangesWait else Full)
+
+-- One that disappears: it does not exist; otherwise too many changes wait.
+abbrev pub why_not_removed : Diagnosis → List Diagnosis → Reason
+why_not_removed diagnosis diagnoses = if exists diagnosis diagnoses then ChangesWait else Absent
+
+-- A change of a submodule that is plugged.
+abbrev pub why_unchanged : Change → List Diagnosis → Reason
+why_unchanged change diagnoses =
+    if is_valid change.diagnosis
+    then (if change.appears then why_not_added change.diagnosis diagnoses else why_not_removed change.diagnosis diagnoses)
+    else BadNumber
+
+-- Why a change of diagnosis is refused.
+abbrev pub why_no_diagnosis : List RealModule → List Diagnosis → Change → Reason
+why_no_diagnosis modules diagnoses change =
+    if is_some (submodule_ident modules change.diagnosis.slot change.diagnosis.subslot) then why_unchanged change diagnoses else NotPlugged
+
+-- ---- ready
+
+-- Why the application is not ready now: there is no relation, its parameters have not ended, or it does not wait for the application.
+abbrev pub why_not_ready : Option Phase → Reason
+why_not_ready None = NoRelation
+why_not_ready (Some Started) = TooEarly
+why_not_ready (Some Preparing) = TooLate
+why_not_ready (Some Awaiting) = TooLate
+why_not_ready (Some Exchanging) = TooLate

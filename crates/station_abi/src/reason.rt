@@ -1,0 +1,212 @@
+//! Why a device refuses what its application says.
+ghost use Rattle.std.specs.Prelude.{◌≡◌, Some};
+ghost use Rattle.diagnosis.specs.Existing.{exists as is_one};
+ghost use Rattle.relations.specs.RelationState.{phase_of};
+ghost use Rattle.station_abi.specs.Reasons.{input_size, part_size as size_of_part, reason_number, why_no_alarm, why_no_diagnosis, why_no_input};
+ghost use Rattle.station_abi.specs.Reasons.{why_no_status, why_no_value, why_not_added, why_not_ready, why_not_removed, why_unchanged, why_unraised};
+
+use device_abi::RecordedFlash;
+use device_core::Device;
+use diagnosis::{Change, Diagnosis};
+use module_diff::module_in;
+use pn_values::RealModule;
+use relations::{Phase, is_plugged};
+
+/// A device over the flash that records its calls.
+type Recording = Device<RecordedFlash<4096>, 4096>;
+
+/// Why a device refuses what its application says.
+#[derive(Clone, Copy, Debug, PartialEq, Eq)]
+pub enum Reason {
+    /// No submodule is plugged in this slot and subslot.
+    NotPlugged = 1,
+    /// There is no relation.
+    NoRelation = 2,
+    /// An input of another length than that of the submodule, or more than 32 octets of an alarm.
+    BadLength = 3,
+    /// The relation has no input of this submodule with this length.
+    NoPlace = 4,
+    /// The relation exchanges no data yet.
+    NoExchange = 5,
+    /// The alarm before this one is not over.
+    AlarmOpen = 6,
+    /// A channel after 0x8000, or the ChannelErrorType 0.
+    BadNumber = 7,
+    /// The diagnosis exists already.
+    Exists = 8,
+    /// The diagnosis does not exist.
+    Absent = 9,
+    /// The list is full: 32 diagnoses exist.
+    Full = 10,
+    /// 32 changes of diagnosis wait for their alarms.
+    ChangesWait = 11,
+    /// The parameters of the relation have not ended.
+    TooEarly = 12,
+    /// The relation does not wait for its application: ApplicationReady was sent.
+    TooLate = 13,
+}
+
+impl Reason {
+    /// The number of this reason.
+    pub fn number(self) -> u32
+        ensures { result ≡ reason_number self }
+    {
+        self as u32
+    }
+}
+
+// ---- inputs
+
+/// Why the device refuses an input of this size.
+pub(crate) fn why_no_input(device: &Recording, slot: u16, subslot: u16, size: usize) -> Reason
+    ensures { result ≡ why_no_input device.now.station.real.modules.items slot subslot size (phase_of device.now.live.rest.link) }
+{
+    match input_size(device, slot, subslot) {
+        Some(input) => why_no_value(input, size, device.phase()),
+        None => Reason::NotPlugged,
+    }
+}
+
+// The octets of the input of the submodule that is plugged there, if one is.
+fn input_size(device: &Recording, slot: u16, subslot: u16) -> Option<u16>
+    ensures { result ≡ input_size device.now.station.real.modules.items slot subslot }
+{
+    part_size(module_in(device.real(), slot)?, subslot)
+}
+
+// The octets of the input of the submodule in this subslot of a module, if one is plugged there.
+fn part_size(entry: &RealModule, subslot: u16) -> Option<u16>
+    ensures { result ≡ size_of_part (Some entry.now) subslot }
+{
+    for part in entry.submodules.as_slice() {
+        if part.subslot == subslot {
+            return Some(part.input);
+        }
+    }
+    None
+}
+
+// The same of a submodule that is plugged, whose input has this many octets.
+fn why_no_value(input: u16, size: usize, phase: Option<Phase>) -> Reason
+    ensures { result ≡ why_no_value (Some input) size phase }
+{
+    if usize::from(input) != size {
+        return Reason::BadLength;
+    }
+    match phase {
+        Some(_) => Reason::NoPlace,
+        None => Reason::NoRelation,
+    }
+}
+
+// ---- alarms
+
+/// Why the device refuses an alarm with this many octets.
+pub(crate) fn why_no_alarm(device: &Recording, slot: u16, subslot: u16, size: usize) -> Reason
+    ensures { result ≡ why_no_alarm device.now.station.real.modules.items slot subslot size (phase_of device.now.live.rest.link) }
+{
+    if !is_plugged(device.real(), slot, subslot) {
+        return Reason::NotPlugged;
+    }
+    if size > 32 {
+        return Reason::BadLength;
+    }
+    why_unraised(device.phase())
+}
+
+fn why_unraised(phase: Option<Phase>) -> Reason
+    ensures { result ≡ why_unraised phase }
+{
+    match phase {
+        Some(Phase::Exchanging) => Reason::AlarmOpen,
+        Some(Phase::Started | Phase::Preparing | Phase::Awaiting) => Reason::NoExchange,
+        None => Reason::NoRelation,
+    }
+}
+
+// ---- statuses
+
+/// Why the device refuses a status.
+pub(crate) fn why_no_status(device: &Recording, slot: u16, subslot: u16) -> Reason
+    ensures { result ≡ why_no_status device.now.station.real.modules.items slot subslot }
+{
+    if is_plugged(device.real(), slot, subslot) {
+        Reason::Full
+    } else {
+        Reason::NotPlugged
+    }
+}
+
+// ---- diagnoses
+
+/// Why the device refuses a change of diagnosis.
+pub(crate) fn why_no_diagnosis(device: &Recording, change: &Change) -> Reason
+    ensures { result ≡ why_no_diagnosis device.now.station.real.modules.items device.now.live.rest.diagnoses change.now }
+{
+    if is_plugged(
+        device.real(),
+        change.diagnosis.slot,
+        change.diagnosis.subslot,
+    ) {
+        why_unchanged(change, device.diagnoses())
+    } else {
+        Reason::NotPlugged
+    }
+}
+
+// The same of a submodule that is plugged.
+fn why_unchanged(change: &Change, diagnoses: &[Diagnosis]) -> Reason
+    ensures { result ≡ why_unchanged change.now diagnoses.now }
+{
+    if !change.diagnosis.is_valid() {
+        return Reason::BadNumber;
+    }
+    if change.appears {
+        why_not_added(&change.diagnosis, diagnoses)
+    } else {
+        why_not_removed(&change.diagnosis, diagnoses)
+    }
+}
+
+fn why_not_added(diagnosis: &Diagnosis, diagnoses: &[Diagnosis]) -> Reason
+    ensures { result ≡ why_not_added diagnosis.now diagnoses.now }
+{
+    if exists(diagnosis, diagnoses) {
+        return Reason::Exists;
+    }
+    if diagnoses.len() < 32 {
+        Reason::ChangesWait
+    } else {
+        Reason::Full
+    }
+}
+
+fn why_not_removed(diagnosis: &Diagnosis, diagnoses: &[Diagnosis]) -> Reason
+    ensures { result ≡ why_not_removed diagnosis.now diagnoses.now }
+{
+    if exists(diagnosis, diagnoses) {
+        Reason::ChangesWait
+    } else {
+        Reason::Absent
+    }
+}
+
+// Whether a diagnosis is one of these.
+fn exists(diagnosis: &Diagnosis, diagnoses: &[Diagnosis]) -> bool
+    ensures { result ≡ is_one diagnosis.now diagnoses.now }
+{
+    diagnoses.iter().any(|other| diagnosis.is_same(other))
+}
+
+// ---- ready
+
+/// Why the application is not ready now.
+pub(crate) fn why_not_ready(device: &Recording) -> Reason
+    ensures { result ≡ why_not_ready (phase_of device.now.live.rest.link) }
+{
+    match device.phase() {
+        Some(Phase::Started) => Reason::TooEarly,
+        Some(Phase::Preparing | Phase::Awaiting | Phase::Exchanging) => Reason::TooLate,
+        None => Reason::NoRelation,
+    }
+}
