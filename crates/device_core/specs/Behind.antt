@@ -9,7 +9,7 @@ use Rattle.record_blocks.specs.declared.write_record.IodWriteReq.{IodWriteReq}
 use Rattle.records.specs.declared.writes.taken.TakenRecord.{TakenRecord}
 use Rattle.records.specs.declared.writes.write.Effect.TheVariants.{Keeps}
 use Rattle.records.specs.declared.writes.writing.Writing.{Writing}
-use Rattle.relations.specs.Ready.{answer_of}
+use Rattle.relations.specs.Plugging.{plug_answer_in}
 use Rattle.relations.specs.declared.time.Elapsed.{Elapsed}
 use Rattle.relations.specs.Timers.{due_behind, left_behind}
 use Rattle.pn_alarms.specs.declared.receiver.Taken.{Taken}
@@ -26,7 +26,7 @@ use Rattle.device_frames.specs.Sendable.{AreSendable}
 use Rattle.device_frames.specs.Sent.{Sent, bytes_of}
 use Rattle.device_core.specs.declared.calls.Serving.{Serving}
 use Rattle.device_core.specs.State.{State, counter_of, with_rest}
-use Rattle.device_core.specs.Handled.{Handled, answer_from, handled_answer, handled_effect, handled_new, handled_write}
+use Rattle.device_core.specs.Handled.{Handled, answer_from, handled_effect, handled_new, handled_plug_answer, handled_response, handled_write}
 use Rattle.device_core.specs.Machine.{end_of}
 
 -- The device after it.
@@ -42,10 +42,10 @@ abbrev pub CanSend : {F : Type 0} → State F → Handled → Type 0
 CanSend old what = AreSendable old.station.identity (end_of old.station old.live what).sent
 
 -- What is due if no timeout is over: the active alarms, ApplicationReady, inputs.
-abbrev pub due_in : {F : Type 0} → State F → Repeated → Bool → Bool → List Sent
-due_in old repeated is_ready is_cyclic =
+abbrev pub due_in : {F : Type 0} → State F → Repeated → Elapsed → Bool → List Sent
+due_in old repeated elapsed is_cyclic =
     due_frames old.live.values.running.suite.address (counter_of old.live.rest.units)
-    (record { farewell = None; is_alarm = repeated.high; is_low = repeated.low; is_ready = is_ready; is_cyclic = is_cyclic }) old.live.rest.link
+    (record { farewell = None; is_alarm = repeated.high; is_low = repeated.low; is_ready = elapsed.is_ready; is_plug_ready = elapsed.is_plug_ready; is_cyclic = is_cyclic }) old.live.rest.link
 
 -- Whether what an alarm frame says under the FrameID of this priority may be an ACK of low priority.
 abbrev pub is_ack : ToDevice → Bool
@@ -62,9 +62,8 @@ is_low_reply Low told = is_ack told
 -- What is sent for data of low priority with this outcome: its response, and after that the alarm of the next change.
 abbrev pub confirmed_with : {F : Type 0} → State F → Taken → List Sent
 confirmed_with old taken =
-    let real = old.station.real.modules.items in
     let link = old.live.rest.link in
-    low_replies_of taken (flow_of link) ++ where_due (report_one real link) (low_alarms_of (flow_of (updated (reporting real link) link)))
+    low_replies_of taken (flow_of link) ++ where_due (report_one link) (low_alarms_of (flow_of (updated (reporting link) link)))
 
 -- What is sent after a unit of time that brought this.
 abbrev pub brought : {F : Type 0} → State F → Elapsed → List Sent
@@ -90,7 +89,11 @@ brings old serving header parameter = handled_effect old.station old.live servin
 
 -- The outcome of a response.
 abbrev pub responded : {F : Type 0} → State F → Response → Handled
-responded old response = handled_answer old.station old.live (answer_of (answered response) old.live.rest.link)
+responded old response = handled_response old.station old.live (answered response)
+
+-- That of a response while data is exchanged.
+abbrev pub plug_responded : {F : Type 0} → State F → Response → Handled
+plug_responded old response = handled_plug_answer old.live (answered response) (plug_answer_in (answered response) old.live.rest.link)
 
 -- The answer to a call.
 abbrev pub answer_to : List ℕ → Serving → Result (List ℕ) CallFault → Sent

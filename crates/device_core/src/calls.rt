@@ -38,7 +38,7 @@ use records::{
     Blocks, CallFault, Effect, Entries, Operation, TakenRecord, Write, Writing, done, judge_write,
     names_relation, put_write_answer,
 };
-use relations::{Application, Partner, ReadyAnswer, made_after};
+use relations::{Application, Partner, Phase, ReadyAnswer, made_after};
 use rpc_core::{Call, CallCache, Interface, Looked, Response, Status, read_call, read_response};
 
 impl<F: Flash<S>, const S: usize> Device<F, S> {
@@ -79,6 +79,9 @@ impl<F: Flash<S>, const S: usize> Device<F, S> {
         ensures sendable { CanSend self.old (responded self.old response.now) }
         ensures note { result ≡ (end_of self.old.station self.old.live (responded self.old response.now)).note }
     {
+        if let Some(Phase::Exchanging) = self.relation.phase() {
+            return self.hear_plug_response(response, outbox);
+        }
         let heard = self.relation.hear_ready(response);
         log_answer(&mut self.log, self.units, &heard);
         match heard {
@@ -243,6 +246,9 @@ impl<F: Flash<S>, const S: usize> Device<F, S> {
         ensures sendable { CanSend self.old (called self.old serving.now operation.Control) }
         ensures note { result ≡ Note.Done }
     {
+        if self.relation.is_plug_control(serving.blocks) {
+            return self.end_plug(serving, outbox);
+        }
         let address = self.store.running().suite.address();
         let by_application = self.options.ready_by_application;
         self.answers.blocks.clear();
@@ -255,6 +261,24 @@ impl<F: Flash<S>, const S: usize> Device<F, S> {
             .give(&self.identity, address, serving, came, outbox);
         let is_due = is_ready_due(came, by_application);
         send_ready_again(&self.identity, address, is_due, &self.relation, outbox);
+        Note::Done
+    }
+
+    // A PrmEnd after a plug that is accepted is answered, and then ApplicationReady for the plug is sent, unless one is active or
+    // the application says when it is ready.
+    #[inline(never)]
+    fn end_plug(&mut self, serving: &Serving<'_>, outbox: &mut Outbox) -> Note {
+        let address = self.store.running().suite.address();
+        let by_application = self.options.ready_by_application;
+        self.answers.blocks.clear();
+        let came = self
+            .relation
+            .end_plug(by_application, serving.blocks, &mut self.answers.blocks);
+        self.relation
+            .hear_controller(&source_of(serving.caller), true, came);
+        self.answers
+            .give(&self.identity, address, serving, came, outbox);
+        self.call_next(outbox);
         Note::Done
     }
 
@@ -384,7 +408,7 @@ impl<F: Flash<S>, const S: usize> Device<F, S> {
         requires few { length entries.now ≤ 16 }
         ensures steps { (heard : Hears) → handled self.old.station self.old.live heard
             ≡ WritesEach serving.now.caller.now self.old.live.values.running.suite.address (asked serving.now.call.now) header.now
-            (judged_each (uuid_of self.old.live.rest.link) self.old.station.real entries.now) →
+            (judged_each (uuid_of self.old.live.rest.link) self.old.live.rest.real entries.now) →
             Steps F.Flash self.old heard (boxed outbox.new) result self.new }
         ensures reliable { StaysReliable F.Flash self.old self.new }
     {

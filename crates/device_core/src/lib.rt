@@ -10,6 +10,7 @@ mod law;
 mod leaps;
 mod logging;
 mod low;
+mod modules;
 mod neighbour;
 mod run;
 mod several;

@@ -35,7 +35,7 @@ use dcp_core::Service;
 use device_frames::{
     Caller, RealTimeKind, is_asked, is_called, kind_of, open_frame, real_time_in, send_alarm,
     send_alarm_again, send_alarm_reply, send_farewell, send_inputs, send_inputs_of, send_low_alarm,
-    send_ready, send_ready_again,
+    send_plug_ready, send_ready, send_ready_again,
 };
 use diagnosis::{Change, Diagnosis, Priority};
 use flash_model::Flash;
@@ -151,6 +151,12 @@ impl<F: Flash<S>, const S: usize> Device<F, S> {
                 self.raise(*slot, *subslot, octets.as_slice(), outbox)
             }
             Local::Status(slot, subslot, is_good) => self.rate(*slot, *subslot, *is_good),
+            Local::Pull(slot, subslot) => self.pull(*slot, *subslot, outbox),
+            Local::PullModule(slot) => self.pull_module(*slot, outbox),
+            Local::Plug(slot, module_ident, submodule) => {
+                self.plug(*slot, *module_ident, submodule, outbox)
+            }
+            Local::ReadyAt(slot, subslot) => self.get_ready_at(*slot, *subslot, outbox),
             Local::Diagnosis(slot, subslot, channel, error, appears) => self.diagnose(
                 &Change {
                     diagnosis: Diagnosis {
@@ -345,7 +351,7 @@ impl<F: Flash<S>, const S: usize> Device<F, S> {
             Some(reason) => self.end(reason, outbox),
             None => self.send_each(
                 repeated_with(elapsed, self.relation.repeated()),
-                elapsed.is_ready,
+                elapsed,
                 elapsed.tick.is_cyclic(),
                 outbox,
             ),
@@ -399,18 +405,32 @@ impl<F: Flash<S>, const S: usize> Device<F, S> {
         Note::Done
     }
 
-    // An alarm, ApplicationReady and inputs, each if it is due.
+    // An alarm, ApplicationReady, that of a plug, and inputs, each if it is due. The second is due only before data is exchanged,
+    // and the third only from then on.
     #[inline(never)]
-    fn send_each(&self, repeated: Repeated, is_ready: bool, is_cyclic: bool, outbox: &mut Outbox)
+    fn send_each(&self, repeated: Repeated, elapsed: &Elapsed, is_cyclic: bool, outbox: &mut Outbox)
         requires { outbox.old.items ≡ [] }
-        ensures frames { boxed outbox.new ≡ map (bytes_of self.now.station.identity) (due_in self.now repeated is_ready is_cyclic) }
-        ensures sendable { AreSendable self.now.station.identity (due_in self.now repeated is_ready is_cyclic) }
+        ensures frames { boxed outbox.new ≡ map (bytes_of self.now.station.identity) (due_in self.now repeated elapsed.now is_cyclic) }
+        ensures sendable { AreSendable self.now.station.identity (due_in self.now repeated elapsed.now is_cyclic) }
     {
         let address = self.store.running().suite.address();
         let counter = self.counter();
         send_alarm_again(&self.identity, repeated.high, &self.relation, outbox);
         send_low_alarm(&self.identity, repeated.low, &self.relation, outbox);
-        send_ready_again(&self.identity, address, is_ready, &self.relation, outbox);
+        send_ready_again(
+            &self.identity,
+            address,
+            elapsed.is_ready,
+            &self.relation,
+            outbox,
+        );
+        send_plug_ready(
+            &self.identity,
+            address,
+            elapsed.is_plug_ready,
+            &self.relation,
+            outbox,
+        );
         send_inputs(&self.identity, counter, is_cyclic, &self.relation, outbox);
     }
 

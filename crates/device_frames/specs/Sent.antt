@@ -1,5 +1,5 @@
 -- What a device sends: messages by their meaning, and their one encoding as octets.
-use Rattle.std.specs.Prelude.{ℕ, List, Option, Some, None}
+use Rattle.std.specs.Prelude.{ℕ, List, [], Option, Some, None}
 use Rattle.pn_values.specs.declared.mac.Mac.{Mac}
 use Rattle.pn_values.specs.declared.identity.Identity.{Identity}
 use Rattle.pn_values.specs.declared.settings.Settings.{Settings}
@@ -22,6 +22,8 @@ use Rattle.pn_alarms.specs.declared.pdu.PduType.TheVariants.{Error}
 use Rattle.pn_alarms.specs.Format.{frame_id_of, pdu_bytes}
 use Rattle.relations.specs.declared.farewell.Farewell.{Farewell}
 use Rattle.relations.specs.declared.ready.Ready.{Ready}
+use Rattle.relations.specs.declared.plugging.PlugReady.{PlugReady}
+use Rattle.connect_blocks.specs.PlugControl.{plug_control}
 use Rattle.relations.specs.Farewells.{said_by}
 use Rattle.cyclic_data.specs.declared.exchange.route.Route.{Route}
 use Rattle.relations.specs.exchange.Frames.{Frame, tag_of, id_of, body_of}
@@ -29,7 +31,7 @@ use Rattle.frame_codec.specs.declared.udp.Caller.{Caller}
 
 -- A message and its destination: the answer to an Identify request, to a Get of a station with this name by its place, or to a Set with the result of each of
 -- its blocks; who holds an address, sent to the station that asked for it; the answer to a call, from this address; the
--- frame of such an answer again; the call ApplicationReady, from this address; the ERR with which this device ends its
+-- frame of such an answer again; the call ApplicationReady, from this address, of the relation or for a plug; the ERR with which this device ends its
 -- relation; or a frame of the exchange.
 pub data Sent : Type 0 where
   IdentifyAnswer : (asker : Mac) → (running : Settings) → (xid : ℕ) → Sent
@@ -39,6 +41,7 @@ pub data Sent : Type 0 where
   CallAnswer : (caller : Caller) → (address : List ℕ) → (answer : Answered) → Sent
   Again : (frame : List ℕ) → Sent
   ReadyCall : (address : List ℕ) → (ready : Ready) → Sent
+  PlugReadyCall : (address : List ℕ) → (ready : PlugReady) → Sent
   Ends : (farewell : Farewell) → Sent
   Exchanges : (route : Route) → (frame : Frame) → Sent
 
@@ -81,6 +84,15 @@ ready_content address ready =
 abbrev pub ready_frame : Identity → List ℕ → Ready → List ℕ
 ready_frame identity address ready = own_frame identity ready.partner.mac (ready_content address ready)
 
+-- The same for a plug.
+abbrev pub plug_ready_content : List ℕ → PlugReady → Content
+plug_ready_content address ready =
+    UdpDatagram (calls_at address) (calls_at ready.partner.address)
+    (call_bytes Controller (record { header = ready.header; args_maximum = 1372; blocks = Some ((plug_control 0x0113).write ready.block []) }))
+
+abbrev pub plug_ready_frame : Identity → List ℕ → PlugReady → List ℕ
+plug_ready_frame identity address ready = own_frame identity ready.partner.mac (plug_ready_content address ready)
+
 -- An ERR, to CMInitiatorMacAdd.
 abbrev pub farewell_content : Farewell → Content
 farewell_content farewell = RealTime (frame_id_of Error) (pdu_bytes (said_by farewell))
@@ -106,5 +118,6 @@ bytes_of identity (ArpReply asker address target) = reply_frame identity asker a
 bytes_of identity (CallAnswer caller address answer) = response_frame identity caller address answer
 bytes_of identity (Again frame) = frame
 bytes_of identity (ReadyCall address ready) = ready_frame identity address ready
+bytes_of identity (PlugReadyCall address ready) = plug_ready_frame identity address ready
 bytes_of identity (Ends farewell) = farewell_frame identity farewell
 bytes_of identity (Exchanges route frame) = exchange_frame identity route frame

@@ -11,8 +11,8 @@ use arrayvec::ArrayVec;
 use frame_codec::{Endpoint, Layered, Outbox, Payload, Pieces, Udp};
 use pn_alarms::pdu_front;
 use pn_values::Identity;
-use relations::{Farewell, Relation};
-use rpc_core::{Call, Datagram, write_request};
+use relations::{Farewell, Partner, Relation};
+use rpc_core::{Call, CallHeader, Datagram, write_request};
 
 /// The maximum number of octets of blocks in the answer to a call of this device.
 const ARGS_MAXIMUM: u32 = 1_372;
@@ -50,24 +50,75 @@ pub fn send_ready(identity: &Identity, address: [u8; 4], relation: &Relation, ou
     };
     let mut blocks: ArrayVec<u8, 32> = ArrayVec::new();
     ready.put_blocks(&mut blocks);
+    send_call(
+        identity,
+        address,
+        &ready.partner,
+        ready.header,
+        blocks.as_slice(),
+        outbox,
+    );
+}
+
+/// Appends the active ApplicationReady of a plug to the outbox, if it is due and there is one.
+#[inline(never)]
+pub fn send_plug_ready(
+    identity: &Identity,
+    address: [u8; 4],
+    is_due: bool,
+    relation: &Relation,
+    outbox: &mut Outbox,
+)
+    requires room { array_vec_len outbox.old < 4 }
+    ensures frames { boxed outbox.new
+        ≡ boxed outbox.old ++ map (bytes_of identity.now) (where_due is_due (plug_calls address relation.now)) }
+    ensures few { array_vec_len outbox.new ≤ array_vec_len outbox.old + 1 }
+{
+    if !is_due {
+        return;
+    }
+    let Some(ready) = relation.plug_ready() else {
+        return;
+    };
+    let mut blocks: ArrayVec<u8, 32> = ArrayVec::new();
+    ready.put_blocks(&mut blocks);
+    send_call(
+        identity,
+        address,
+        &ready.partner,
+        ready.header,
+        blocks.as_slice(),
+        outbox,
+    );
+}
+
+/// Appends a call of the relation with this header and these blocks to the outbox.
+fn send_call(
+    identity: &Identity,
+    address: [u8; 4],
+    partner: &Partner,
+    header: CallHeader,
+    blocks: &[u8],
+    outbox: &mut Outbox,
+) {
     let mut datagram = Datagram::new();
     write_request(
         &Call {
-            header: ready.header,
+            header,
             args_maximum: ARGS_MAXIMUM,
-            blocks: Some(blocks.as_slice()),
+            blocks: Some(blocks),
         },
         &mut datagram,
     );
     let layered = Layered {
         // To the station that the Connect came from, at the port of calls: a controller serves its interface there,
         // from whichever port it called.
-        destination: ready.partner.mac,
+        destination: partner.mac,
         source: identity.mac,
         tag: None,
         payload: Payload::Udp(Udp {
             source: Endpoint::of_calls(address),
-            destination: Endpoint::of_calls(ready.partner.address),
+            destination: Endpoint::of_calls(partner.address),
             body: datagram.as_slice(),
         }),
     };

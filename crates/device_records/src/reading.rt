@@ -37,15 +37,31 @@ pub fn read_within(
     let request = request_within(sources.relation.uuid(), blocks)?;
     match listing_of(real, &request) {
         Some(listing) => serve_own(true, sources, real, &request, listing, answer),
-        None => serve_within(
-            sources.relation.differing(),
-            identity,
-            real,
-            settings,
-            &request,
-            answer,
-        ),
+        None => serve_record(sources, identity, real, settings, &request, answer),
     }
+}
+
+/// Serves a Read of the controller for a record that does not list anything, or for its ModuleDiffBlock, which tells what
+/// differs now. That block is built first, so this is a function of its own.
+#[inline(never)]
+fn serve_record(
+    sources: &Sources<'_>,
+    identity: &Identity,
+    real: &Real,
+    settings: &Settings,
+    request: &IodReadReq,
+    answer: &mut Blocks,
+) -> Result<(), CallFault> {
+    let mut differing = ArrayVec::new();
+    sources.relation.put_differing(real, &mut differing);
+    serve_within(
+        differing.as_slice(),
+        identity,
+        real,
+        settings,
+        request,
+        answer,
+    )
 }
 
 /// Serves a Read Implicit, which reads a record of the device without a relation. Puts the blocks of the response into

@@ -1,6 +1,6 @@
 //! A change of diagnosis that waits for its alarm.
 ghost use Rattle.std.specs.Prelude.{◌≡◌, ◌<◌};
-ghost use Rattle.diagnosis.specs.Notices.{channel_bytes, notice_of, properties_of, specifier_of, type_of};
+ghost use Rattle.diagnosis.specs.Notices.{channel_bytes, notice_of, specifier_of, type_of};
 
 use crate::{Change, Diagnoses, Places};
 
@@ -36,7 +36,7 @@ impl Notice {
     pub fn alarm_type(&self) -> u16
         ensures { result ≡ type_of self.now.change }
     {
-        if self.change.appears { 1 } else { 0x000C }
+        self.change.alarm_type()
     }
 
     /// AlarmSpecifier with this sequence.
@@ -61,23 +61,6 @@ impl Notice {
     pub fn octets(&self) -> [u8; 6]
         ensures { result ≡ channel_bytes self.now.change }
     {
-        let channel = self.change.diagnosis.channel.to_be_bytes();
-        let properties = self.properties().to_be_bytes();
-        let error = self.change.diagnosis.error.to_be_bytes();
-        [
-            channel[0],
-            channel[1],
-            properties[0],
-            properties[1],
-            error[0],
-            error[1],
-        ]
-    }
-
-    /// ChannelProperties.
-    fn properties(&self) -> u16
-        ensures { result ≡ properties_of self.now.change }
-    {
-        if self.change.appears { 0x0800 } else { 0x1000 }
+        self.change.octets()
     }
 }

@@ -4,6 +4,7 @@ use Rattle.pn_alarms.specs.Leaps.{never}
 use Rattle.relations.specs.declared.phase.Phase.{Phase}
 use Rattle.relations.specs.exchange.Leaps.{flow_due_in}
 use Rattle.relations.specs.RelationState.{RelationState, is_awaiting}
+use Rattle.expected_places.specs.Calls.{again_in}
 use Rattle.relations.specs.Timers.{due_of, is_timed, limit_of, nothing}
 use Rattle.relations.specs.Runs.{units_over}
 
@@ -17,6 +18,10 @@ inactive_in phase limit inactive = if is_timed phase then max 1 (limit - inactiv
 abbrev pub ready_in : Phase → ℕ → ℕ
 ready_in phase waited = if is_awaiting phase then 32000 - waited else never
 
+-- The same of that of a plug, while data is exchanged.
+abbrev pub plug_ready_in : RelationState → ℕ
+plug_ready_in link = if is_timed link.phase then never else again_in link.plugs.calls
+
 -- The units of both timers, several units later, before either is over.
 abbrev pub inactive_by : Phase → ℕ → ℕ → ℕ
 inactive_by phase units inactive = if is_timed phase then inactive + units else inactive
@@ -28,7 +33,9 @@ waited_by phase units waited = if is_awaiting phase then waited + units else wai
 -- The number of units up to and including the next one that brings something to a relation: a frame of inputs, an alarm or
 -- ApplicationReady is sent again, an alarm is given up, or a timeout ends the relation.
 abbrev pub link_due_in : RelationState → ℕ
-link_due_in link = min (flow_due_in link.flow) (min (inactive_in link.phase (limit_of link) link.inactive) (ready_in link.phase link.waited))
+link_due_in link =
+    min (flow_due_in link.flow)
+    (min (plug_ready_in link) (min (inactive_in link.phase (limit_of link) link.inactive) (ready_in link.phase link.waited)))
 
 -- The number of units up to and including the next one that brings something to the relation; without one no unit does.
 abbrev pub due_within : Option RelationState → ℕ

@@ -10,3 +10,4 @@ pub mod Notices
 pub mod Diagnosis
 pub mod Frames
 pub mod Runs
+pub mod Modules

@@ -9,7 +9,7 @@ ghost use Rattle.relations.specs.Diagnosed.{begin_one, beginning, diagnose_one, 
 
 use crate::Relation;
 use crate::exchange::DataExchange;
-use cyclic_data::{ProviderStatus, Received, ReceivedValue};
+use cyclic_data::{ProviderStatus, Received, ReceivedValue, zeros};
 use diagnosis::{Change, Diagnoses};
 use pn_alarms::{Message, PduFate};
 use pn_values::{Mac, Real};
@@ -68,10 +68,15 @@ impl Relation {
         ensures value { option_map (λ value. value.now) result ≡ output_in slot subslot self.now }
         ensures short { IfSome result (λ value. length value.now ≤ 1440) }
     {
-        match self.phase {
-            Some(_) => self.exchange.output(slot, subslot),
-            None => None,
+        let value = match self.phase {
+            Some(_) => self.exchange.output(slot, subslot)?,
+            None => return None,
+        };
+        // The controller's values are for what was plugged there before, or not for it yet.
+        if self.is_touched(slot, subslot) {
+            return Some(zeros(value.len()));
         }
+        Some(value)
     }
 
     /// What the controller says of the output of a submodule in its last accepted frame: the IOPS and DataStatus. `None`
@@ -92,10 +97,17 @@ impl Relation {
         ensures octets { IfSome result (λ value. output_in slot subslot self.now ≡ Some value.octets.now) }
         ensures short { IfSome result (λ value. length value.octets.now ≤ 1440) }
     {
-        match self.phase {
-            Some(_) => self.exchange.cyclic().received_value(slot, subslot),
-            None => None,
+        let value = match self.phase {
+            Some(_) => self.exchange.cyclic().received_value(slot, subslot)?,
+            None => return None,
+        };
+        if self.is_touched(slot, subslot) {
+            return Some(ReceivedValue {
+                octets: zeros(value.octets.len()),
+                status: value.status,
+            });
         }
+        Some(value)
     }
 
     /// Raises a process alarm of a submodule, which the caller then sends. Returns whether it was raised; if not,
@@ -112,15 +124,16 @@ impl Relation {
         }
     }
 
-    /// Data exchange begins: the diagnoses that exist are reported. Returns whether an alarm of low priority must be sent.
+    /// Data exchange begins: the pulls and plugs that wait are reported, and then the diagnoses that exist. Returns whether an alarm of low priority must be sent.
     pub fn begin_diagnosis(&mut self, real: &Real, diagnoses: &Diagnoses) -> bool
         ensures sent { result ≡ begin_one real.now.modules.items diagnoses.now self.old }
         ensures state { self.new ≡ updated (beginning real.now.modules.items diagnoses.now self.old) self.old }
     {
-        match self.phase {
-            Some(_) => self.exchange.begin_diagnosis(real, diagnoses),
-            None => false,
+        if self.phase.is_none() {
+            return false;
         }
+        let is_sent = self.exchange.begin_diagnosis(real, diagnoses);
+        self.follow(is_sent)
     }
 
     /// Whether no further change of diagnosis can wait for its alarm.
@@ -135,22 +148,24 @@ impl Relation {
         ensures sent { result ≡ diagnose_one real.now.modules.items change.now diagnoses.now self.old }
         ensures state { self.new ≡ updated (diagnosing real.now.modules.items change.now diagnoses.now self.old) self.old }
     {
-        match self.phase {
-            Some(_) => self.exchange.diagnose(real, change, diagnoses),
-            None => false,
+        if self.phase.is_none() {
+            return false;
         }
+        let is_sent = self.exchange.diagnose(real, change, diagnoses);
+        self.follow(is_sent)
     }
 
-    /// The first change of diagnosis that waits is reported, if no alarm of low priority is active. Returns whether an alarm
+    /// The first change that waits is reported, if no alarm of low priority is active. Returns whether an alarm
     /// must be sent.
     pub fn report_next(&mut self, real: &Real) -> bool
-        ensures sent { result ≡ report_one real.now.modules.items self.old }
-        ensures state { self.new ≡ updated (reporting real.now.modules.items self.old) self.old }
+        ensures sent { result ≡ report_one self.old }
+        ensures state { self.new ≡ updated (reporting self.old) self.old }
     {
-        match self.phase {
-            Some(_) => self.exchange.report_next(real),
-            None => false,
+        if self.phase.is_none() {
+            return false;
         }
+        let is_sent = self.exchange.report_next(real);
+        self.follow(is_sent)
     }
 
     /// Whether a submodule belongs to the relation: its Connect expects it, and it does not differ.

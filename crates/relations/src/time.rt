@@ -34,6 +34,8 @@ pub struct Elapsed {
     pub tick: Tick,
     /// Whether ApplicationReady is due again.
     pub is_ready: bool,
+    /// Whether the ApplicationReady of a plug is due again.
+    pub is_plug_ready: bool,
 }
 
 impl Elapsed {
@@ -44,8 +46,8 @@ impl Elapsed {
         ensures nothing { (link : Option RelationState) → result ≡ true → due_behind self.now link ≡ nothing }
         ensures left { (link : Option RelationState) → result ≡ true → left_behind self.now.tick.ending link ≡ link }
     {
-        // While data is exchanged ApplicationReady is never due, so this is checked first.
-        !self.is_ready && self.tick.is_nothing()
+        // ApplicationReady is rarely due, so this is checked first.
+        !self.is_ready && !self.is_plug_ready && self.tick.is_nothing()
     }
 
     /// Whether only inputs are due.
@@ -55,7 +57,7 @@ impl Elapsed {
         ensures due { (link : Option RelationState) → result ≡ true → due_behind self.now link ≡ record nothing { is_cyclic = true } }
         ensures left { (link : Option RelationState) → result ≡ true → left_behind self.now.tick.ending link ≡ link }
     {
-        !self.is_ready && self.tick.is_cyclic_alone()
+        !self.is_ready && !self.is_plug_ready && self.tick.is_cyclic_alone()
     }
 
     /// What is due of the exchange, and nothing else.
@@ -66,6 +68,7 @@ impl Elapsed {
         Elapsed {
             tick,
             is_ready: false,
+            is_plug_ready: false,
         }
     }
 }
@@ -119,7 +122,12 @@ impl Relation {
         // This is done in each phase: inputs are sent from the answer to the Connect on.
         let tick = self.exchange.tick();
         if !is_timed(phase) {
-            return Elapsed::of(tick);
+            return Elapsed {
+                is_ready: false,
+                // A unit that ends the relation brings nothing else.
+                is_plug_ready: self.plugs.tick() && tick.ending().is_none(),
+                tick,
+            };
         }
         let limit = u32::from(self.request.ar().timeout_factor) * TENTH_OF_A_SECOND;
         if let Some(reason) = unit_inactive(&mut self.inactive, limit) {
@@ -128,6 +136,7 @@ impl Relation {
         Elapsed {
             tick: tick.without_end(),
             is_ready: is_awaiting(phase) && unit_waited(&mut self.waited),
+            is_plug_ready: false,
         }
     }
 
@@ -157,9 +166,9 @@ impl Relation {
             return NEVER;
         };
         let due = self.exchange.due_in();
-        // While data is exchanged the relation has no timers of its own.
+        // While data is exchanged the relation has no timer of its own but that of the ApplicationReady of a plug.
         if matches!(phase, Phase::Exchanging) {
-            return due;
+            return due.min(self.plugs.due_in());
         }
         let inactive = inactive_in(phase, limit_of(&self.request), self.inactive);
         let timers = inactive.min(ready_in(phase, self.waited));
@@ -178,6 +187,9 @@ impl Relation {
             return;
         };
         self.exchange.pass(units);
+        if matches!(phase, Phase::Exchanging) {
+            self.plugs.pass(units);
+        }
         let limit = limit_of(&self.request);
         pass_timers(phase, limit, units, &mut self.inactive, &mut self.waited);
     }

@@ -14,6 +14,7 @@ use crate::both::{exchange, leaps, respond, ticks};
 use crate::bytes::copied;
 use crate::other_end::OtherEnd;
 use crate::outputs::outputs;
+use crate::places::expected;
 use crate::power::Power;
 use configurator::PlanFault;
 use controller_core::{Event as ControllerEvent, MOST_RECORD_OCTETS};
@@ -161,6 +162,13 @@ impl<'a> Session<'a> {
                 always(Ok(()))
             }
             Command::Ready => always(self.say(Local::Ready, text)),
+            Command::ReadyAt(slot, subslot) => {
+                always(self.say(Local::ReadyAt(slot, subslot), text))
+            }
+            Command::Pull(slot, subslot) => always(self.say(Local::Pull(slot, subslot), text)),
+            Command::PullModule(slot) => always(self.say(Local::PullModule(slot), text)),
+            Command::Plug(plug) => always(self.say(plug.said(), text)),
+            Command::Expected => always(self.expected(text)),
             Command::Diagnosis(slot, subslot, channel, error, appears) => {
                 let change = Local::Diagnosis(slot, subslot, channel, error, appears);
                 always(self.say(change, text))
@@ -228,6 +236,14 @@ impl<'a> Session<'a> {
             &mut self.other,
             text,
         )
+    }
+
+    /// Shows the places of the device's relation.
+    fn expected(&self, text: &mut Vec<u8>) -> Result<(), AllocError> {
+        match &self.power {
+            Power::On(demo) => expected(demo.device(), text),
+            Power::Off(_, _) | Power::Away => text.extend_from_slice(b"off\n"),
+        }
     }
 
     /// Switches the device's power off and on again. The frames that wait are lost.

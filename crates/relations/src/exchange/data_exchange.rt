@@ -3,14 +3,15 @@ ghost use Rattle.std.specs.Prelude.{◌≡◌, ◌<◌, ◌≤◌, IfSome, None,
 ghost use Rattle.relations.specs.exchange.Opening.{begun_of, opened};
 ghost use Rattle.relations.specs.exchange.Process.{given_at, output_at, rated_at, remarked};
 
-use crate::exchange::marks::{Mark, Starting, awaits, begin, change, iops_in};
-use crate::exchange::opening::{Differing, route_of};
+use crate::exchange::marks::{Mark, Starting, awaits, begin, change, iops_in, renew, restate};
+use crate::exchange::opening::{Differing, Stated, route_of};
 use crate::numbers::endpoint_of;
 use arrayvec::ArrayVec;
 use connects::ConnectRequest;
 use cyclic_data::{Consumer, CyclicExchange, Provider, Route};
-use diagnosis::{DiagnosisAlarms, Terms};
-use module_diff::DiffRows;
+use diagnosis::{Diagnoses, DiagnosisAlarms, Terms};
+use expected_places::Plugs;
+use module_diff::{Affected, DiffRows, Expected};
 use pn_alarms::DeviceAlarms;
 use std::marker::Model;
 
@@ -21,8 +22,8 @@ pub struct DataExchange {
     pub(crate) cyclic: CyclicExchange,
     pub(crate) alarms: DeviceAlarms,
     pub(crate) low: DiagnosisAlarms,
-    /// Why the IOPS of inputs are not good, for each place.
-    pub(crate) marks: ArrayVec<Mark, 128>,
+    /// Why the IOPS of inputs are not good, for each place with data.
+    pub(crate) marks: ArrayVec<Mark, 64>,
     /// Whether the last frame of inputs said that a submodule of the relation has a diagnosis.
     pub(crate) problem_sent: bool,
     /// The endpoint of the alarms of the device: the LocalAlarmReference that it returns in AlarmCRBlockRes.
@@ -152,6 +153,27 @@ impl DataExchange {
         self.cyclic.state(slot, subslot, iops);
     }
 
+    /// The modules changed: `rows` lists the submodules that differ from those that are expected, and these diagnoses exist.
+    pub fn restate_modules(&mut self, expected: &Expected, rows: &DiffRows, diagnoses: &Diagnoses) {
+        self.low.restate(expected, rows, diagnoses);
+    }
+
+    /// The inputs of affected submodules are zeros from now on, and none was given: with the option of the device their IOPS is
+    /// bad until one is.
+    pub fn renew(&mut self, affected: Affected, begin_bad: bool) {
+        renew(self.marks.as_mut_slice(), affected, begin_bad);
+        clear_inputs(&mut self.cyclic, self.marks.as_slice(), affected);
+    }
+
+    /// What differs or is touched changed: IOPS and IOCS follow.
+    pub fn restate(&mut self, plugs: &Plugs) {
+        restate(self.marks.as_mut_slice(), plugs);
+        self.cyclic.restate(&Stated {
+            plugs,
+            marks: self.marks.as_slice(),
+        });
+    }
+
     /// The output of a submodule, if it has one: its data in the last accepted frame. All zeros if no frame was
     /// accepted yet, or if the IOPS is not good.
     pub fn output(&self, slot: u16, subslot: u16) -> Option<&[u8]>
@@ -159,5 +181,14 @@ impl DataExchange {
         ensures short { IfSome result (λ value. length value.now ≤ 1440) }
     {
         self.cyclic.value(slot, subslot)
+    }
+}
+
+/// Sets the inputs of affected places to zeros.
+fn clear_inputs(cyclic: &mut CyclicExchange, marks: &[Mark], affected: Affected) {
+    for mark in marks {
+        if affected.covers(mark.place.slot, mark.place.subslot) {
+            cyclic.clear(mark.place.slot, mark.place.subslot);
+        }
     }
 }

@@ -8,15 +8,18 @@ use crate::exchange::statuses::{InputStatus, is_bad};
 use arrayvec::ArrayVec;
 use cyclic_data::{GOOD, Place, PlaceKind};
 use diagnosis::Diagnoses;
-use module_diff::DiffRows;
+use expected_places::Plugs;
+use module_diff::{Affected, DiffRows};
 
 /// Why the IOPS at a place of the inputs is not good, if it is not.
 #[derive(Clone, Copy, Default)]
 pub struct Mark {
     /// The place.
     pub place: Place,
-    /// The ModuleDiffBlock lists the submodule.
+    /// What is plugged there is not what is expected.
     pub differs: bool,
+    /// Something was pulled or plugged there, and it was not released since.
+    pub is_touched: bool,
     /// The first input of the relation is awaited.
     pub is_awaited: bool,
     /// The application says that the inputs are bad.
@@ -46,6 +49,7 @@ impl Mark {
         Mark {
             place: *place,
             differs: rows.is_listed(place.slot, place.subslot),
+            is_touched: false,
             is_awaited: starting.begin_bad && place.size > 1,
             is_bad: is_bad(starting.statuses, place.slot, place.subslot),
         }
@@ -65,7 +69,7 @@ impl Mark {
     fn iops(&self) -> u8
         ensures { result ≡ iops_by self.now }
     {
-        if self.differs || self.is_awaited || self.is_bad {
+        if self.differs || self.is_touched || self.is_awaited || self.is_bad {
             0
         } else {
             GOOD
@@ -89,9 +93,9 @@ impl Mark {
     }
 }
 
-/// Replaces the marks by the first ones of these places.
+/// Replaces the marks by the first ones of those of these places that have data.
 pub(crate) fn begin(
-    marks: &mut ArrayVec<Mark, 128>,
+    marks: &mut ArrayVec<Mark, 64>,
     places: &[Place],
     rows: &DiffRows,
     starting: Starting<'_>,
@@ -102,12 +106,15 @@ pub(crate) fn begin(
 {
     marks.clear();
     for place in places {
-        marks.push(Mark::first(place, rows, starting));
+        // At most 64 submodules are expected, so at most 64 places have data.
+        if let PlaceKind::Data = place.kind {
+            let _ = marks.try_push(Mark::first(place, rows, starting));
+        }
     }
 }
 
 /// Changes the marks of the inputs of a submodule: an input was given, or this status.
-pub(crate) fn change(marks: &mut ArrayVec<Mark, 128>, slot: u16, subslot: u16, status: Option<bool>)
+pub(crate) fn change(marks: &mut ArrayVec<Mark, 64>, slot: u16, subslot: u16, status: Option<bool>)
     ensures { marks.new.items ≡ marked slot subslot (change_by status) marks.old.items }
 {
     let mut next = ArrayVec::new();
@@ -119,6 +126,24 @@ pub(crate) fn change(marks: &mut ArrayVec<Mark, 128>, slot: u16, subslot: u16, s
         });
     }
     *marks = next;
+}
+
+/// Says which marks are of places that differ or are touched now.
+pub(crate) fn restate(marks: &mut [Mark], plugs: &Plugs) {
+    for mark in marks.iter_mut() {
+        mark.differs = plugs.differs(mark.place.slot, mark.place.subslot);
+        mark.is_touched = plugs.is_touched(mark.place.slot, mark.place.subslot);
+    }
+}
+
+/// Begins the marks of affected places again: no input was given there, and no status, since the submodule came.
+pub(crate) fn renew(marks: &mut [Mark], affected: Affected, begin_bad: bool) {
+    for mark in marks.iter_mut() {
+        if affected.covers(mark.place.slot, mark.place.subslot) {
+            mark.is_awaited = begin_bad && mark.place.size > 1;
+            mark.is_bad = false;
+        }
+    }
 }
 
 /// The IOPS of the inputs of a submodule, by the first of its marks; 0 without a mark.
