@@ -32,8 +32,8 @@ pub use places::Places;
 pub use queue::{LowChange, QueuedAlarm};
 pub use record::put_diagnosis_data;
 pub use reported::{
-    ChannelReport, MOST_DIAGNOSES, ReportedDiagnoses, Specifier, channel_report,
-    reports_are_followed,
+    ChannelReport, MOST_DIAGNOSES, PlaceReport, ReportedDiagnoses, Specifier, channel_report,
+    is_pull_of, place_report, reports_are_followed,
 };
 pub use reports::{
     Priority, Report, low_ack_octets, low_alarm_front, read_alarm, read_low_ack, read_low_message,

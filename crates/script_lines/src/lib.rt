@@ -4,6 +4,7 @@
 mod command;
 mod digits;
 mod numbers;
+pub mod places;
 mod plugging;
 pub mod render;
 pub mod reports;
