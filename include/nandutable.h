@@ -42,9 +42,9 @@ extern "C" {
 #define PN_SECTOR_SIZE 4096u
 /* The longest sent frame, without its check sequence. A received frame may be longer; it is refused. */
 #define PN_FRAME_SIZE 1518u
-/* The maximum number of octets of one operation, and the octets of an operation up to `data`. */
+/* The maximum number of octets of one operation, and the octets of an operation up to and with these: the library uses no others. */
 #define PN_OP_SIZE 1520u
-#define PN_OP_LENGTH 1664u
+#define PN_OP_LENGTH 1668u
 /* A unit of time, in nanoseconds: 32 of them are a millisecond. */
 #define PN_UNIT_NS 31250u
 /* How many units a host may be late and still catch up. After a longer stall, drop the units beyond this; otherwise repeats and error
@@ -107,6 +107,14 @@ static inline const char *pn_strreason(uint32_t reason)
     }
 }
 
+/* What became of the process alarm that was open before an event (pn_op.confirmed), reported once, by the event with which it is over. After
+ * each of the two pn_alarm accepts the next alarm, if data is exchanged. */
+enum pn_confirmed {
+    PN_UNCONFIRMED = 0,  /* nothing: no alarm was open, or it is still open */
+    PN_ACKNOWLEDGED = 1, /* the controller acknowledged it (AlarmAck): `status` is 0 if it handled the alarm, and otherwise says why not */
+    PN_GIVEN_UP = 2      /* its relation ended first: nobody knows whether the controller handled it */
+};
+
 /* What the application relation waits for (pn_op.phase). */
 enum pn_phase {
     PN_NONE = 0,      /* there is no relation */
@@ -148,7 +156,9 @@ enum pn_what {
     PN_OP_PASSED = 22,
     PN_OP_PASSED_ON = 23,
     PN_OP_FRAME_AFTER = 24,
-    PN_OP_RECEIVED = 25
+    PN_OP_RECEIVED = 25,
+    PN_OP_RUN = 26,
+    PN_OP_STOP = 27
 };
 
 /* A parameter record that a submodule accepts: its index, 0 to 32,767 and no other record's of the submodule, and its exact length, 1 to
@@ -222,13 +232,14 @@ typedef struct pn_station {
  *
  *   function                      reads                                   sets
  *   pn_boot                       sector                                  nothing
- *   pn_frame                      nothing                                 note, work
- *   pn_frame_after                units                                   units, note, work
- *   pn_tick                       units                                   units, due, note, work
- *   pn_input, pn_alarm            slot, subslot                           note, work; with PN_REFUSED only reason
- *   pn_status                     slot, subslot, is_good                  note, work; with PN_REFUSED only reason
- *   pn_diagnosis                  slot, subslot, channel, error, appears  note, work; with PN_REFUSED only reason
- *   pn_ready                      nothing                                 note, work; with PN_REFUSED only reason
+ *   pn_frame                      nothing                                 note, work, confirmed; with PN_ACKNOWLEDGED status
+ *   pn_frame_after                units                                   units, note, work, confirmed; with PN_ACKNOWLEDGED status
+ *   pn_tick                       units                                   units, due, note, work, confirmed
+ *   pn_input, pn_alarm            slot, subslot                           note, work, confirmed (0); with PN_REFUSED only reason
+ *   pn_status                     slot, subslot, is_good                  note, work, confirmed (0); with PN_REFUSED only reason
+ *   pn_diagnosis                  slot, subslot, channel, error, appears  note, work, confirmed (0); with PN_REFUSED only reason
+ *   pn_ready                      nothing                                 note, work, confirmed (0); with PN_REFUSED only reason
+ *   pn_provider_state             nothing                                 note, work, confirmed (0)
  *   pn_tell_link                  is_up                                   nothing
  *   pn_next                       nothing                                 work, more, length, data; of a flash call sector and place
  *   pn_carry_out                  work                                    what pn_next sets
@@ -268,12 +279,13 @@ typedef struct pn_op {
     uint32_t count;          /* how many there are of what the function counts */
     uint32_t left_out;       /* how many diagnoses the list of a controller had no room for */
     uint32_t commits;        /* how many commits the flash still accepts */
-    uint32_t status;         /* PNIOStatus of an answer, ErrorCode first (0xDF80B200); 0 if the request succeeded */
+    uint32_t status;         /* PNIOStatus of an answer or of an AlarmAck, ErrorCode first (0xDF80B200); 0 if the request or the alarm succeeded */
     uint32_t block_error;    /* BlockError of an answer of DCP; 0 if the request succeeded */
     uint32_t alarm_type;     /* AlarmType of an alarm */
     uint32_t specifier;      /* AlarmSpecifier of an alarm */
     uint32_t structure;      /* UserStructureIdentifier of an alarm; 65,536 if it has none */
     uint32_t sequence;       /* SendSeqNum of an alarm */
+    uint32_t confirmed;      /* enum pn_confirmed: what became of the open alarm of a device in an event */
     uint32_t port_length;    /* octets of the PortID of a neighbour: at most 255 */
     uint32_t chassis_length; /* octets of the ChassisID of a neighbour: at most 255 */
     uint32_t work;           /* enum pn_work: after an event the next piece of work, after pn_next the one that it handed out */
@@ -300,9 +312,9 @@ typedef struct pn_device {
 
 /* The sizes that the library was built with. */
 #if defined(__cplusplus)
-static_assert(offsetof(pn_op, data) == PN_OP_LENGTH && sizeof(pn_station) == 1528, "another layout than the library's");
+static_assert(offsetof(pn_op, octets) + PN_OP_SIZE == PN_OP_LENGTH && sizeof(pn_station) == 1528, "another layout than the library's");
 #else
-_Static_assert(offsetof(pn_op, data) == PN_OP_LENGTH && sizeof(pn_station) == 1528, "another layout than the library's");
+_Static_assert(offsetof(pn_op, octets) + PN_OP_SIZE == PN_OP_LENGTH && sizeof(pn_station) == 1528, "another layout than the library's");
 #endif
 
 /* The settings that survive a power failure. */
@@ -403,8 +415,8 @@ static inline uint32_t pn_boot(pn_device *device, pn_op *op, const uint8_t first
     return pn_ask(device, op, PN_OP_BOOT, NULL, 0);
 }
 
-/* --- Events. Each needs a booted device without remaining work, and sets `note` and `work`. If `work` is not PN_NOTHING, call
- * pn_carry_out, or pn_next while work remains. ---
+/* --- Events. Each needs a booted device without remaining work, and sets `note`, `work` and `confirmed`. If `work` is not PN_NOTHING, call
+ * pn_carry_out, or pn_next while work remains: neither changes `confirmed`. ---
  * They may return PN_NULL, PN_NOT_MADE, PN_NOT_BOOTED, PN_LOST, PN_HAS_WORK, and what each names. After such a number nothing was done:
  * `units` of pn_tick, for one, is still the number that was handed in. A loop must end on it. What the application says (pn_input, pn_alarm,
  * pn_status, pn_diagnosis, pn_ready) may be refused: PN_REFUSED, with `reason`. Then nothing changed, and no work remains. */
@@ -454,7 +466,8 @@ static inline uint32_t pn_input(pn_device *device, pn_op *op, uint16_t slot, uin
 }
 
 /* The application raises a process alarm of a submodule, with at most 32 octets, while data is exchanged and after the previous alarm is
- * over. May return PN_REFUSED: PN_WHY_NOT_PLUGGED, PN_WHY_BAD_LENGTH, PN_WHY_NO_RELATION, PN_WHY_NO_EXCHANGE, PN_WHY_ALARM_OPEN. */
+ * over. A later pn_frame, pn_frame_after or pn_tick reports what became of it, once (`confirmed`); after pn_lose and pn_make nothing does.
+ * May return PN_REFUSED: PN_WHY_NOT_PLUGGED, PN_WHY_BAD_LENGTH, PN_WHY_NO_RELATION, PN_WHY_NO_EXCHANGE, PN_WHY_ALARM_OPEN. */
 static inline uint32_t pn_alarm(pn_device *device, pn_op *op, uint16_t slot, uint16_t subslot, const uint8_t *octets, size_t length)
 {
     if (op == NULL)
@@ -500,6 +513,14 @@ static inline uint32_t pn_diagnosis(pn_device *device, pn_op *op, uint16_t slot,
 static inline uint32_t pn_ready(pn_device *device, pn_op *op)
 {
     return pn_ask(device, op, PN_OP_READY, NULL, 0);
+}
+
+/* The application stops, with all its inputs, or runs again. While it is stopped, ProviderState (bit 4 of DataStatus) is 0 in each cyclic
+ * frame; the values and their statuses stay as they are. It runs at first; a stop is kept over relations, and forgotten at a start. It is
+ * never refused. */
+static inline uint32_t pn_provider_state(pn_device *device, pn_op *op, int is_running)
+{
+    return pn_ask(device, op, is_running != 0 ? PN_OP_RUN : PN_OP_STOP, NULL, 0);
 }
 
 /* What the host knows of the link, for the LLDP of the device. */

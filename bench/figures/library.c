@@ -1,9 +1,9 @@
 /* Figures of the library through its header, for bench/figures/library.py: what is to be counted by callgrind in an exchange that the lines
  * on standard input set up: N times a unit of time (`unit`; without a relation `alone`, and `addressed` in the first two seconds of an address),
  * 32 units (`leap`), a second without a relation (`second`), a unit with the frame that it sends (`sent`), a cyclic frame (`cyclic`), the
- * millisecond of an exchange (`cycle`), or the frame of the line `turn` at a device without a relation: the same each time (`again`), or a call
- * with the next sequence number each time (`call`). Callgrind counts what is executed within pn_step and pn_fetch, and not what this program
- * does. */
+ * millisecond of an exchange (`cycle`), the same with an output read and an input set (`values`), or the frame of the line `turn` at a device
+ * without a relation: the same each time (`again`), or a call with the next sequence number each time (`call`). Callgrind counts what is
+ * executed within pn_step and pn_fetch, and not what this program does. */
 #include "nandutable.h"
 #include <stdio.h>
 #include <stdlib.h>
@@ -109,6 +109,17 @@ static void next_cyclic(unsigned units)
     carry_out();
 }
 
+/* The application reads the output of slot 2, and sets the input of slot 1 to another value. */
+static void values(uint8_t number)
+{
+    static uint8_t value[PN_FRAME_SIZE];
+    size_t length = station.modules[1].submodules[0].input;
+    must(pn_output(&device, &op, 2, 1) == PN_OK && op.length == length && memcmp(op.octets, cyclic.octets + 20, length) == 0, 15);
+    memset(value, number, length);
+    must(pn_input(&device, &op, 1, 1, value, length) == PN_OK && op.note == PN_DONE, 16);
+    carry_out();
+}
+
 /* The frame of the line `turn` comes again. */
 static void same_again(void)
 {
@@ -198,6 +209,8 @@ static void count(const char *what, unsigned long turns)
             next_call();
         } else {
             next_cyclic(32);
+            if (strcmp(what, "values") == 0)
+                values((uint8_t)i);
             units_pass(32);
         }
     }

@@ -29,19 +29,20 @@ OCTETS = 40
 # What is counted: its title, the units of an interval (SendClockFactor times ReductionRatio; none without a relation, which the plain
 # program does not count), and how many instructions a turn may take.
 KINDS = {
-    "unit": ("a pn_tick of one unit with which nothing is due", (128, 512), 100),
+    "unit": ("a pn_tick of one unit with which nothing is due", (128, 512), 70),
     "alone": ("the same of a device without a relation", None, 90),
     "addressed": ("the same in the first two seconds of an address", None, 90),
     "leap": ("a pn_tick of 32 units with which nothing is due", (128, 512), 150),
     "second": ("a second of a device without a relation, with its LLDP", None, 1_000),
-    "cyclic": ("a pn_frame of a cyclic frame of 40 octets", (128, 512), 200),
-    "sent": ("a pn_tick of one unit that sends 40 octets, and its pn_next", (1, 1), 220),
-    "cycle": ("a millisecond: 32 units, a frame in, a frame out", (32, 1), 900),
+    "cyclic": ("a pn_frame of a cyclic frame of 40 octets", (128, 512), 170),
+    "sent": ("a pn_tick of one unit that sends 40 octets, and its pn_next", (1, 1), 200),
+    "cycle": ("a millisecond: 32 units, a frame in, a frame out", (32, 1), 500),
+    "values": ("a millisecond with an output read and an input set", (32, 1), 700),
 }
 
 # Above these a turn takes more than it did. A body that always answers that something may be due (`Port::is_quiet`, `skip`, `is_calm`,
 # `is_counted`), or that lets units pass one by one, keeps each clause and costs only time. Each of these passes one of these numbers.
-MOST_TODAY = {"unit": 95, "alone": 65, "addressed": 65, "leap": 95, "second": 400, "cyclic": 195, "sent": 233}
+MOST_TODAY = {"unit": 100, "alone": 65, "addressed": 65, "leap": 100, "second": 400, "cyclic": 195, "sent": 233}
 # Services that read a dropped frame more than once pass one of these, and so do those that read what the device answered.
 MOST_TODAY |= {"foreign": 1_450, "foreign_long": 3_600, "foreign_mac": 2_050, "echo": 1_450, "lookup": 4_100, "identify": 780, "read": 3_450}
 

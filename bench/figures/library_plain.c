@@ -225,6 +225,20 @@ static uint32_t input(struct device *device, pn_op *op, const uint8_t *given, si
     return PN_OK;
 }
 
+/* The output of slot 2: zeros if its IOPS is not good. */
+static uint32_t output(const struct device *device, pn_op *op)
+{
+    uint32_t length = device->data - 3;
+    if (op->slot != 2 || op->subslot != 1)
+        return PN_NO_SLOT;
+    if (device->outputs[length] == PN_IOPS_GOOD)
+        memcpy(op->octets, device->outputs, length);
+    else
+        memset(op->octets, 0, length);
+    op->length = length;
+    return PN_OK;
+}
+
 uint32_t pn_step(void *room, pn_op *op, const uint8_t *given, size_t length)
 {
     struct device *device = room;
@@ -237,6 +251,7 @@ uint32_t pn_step(void *room, pn_op *op, const uint8_t *given, size_t length)
     case PN_OP_FRAME: op->note = hear(device, given, length); break;
     case PN_OP_TICK: op->units = pass(device, op->units); op->due = due(device); op->note = PN_DONE; break;
     case PN_OP_INPUT: return input(device, op, given, length);
+    case PN_OP_OUTPUT: return output(device, op);
     case PN_OP_STATE: op->phase = device->phase, op->lamp = device->lamp; return PN_OK;
     case PN_OP_DUE: op->due = due(device); return PN_OK;
     default: return PN_UNKNOWN;

@@ -529,6 +529,9 @@ class Specs:
             if bare.startswith("--"):
                 comment.append(bare.lstrip("-").strip())
                 continue
+            # How an operator binds is written between its comment and its definition.
+            if re.match(r"infix[lr]?\b", bare):
+                continue
             head = self.HEAD.match(line)
             # The fields of a record and the cases of a kind are part of it.
             if data is not None and bare and indent <= data:

@@ -9,7 +9,8 @@
  *   - an output is used only while host_output gives it; at every other time the plant goes to its safe position,
  *   - parameters are used when all of them have come, and only then does ApplicationReady tell the controller so,
  *   - a sensor that fails is reported three times: its status is bad, a diagnosis appears, and its last value stays,
- *   - what the device forgets at a start is said again: the status and the diagnosis. */
+ *   - what the device forgets at a start is said again: the status and the diagnosis,
+ *   - an alarm that the controller has not acknowledged before the relation ended is raised again. */
 #include "application.h"
 #include "console.h"
 #include "host.h"
@@ -74,7 +75,7 @@ static int give16(uint16_t slot, uint16_t value)
 
 void application_starts(void)
 {
-    is_told_bad = 0;
+    is_told_bad = is_told_high = 0;
     application_relation_ends();
 }
 
@@ -140,6 +141,18 @@ static void step_alarm(void)
     const uint8_t octets[2] = {(uint8_t)(pressure >> 8), (uint8_t)pressure};
     if (pressure >= used.alarm_from && !is_told_high && !is_told_bad)
         is_told_high = host_alarm(GAUGE, 1, octets, sizeof octets);
+}
+
+void application_alarm_is_acknowledged(uint32_t status)
+{
+    console_say(status == 0 ? "alarm acknowledged\n" : "alarm refused\n");
+}
+
+/* Nobody knows whether the controller handled it: it is raised again in the next relation, if the pressure is still high. */
+void application_alarm_is_given_up(void)
+{
+    console_say("alarm given up\n");
+    is_told_high = 0;
 }
 
 /* What is slow: the gauge, the purge valve and the button, each ten milliseconds. */

@@ -19,6 +19,11 @@ void application_parameters_end(void);
 /* There is no relation any more: parameters that are not in use yet are forgotten, and outputs go to their safe values. */
 void application_relation_ends(void);
 
+/* What became of the alarm that host_alarm raised last: the controller acknowledged it, with this PNIOStatus (0: it handled the alarm), or the
+ * relation ended first. */
+void application_alarm_is_acknowledged(uint32_t status);
+void application_alarm_is_given_up(void);
+
 /* The settings were set to those of the factory. */
 void application_was_reset(void);
 

@@ -249,12 +249,23 @@ APART static void look(void)
         application_was_reset();
 }
 
+/* What became of the open alarm in the last event, if it is over. */
+APART static void tell_confirmation(void)
+{
+    if (op.confirmed == PN_ACKNOWLEDGED)
+        application_alarm_is_acknowledged(op.status);
+    else if (op.confirmed == PN_GIVEN_UP)
+        application_alarm_is_given_up();
+}
+
 /* Hands in units of time. pn_tick stops after a unit that sends: the rest waits, and is handed in before the next event. */
 static void pass(uint32_t units)
 {
     must(pn_tick(&device, &op, units), "pn_tick");
     own.waited -= units - op.units;
     own.due = op.due;
+    if (op.confirmed != PN_UNCONFIRMED)
+        tell_confirmation();
     if (op.work != PN_NOTHING)
         carry_out();
 }
@@ -270,6 +281,7 @@ static int is_cyclic(const uint32_t *frame, size_t length)
 APART static void follow_frame(void)
 {
     int is_of_interest = op.note == PN_DONE || watch.is_asked != 0;
+    tell_confirmation();
     carry_out();
     ask_due();
     if (is_of_interest)

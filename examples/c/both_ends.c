@@ -18,7 +18,8 @@ static pn_controller controller;
 static pn_op op, other; /* of the device, and of the controller */
 static pn_watch watch;
 static struct way to_device, to_controller, now;
-static int is_held; /* the alarms of the device do not arrive */
+static int is_held;        /* the alarms of the device do not arrive */
+static uint32_t confirmed; /* how many alarms of the device were acknowledged */
 
 static void must(uint32_t answer, const char *what)
 {
@@ -67,11 +68,16 @@ static int sends(void *context, const uint8_t *octets, uint32_t length)
 
 static const pn_host of_device = {&to_controller, program, erase, sends}, of_controller = {&to_device, NULL, NULL, sends};
 
-/* The work of what the device accepted. */
+/* The work of what the device accepted, and what became of its alarm. */
 static void accepted(uint32_t answer, const char *what)
 {
     must(answer, what);
     must(pn_carry_out(&device, &op, &of_device), what);
+    confirmed += op.confirmed == PN_ACKNOWLEDGED;
+    if (op.confirmed == PN_ACKNOWLEDGED)
+        printf("the alarm is acknowledged, PNIOStatus %08X\n", (unsigned)op.status);
+    else if (op.confirmed == PN_GIVEN_UP)
+        puts("the alarm is given up");
 }
 
 static void accepted_by_controller(uint32_t answer, const char *what)
@@ -219,6 +225,10 @@ static void report(void)
     must(pn_controller_diagnosis(&controller, &other, 30), "pn_controller_diagnosis");
     printf("its last diagnosis: channel %u error %u\n", (unsigned)other.channel, (unsigned)other.error);
     accepted(pn_alarm(&device, &op, 1, 1, count, 4), "pn_alarm");
+    if (confirmed != 1) {
+        printf("%u alarms are acknowledged\n", (unsigned)confirmed);
+        exit(1);
+    }
 }
 
 int main(void)

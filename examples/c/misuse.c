@@ -240,6 +240,7 @@ int main(void)
     wants("what is due before the start", pn_due(&device, &op, &left), PN_NOT_BOOTED);
     wants("a status before the start", pn_status(&device, &op, 0, 1, 1), PN_NOT_BOOTED);
     wants("ready before the start", pn_ready(&device, &op), PN_NOT_BOOTED);
+    wants("a stop before the start", pn_provider_state(&device, &op, 0), PN_NOT_BOOTED);
     wants("a provider before the start", pn_provider(&device, &op, 0, 1, octets, octets + 1), PN_NOT_BOOTED);
     wants("a received output before the start", pn_received(&device, &op, 0, 1, octets, octets + 1), PN_NOT_BOOTED);
     wants("news before the start", pn_news(&device, &op, &watch, &left), PN_NOT_BOOTED);
@@ -259,7 +260,7 @@ int main(void)
         return 1;
     wants("a second start", pn_boot(&device, &op, erased, erased), PN_IS_BOOTED);
     wants("no operation", pn_ask(&device, &op, 0, NULL, 0), PN_UNKNOWN);
-    wants("another operation", pn_ask(&device, &op, 26, NULL, 0), PN_UNKNOWN);
+    wants("another operation", pn_ask(&device, &op, 28, NULL, 0), PN_UNKNOWN);
     wants("no operation's room", pn_frame(&device, NULL, set, sizeof set), PN_NULL);
     wants("no octets", pn_frame(&device, &op, NULL, 1), PN_NULL);
     wants("no operation for a frame after units", pn_frame_after(&device, NULL, 1, set, sizeof set), PN_NULL);
@@ -320,6 +321,7 @@ int main(void)
     ask_all("in front of the work");
     wants("a status in front of the work", pn_status(&device, &op, 0, 1, 1), PN_HAS_WORK);
     wants("ready in front of the work", pn_ready(&device, &op), PN_HAS_WORK);
+    wants("a stop in front of the work", pn_provider_state(&device, &op, 0), PN_HAS_WORK);
     wants("a frame in front of the work", pn_frame(&device, &op, set, sizeof set), PN_HAS_WORK);
     wants("time in front of the work", pn_tick(&device, &op, 1), PN_HAS_WORK);
     wants("an input in front of the work", pn_input(&device, &op, 0, 1, octets, 1), PN_HAS_WORK);
@@ -364,6 +366,7 @@ int main(void)
     wants("what is due after a loss", pn_due(&device, &op, &left), PN_LOST);
     wants("a status after a loss", pn_status(&device, &op, 0, 1, 1), PN_LOST);
     wants("ready after a loss", pn_ready(&device, &op), PN_LOST);
+    wants("a stop after a loss", pn_provider_state(&device, &op, 0), PN_LOST);
     wants("a provider after a loss", pn_provider(&device, &op, 0, 1, octets, octets + 1), PN_LOST);
     wants("a received output after a loss", pn_received(&device, &op, 0, 1, octets, octets + 1), PN_LOST);
     wants("news after a loss", pn_news(&device, &op, &watch, &left), PN_LOST);

@@ -156,13 +156,29 @@ static void look_at_link(void *context);
 static int rate(struct device *device, const struct status *status);
 static int diagnose(struct device *device, const struct diagnosis *diagnosis, int appears);
 
+/* Reports what became of the alarm that a line raised, once its event says so. */
+static void tell_confirmation(struct device *device)
+{
+    const pn_op *op = &device->op;
+    uint32_t s = op->status;
+    if (op->confirmed == PN_GIVEN_UP)
+        lines_tell(&device->loop.lines, "alarm given up");
+    else if (op->confirmed == PN_ACKNOWLEDGED && s == 0)
+        lines_tell(&device->loop.lines, "alarm acknowledged");
+    else if (op->confirmed == PN_ACKNOWLEDGED)
+        lines_tell(&device->loop.lines, "alarm refused: PNIOStatus %02X %02X %02X %02X", (unsigned)(s >> 24), (unsigned)(s >> 16 & 0xFF), (unsigned)(s >> 8 & 0xFF),
+                   (unsigned)(s & 0xFF));
+}
+
 /* Takes the work of a step and does it. A flash call that fails counts as lost power: nothing more is sent, and the device starts again
  * from the file. */
-/* After each event, which may change what is due. */
+/* After each event, which may change what is due, and may confirm an alarm. */
 static void carry_out(struct device *device)
 {
+    uint32_t answer = pn_carry_out(&device->room, &device->op, &device->host);
     device->due = 0;
-    if (pn_carry_out(&device->room, &device->op, &device->host) != PN_FLASH_FAULT)
+    tell_confirmation(device);
+    if (answer != PN_FLASH_FAULT)
         return;
     lines_tell(&device->loop.lines, "power lost: a call of the flash failed: %s", device->chip.why);
     start(device);

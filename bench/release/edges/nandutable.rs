@@ -5,7 +5,7 @@ const ROOM: usize = 79_872;
 const ALIGNMENT: usize = 16;
 
 const _: () = assert!(size_of::<Port>() <= ROOM && align_of::<Port>() <= ALIGNMENT);
-const _: () = assert!(size_of::<Op>() == 1664 && size_of::<Station>() == 1528);
+const _: () = assert!(size_of::<Op>() == 1668 && size_of::<Station>() == 1528);
 
 /// There is no heap: nothing here takes memory. `uuid` names an allocator without using it.
 struct NoHeap;

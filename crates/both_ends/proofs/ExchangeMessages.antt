@@ -331,7 +331,7 @@ module _ (so : HearsSo) (setup : Setup) (identity : Identity) where
 
   frame_noted : (route : Route) (frame : Frame) → IsSendable identity (sent.Exchanges route frame) → IsSizedFrame identity route frame
       → IsNotedBy setup identity (bytes_of identity (sent.Exchanges route frame)) (noted_by frame)
-  frame_noted route (Inputs has_problem inputs counter) can sized = plain_noted route.partner (Some route.sent_tag) route.sent_id (body_at has_problem inputs counter) sized can
+  frame_noted route (Inputs state inputs counter) can sized = plain_noted route.partner (Some route.sent_tag) route.sent_id (body_at state inputs counter) sized can
   frame_noted route (Notifies header one) can sized = (
     noted_by_law (bytes_of identity (sent.Exchanges route (Notifies header one))) route.partner (controller.Alarms identity.mac High header (notice.Data header.send_number (ours one)))
         (so.alarm mine identity (alarm_route route) header one can.source (route_is route can.destination can.tag) sized.1 sized.2 sized.3),

@@ -66,7 +66,7 @@ reply_of number pdu.Error = None
 
 -- what the device says of alarms: an alarm with its number, the reply to an AlarmAck, or the end of the relation
 abbrev pub noted_by : Frame → Option (Notice Report)
-noted_by (Inputs has_problem inputs counter) = None
+noted_by (Inputs state inputs counter) = None
 noted_by (Notifies header alarm) = Some (notice.Data header.send_number (ours alarm))
 noted_by (Answers header) = reply_of header.ack_number header.kind
 noted_by (Reports tag header alarm) = Some (notice.Data header.send_number (diagnosed alarm))

@@ -58,7 +58,7 @@ use Rattle.both_ends.proofs.ExchangeTied.{may_be, way_before}
 -- ---- a message
 
 abbrev pub IsSizedFrame : Identity → Route → Frame → Type 0
-IsSizedFrame identity route (Inputs has_problem inputs counter) = is_alarm route.sent_id ≡ false
+IsSizedFrame identity route (Inputs state inputs counter) = is_alarm route.sent_id ≡ false
 IsSizedFrame identity route (Notifies header alarm) = (route.partner ≡ identity.mac → ⊥) × (header.kind ≡ pdu.Data) × IsHeader header × IsAlarm alarm
 IsSizedFrame identity route (Answers header) = (route.partner ≡ identity.mac → ⊥) × ((header.kind ≡ pdu.Ack) ⊎ (header.kind ≡ pdu.Nack)) × IsHeader header
 IsSizedFrame identity route (Reports tag header alarm) = (route.partner ≡ identity.mac → ⊥) × (header.kind ≡ pdu.Data) × IsHeader header × IsAlarm alarm
@@ -206,7 +206,7 @@ module _ (identity : Identity) (plan : Parts) (ar : List ℕ) (apart : identity.
   }
 
   calm_sized : (before : Option RelationState) (message : Sent) → AreSizedIn request before → IsCalm before message → IsSizedSent identity message
-  calm_sized before (Exchanges route (Inputs has_problem inputs counter)) sized calm =
+  calm_sized before (Exchanges route (Inputs state inputs counter)) sized calm =
       ap (λ (r : Route). is_alarm r.sent_id) (calm.2 ∙ (sized calm.0 calm.1).routed.1)
   calm_sized before (Exchanges route (Notifies header alarm)) sized calm = absurd calm
   calm_sized before (Exchanges route (Answers header)) sized calm = absurd calm

@@ -63,6 +63,8 @@ pub struct Op {
     pub structure: u32,
     /// SendSeqNum of an alarm.
     pub sequence: u32,
+    /// What became of the open process alarm of a device in an event.
+    pub confirmed: u32,
     /// The number of octets of a PortID.
     pub port_length: u32,
     /// The number of octets of a ChassisID.

@@ -130,6 +130,7 @@ fn copy_of(op: &Op) -> Op
         specifier: op.specifier,
         structure: op.structure,
         sequence: op.sequence,
+        confirmed: op.confirmed,
         port_length: op.port_length,
         chassis_length: op.chassis_length,
         work: op.work,

@@ -36,7 +36,7 @@ const ABI: u32 = 6;
 const ROOM: usize = 40960;
 
 /// The number of octets of an operation.
-const OP_SIZE: usize = 1664;
+const OP_SIZE: usize = 1668;
 
 // The faults of a plan, with the numbers that a catalogue with the same fault has.
 const NUMBER: u32 = PLAN_FAULT + 4;

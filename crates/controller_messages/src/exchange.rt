@@ -13,7 +13,7 @@ ghost use Rattle.frame_codec.specs.Outbox.{boxed};
 use crate::setup::Setup;
 use arrayvec::ArrayVec;
 use block_codec::{AlarmAck, Block, write_block};
-use cyclic_data::{CyclicExchange, Route, send_cyclic};
+use cyclic_data::{CyclicExchange, Route, StationState, send_cyclic};
 use diagnosis::{Priority, low_ack_octets};
 use frame_codec::{Outbox, Pieces};
 use pn_alarms::{Abort, Header, Pdu, PduType, pdu_front};
@@ -35,7 +35,7 @@ pub fn send_outputs(setup: &Setup, counter: u16, exchange: &CyclicExchange, outb
     send_cyclic(
         setup.plan.controller().mac,
         counter,
-        false,
+        StationState::in_order(),
         exchange,
         outbox,
     );

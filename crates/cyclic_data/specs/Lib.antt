@@ -4,6 +4,7 @@ pub mod Rising
 pub mod Seen
 pub mod Marked
 pub mod Timing
+pub mod Status
 pub mod Tail
 pub mod Image
 pub mod Held

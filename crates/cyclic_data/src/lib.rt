@@ -25,7 +25,7 @@ pub use image::Image;
 pub use layout::Layout;
 pub use place::{ExpectedData, Place, PlaceKind};
 pub use received::ReceivedImage;
-pub use status::{DataStatus, GOOD};
+pub use status::{DataStatus, GOOD, StationState};
 pub use tail::{CyclicTail, ShortFrame, put_cyclic, read_cyclic};
 pub use timing::{Consumer, Provider};
 pub use zero_octets::zeros;

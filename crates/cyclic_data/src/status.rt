@@ -1,5 +1,6 @@
 //! The statuses of data: IOPS and IOCS, and DataStatus.
-ghost use Rattle.std.specs.Prelude.{⊤, ◌≡◌, [], ◌∷◌, codes, if◌then◌else◌};
+ghost use Rattle.std.specs.Prelude.{⊤, ◌≡◌, [], ◌∷◌, codes};
+ghost use Rattle.cyclic_data.specs.Status.{data_status_of, in_order};
 
 use bitflags::{Flag, Flags, bitflag_items};
 
@@ -41,15 +42,35 @@ impl Flags for DataStatus {
     }
 }
 
-impl DataStatus {
-    /// The status that a provider sends if it runs, with or without a problem.
-    pub fn running(has_problem: bool) -> DataStatus
-        ensures { result.0 ≡ (if has_problem then 0x15 else 0x35) }
+/// What a station says of itself in DataStatus of the cyclic frames that it sends.
+#[derive(Clone, Copy, PartialEq, Eq, Debug)]
+pub struct StationState {
+    /// ProviderState: whether its application runs (`true`: Run; `false`: Stop).
+    pub is_running: bool,
+    /// StationProblemIndicator: whether it has a problem.
+    pub has_problem: bool,
+}
+
+impl StationState {
+    /// A station that runs and has no problem.
+    pub fn in_order() -> StationState
+        ensures { result ≡ in_order }
     {
-        if has_problem {
-            DataStatus(0x15)
-        } else {
-            DataStatus(0x35)
+        StationState {
+            is_running: true,
+            has_problem: false,
+        }
+    }
+
+    /// DataStatus of the frames of a primary provider in this state, whose data is valid.
+    pub fn data_status(self) -> DataStatus
+        ensures { result.0 ≡ data_status_of self }
+    {
+        match (self.is_running, self.has_problem) {
+            (true, false) => DataStatus(0x35),
+            (true, true) => DataStatus(0x15),
+            (false, false) => DataStatus(0x25),
+            (false, true) => DataStatus(0x05),
         }
     }
 }

@@ -1,11 +1,12 @@
 //! The octets of a cyclic frame after its FrameID.
-ghost use Rattle.std.specs.Prelude.{◌≡◌, ◌+◌, ◌<◌, ◌≤◌, ◌++◌, [], List, ℕ, Ok, length, IfOk, MatchResult, if◌then◌else◌};
+ghost use Rattle.std.specs.Prelude.{◌≡◌, ◌+◌, ◌<◌, ◌≤◌, ◌++◌, [], List, ℕ, Ok, length, IfOk, MatchResult};
 ghost use Rattle.arrayvec.specs.ArrayVec.{array_vec_len};
 ghost use Rattle.wire.specs.Codec.{Gives};
 ghost use Rattle.cyclic_data.specs.declared.tail.CyclicTail.{CyclicTail};
+ghost use Rattle.cyclic_data.specs.exchange.Frames.{tail_at as tail_of};
 ghost use Rattle.cyclic_data.specs.Tail.{cyclic_tail, IsCyclic, cyclic_of, cyclic_bytes};
 
-use crate::status::DataStatus;
+use crate::status::{DataStatus, StationState};
 use arrayvec::ArrayVec;
 use wire::{append, append_u8, append_u16, split, u8_at, u16_at};
 
@@ -25,17 +26,13 @@ pub struct CyclicTail {
 pub struct ShortFrame;
 
 impl CyclicTail {
-    /// The tail that a provider sends with this CycleCounter if it runs, with or without a problem.
-    pub fn running(counter: u16, has_problem: bool) -> CyclicTail
-        ensures { result ≡ record {
-          counter = counter;
-          data_status = record { 0 = if has_problem then 0x15 else 0x35 };
-          transfer_status = 0;
-        } }
+    /// The tail that a provider in this state sends with this CycleCounter.
+    pub fn of(counter: u16, state: StationState) -> CyclicTail
+        ensures { result ≡ tail_of state counter }
     {
         CyclicTail {
             counter,
-            data_status: DataStatus::running(has_problem),
+            data_status: state.data_status(),
             transfer_status: 0,
         }
     }

@@ -23,7 +23,7 @@ use Rattle.relations.specs.exchange.Notices.{may_raise, raised_by}
 use Rattle.relations.specs.exchange.Process.{remarked, with_cyclic, with_input}
 use Rattle.relations.specs.exchange.Statuses.{statuses_at}
 use Rattle.relations.specs.Diagnosed.{diagnose_one, diagnosing}
-use Rattle.relations.specs.Exchanged.{given_to, raised_to, rating}
+use Rattle.relations.specs.Exchanged.{given_to, raised_to, rating, turning}
 use Rattle.relations.specs.Phases.{Exchanged, Prepared, prepared_from, updated}
 use Rattle.relations.specs.RelationState.{RelationState, flow_of, is_preparing, phase_of}
 use Rattle.device_frames.specs.declared.local.Local.{Local}
@@ -32,7 +32,7 @@ use Rattle.device_frames.specs.declared.note.Note.TheVariants as note
 use Rattle.device_frames.specs.Relation.{alarms_of, frames_in, low_alarms_of, ready_calls, where_due}
 use Rattle.device_frames.specs.Sent.{Sent}
 use Rattle.device_core.specs.State.{Station, Live}
-use Rattle.device_core.specs.Handled.{Refuses, Moves, change_of, handled_change, handled_diagnosed, handled_input, handled_local, handled_notice, handled_ready, kept_status, may_be_diagnosed}
+use Rattle.device_core.specs.Handled.{Refuses, Moves, change_of, handled_change, handled_diagnosed, handled_input, handled_local, handled_notice, handled_ready, handled_turned, kept_status, may_be_diagnosed}
 use Rattle.device_core.specs.Local.{IsFlowOf, IsLinkOf, IsLocal, IsOfRelation, IsRelationOf}
 
 -- ---- the relation
@@ -97,6 +97,11 @@ rated_in slot subslot is_good None = refl
 rated_in slot subslot is_good (Some link) =
     record { phase = inl refl; request = refl; inactive = refl; flow = record { route = refl; begun = refl; hearing = refl; endpoint = refl } }
 
+turned_in : (is_running : Bool) (link : Option RelationState) → IsRelationOf link (updated (turning is_running link) link)
+turned_in is_running None = refl
+turned_in is_running (Some link) =
+    record { phase = inl refl; request = refl; inactive = refl; flow = record { route = refl; begun = refl; hearing = refl; endpoint = refl } }
+
 diagnosed_in : (real : List RealModule) (change : Change) (diagnoses : List Diagnosis) (link : Option RelationState)
     → IsRelationOf link (updated (diagnosing real change diagnoses link) link)
 diagnosed_in real change diagnoses None = refl
@@ -144,33 +149,37 @@ module _ (station : Station) (live : Live) where
   refused : IsLocal station live (Refuses note.Refused)
   refused = record { asks = refl; keeps = λ answers. refl; link = λ answers. same_relation live.rest.link; sends = λ answers. tt }
 
-  moved : (link : Option RelationState) (statuses : List InputStatus) (diagnoses : List Diagnosis) (sent : List Sent)
+  moved : (link : Option RelationState) (is_running : Bool) (statuses : List InputStatus) (diagnoses : List Diagnosis) (sent : List Sent)
       → IsRelationOf live.rest.link link → AllByRecursion IsOfRelation sent
-      → IsLocal station live (Moves (record live.rest { link = link; statuses = statuses; diagnoses = diagnoses }) sent)
-  moved link statuses diagnoses sent same sends = record { asks = refl; keeps = λ answers. refl; link = λ answers. same; sends = λ answers. sends }
+      → IsLocal station live (Moves (record live.rest { link = link; is_running = is_running; statuses = statuses; diagnoses = diagnoses }) sent)
+  moved link is_running statuses diagnoses sent same sends = record { asks = refl; keeps = λ answers. refl; link = λ answers. same; sends = λ answers. sends }
 
   input_local : (given : Option Flow) → IsFlowIn live.rest.link given → IsLocal station live (handled_input live given)
   input_local None kept = refused
   input_local (Some flow) kept =
-      moved (updated (Exchanged flow) live.rest.link) live.rest.statuses live.rest.diagnoses [] (exchanged live.rest.link flow kept) tt
+      moved (updated (Exchanged flow) live.rest.link) live.rest.is_running live.rest.statuses live.rest.diagnoses [] (exchanged live.rest.link flow kept) tt
 
   notice_local : (raised : Option Flow) → IsFlowIn live.rest.link raised → IsLocal station live (handled_notice live raised)
   notice_local None kept = refused
   notice_local (Some flow) kept =
       let link = updated (Exchanged flow) live.rest.link in
-      moved link live.rest.statuses live.rest.diagnoses (alarms_of (flow_of link)) (exchanged live.rest.link flow kept) (alarms_sent (flow_of link))
+      moved link live.rest.is_running live.rest.statuses live.rest.diagnoses (alarms_of (flow_of link)) (exchanged live.rest.link flow kept) (alarms_sent (flow_of link))
 
   status_local : (slot subslot : ℕ) (is_good : Bool) (statuses : Option (List InputStatus)) → IsLocal station live (kept_status live slot subslot is_good statuses)
   status_local slot subslot is_good None = refused
   status_local slot subslot is_good (Some statuses) =
-      moved (updated (rating slot subslot is_good live.rest.link) live.rest.link) statuses live.rest.diagnoses [] (rated_in slot subslot is_good live.rest.link) tt
+      moved (updated (rating slot subslot is_good live.rest.link) live.rest.link) live.rest.is_running statuses live.rest.diagnoses [] (rated_in slot subslot is_good live.rest.link) tt
+
+  turned_local : (is_running : Bool) → IsLocal station live (handled_turned live is_running)
+  turned_local is_running =
+      moved (updated (turning is_running live.rest.link) live.rest.link) is_running live.rest.statuses live.rest.diagnoses [] (turned_in is_running live.rest.link) tt
 
   change_local : (change : Change) (diagnoses : Option (List Diagnosis)) → IsLocal station live (handled_change station live change diagnoses)
   change_local change None = refused
   change_local change (Some diagnoses) =
       let real = station.real.modules.items in
       let link = updated (diagnosing real change diagnoses live.rest.link) live.rest.link in
-      moved link live.rest.statuses diagnoses (where_due (diagnose_one real change diagnoses live.rest.link) (low_alarms_of (flow_of link)))
+      moved link live.rest.is_running live.rest.statuses diagnoses (where_due (diagnose_one real change diagnoses live.rest.link) (low_alarms_of (flow_of link)))
       (diagnosed_in real change diagnoses live.rest.link) (due_sent (diagnose_one real change diagnoses live.rest.link) (flow_of link))
 
   diagnosis_local : (change : Change) → IsLocal station live (handled_diagnosed station live change)
@@ -182,7 +191,7 @@ module _ (station : Station) (live : Live) where
       let link = updated Prepared live.rest.link in
       let address = live.values.running.suite.address in
       cond_both (is_preparing (phase_of live.rest.link)) _ _ (IsLocal station live)
-      (λ _. moved link live.rest.statuses live.rest.diagnoses (ready_calls address link) (prepared_in live.rest.link) (calls_sent address link)) (λ _. refused)
+      (λ _. moved link live.rest.is_running live.rest.statuses live.rest.diagnoses (ready_calls address link) (prepared_in live.rest.link) (calls_sent address link)) (λ _. refused)
 
 pub local_is : (station : Station) (live : Live) (said : Local (ArrayVec ℕ)) → IsLocal station live (handled_local station live said)
 local_is station live (local.Input slot subslot value) =
@@ -195,3 +204,4 @@ local_is station live (local.Status slot subslot is_good) =
     (statuses_at station.real.modules.items (record { slot = slot; subslot = subslot; is_good = is_good }) live.rest.statuses)
 local_is station live (local.Diagnosis slot subslot channel error appears) = diagnosis_local station live (change_of slot subslot channel error appears)
 local_is station live local.Ready = ready_local station live
+local_is station live (local.ProviderState is_running) = turned_local station live is_running

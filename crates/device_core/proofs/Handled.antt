@@ -142,3 +142,4 @@ local_asks_nothing station live (local.Status slot subslot is_good) =
 local_asks_nothing station live (local.Diagnosis slot subslot channel error appears) =
     diagnosed_asks_nothing station live (change_of slot subslot channel error appears)
 local_asks_nothing station live local.Ready = ready_asks_nothing live
+local_asks_nothing station live (local.ProviderState is_running) = refl

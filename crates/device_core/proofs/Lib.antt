@@ -16,5 +16,6 @@ mod Rated
 pub mod Leaping
 mod Logged
 mod Diagnosed
+pub mod OpenAlarm
 mod Replies
 pub mod Numbered

@@ -48,7 +48,7 @@ use Rattle.diagnosis.specs.Existing.{changed}
 use Rattle.diagnosis.specs.declared.diagnosis.Change.{Change}
 use Rattle.diagnosis.specs.declared.diagnosis.Diagnosis.{Diagnosis}
 use Rattle.relations.specs.Diagnosed.{begin_one, beginning, diagnose_one, diagnosing, has_sent_low, heard_low, hearing_low, is_full_in, report_one, reporting}
-use Rattle.relations.specs.Exchanged.{given_to, heard_by, hearing, raised_to, rating, received_by, receiving}
+use Rattle.relations.specs.Exchanged.{given_to, heard_by, hearing, raised_to, rating, received_by, receiving, turning}
 use Rattle.relations.specs.declared.hearing.ReadyAnswer.{ReadyAnswer}
 use Rattle.relations.specs.declared.hearing.ReadyAnswer.TheVariants as to_ready
 use Rattle.relations.specs.declared.phase.Partner.{Partner}
@@ -202,7 +202,7 @@ counted_by answer rest = record rest { made = count_after answer rest.made }
 -- What a relation begins with.
 abbrev pub starting_of : Station → Live → Starting
 starting_of station live =
-    record { begin_bad = station.options.inputs_begin_bad; statuses = live.rest.statuses; units = live.rest.units; diagnoses = live.rest.diagnoses; number = number_now station live }
+    record { begin_bad = station.options.inputs_begin_bad; is_running = live.rest.is_running; statuses = live.rest.statuses; units = live.rest.units; diagnoses = live.rest.diagnoses; number = number_now station live }
 
 -- What the records of the device are made of.
 abbrev pub known_of : Station → Live → Known
@@ -328,6 +328,11 @@ handled_rated station live slot subslot is_good =
     kept_status live slot subslot is_good
     (statuses_at station.real.modules.items (record { slot = slot; subslot = subslot; is_good = is_good }) live.rest.statuses)
 
+-- The application runs from now on, or is stopped: it is kept, and the relation follows.
+abbrev pub handled_turned : Live → Bool → Handled
+handled_turned live is_running =
+    Moves (record live.rest { link = updated (turning is_running live.rest.link) live.rest.link; is_running = is_running }) []
+
 -- This neighbour is known from now on, or none.
 abbrev pub handled_met : Live → Option Peer → Handled
 handled_met live peer = Moves (record live.rest { peer = peer }) []
@@ -385,6 +390,7 @@ handled_local station live (local.Status slot subslot is_good) = handled_rated s
 handled_local station live (local.Diagnosis slot subslot channel error appears) =
     handled_diagnosed station live (change_of slot subslot channel error appears)
 handled_local station live local.Ready = handled_ready live
+handled_local station live (local.ProviderState is_running) = handled_turned live is_running
 
 -- A PDU of the partner, by what happens to it: data is answered, an ACK counts or does not, and an ERR ends the
 -- relation, which is logged.

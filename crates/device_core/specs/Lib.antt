@@ -9,3 +9,4 @@ pub mod Behind
 pub mod Steps
 pub mod Cycle
 pub mod Leaps
+pub mod OpenAlarm

@@ -51,13 +51,13 @@ IsOfRelation (ReadyCall address ready) = Unit {0}
 IsOfRelation (Ends farewell) = ⊥
 IsOfRelation (Exchanges route frame) = Unit {0}
 
--- It asks nothing of the settings. Of the rest only the relation, the statuses and the diagnoses can change, whatever the
--- settings answer: the lamp, the stored answers, the units, the log, the neighbour and the count of relations stay. The
--- relation stays too, with the time that it has. Only frames of the relation are sent.
+-- It asks nothing of the settings. Of the rest only the relation, whether the application runs, the statuses and the diagnoses
+-- can change, whatever the settings answer: the lamp, the stored answers, the units, the log, the neighbour and the count of
+-- relations stay. The relation stays too, with the time that it has. Only frames of the relation are sent.
 pub record IsLocal (station : Station) (live : Live) (what : Handled) : Type 0 where
   pub asks : items_in what ≡ []
   pub keeps : (answers : List BlockError) → let rest = (finished station.identity live.rest what answers).rest in
-      rest ≡ record live.rest { link = rest.link; statuses = rest.statuses; diagnoses = rest.diagnoses }
+      rest ≡ record live.rest { link = rest.link; is_running = rest.is_running; statuses = rest.statuses; diagnoses = rest.diagnoses }
   pub link : (answers : List BlockError) → IsRelationOf live.rest.link (finished station.identity live.rest what answers).rest.link
   pub sends : (answers : List BlockError) → AllByRecursion IsOfRelation (finished station.identity live.rest what answers).sent
 

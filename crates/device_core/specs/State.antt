@@ -1,5 +1,5 @@
 -- What a contract sees of a device.
-use Rattle.std.specs.Prelude.{◌+◌, ◌%◌, ℕ, List, [], Option, None}
+use Rattle.std.specs.Prelude.{◌+◌, ◌%◌, ℕ, Bool, true, List, [], Option, None}
 use Rattle.std.specs.Option.{option_map}
 use Rattle.pn_values.specs.declared.identity.Identity.{Identity}
 use Rattle.pn_values.specs.declared.real.Real.{Real}
@@ -30,13 +30,14 @@ plain identity real = station_with identity real default_options
 
 -- The state that a device has besides its settings, and loses with its power: the number of units for which the lamp
 -- still flashes, the answers to the last calls, newest first, its application relation, if there is one, the units since
--- its start, modulo 2^64, the statuses that the application gave to its inputs, the log, its neighbour, if one is known,
+-- its start, modulo 2^64, whether its application runs, the statuses that the application gave to its inputs, the log, its neighbour, if one is known,
 -- the diagnoses that exist, and how many relations it had since its start, modulo 14,336.
 pub record Rest : Type 0 where
   pub lamp : ℕ
   pub calls : List Kept
   pub link : Option RelationState
   pub units : ℕ
+  pub is_running : Bool
   pub statuses : List InputStatus
   pub log : List LogEntry
   pub peer : Option Peer
@@ -51,10 +52,10 @@ units_after more units = (units + more) % 18446744073709551616
 abbrev pub counter_of : ℕ → ℕ
 counter_of units = units % 65536
 
--- The rest as a device starts: the lamp is off, no answer is kept, there is no relation, the application gave no status, the
+-- The rest as a device starts: the lamp is off, no answer is kept, there is no relation, the application runs and gave no status, the
 -- log is empty, no neighbour is known, no diagnosis exists, and it had no relation.
 abbrev pub at_start : Rest
-at_start = record { lamp = 0; calls = []; link = None; units = 0; statuses = []; log = []; peer = None; diagnoses = []; made = 0 }
+at_start = record { lamp = 0; calls = []; link = None; units = 0; is_running = true; statuses = []; log = []; peer = None; diagnoses = []; made = 0 }
 
 -- The name of the station by its place (AliasName), while it knows its neighbour.
 abbrev pub alias_in : Option Peer → Option (List ℕ)

@@ -189,6 +189,7 @@ impl<F: Flash<S>, const S: usize> Device<F, S> {
         let partner = source_of(serving.caller);
         let application = Application {
             options: &self.options,
+            is_running: self.is_running,
             statuses: self.statuses.as_slice(),
             units: self.units,
             diagnoses: &self.diagnoses,

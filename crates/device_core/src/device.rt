@@ -10,6 +10,7 @@ ghost use Rattle.relations.specs.Exchanged.{output_in, provider_in};
 ghost use Rattle.relations.specs.RelationState.{is_parameterized, passed_of, phase_of, taken_of, uuid_of};
 ghost use Rattle.relations.specs.Outputs.{output_of};
 ghost use Rattle.device_core.specs.Cycle.{started};
+ghost use Rattle.device_core.specs.OpenAlarm.{has_open_alarm};
 ghost use Rattle.device_core.specs.State.{plain, station_with};
 
 use crate::calls::Answering;
@@ -39,6 +40,8 @@ pub struct Device<F: Flash<S>, const S: usize> {
     pub(crate) relation: Relation,
     // The units since the start, modulo 2^64.
     pub(crate) units: u64,
+    // Whether the application runs or is stopped.
+    pub(crate) is_running: bool,
     // The statuses that the application gave to its inputs.
     pub(crate) statuses: ArrayVec<InputStatus, 64>,
     // How relations ended, and which Connects were refused.
@@ -74,6 +77,7 @@ impl<F: Flash<S>, const S: usize> Model for Device<F, S> {
           calls = device.answers.kept;
           link = device.relation;
           units = device.units;
+          is_running = device.is_running;
           statuses = device.statuses.items;
           log = device.log;
           peer = option_map peer_as device.neighbour;
@@ -215,6 +219,17 @@ impl<F: Flash<S>, const S: usize> Device<F, S> {
         self.relation.uuid()
     }
 
+    /// Whether a process alarm of the application relation is open: it was raised, and the controller has not confirmed it.
+    #[inline(always)]
+    pub fn has_open_alarm(&self) -> bool
+        ensures { result ≡ has_open_alarm self.now.live.rest.link }
+    {
+        match self.relation.exchange() {
+            Some(exchange) => exchange.alarm().is_some(),
+            None => false,
+        }
+    }
+
     /// Whether the relation has accepted PrmEnd, so that its parameter records are complete.
     pub fn parameters_end(&self) -> bool
         ensures { result ≡ is_parameterized (phase_of self.now.live.rest.link) }
@@ -334,6 +349,7 @@ impl<F: Flash<S>, const S: usize> Device<F, S> {
             answers: _,
             relation: _,
             units: _,
+            is_running: _,
             statuses: _,
             log: _,
             neighbour: _,

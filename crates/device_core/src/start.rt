@@ -40,6 +40,7 @@ impl<F: Flash<S>, const S: usize> Device<F, S> {
             },
             relation: Relation::new(),
             units: 0,
+            is_running: true,
             statuses: ArrayVec::new(),
             log: Log::new(),
             neighbour: None,
@@ -104,6 +105,7 @@ impl<F: Flash<S>, const S: usize> Device<F, S> {
     {
         self.lamp = 0;
         self.units = 0;
+        self.is_running = true;
         self.statuses.clear();
         self.log = Log::new();
         self.neighbour = None;

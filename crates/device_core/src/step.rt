@@ -16,7 +16,7 @@ ghost use Rattle.device_core.specs.State.{Live, Station, counter_of, with_rest};
 ghost use Rattle.device_frames.specs.Sendable.{AreSendable};
 ghost use Rattle.device_frames.specs.Sent.{bytes_of};
 ghost use Rattle.device_core.specs.Handled.{handled_alarm, handled_message, handled_cyclic, handled_given, handled_local, handled_raised, handled_rated, handled_received};
-ghost use Rattle.device_core.specs.Handled.{handled_ready, ticked};
+ghost use Rattle.device_core.specs.Handled.{handled_ready, handled_turned, ticked};
 ghost use Rattle.device_core.specs.Behind.{is_low_reply};
 ghost use Rattle.device_frames.specs.Relation.{farewells_in, inputs_of};
 ghost use Rattle.device_core.specs.Behind.{CanSend, behind, brought, due_in, frames_of};
@@ -164,6 +164,7 @@ impl<F: Flash<S>, const S: usize> Device<F, S> {
                 outbox,
             ),
             Local::Ready => self.get_ready(outbox),
+            Local::ProviderState(is_running) => self.turn(*is_running),
         }
     }
 
@@ -455,6 +456,17 @@ impl<F: Flash<S>, const S: usize> Device<F, S> {
             return Note::Refused;
         }
         self.relation.rate(slot, subslot, is_good);
+        Note::Done
+    }
+
+    // The application runs from now on, or is stopped.
+    #[inline(never)]
+    fn turn(&mut self, is_running: bool) -> Note
+        ensures state { self.new ≡ behind self.old (handled_turned self.old.live is_running) }
+        ensures note { result ≡ (end_of self.old.station self.old.live (handled_turned self.old.live is_running)).note }
+    {
+        self.is_running = is_running;
+        self.relation.set_running(is_running);
         Note::Done
     }
 

@@ -69,4 +69,12 @@ impl<'a> Event<'a> {
     {
         Event::Application(Local::Ready)
     }
+
+    /// The application runs from now on, or is stopped.
+    #[inline(always)]
+    pub fn provider_state(is_running: bool) -> Event<'a>
+        ensures { result ≡ Application (local.ProviderState is_running) }
+    {
+        Event::Application(Local::ProviderState(is_running))
+    }
 }

@@ -32,13 +32,7 @@ pub fn send_inputs_of(
 {
     let cyclic = exchange.cyclic();
     cyclic_can_be_sent(&identity.mac, cyclic.route());
-    send_cyclic(
-        identity.mac,
-        counter,
-        exchange.has_problem(),
-        cyclic,
-        outbox,
-    );
+    send_cyclic(identity.mac, counter, exchange.state(), cyclic, outbox);
 }
 
 /// Appends the inputs of the relation at this CycleCounter to the outbox, if they are due and there is a relation.

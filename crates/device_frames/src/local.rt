@@ -16,4 +16,7 @@ pub enum Local<B> {
     /// The application is ready. It counts once in a relation: after PrmEnd, at a device whose application says when it is
     /// ready.
     Ready,
+    /// Whether the application runs (`true`) or is stopped, with all its inputs: ProviderState in DataStatus of the frames that the
+    /// device sends. It counts from now on, in each relation, until the device starts again.
+    ProviderState(bool),
 }

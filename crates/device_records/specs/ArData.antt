@@ -1,9 +1,10 @@
 -- ARData: the relations of a device, with the last frames of each (IEC 61158-6-10, 5.2.3).
-use Rattle.std.specs.Prelude.{◌+◌, ◌-◌, ◌*◌, ◌%◌, ◌++◌, ℕ, Bool, List, [], ◌∷◌, length, nat_lt, replicate, Option, Some, None, if◌then◌else◌}
+use Rattle.std.specs.Prelude.{◌+◌, ◌-◌, ◌*◌, ◌%◌, ◌++◌, ℕ, List, [], ◌∷◌, length, nat_lt, replicate, Option, Some, None, if◌then◌else◌}
 use Rattle.wire.specs.Formats.{big_bytes}
 use Rattle.connect_blocks.specs.Iocr.{number_of_class}
 use Rattle.connects.specs.declared.requests.parts.Iocr.{Iocr}
 use Rattle.connects.specs.requests.Request.{Request}
+use Rattle.cyclic_data.specs.declared.status.StationState.{StationState}
 use Rattle.cyclic_data.specs.declared.tail.CyclicTail.{CyclicTail}
 use Rattle.cyclic_data.specs.Tail.{cyclic_tail}
 use Rattle.cyclic_data.specs.declared.exchange.route.Route.{Route}
@@ -18,11 +19,10 @@ abbrev pub last_sent : ℕ → ℕ → ℕ → Option ℕ
 last_sent began units interval =
     if nat_lt (units - began) interval then None else Some ((units - (units - began) % interval) % 65536)
 
--- The fields after its data, zeros before the first one. DataStatus is that of the frame: whether a submodule of the relation had a
--- diagnosis when it was sent.
-abbrev pub sent_tail : Option ℕ → Bool → CyclicTail
-sent_tail (Some counter) problem_sent = tail_at problem_sent counter
-sent_tail None problem_sent = record { counter = 0; data_status = record { 0 = 0 }; transfer_status = 0 }
+-- The fields after its data, zeros before the first one. DataStatus is that of the frame: what it said of the station.
+abbrev pub sent_tail : Option ℕ → StationState → CyclicTail
+sent_tail (Some counter) state_sent = tail_at state_sent counter
+sent_tail None state_sent = record { counter = 0; data_status = record { 0 = 0 }; transfer_status = 0 }
 
 -- A communication relation of cyclic frames: IOCRType, IOCRProperties, FrameID, CycleCounter, DataStatus and TransferStatus of
 -- the last frame, and the UDP ports of both stations, 0x8892.
@@ -48,13 +48,13 @@ alarm_bytes request endpoint =
     big_bytes 2 1 ++ big_bytes 2 endpoint ++ big_bytes 2 request.alarm.reference ++ replicate 18 0 ++ 0 ∷ 1 ∷ 0 ∷ 0 ∷ 0 ∷ 0 ∷ []
 
 -- The relation with this Connect, this cyclic data, this beginning, and this endpoint of the device: NumberOfIOCRs 2.
-abbrev pub relation_bytes : ℕ → Request → Cyclic → ℕ → Bool → ℕ → List ℕ
-relation_bytes units request cyclic began problem_sent endpoint = ar_bytes request ++ big_bytes 2 2
-    ++ iocrs_bytes request cyclic.route (sent_tail (last_sent began units (request.input.send_clock_factor * request.input.reduction_ratio)) problem_sent) (taken_tail cyclic)
+abbrev pub relation_bytes : ℕ → Request → Cyclic → ℕ → StationState → ℕ → List ℕ
+relation_bytes units request cyclic began state_sent endpoint = ar_bytes request ++ big_bytes 2 2
+    ++ iocrs_bytes request cyclic.route (sent_tail (last_sent began units (request.input.send_clock_factor * request.input.reduction_ratio)) state_sent) (taken_tail cyclic)
     ++ alarm_bytes request endpoint
 
 -- ARData, of version 1.0: NumberOfARs, and the relation, if there is one, which has 104 octets and its station name.
-unfoldable pub ar_data : ℕ → Option (Request × Cyclic × ℕ × Bool × ℕ) → List ℕ
+unfoldable pub ar_data : ℕ → Option (Request × Cyclic × ℕ × StationState × ℕ) → List ℕ
 ar_data units None = block_of 0x0018 (big_bytes 2 0)
 ar_data units (Some parts) = big_bytes 2 0x0018 ++ big_bytes 2 (2 + (2 + (104 + length parts.0.ar.name.items))) ++ 1 ∷ 0 ∷ 0 ∷ 1
     ∷ relation_bytes units parts.0 parts.1 parts.2 parts.3 parts.4

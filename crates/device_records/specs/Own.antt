@@ -8,6 +8,7 @@ use Rattle.records.specs.declared.reads.listing.Listing.{Listing}
 use Rattle.records.specs.declared.reads.listing.Listing.TheVariants as listing
 use Rattle.records.specs.reads.Listing.{listing_of}
 use Rattle.connects.specs.requests.Request.{Request}
+use Rattle.cyclic_data.specs.declared.status.StationState.{StationState}
 use Rattle.cyclic_data.specs.exchange.Cyclic.{Cyclic}
 use Rattle.device_records.specs.log_data.Log.{log_bytes}
 use Rattle.relations.specs.RelationState.{parts_of}
@@ -53,7 +54,7 @@ own_with request cyclic real level slot subslot listing.Interface = None
 own_with request cyclic real level slot subslot listing.Network = None
 
 -- The record, if there is a relation.
-abbrev pub own_in : Option (Request × Cyclic × ℕ × Bool × ℕ) → Real → Level → ℕ → ℕ → Listing → Option (List ℕ)
+abbrev pub own_in : Option (Request × Cyclic × ℕ × StationState × ℕ) → Real → Level → ℕ → ℕ → Listing → Option (List ℕ)
 own_in None real level slot subslot kind = None
 own_in (Some parts) real level slot subslot kind = own_with parts.0 parts.1 real level slot subslot kind
 

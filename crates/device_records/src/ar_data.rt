@@ -9,7 +9,7 @@ use crate::elements::put_header;
 use crate::own::Own;
 use block_codec::RtClass;
 use connects::{ConnectRequest, Iocr};
-use cyclic_data::{CyclicTail, DataStatus, Route};
+use cyclic_data::{CyclicTail, DataStatus, Route, StationState};
 use relations::{Relation, RelationParts};
 use wire::{append, append_u16, append_u32};
 
@@ -33,11 +33,11 @@ fn last_sent(began: u64, units: u64, interval: u64) -> Option<u16>
 }
 
 /// The fields after the data of the last frame of inputs.
-fn sent_tail(counter: Option<u16>, problem_sent: bool) -> CyclicTail
-    ensures { result ≡ sent_tail counter problem_sent }
+fn sent_tail(counter: Option<u16>, state_sent: StationState) -> CyclicTail
+    ensures { result ≡ sent_tail counter state_sent }
 {
     match counter {
-        Some(counter) => CyclicTail::running(counter, problem_sent),
+        Some(counter) => CyclicTail::of(counter, state_sent),
         None => CyclicTail {
             counter: 0,
             data_status: DataStatus(0),
@@ -122,11 +122,11 @@ fn put_relation(out: &mut Own, units: u64, parts: RelationParts<'_>)
     requires room { array_vec_len out.old ≤ 100 }
     requires few { length parts.request.now.ar.name.items ≤ 240 }
     ensures { out.new.items ≡ out.old.items
-        ++ relation_bytes units parts.entry.request.now parts.entry.cyclic.now parts.entry.began parts.entry.problem_sent parts.entry.endpoint }
+        ++ relation_bytes units parts.entry.request.now parts.entry.cyclic.now parts.entry.began parts.entry.state_sent parts.entry.endpoint }
 {
     let request = parts.request;
     let interval = u64::from(request.input().interval());
-    let sent = sent_tail(last_sent(parts.began, units, interval), parts.problem_sent);
+    let sent = sent_tail(last_sent(parts.began, units, interval), parts.state_sent);
     put_ar(out, request);
     append_u16(out, 2);
     put_iocrs(

@@ -67,7 +67,7 @@ use Rattle.relations.specs.exchange.Frames.{Notifies, Reports}
 use Rattle.relations.specs.exchange.Marks.{awaits}
 use Rattle.relations.specs.exchange.Notices.{behind_message, may_raise, raised_at, raised_by}
 use Rattle.relations.specs.exchange.Opening.{begun_of}
-use Rattle.relations.specs.exchange.Process.{given_at, rated_at, remarked, with_cyclic, with_input}
+use Rattle.relations.specs.exchange.Process.{given_at, rated_at, remarked, turned, with_cyclic, with_input}
 use Rattle.relations.specs.exchange.Received.{behind_frame, received_as}
 use Rattle.relations.specs.exchange.Statuses.{statuses_at}
 use Rattle.relations.specs.RelationState.{RelationState, is_alarm_of, is_awaiting, is_preparing, phase_of, uuid_of}
@@ -89,7 +89,7 @@ use Rattle.device_frames.specs.declared.note.Note.{Note}
 use Rattle.device_frames.specs.declared.note.Note.TheVariants as note
 use Rattle.settings_journal.specs.settings_store.Machine.{Outcome, carried}
 use Rattle.device_core.specs.State.{Station, Live, alias_in}
-use Rattle.device_core.specs.Handled.{change_of, counted_by, number_now, Handled, Refuses, Sets, Moves, handled, handled_alarm, handled_answer, handled_blocks, handled_call, handled_change, handled_effect, handled_input, handled_looked, handled_low, handled_low_message, handled_low_pdu, handled_message, handled_new, handled_notice, handled_pdu, handled_received, handled_request, handled_said, handled_write, implicitly, is_request, is_running, kept_answer, kept_status, known_of, may_be_diagnosed, partner_of, ready_behind, served, starting_of, ticked}
+use Rattle.device_core.specs.Handled.{change_of, counted_by, number_now, Handled, Refuses, Sets, Moves, handled, handled_alarm, handled_answer, handled_blocks, handled_call, handled_change, handled_effect, handled_input, handled_looked, handled_low, handled_low_message, handled_low_pdu, handled_message, handled_new, handled_notice, handled_pdu, handled_received, handled_request, handled_said, handled_turned, handled_write, implicitly, is_request, is_running, kept_answer, kept_status, known_of, may_be_diagnosed, partner_of, ready_behind, served, starting_of, ticked}
 use Rattle.device_core.specs.Several.{Judged, judged_each}
 use Rattle.device_core.specs.Machine.{Stepped, Finished, effect_link, farewells_at, finished, first_answer, handled_step, heard_step, items_in, link_after, link_behind, one_link, resets, written_as}
 use Rattle.end_laws.specs.device.Exchange.{IsUnaccepted, given_with, is_inputs, is_unit, sends_inputs}
@@ -272,6 +272,9 @@ module _ (link : RelationState) where
 
     rates : (next : RelationState) (slot subslot : ℕ) (is_good : Bool) → next.flow ≡ rated_at link.flow slot subslot is_good → Follows heard next
     rates next slot subslot is_good same = goes_by (runs.Rates slot subslot is_good ∷ []) next same refl (λ s ss size. refl) (λ phase none. refl)
+
+    turns : (next : RelationState) (is_running : Bool) → next.flow ≡ turned link.flow is_running → Follows heard next
+    turns next is_running same = goes_by (runs.Turns is_running ∷ []) next same refl (λ s ss size. refl) (λ phase none. refl)
 
     comes : (next : RelationState) (source : Mac) (frame_id : ℕ) (body : List ℕ) → next.flow ≡ behind_frame link.flow source frame_id body
         → (IsUnaccepted heard (Some link) → ⊥) → Follows heard next
@@ -567,6 +570,13 @@ module _ (station : Station) (before : Live) (link : RelationState) where
       becomes _ _ (with_flow (rated_at link.flow slot subslot is_good) link) (rates link _ (quiet_rated slot subslot is_good) _ slot subslot is_good refl) refl (λ unit. refl)
   rates_as slot subslot is_good None = refuses _ note.Refused (calm link _ (quiet_rated slot subslot is_good) link refl)
 
+  quiet_turned : (is_running : Bool) → IsQuiet (Applied (local.ProviderState is_running))
+  quiet_turned is_running = record { unit = refl; value = λ s ss size. refl }
+
+  turns_so : (is_running : Bool) → Done (Applied (local.ProviderState is_running)) (handled_turned live is_running)
+  turns_so is_running = λ answers.
+      becomes _ _ (with_flow (turned link.flow is_running) link) (turns link _ (quiet_turned is_running) _ is_running refl) refl (λ unit. refl)
+
   -- alarms
   quiet_raised : (slot subslot : ℕ) (octets : List ℕ) → IsQuiet (alarm_heard slot subslot octets)
   quiet_raised slot subslot octets = record { unit = refl; value = λ s ss size. refl }
@@ -674,6 +684,7 @@ module _ (station : Station) (before : Live) (link : RelationState) where
       let change = change_of slot subslot channel error appears in
       diagnoses change (may_be_diagnosed station live change)
   does (Applied local.Ready) = readies (is_preparing (phase_of live.rest.link))
+  does (Applied (local.ProviderState is_running)) = turns_so is_running
   does Ticks = ticks (ending_of link) refl
   does Unreadable = refuses Unreadable note.Fault (calm link Unreadable (record { unit = refl; value = λ s ss size. refl }) link refl)
   does Elsewhere = refuses Elsewhere note.NotMine (calm link Elsewhere (record { unit = refl; value = λ s ss size. refl }) link refl)

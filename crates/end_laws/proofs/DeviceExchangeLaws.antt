@@ -218,7 +218,7 @@ module _ (station : Station) (happened : List Happening) (request : Request) whe
   AllHave sent = AllByRecursion (HasTheLast station happened request) sent
 
   frame_has : (route : Route) (frame : Frame) → is_inputs (Exchanges route frame) ≡ false → HasTheLast station happened request (Exchanges route frame)
-  frame_has route (Inputs has_problem inputs counter) e = absurd cc
+  frame_has route (Inputs state inputs counter) e = absurd cc
   frame_has route (Notifies header alarm) e = tt
   frame_has route (Replies header) e = tt
   frame_has route (Reports tag header alarm) e = tt

@@ -55,7 +55,7 @@ use Rattle.relations.specs.Connect.{connect_blocks, connect_within, differing_of
 use Rattle.relations.specs.Diagnosed.{diagnose_one, diagnosing, has_sent_low, heard_low, hearing_low, is_full_in}
 use Rattle.relations.specs.Ready.{answer_of as ready_answer, confirmed_block, confirmed_by, is_wanted, is_answer_to, ready_of}
 use Rattle.relations.specs.Timers.{due_by, due_of, ending_of, is_again, unit_later}
-use Rattle.relations.specs.Exchanged.{given_to, heard_by, hearing, raised_to, rating, received_by, receiving, hearing_as, receiving_as}
+use Rattle.relations.specs.Exchanged.{given_to, heard_by, hearing, raised_to, rating, received_by, receiving, turning, hearing_as, receiving_as}
 use Rattle.device_frames.specs.declared.local.Local.TheVariants as local
 use Rattle.device_frames.specs.Heard.{Heard, Ticks, Unreadable, Elsewhere, Asks, Resolves, Reported, Cyclic, Alarms, LowReplies, LowConfirms, Applied, Met, Said, Calls, Responds, Garbled}
 use Rattle.device_frames.specs.Relation.{alarms_of, frames_in, inputs_of, low_alarms_of, low_replies_of, ready_calls, replies_of, where_due, due_frames}
@@ -64,7 +64,7 @@ use Rattle.device_frames.specs.declared.note.Note.{Note}
 use Rattle.device_frames.specs.declared.note.Note.TheVariants as note
 use Rattle.settings_journal.specs.settings_store.Machine.{Outcome, carried}
 use Rattle.device_core.specs.State.{Station, Live, Rest, alias_in, counter_of, units_after}
-use Rattle.device_core.specs.Handled.{change_of, Handled, Refuses, Sets, Moves, is_running, is_request, outcome_of, served, ready_behind, partner_of, kept_answer, handled_effect, handled_write, handled_new, handled_looked, handled_blocks, handled_call, handled_alarm, handled_answer, handled_beginning, handled_change, handled_low, handled_low_message, handled_low_pdu, handled_said, handled_received, handled_input, handled_met, handled_notice, handled_pdu, handled_message, handled_request, goes_on_with, kept_status, starting_of, number_now, counted_by, handled, known_of}
+use Rattle.device_core.specs.Handled.{change_of, Handled, Refuses, Sets, Moves, is_running, is_request, outcome_of, served, ready_behind, partner_of, kept_answer, handled_effect, handled_write, handled_new, handled_looked, handled_blocks, handled_call, handled_alarm, handled_answer, handled_beginning, handled_change, handled_low, handled_low_message, handled_low_pdu, handled_said, handled_received, handled_input, handled_met, handled_notice, handled_pdu, handled_message, handled_request, handled_turned, goes_on_with, kept_status, starting_of, number_now, counted_by, handled, known_of}
 use Rattle.device_core.specs.Several.{Judged, judged_each}
 use Rattle.device_core.specs.Machine.{effect_link, first_answer, link_behind, one_link, several_answer, resets, farewells_at, finished, items_in, handled_step, heard_step, link_after, written_as}
 use Rattle.device_records.specs.declared.log_data.entry.LogEntry.{LogEntry}
@@ -173,6 +173,11 @@ given_keeps slot subslot value (Some link) flow e = by_size (has_size (length va
 rated_keeps : (slot subslot : ℕ) (is_good : Bool) (link : Option RelationState) → IsKept link (updated (rating slot subslot is_good link) link)
 rated_keeps slot subslot is_good None = (inl refl, inl refl)
 rated_keeps slot subslot is_good (Some link) = (inl refl, inl refl)
+
+-- nor does it matter whether the application runs
+turned_keeps : (is_running : Bool) (link : Option RelationState) → IsKept link (updated (turning is_running link) link)
+turned_keeps is_running None = (inl refl, inl refl)
+turned_keeps is_running (Some link) = (inl refl, inl refl)
 
 -- a relation that waits for its application, which is ready now
 abbrev readied : RelationState → RelationState
@@ -524,6 +529,10 @@ module _ (rules : Rules TakenRecord Request) (activity : List ℕ) (station : St
   rates slot subslot is_good (Some statuses) = λ answers.
       stays (Applied (local.Status slot subslot is_good)) (λ planned. refl) (record live.rest { link = updated (rating slot subslot is_good before) before; statuses = statuses }) [] refl refl (rated_keeps slot subslot is_good before) tt tt
   rates slot subslot is_good None = refuses (Applied (local.Status slot subslot is_good)) note.Refused
+
+  turns_so : (is_running : Bool) → Comes_to (Applied (local.ProviderState is_running)) (handled_turned live is_running)
+  turns_so is_running = λ answers.
+      stays (Applied (local.ProviderState is_running)) (λ planned. refl) (record live.rest { link = updated (turning is_running before) before; is_running = is_running }) [] refl refl (turned_keeps is_running before) tt tt
 
   meets : (peer : Option Peer) → Comes_to (Met peer) (handled_met live peer)
   meets peer = λ answers. stays (Met peer) (λ planned. refl) (record live.rest { peer = peer }) [] refl refl (inl refl, inl refl) tt tt
@@ -1040,6 +1049,7 @@ module _ (rules : Rules TakenRecord Request) (activity : List ℕ) (station : St
       rates slot subslot is_good (statuses_at station.real.modules.items (record { slot = slot; subslot = subslot; is_good = is_good }) live.rest.statuses)
   turns (Met peer) plan = meets peer
   turns (Applied local.Ready) plan = readies before refl
+  turns (Applied (local.ProviderState is_running)) plan = turns_so is_running
   turns Ticks plan = ticks_with (live.rest.lamp - 1) (units_after 1 live.rest.units)
       (err_log (due_of before).farewell (units_after 1 live.rest.units) live.rest.log) before refl
   turns Unreadable plan = refuses Unreadable note.Fault

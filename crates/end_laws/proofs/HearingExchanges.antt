@@ -3,6 +3,7 @@ use Rattle.std.proofs.Common.{◌≡◌, ◌⊎◌, inl, inr, ◌≤◌, ◌<◌
 use Rattle.pn_values.specs.declared.identity.Identity.{Identity}
 use Rattle.pn_values.specs.declared.mac.Mac.{Mac}
 use Rattle.frame_codec.specs.Meaning.{RealTime}
+use Rattle.cyclic_data.specs.declared.status.StationState.{StationState}
 use Rattle.cyclic_data.specs.Image.{Shown}
 use Rattle.pn_alarms.specs.declared.pdu.Header.{Header}
 use Rattle.pn_alarms.specs.declared.pdu.PduType.{PduType}
@@ -42,22 +43,22 @@ cyclic_sent source route body one is few =
     let small = cyclic_small route.sent_id is.cyclic in
     record { destination = is.partner; source = one; tag = is.tag; content = (omega (arith, small), few) }
 
-pub inputs_at_controller : DataIsRead → (mine : Controller) (identity : Identity) (route : Route) (has_problem : Bool) (inputs : Shown) (counter : ℕ)
-    → IsDevice identity → IsRoute route → length (body_at has_problem inputs counter) ≤ 1498
-    → controller_hears mine (device_bytes identity (Exchanges route (Inputs has_problem inputs counter)))
+pub inputs_at_controller : DataIsRead → (mine : Controller) (identity : Identity) (route : Route) (state : StationState) (inputs : Shown) (counter : ℕ)
+    → IsDevice identity → IsRoute route → length (body_at state inputs counter) ≤ 1498
+    → controller_hears mine (device_bytes identity (Exchanges route (Inputs state inputs counter)))
     ≡ mine_hears mine route.partner (Comes identity.mac route.sent_id
-    (padded identity.mac route.partner (Some route.sent_tag) route.sent_id (body_at has_problem inputs counter)))
-inputs_at_controller reads mine identity route has_problem inputs counter good is few =
-    controller.cyclic_heard reads mine route.partner identity.mac (Some route.sent_tag) route.sent_id (body_at has_problem inputs counter)
+    (padded identity.mac route.partner (Some route.sent_tag) route.sent_id (body_at state inputs counter)))
+inputs_at_controller reads mine identity route state inputs counter good is few =
+    controller.cyclic_heard reads mine route.partner identity.mac (Some route.sent_tag) route.sent_id (body_at state inputs counter)
     (cyclic_sent _ route _ good is few) is.cyclic
 
-pub inputs_at_device : DataIsRead → (other identity : Identity) (route : Route) (has_problem : Bool) (inputs : Shown) (counter : ℕ)
-    → IsDevice identity → IsRoute route → length (body_at has_problem inputs counter) ≤ 1498
-    → device_hears other (comes (device_bytes identity (Exchanges route (Inputs has_problem inputs counter))))
+pub inputs_at_device : DataIsRead → (other identity : Identity) (route : Route) (state : StationState) (inputs : Shown) (counter : ℕ)
+    → IsDevice identity → IsRoute route → length (body_at state inputs counter) ≤ 1498
+    → device_hears other (comes (device_bytes identity (Exchanges route (Inputs state inputs counter))))
     ≡ own_hears other route.partner (Cyclic identity.mac route.sent_id
-    (padded identity.mac route.partner (Some route.sent_tag) route.sent_id (body_at has_problem inputs counter)))
-inputs_at_device reads other identity route has_problem inputs counter good is few =
-    device.cyclic_heard reads other route.partner identity.mac (Some route.sent_tag) route.sent_id (body_at has_problem inputs counter)
+    (padded identity.mac route.partner (Some route.sent_tag) route.sent_id (body_at state inputs counter)))
+inputs_at_device reads other identity route state inputs counter good is few =
+    device.cyclic_heard reads other route.partner identity.mac (Some route.sent_tag) route.sent_id (body_at state inputs counter)
     (cyclic_sent _ route _ good is few) is.cyclic
 
 -- ---- alarm frames

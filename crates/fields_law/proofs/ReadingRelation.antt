@@ -9,7 +9,9 @@ use Rattle.connect_blocks.specs.declared.iocr.RtClass.TheVariants.{Class1, Class
 use Rattle.connects.specs.declared.requests.parts.Iocr.{Iocr}
 use Rattle.connects.specs.requests.Request.{Request}
 use Rattle.cyclic_data.specs.declared.exchange.route.Route.{Route}
+use Rattle.cyclic_data.specs.declared.status.StationState.{StationState}
 use Rattle.cyclic_data.specs.declared.tail.CyclicTail.{CyclicTail}
+use Rattle.cyclic_data.specs.Status.{data_status_of}
 use Rattle.cyclic_data.specs.Tail.{cyclic_tail}
 use Rattle.cyclic_data.specs.exchange.Cyclic.{Cyclic}
 use Rattle.cyclic_data.specs.exchange.Process.{taken_tail}
@@ -167,26 +169,31 @@ module _ (request : Request) (route : Route) (sent taken : CyclicTail) (endpoint
 
 -- ---- the fields of the last frames fit
 
-counter_fits : (counter : ℕ) (problem : Bool) → counter < 65536 → IsTail (sent_tail (Some counter) problem)
-counter_fits counter true fits = record { counter = fits; data_status = omega arith; transfer_status = omega arith }
-counter_fits counter false fits = record { counter = fits; data_status = omega arith; transfer_status = omega arith }
+status_fits : (is_running has_problem : Bool) → data_status_of (record { is_running = is_running; has_problem = has_problem }) < 256
+status_fits true true = omega arith
+status_fits true false = omega arith
+status_fits false true = omega arith
+status_fits false false = omega arith
 
-last_fits : (began units interval : ℕ) (problem : Bool) → IsTail (sent_tail (last_sent began units interval) problem)
-last_fits began units interval problem = by_test (nat_lt (units - began) interval)
+counter_fits : (counter : ℕ) (state : StationState) → counter < 65536 → IsTail (sent_tail (Some counter) state)
+counter_fits counter state fits = record { counter = fits; data_status = status_fits state.is_running state.has_problem; transfer_status = omega arith }
+
+last_fits : (began units interval : ℕ) (state : StationState) → IsTail (sent_tail (last_sent began units interval) state)
+last_fits began units interval state = by_test (nat_lt (units - began) interval)
   where
-    by_test : (b : Bool) → IsTail (sent_tail (if b then None else Some ((units - (units - began) % interval) % 65536)) problem)
+    by_test : (b : Bool) → IsTail (sent_tail (if b then None else Some ((units - (units - began) % interval) % 65536)) state)
     by_test true = record { counter = omega arith; data_status = omega arith; transfer_status = omega arith }
-    by_test false = counter_fits ((units - (units - began) % interval) % 65536) problem (omega arith)
+    by_test false = counter_fits ((units - (units - began) % interval) % 65536) state (omega arith)
 
-pub relation_is : (units : ℕ) (request : Request) (cyclic : Cyclic) (began : ℕ) (problem : Bool) (endpoint : ℕ) → IsRequest request
+pub relation_is : (units : ℕ) (request : Request) (cyclic : Cyclic) (began : ℕ) (state : StationState) (endpoint : ℕ) → IsRequest request
     → AreNumbers cyclic.route endpoint → IsTail (taken_tail cyclic)
-    → IsArData (ar_data units (Some (request, cyclic, began, problem, endpoint))) request cyclic.route
-    (sent_tail (last_sent began units (request.input.send_clock_factor * request.input.reduction_ratio)) problem) (taken_tail cyclic) endpoint
+    → IsArData (ar_data units (Some (request, cyclic, began, state, endpoint))) request cyclic.route
+    (sent_tail (last_sent began units (request.input.send_clock_factor * request.input.reduction_ratio)) state) (taken_tail cyclic) endpoint
 unfolding ar_data
-relation_is units request cyclic began problem endpoint is are taken =
-    ar_is request cyclic.route (sent_tail (last_sent began units (request.input.send_clock_factor * request.input.reduction_ratio)) problem)
+relation_is units request cyclic began state endpoint is are taken =
+    ar_is request cyclic.route (sent_tail (last_sent began units (request.input.send_clock_factor * request.input.reduction_ratio)) state)
     (taken_tail cyclic) endpoint is are
-    (last_fits began units (request.input.send_clock_factor * request.input.reduction_ratio) problem) taken
+    (last_fits began units (request.input.send_clock_factor * request.input.reduction_ratio) state) taken
 
 pub no_relation_is : (units : ℕ) → IsEmptyArData (ar_data units None)
 unfolding ar_data

@@ -5,6 +5,7 @@ ghost use Rattle.pn_values.specs.declared.real.Real.{Real};
 ghost use Rattle.pn_values.specs.declared.real.RealModule.{RealModule};
 ghost use Rattle.pn_values.specs.declared.settings.Settings.{Settings};
 ghost use Rattle.connects.specs.requests.Request.{Request};
+ghost use Rattle.cyclic_data.specs.declared.status.StationState.{StationState};
 ghost use Rattle.cyclic_data.specs.exchange.Cyclic.{Cyclic};
 ghost use Rattle.cyclic_data.specs.exchange.Process.{taken_tail};
 ghost use Rattle.diagnosis.specs.Record.{record_bytes};
@@ -58,10 +59,10 @@ pub fn records_are_read_back()
         → IsDiagnosisData (record_bytes has diagnoses real) (reported_in has diagnoses real) }
     // ARData has the Connect of the relation, the FrameIDs of its exchange and the fields after the data of its last frames, and the
     // endpoint of the device.
-    ensures relation { (units : ℕ) (request : Request) (cyclic : Cyclic) (began : ℕ) (problem_sent : Bool) (endpoint : ℕ) → IsRequest request
+    ensures relation { (units : ℕ) (request : Request) (cyclic : Cyclic) (began : ℕ) (state_sent : StationState) (endpoint : ℕ) → IsRequest request
         → AreNumbers cyclic.route endpoint → IsTail (taken_tail cyclic)
-        → IsArData (ar_data units (Some (request, cyclic, began, problem_sent, endpoint))) request cyclic.route
-        (sent_tail (last_sent began units (request.input.send_clock_factor * request.input.reduction_ratio)) problem_sent) (taken_tail cyclic)
+        → IsArData (ar_data units (Some (request, cyclic, began, state_sent, endpoint))) request cyclic.route
+        (sent_tail (last_sent began units (request.input.send_clock_factor * request.input.reduction_ratio)) state_sent) (taken_tail cyclic)
         endpoint }
     // It has none without a relation.
     ensures no_relation { (units : ℕ) → IsEmptyArData (ar_data units None) }

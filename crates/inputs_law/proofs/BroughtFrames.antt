@@ -27,6 +27,7 @@ use Rattle.rpc_core.specs.declared.fault.RpcFault.{RpcFault}
 use Rattle.rpc_core.specs.declared.interface.Interface.TheVariants.{Device, Controller as controllers}
 use Rattle.rpc_core.specs.Call.{Asked as Call, call_bytes, call_of}
 use Rattle.rpc_core.specs.Response.{Answered as Response, response_bytes, response_of}
+use Rattle.cyclic_data.specs.declared.status.StationState.{StationState}
 use Rattle.cyclic_data.specs.declared.tail.CyclicTail.{CyclicTail}
 use Rattle.cyclic_data.specs.declared.tail.ShortFrame.{ShortFrame}
 use Rattle.cyclic_data.specs.Image.{Shown as Image, octet_at, octets_of}
@@ -312,32 +313,32 @@ module _ (setup : Setup) (identity : Identity) where
     abbrev OneOf : Image → Heard → Type 0
     OneOf shown heard = AreAtMost (octets_of shown) (brought_in setup identity heard)
 
-    inputs_bring : (route : Route) (has_problem : Bool) (inputs : Image) (counter : ℕ) → CanBeSent (carrying route.partner identity.mac (Some route.sent_tag) (RealTime route.sent_id (body_at has_problem inputs counter)))
+    inputs_bring : (route : Route) (state : StationState) (inputs : Image) (counter : ℕ) → CanBeSent (carrying route.partner identity.mac (Some route.sent_tag) (RealTime route.sent_id (body_at state inputs counter)))
         → inputs.data_length ≡ (zeros_for setup).data_length
-        → BringsNow inputs (frame_bytes (carrying route.partner identity.mac (Some route.sent_tag) (RealTime route.sent_id (body_at has_problem inputs counter))))
-    inputs_bring route has_problem inputs counter can size =
-        let body = body_at has_problem inputs counter in
+        → BringsNow inputs (frame_bytes (carrying route.partner identity.mac (Some route.sent_tag) (RealTime route.sent_id (body_at state inputs counter))))
+    inputs_bring route state inputs counter can size =
+        let body = body_at state inputs counter in
         let id = big_number 2 (big_bytes 2 route.sent_id) in
         let padding = padding_of (carrying route.partner identity.mac (Some route.sent_tag) (RealTime route.sent_id body)) in
         data_heard (OneOf inputs) route.partner identity.mac (Some route.sent_tag) route.sent_id body can.destination can.source can.tag (inl refl) (by_plain id padding (plain identity.mac id (body ++ padding)))
       where
-        octets_at : (padding : List ℕ) → AreAtMost (octets_of inputs) (octets_in (cyclic_of (zeros_for setup).data_length (body_at has_problem inputs counter ++ padding)))
-        octets_at padding = subst (λ (n : ℕ). AreAtMost (octets_of inputs) (octets_in (cyclic_of n (body_at has_problem inputs counter ++ padding)))) (octets_length inputs ∙ size)
-            (read_octets (octets_of inputs) (tail_at has_problem counter) padding)
+        octets_at : (padding : List ℕ) → AreAtMost (octets_of inputs) (octets_in (cyclic_of (zeros_for setup).data_length (body_at state inputs counter ++ padding)))
+        octets_at padding = subst (λ (n : ℕ). AreAtMost (octets_of inputs) (octets_in (cyclic_of n (body_at state inputs counter ++ padding)))) (octets_length inputs ∙ size)
+            (read_octets (octets_of inputs) (tail_at state counter) padding)
 
-        by_source : (padding : List ℕ) (b : Bool) → AreAtMost (octets_of inputs) (cond b (octets_in (cyclic_of (zeros_for setup).data_length (body_at has_problem inputs counter ++ padding))) None)
+        by_source : (padding : List ℕ) (b : Bool) → AreAtMost (octets_of inputs) (cond b (octets_in (cyclic_of (zeros_for setup).data_length (body_at state inputs counter ++ padding))) None)
         by_source padding true = octets_at padding
         by_source padding false = inl refl
 
-        by_plain : (id : ℕ) (padding : List ℕ) → IsPlain identity.mac id (body_at has_problem inputs counter ++ padding) (heard_real_time identity.mac id (body_at has_problem inputs counter ++ padding))
-            → OneOf inputs (heard_real_time identity.mac id (body_at has_problem inputs counter ++ padding))
+        by_plain : (id : ℕ) (padding : List ℕ) → IsPlain identity.mac id (body_at state inputs counter ++ padding) (heard_real_time identity.mac id (body_at state inputs counter ++ padding))
+            → OneOf inputs (heard_real_time identity.mac id (body_at state inputs counter ++ padding))
         by_plain id padding (inl none) = inl none
         by_plain id padding (inr is) =
             subst (λ (h : Heard). OneOf inputs h) (sym is.1) (by_source padding (pointwise nat_eq identity.mac.octets identity.mac.octets))
 
     -- each message: a frame of inputs has these inputs, and a response that is sent again brings nothing
     abbrev pub IsKnown : Image → Sent → Type 0
-    IsKnown shown (Exchanges route (Inputs has_problem inputs counter)) = inputs ≡ shown
+    IsKnown shown (Exchanges route (Inputs state inputs counter)) = inputs ≡ shown
     IsKnown shown (Again frame) = BringsNone frame
     IsKnown shown message = Unit {0}
 
@@ -356,9 +357,9 @@ module _ (setup : Setup) (identity : Identity) where
     message_brings shown size (ReadyCall from ready) can known =
         inl (reply_silent ready.partner.mac (ready_content from ready) tt (λ found read. datagram_other (rest_of (carrying ready.partner.mac identity.mac None (ready_content from ready))) found read) can)
     message_brings shown size (Ends farewell) can known = inl (data_silent farewell.initiator (Some farewell.tag) (frame_id_of pdu.Error) _ can refl)
-    message_brings shown size (Exchanges route (Inputs has_problem inputs counter)) can known =
-        subst (λ (image : Image). BringsNow image (bytes_of identity (Exchanges route (Inputs has_problem inputs counter)))) known
-        (inputs_bring route has_problem inputs counter can (ap (λ (image : Image). image.data_length) known ∙ size))
+    message_brings shown size (Exchanges route (Inputs state inputs counter)) can known =
+        subst (λ (image : Image). BringsNow image (bytes_of identity (Exchanges route (Inputs state inputs counter)))) known
+        (inputs_bring route state inputs counter can (ap (λ (image : Image). image.data_length) known ∙ size))
     message_brings shown size (Exchanges route (Notifies header alarm)) can known = inl (data_silent route.partner (Some route.alarm_tag) (frame_id_of pdu.Data) (body_of (Notifies header alarm)) can refl)
     message_brings shown size (Exchanges route (Replies header)) can known = inl (data_silent route.partner (Some route.alarm_tag) (frame_id_of header.kind) (body_of (Replies header)) can (high_id header.kind))
     message_brings shown size (Exchanges route (Reports tag header alarm)) can known = inl (data_silent route.partner (Some tag) (frame_id_at Low pdu.Data) (body_of (Reports tag header alarm)) can refl)

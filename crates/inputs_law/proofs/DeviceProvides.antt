@@ -57,7 +57,7 @@ use Rattle.relations.specs.declared.phase.Phase.TheVariants.{Awaiting}
 use Rattle.relations.specs.exchange.Diagnosis.{behind_low, diagnosed, diagnoses_begun, next_reported}
 use Rattle.relations.specs.exchange.Flow.{Flow}
 use Rattle.relations.specs.exchange.Notices.{behind_message, may_raise, raised_at, raised_by}
-use Rattle.relations.specs.exchange.Process.{given_at, rated_at}
+use Rattle.relations.specs.exchange.Process.{given_at, rated_at, turned}
 use Rattle.relations.specs.exchange.Received.{behind_frame, received_as}
 use Rattle.relations.specs.exchange.Statuses.{statuses_at}
 use Rattle.relations.specs.RelationState.{RelationState, is_alarm_of, is_preparing, phase_of, uuid_of}
@@ -261,6 +261,7 @@ module _ (station : Station) (live : Live) where
       let change = change_of slot subslot channel error appears in
       kept_if (may_be_diagnosed station live change) _ _ (change_said change (changed_list change live.rest.diagnoses)) (λ answers. refl)
   all_said (Applied local.Ready) = kept_if (is_preparing (phase_of live.rest.link)) _ _ (λ answers. refl) (λ answers. refl)
+  all_said (Applied (local.ProviderState is_running)) = λ answers. refl
   all_said Ticks = λ answers. refl
   all_said Unreadable = λ answers. refl
   all_said Elsewhere = λ answers. refl
@@ -549,6 +550,7 @@ module _ (station : Station) (before : Live) (link : RelationState) where
       stays_if (is_preparing (phase_of live.rest.link))
       (let after = updated Prepared live.rest.link in Moves (record live.rest { link = after }) (ready_calls live.values.running.suite.address after)) (Refuses note.Refused)
       (λ answers. calm_map (λ l. prepared_from l) prepared_same live.rest.link calm_stands) (refuses note.Refused)
+  provides (Applied (local.ProviderState is_running)) = λ answers. calm_as (with_flow (turned link.flow is_running) link) refl
   provides Ticks = ticks (ending_of link) refl
   provides Unreadable = refuses note.Fault
   provides Elsewhere = refuses note.NotMine

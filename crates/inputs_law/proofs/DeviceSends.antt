@@ -42,7 +42,7 @@ use Rattle.inputs_law.proofs.GivenCells.{provided_in}
 
 -- a frame of inputs has this image
 abbrev pub IsOfImage : Image → Sent → Type 0
-IsOfImage shown (Exchanges route (Inputs has_problem inputs counter)) = inputs ≡ shown
+IsOfImage shown (Exchanges route (Inputs state inputs counter)) = inputs ≡ shown
 IsOfImage shown message = Unit {0}
 
 abbrev pub AreOfImage : Image → List Sent → Type 0
@@ -67,7 +67,7 @@ none_true : true ≡ false → ⊥
 none_true e = cc
 
 one_silent : (shown : Image) (message : Sent) → is_inputs message ≡ false → IsOfImage shown message
-one_silent shown (Exchanges route (Inputs has_problem inputs counter)) e = absurd (none_true e)
+one_silent shown (Exchanges route (Inputs state inputs counter)) e = absurd (none_true e)
 one_silent shown message e = tt
 
 both_false : (b c : Bool) → (b || c) ≡ false → (b ≡ false) × (c ≡ false)
@@ -151,7 +151,7 @@ some_none y e = absurd (no_some e)
     no_some e = cc
 
 calm_silent : (shown : Image) (message : Sent) → IsCalm None message → IsOfImage shown message
-calm_silent shown (Exchanges route (Inputs has_problem inputs counter)) calm = none_some calm.0 calm.1
+calm_silent shown (Exchanges route (Inputs state inputs counter)) calm = none_some calm.0 calm.1
 calm_silent shown message calm = tt
 
 all_calm : (shown : Image) (sent : List Sent) → AreCalm None sent → AreOfImage shown sent

@@ -337,7 +337,7 @@ module _ (sound : IsSound ethernet) (setup : Setup) (station : Station) (there :
             subst (λ (i : Image). AreOfImage i sent) (image_fits setup station (values_after after.link live.rest.link real heard values) after provides_on) (link_sent shown_then outcomes station live link heard was)
 
     one_known : AreKeptSilent setup station live.rest.calls → (shown : Image) (message : Sent) → IsOfImage shown message → IsOwed heard live message → IsKnown setup station.identity sound shown message
-    one_known silent shown (Exchanges route (Inputs has_problem inputs counter)) is owed = is
+    one_known silent shown (Exchanges route (Inputs state inputs counter)) is owed = is
     one_known silent shown (Again frame) is owed =
         let plan : IsPlannedCall (rules_of setup station) setup.activity station.real owed.call =
         subst (λ (h : Heard). IsPlanned (rules_of setup station) setup.activity station.real h) owed.is planned in

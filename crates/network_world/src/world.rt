@@ -195,6 +195,7 @@ fn borrowed(local: &Local<Bytes>) -> Local<Octets<'_, 1519>>
             Local::Diagnosis(*slot, *subslot, *channel, *error, *appears)
         }
         Local::Ready => Local::Ready,
+        Local::ProviderState(is_running) => Local::ProviderState(*is_running),
     }
 }
 

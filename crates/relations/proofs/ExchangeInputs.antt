@@ -18,7 +18,7 @@ use Rattle.relations.specs.exchange.Flow.{Flow}
 use Rattle.relations.specs.exchange.Opening.{first_cell, first_marks, opened, status_of, statuses_of}
 use Rattle.relations.specs.exchange.Process.{given_at, rated_at, remarked, with_cyclic, with_input}
 use Rattle.relations.specs.exchange.Notices.{may_raise, raised_by}
-use Rattle.relations.specs.exchange.Runs.{Event, Begins, Passes, Comes, Gives, Rates, Raises, Says, Lowers, behind, behind_all, given_with, last_given, rated_with, later_rated, last_rated, input_value, mark_after, input_iops, AreTheLastGiven, AreTheIops, AreStillTheIocs}
+use Rattle.relations.specs.exchange.Runs.{Event, Begins, Passes, Comes, Gives, Rates, Raises, Says, Lowers, Turns, behind, behind_all, given_with, last_given, rated_with, later_rated, last_rated, input_value, mark_after, input_iops, AreTheLastGiven, AreTheIops, AreStillTheIocs}
 use Rattle.relations.proofs.ExchangeKept.{cyclic_raised, shown_behind}
 
 -- ---- the cell and the mark of a submodule, if those of a submodule change
@@ -383,6 +383,7 @@ module _ (slot subslot : ℕ) where
       (marks_raised flow of_slot of_subslot octets (module_ident real of_slot) (submodule_ident real of_slot of_subslot)) tied
   goes (Says message) flow tied = same_inputs (Says message) (λ size. refl) refl flow (behind (Says message) flow) refl refl tied
   goes (Lowers low) flow tied = same_inputs (Lowers low) (λ size. refl) refl flow (behind (Lowers low) flow) refl refl tied
+  goes (Turns is_running) flow tied = same_inputs (Turns is_running) (λ size. refl) refl flow (behind (Turns is_running) flow) refl refl tied
 
   -- ---- several events
 
@@ -589,6 +590,7 @@ module _ (slot subslot : ℕ) where
       ap (λ (cyclic : Cyclic). cell_at Iocs slot subslot cyclic.shown.cells) (cyclic_raised flow of_slot of_subslot octets (module_ident real of_slot) (submodule_ident real of_slot of_subslot))
   iocs_with (Says message) flow = refl
   iocs_with (Lowers low) flow = refl
+  iocs_with (Turns is_running) flow = refl
 
   iocs_all : (events : List Event) (flow : Flow) → iocs_in (behind_all events flow) ≡ iocs_in flow
   iocs_all [] flow = refl

@@ -19,7 +19,7 @@ use Rattle.relations.specs.exchange.Opening.{interval_of, opened}
 use Rattle.relations.specs.exchange.Marks.{awaits}
 use Rattle.relations.specs.exchange.Process.{remarked, with_cyclic, with_input}
 use Rattle.relations.specs.exchange.Notices.{may_raise, raised_by}
-use Rattle.relations.specs.exchange.Runs.{Event, Begins, Passes, Comes, Gives, Rates, Raises, Says, Lowers, behind, behind_all, cyclic_event, cyclic_events, iops_after, states_after, units_of, units_in, IsDueEachInterval, AreOfTheLast, IsHeldSoLong}
+use Rattle.relations.specs.exchange.Runs.{Event, Begins, Passes, Comes, Gives, Rates, Raises, Says, Lowers, Turns, behind, behind_all, cyclic_event, cyclic_events, iops_after, states_after, units_of, units_in, IsDueEachInterval, AreOfTheLast, IsHeldSoLong}
 
 -- Raising an alarm does not change cyclic data.
 pub cyclic_raised : (flow : Flow) (slot subslot : ℕ) (octets : List ℕ) (ident part : Option ℕ)
@@ -51,6 +51,7 @@ cyclic_with (Rates slot subslot is_good) flow = refl
 cyclic_with (Raises real slot subslot octets) flow = cyclic_raised flow slot subslot octets (module_ident real slot) (submodule_ident real slot subslot)
 cyclic_with (Says message) flow = refl
 cyclic_with (Lowers low) flow = refl
+cyclic_with (Turns is_running) flow = refl
 
 behind_both : (front more : List core.Event) (cyclic : Cyclic) → core.behind_all (front ++ more) cyclic ≡ core.behind_all more (core.behind_all front cyclic)
 behind_both [] more cyclic = refl
@@ -86,6 +87,7 @@ units_with (Rates slot subslot is_good) flow = refl
 units_with (Raises real slot subslot octets) flow = refl
 units_with (Says message) flow = refl
 units_with (Lowers low) flow = refl
+units_with (Turns is_running) flow = refl
 
 units_all : (events : List Event) (flow : Flow) → core.units_in (cyclic_events events flow) ≡ units_in events
 units_all [] flow = refl

@@ -13,7 +13,7 @@ use Rattle.cyclic_data.specs.exchange.Cyclic.{Cyclic}
 use Rattle.cyclic_data.specs.exchange.Leaps.{IsQuietFor}
 use Rattle.cyclic_data.specs.exchange.Units.{Brought, cyclic_later, ending_by, is_silent, tick_by}
 use Rattle.cyclic_data.specs.exchange.Units.{tick_of as cyclic_tick}
-use Rattle.relations.specs.exchange.Flow.{Flow}
+use Rattle.relations.specs.exchange.Flow.{Flow, state_of}
 use Rattle.relations.specs.exchange.Leaps.{BringNothing, nothing_brought}
 use Rattle.relations.specs.exchange.Units.{flow_later, tick_of}
 
@@ -56,7 +56,7 @@ ends_nothing flow units before earlier are =
 
 unsent : (flow : Flow) (units : ℕ) → tick_of (later_ends flow units) ≡ nothing_brought → flow_later (later_ends flow units) ≡ later_ends flow (suc units)
 unsent flow units none =
-    ap (λ (b : Brought). let next : Flow = record (later_ends flow (suc units)) { problem_sent = if b.is_cyclic then flow.low.has_problem else flow.problem_sent } in next) none
+    ap (λ (b : Brought). let next : Flow = record (later_ends flow (suc units)) { state_sent = if b.is_cyclic then state_of flow else flow.state_sent } in next) none
 
 -- Then only the ends and their timers move.
 flow_within : (flow : Flow) (units : ℕ) → AreQuiet units flow → after flow_later units flow ≡ later_ends flow units

@@ -6,6 +6,7 @@ mod Waiting
 pub mod Leaps
 mod ExchangeAwaited
 pub mod ExchangeKept
+pub mod ExchangeRuns
 pub mod ExchangeInputs
 pub mod ExchangeLeaps
 mod DueLater

@@ -12,7 +12,7 @@ use Rattle.cyclic_data.specs.declared.exchange.received.Received.{Received}
 use Rattle.cyclic_data.specs.declared.exchange.received.Received.TheVariants.{Foreign, Short, Stale, Taken}
 use Rattle.relations.specs.exchange.Flow.{Flow}
 use Rattle.relations.specs.exchange.Received.{behind_frame, received_as}
-use Rattle.relations.specs.exchange.Process.{given_at, output_at, rated_at}
+use Rattle.relations.specs.exchange.Process.{given_at, output_at, rated_at, turned}
 use Rattle.relations.specs.exchange.Notices.{behind_message, raised_at}
 use Rattle.relations.specs.RelationState.{RelationState}
 use Rattle.relations.specs.Phases.{Handled, Ended, Exchanged, Unmoved}
@@ -49,6 +49,11 @@ given_to slot subslot value (Some link) = given_at link.flow slot subslot value
 abbrev pub rating : ℕ → ℕ → Bool → Option RelationState → Handled
 rating slot subslot is_good None = Unmoved
 rating slot subslot is_good (Some link) = Exchanged (rated_at link.flow slot subslot is_good)
+
+-- The exchange after the application says that it runs or is stopped.
+abbrev pub turning : Bool → Option RelationState → Handled
+turning is_running None = Unmoved
+turning is_running (Some link) = Exchanged (turned link.flow is_running)
 
 -- The exchange after an alarm is raised, if it may be raised.
 abbrev pub raised_to : List RealModule → ℕ → ℕ → List ℕ → Option RelationState → Option Flow

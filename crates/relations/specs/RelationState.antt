@@ -5,6 +5,7 @@ use Rattle.pn_values.specs.declared.mac.Mac.{Mac}
 use Rattle.records.specs.calls.Naming.{is_relation}
 use Rattle.connects.specs.requests.Request.{Request}
 use Rattle.records.specs.declared.writes.taken.TakenRecord.{TakenRecord}
+use Rattle.cyclic_data.specs.declared.status.StationState.{StationState}
 use Rattle.cyclic_data.specs.exchange.Cyclic.{Cyclic}
 use Rattle.relations.specs.exchange.Flow.{Flow}
 use Rattle.relations.specs.declared.options.DeviceOptions.{DeviceOptions}
@@ -43,10 +44,10 @@ phase_of link = option_map (λ l. l.phase) link
 abbrev pub uuid_of : Option RelationState → Option (List ℕ)
 uuid_of link = option_map (λ l. l.request.ar.uuid) link
 
--- The content that is read of it: what its Connect asked for, its end of cyclic data, when it began, whether its last frame
--- of inputs said that one of its submodules has a diagnosis, and the endpoint of its alarms.
-abbrev pub parts_of : Option RelationState → Option (Request × Cyclic × ℕ × Bool × ℕ)
-parts_of link = option_map (λ l. (l.request, l.flow.cyclic, l.began, l.flow.problem_sent, l.flow.endpoint)) link
+-- The content that is read of it: what its Connect asked for, its end of cyclic data, when it began, what its last frame
+-- of inputs said of the station, and the endpoint of its alarms.
+abbrev pub parts_of : Option RelationState → Option (Request × Cyclic × ℕ × StationState × ℕ)
+parts_of link = option_map (λ l. (l.request, l.flow.cyclic, l.began, l.flow.state_sent, l.flow.endpoint)) link
 
 -- The records that it accepted and keeps, those that it passed on, and its ModuleDiffBlock.
 abbrev pub taken_of : Option RelationState → List TakenRecord

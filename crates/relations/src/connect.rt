@@ -161,7 +161,7 @@ impl Relation {
             (connect_answer identity.now real.now application.entry.options.now (number_of application.entry.options.now.numbers_from application.entry.made) partner.mac self.old blocks.now ≡ Err fault)
             × (answer.new.items ≡ [])) }
         ensures state { self.new ≡ updated (making real.now partner application.entry.options.now
-            (record { begin_bad = application.entry.options.now.inputs_begin_bad; statuses = application.entry.statuses.now; units = application.entry.units; diagnoses = application.entry.diagnoses.now; number = number_of application.entry.options.now.numbers_from application.entry.made })
+            (record { begin_bad = application.entry.options.now.inputs_begin_bad; is_running = application.entry.is_running; statuses = application.entry.statuses.now; units = application.entry.units; diagnoses = application.entry.diagnoses.now; number = number_of application.entry.options.now.numbers_from application.entry.made })
             (connect_within application.entry.options.now partner.mac self.old blocks.now)) self.old }
     {
         // Only one relation, and the controller that has it keeps it: a second controller must not take a running
@@ -180,6 +180,7 @@ impl Relation {
         let number = number_of(application.options.numbers_from, application.made);
         let starting = Starting {
             begin_bad: application.options.inputs_begin_bad,
+            is_running: application.is_running,
             statuses: application.statuses,
             units: application.units,
             diagnoses: application.diagnoses,

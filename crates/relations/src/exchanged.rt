@@ -1,7 +1,7 @@
 //! What a relation exchanges.
 ghost use Rattle.std.specs.Prelude.{◌≡◌, ◌≤◌, IfSome, Some, is_some, length, option_map, true};
 ghost use Rattle.relations.specs.declared.phase.Phase.TheVariants.{Exchanging};
-ghost use Rattle.relations.specs.Exchanged.{becoming, given_to, heard_by, hearing, output_in, provider_in, raised_to, rating, received_by, receiving};
+ghost use Rattle.relations.specs.Exchanged.{becoming, given_to, heard_by, hearing, output_in, provider_in, raised_to, rating, received_by, receiving, turning};
 ghost use Rattle.relations.specs.Leaps.{due_within};
 ghost use Rattle.relations.specs.RelationState.{flow_of, phase_of};
 ghost use Rattle.relations.specs.Phases.{updated};
@@ -60,6 +60,15 @@ impl Relation {
     {
         if self.phase.is_some() {
             self.exchange.rate(slot, subslot, is_good);
+        }
+    }
+
+    /// Says that the application runs or is stopped from now on, if there is a relation.
+    pub fn set_running(&mut self, is_running: bool)
+        ensures { self.new ≡ updated (turning is_running self.old) self.old }
+    {
+        if self.phase.is_some() {
+            self.exchange.set_running(is_running);
         }
     }
 

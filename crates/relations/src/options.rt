@@ -8,6 +8,8 @@ use diagnosis::Diagnoses;
 pub struct Application<'a> {
     /// The options.
     pub options: &'a DeviceOptions,
+    /// Whether the application runs (`true`) or is stopped.
+    pub is_running: bool,
     /// The statuses.
     pub statuses: &'a [InputStatus],
     /// The units since the start of the device.

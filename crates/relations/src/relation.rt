@@ -9,7 +9,7 @@ use crate::passed::PassedRecords;
 use crate::{DeviceOptions, Farewell, Partner, Phase};
 use arrayvec::ArrayVec;
 use connects::ConnectRequest;
-use cyclic_data::CyclicExchange;
+use cyclic_data::{CyclicExchange, StationState};
 use pn_alarms::{Abort, PduType};
 use pn_values::Mac;
 use records::{CallFault, TakenRecord, TakenRecords, is_relation};
@@ -77,8 +77,8 @@ pub struct RelationParts<'a> {
     pub cyclic: &'a CyclicExchange,
     /// The units from the start of the device to the answer to its Connect.
     pub began: u64,
-    /// Whether its last frame of inputs said that one of its submodules has a diagnosis.
-    pub problem_sent: bool,
+    /// What its last frame of inputs said of the station.
+    pub state_sent: StationState,
     /// The endpoint of its alarms: the LocalAlarmReference of the device.
     pub endpoint: u16,
 }
@@ -127,14 +127,14 @@ impl Relation {
 
     /// The content of the relation, if there is one.
     pub fn parts(&self) -> Option<RelationParts<'_>>
-        ensures { option_map (λ parts. (parts.request.now, parts.cyclic.now, parts.began, parts.problem_sent, parts.endpoint)) result ≡ parts_of self.now }
+        ensures { option_map (λ parts. (parts.request.now, parts.cyclic.now, parts.began, parts.state_sent, parts.endpoint)) result ≡ parts_of self.now }
     {
         match self.phase {
             Some(_) => Some(RelationParts {
                 request: &self.request,
                 cyclic: self.exchange.cyclic(),
                 began: self.began,
-                problem_sent: self.exchange.problem_sent(),
+                state_sent: self.exchange.state_sent(),
                 endpoint: self.exchange.endpoint(),
             }),
             None => None,

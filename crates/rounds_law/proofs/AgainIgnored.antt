@@ -182,7 +182,7 @@ ready_quiet laws setup identity address ready device sized known =
 -- A message of a unit for an earlier relation: its ERR, an alarm again, ApplicationReady again, or inputs.
 abbrev pub IsOfUnit : Setup → Sent → Type 0
 IsOfUnit setup (Ends farewell) = Unit {0}
-IsOfUnit setup (Exchanges route (Inputs has_problem inputs counter)) = is_cyclic route.sent_id ≡ true
+IsOfUnit setup (Exchanges route (Inputs state inputs counter)) = is_cyclic route.sent_id ≡ true
 IsOfUnit setup (Exchanges route (Notifies header alarm)) = Unit {0}
 IsOfUnit setup (Exchanges route (Reports tag header alarm)) = Unit {0}
 IsOfUnit setup (ReadyCall address ready) = IsReadyOfOther setup ready
@@ -193,8 +193,8 @@ pub unit_ignored : HeardLaws → (setup : Setup) (identity : Identity) (message 
 unit_ignored laws setup identity (Ends farewell) device of can =
     ignored setup (bytes_of identity (Ends farewell))
     (exchange_quiet laws.real_time setup farewell.initiator identity.mac farewell.tag _ _ (inr (refl, refl)) can)
-unit_ignored laws setup identity (Exchanges route (Inputs has_problem inputs counter)) device of can =
-    ignored setup (bytes_of identity (Exchanges route (Inputs has_problem inputs counter)))
+unit_ignored laws setup identity (Exchanges route (Inputs state inputs counter)) device of can =
+    ignored setup (bytes_of identity (Exchanges route (Inputs state inputs counter)))
     (exchange_quiet laws.real_time setup route.partner identity.mac route.sent_tag _ _ (inl of) can)
 unit_ignored laws setup identity (Exchanges route (Notifies header alarm)) device of can =
     ignored setup (bytes_of identity (Exchanges route (Notifies header alarm)))

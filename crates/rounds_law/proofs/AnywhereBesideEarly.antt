@@ -191,7 +191,7 @@ module _ (laws : UnitLaws) (setup : Setup) (identity : Identity) where
   -- A message of a unit: its ERR, an alarm again, ApplicationReady again, or inputs.
   abbrev pub IsOfUnit : Sent → Type 0
   IsOfUnit (Ends farewell) = Unit {0}
-  IsOfUnit (Exchanges route (Inputs has_problem inputs counter)) = is_cyclic route.sent_id ≡ true
+  IsOfUnit (Exchanges route (Inputs state inputs counter)) = is_cyclic route.sent_id ≡ true
   IsOfUnit (Exchanges route (Notifies header alarm)) = Unit {0}
   IsOfUnit (Exchanges route (Reports tag header alarm)) = Unit {0}
   IsOfUnit (ReadyCall address ready) = IsSizedReady ready
@@ -200,8 +200,8 @@ module _ (laws : UnitLaws) (setup : Setup) (identity : Identity) where
   message_early : (message : Sent) → IsDevice identity → IsOfUnit message → IsSendable identity message → IsIgnoredEarly setup (bytes_of identity message)
   message_early (Ends farewell) device of can =
       ignored_early setup (bytes_of identity (Ends farewell)) (exchange_quiet farewell.initiator farewell.tag _ _ (inr (refl, refl)) can)
-  message_early (Exchanges route (Inputs has_problem inputs counter)) device of can =
-      ignored_early setup (bytes_of identity (Exchanges route (Inputs has_problem inputs counter)))
+  message_early (Exchanges route (Inputs state inputs counter)) device of can =
+      ignored_early setup (bytes_of identity (Exchanges route (Inputs state inputs counter)))
       (exchange_quiet route.partner route.sent_tag _ _ (inl of) can)
   message_early (Exchanges route (Notifies header alarm)) device of can =
       ignored_early setup (bytes_of identity (Exchanges route (Notifies header alarm)))

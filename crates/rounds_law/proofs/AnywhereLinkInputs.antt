@@ -82,7 +82,7 @@ module _ (laws : ReadLaws) (identity : Identity) (controller : Controlling) (lin
   message_well : (message : Sent) → IsOfLink link.flow.cyclic.route message → IsSendable identity message → IsWell (bytes_of identity message)
   message_well (Ends farewell) of can =
       never (bytes_of identity (Ends farewell)) (tagged_no_data laws mine farewell.initiator identity.mac farewell.tag _ _ refl can)
-  message_well (Exchanges route (Inputs has_problem inputs counter)) of can = inputs_well route _ of can
+  message_well (Exchanges route (Inputs state inputs counter)) of can = inputs_well route _ of can
   message_well (Exchanges route (Notifies header alarm)) of can =
       never (bytes_of identity (Exchanges route (Notifies header alarm))) (tagged_no_data laws mine route.partner identity.mac route.alarm_tag _ _ refl can)
   message_well (Exchanges route (Replies header)) of can =

@@ -1,5 +1,5 @@
 -- The laws of the crates below that say what both ends hear, as the steps of a device with any relation use them.
-use Rattle.std.proofs.Common.{◌≡◌, ◌≤◌, ◌++◌, ℕ, Bool, List, Option, Some, Ok}
+use Rattle.std.proofs.Common.{◌≡◌, ◌≤◌, ◌++◌, ℕ, List, Option, Some, Ok}
 use Rattle.std.specs.Prelude.{length}
 use Rattle.pn_values.specs.declared.identity.Identity.{Identity}
 use Rattle.pn_values.specs.declared.mac.Mac.{Mac}
@@ -22,6 +22,7 @@ use Rattle.pn_alarms.specs.declared.pdu.PduType.TheVariants as pdu
 use Rattle.diagnosis.specs.declared.reports.priority.Priority.{Priority}
 use Rattle.diagnosis.specs.declared.reports.priority.Priority.TheVariants.{High, Low}
 use Rattle.diagnosis.specs.Sendable.{IsHeader}
+use Rattle.cyclic_data.specs.declared.status.StationState.{StationState}
 use Rattle.cyclic_data.specs.Image.{Shown}
 use Rattle.cyclic_data.specs.declared.exchange.route.Route.{Route}
 use Rattle.cyclic_data.specs.exchange.Frames.{body_at}
@@ -67,11 +68,11 @@ pub record ExchangeLaws (setup : Setup) : Type 0 where
   pub agrees : (identity : Identity) (caller : Caller) (answer : Answered) → IsCaller caller → CanBeAnswered answer
       → device_hears identity (comes (answer_frame setup caller answer))
       ≡ own_reported identity setup.plan.controller.mac caller.mac (calls_at setup.plan.controller.address) caller.endpoint (Responds answer)
-  pub cycles : (other identity : Identity) (route : Route) (has_problem : Bool) (inputs : Shown) (counter : ℕ)
-      → IsDevice identity → IsRoute route → length (body_at has_problem inputs counter) ≤ 1498
-      → device_hears other (comes (device_bytes identity (Exchanges route (Inputs has_problem inputs counter))))
+  pub cycles : (other identity : Identity) (route : Route) (state : StationState) (inputs : Shown) (counter : ℕ)
+      → IsDevice identity → IsRoute route → length (body_at state inputs counter) ≤ 1498
+      → device_hears other (comes (device_bytes identity (Exchanges route (Inputs state inputs counter))))
       ≡ own_hears other route.partner (Cyclic identity.mac route.sent_id
-      (padded identity.mac route.partner (Some route.sent_tag) route.sent_id (body_at has_problem inputs counter)))
+      (padded identity.mac route.partner (Some route.sent_tag) route.sent_id (body_at state inputs counter)))
   pub confirms : (identity : Identity) (route : Route) (header : Header) (ack : AlarmAck) → IsRoute route → header.kind ≡ pdu.Data → IsHeader header → IsAck ack
       → device_hears identity (comes (controller_bytes setup (Confirms route High header ack)))
       ≡ own_hears identity route.partner (Alarms setup.plan.controller.mac header (notice.Data header.send_number ack))

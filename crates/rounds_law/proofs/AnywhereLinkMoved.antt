@@ -24,7 +24,7 @@ use Rattle.rounds_law.proofs.AnywhereParts.{IsMoved, LinkGoesOn}
 -- A message of this relation: its inputs, an alarm or the reply to one, ApplicationReady, or its ERR.
 abbrev pub IsOfLink : Route → Sent → Type 0
 IsOfLink route (Ends farewell) = Unit {0}
-IsOfLink route (Exchanges sent (Inputs has_problem inputs counter)) = sent ≡ route
+IsOfLink route (Exchanges sent (Inputs state inputs counter)) = sent ≡ route
 IsOfLink route (Exchanges sent (Notifies header alarm)) = Unit {0}
 IsOfLink route (Exchanges sent (Answers header)) = Unit {0}
 IsOfLink route (Exchanges sent (Reports tag header alarm)) = Unit {0}

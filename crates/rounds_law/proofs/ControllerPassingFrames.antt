@@ -21,6 +21,7 @@ use Rattle.diagnosis.specs.declared.reports.priority.Priority.TheVariants.{Low}
 use Rattle.diagnosis.specs.reports.Report.{diagnosed}
 use Rattle.diagnosis.specs.Sendable.{IsHeader}
 use Rattle.block_codec.specs.Writable.{IsAlarm}
+use Rattle.cyclic_data.specs.declared.status.StationState.{StationState}
 use Rattle.cyclic_data.specs.Image.{Shown}
 use Rattle.cyclic_data.specs.declared.exchange.route.Route.{Route}
 use Rattle.cyclic_data.specs.exchange.Cyclic.{Cyclic}
@@ -114,30 +115,30 @@ cyclic_or_none mine destination source frame_id body = either (pointwise nat_eq 
 
 -- A clause of the hearing of inputs.
 abbrev pub InputsAreHeard : Type 0
-InputsAreHeard = (mine : Controller) (identity : Identity) (route : Route) (has_problem : Bool) (inputs : Shown) (counter : ℕ)
-    → IsDevice identity → IsRouted route → length (body_at has_problem inputs counter) ≤ 1498
-    → heard_of mine (device_bytes identity (Exchanges route (Inputs has_problem inputs counter)))
+InputsAreHeard = (mine : Controller) (identity : Identity) (route : Route) (state : StationState) (inputs : Shown) (counter : ℕ)
+    → IsDevice identity → IsRouted route → length (body_at state inputs counter) ≤ 1498
+    → heard_of mine (device_bytes identity (Exchanges route (Inputs state inputs counter)))
     ≡ mine_hears mine route.partner (Comes identity.mac route.sent_id
-    (padded identity.mac route.partner (Some route.sent_tag) route.sent_id (body_at has_problem inputs counter)))
+    (padded identity.mac route.partner (Some route.sent_tag) route.sent_id (body_at state inputs counter)))
 
 unread : (mine : Controller) (octets : List ℕ) → frame_of octets ≡ Err TooLong → heard_of mine octets ≡ Nothing
 unfolding heard_of
 unread mine octets e = ap (λ (r : Result Meaning FrameFault). heard_read mine r) e
 
 module _ (hears : InputsAreHeard) (sound : IsSound ethernet) (whole : IsSoundWhole layers) where
-  pub inputs_heard : (mine : Controller) (identity : Identity) (route : Route) (has_problem : Bool) (inputs : Shown) (counter : ℕ) → IsDevice identity
+  pub inputs_heard : (mine : Controller) (identity : Identity) (route : Route) (state : StationState) (inputs : Shown) (counter : ℕ) → IsDevice identity
       → IsRouted route
-      → IsCyclicOrNone (heard_of mine (device_bytes identity (Exchanges route (Inputs has_problem inputs counter))))
-  inputs_heard mine identity route has_problem inputs counter device way = elim (cases_lt 1498 (length (body_at has_problem inputs counter))) [
+      → IsCyclicOrNone (heard_of mine (device_bytes identity (Exchanges route (Inputs state inputs counter))))
+  inputs_heard mine identity route state inputs counter device way = elim (cases_lt 1498 (length (body_at state inputs counter))) [
     | inl many ↦
         subst IsCyclicOrNone
-        (sym (unread mine (device_bytes identity (Exchanges route (Inputs has_problem inputs counter)))
-        (long_unread sound whole route.partner identity.mac route.sent_tag route.sent_id (body_at has_problem inputs counter) way.partner device way.tag many)))
+        (sym (unread mine (device_bytes identity (Exchanges route (Inputs state inputs counter)))
+        (long_unread sound whole route.partner identity.mac route.sent_tag route.sent_id (body_at state inputs counter) way.partner device way.tag many)))
         tt
     | inr few ↦
-        subst IsCyclicOrNone (sym (hears mine identity route has_problem inputs counter device way few))
+        subst IsCyclicOrNone (sym (hears mine identity route state inputs counter device way few))
         (cyclic_or_none mine route.partner identity.mac route.sent_id
-        (padded identity.mac route.partner (Some route.sent_tag) route.sent_id (body_at has_problem inputs counter)))
+        (padded identity.mac route.partner (Some route.sent_tag) route.sent_id (body_at state inputs counter)))
   ]
 
   module _ (setup : Setup) (identity : Identity) (of_setup : IsSetup setup) (of_device : IsDevice identity) (controller : Controlling) (octets : List ℕ)
@@ -147,7 +148,7 @@ module _ (hears : InputsAreHeard) (sound : IsSound ethernet) (whole : IsSoundWho
         stepped_on setup controller octets of
         (subst (λ (bytes : List ℕ). IsCyclicOrNone (heard_of setup.plan.controller bytes)) (sym inputs.frame)
         (inputs_heard setup.plan.controller identity
-        (inputs_route inputs.serial (request_for setup.plan setup.ar)) inputs.has_problem inputs.inputs inputs.counter of_device (routed inputs.serial setup of_setup)))
+        (inputs_route inputs.serial (request_for setup.plan setup.ar)) inputs.state inputs.inputs inputs.counter of_device (routed inputs.serial setup of_setup)))
 
     route_on : (stands : Option ℕ) (cyclic : Cyclic) → IsHeardOn controller.live.cyclic cyclic → IsRoute stands identity.mac controller.live.cyclic
         → IsRoute stands identity.mac cyclic

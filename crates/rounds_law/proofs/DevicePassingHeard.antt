@@ -11,7 +11,7 @@ use Rattle.frame_codec.specs.FrameId.{is_alarm, is_cyclic}
 use Rattle.frame_codec.specs.Meaning.{Meaning, RealTime}
 use Rattle.frame_codec.specs.Frame.{ethernet, frame_bytes, frame_of, layers, padding_of}
 use Rattle.frame_codec.specs.Sendable.{carrying}
-use Rattle.cyclic_data.specs.exchange.Frames.{body_at}
+use Rattle.cyclic_data.specs.exchange.Frames.{cyclic_body}
 use Rattle.device_frames.specs.Heard.{Cyclic, Heard, Unreadable, heard_content, heard_frame, heard_of}
 use Rattle.controller_messages.specs.declared.setup.Setup.{Setup}
 use Rattle.end_laws.specs.hearing.Hearing.{comes}
@@ -52,7 +52,7 @@ pub outputs_heard : (stands : Option ℕ) → IsSound ethernet → IsSoundWhole 
     → IsOutputs setup stands identity.mac octets → AreOutputs setup (heard_of identity (comes octets))
 unfolding heard_of
 outputs_heard stands sound whole setup identity octets good real is =
-    let body = body_at false is.shown is.counter in
+    let body = cyclic_body is.shown is.counter in
     let source = setup.plan.controller.mac in
     let id : ℕ = 0xC000 + is.serial in
     let meaning = carrying identity.mac source (Some 0xC000) (RealTime id body) in

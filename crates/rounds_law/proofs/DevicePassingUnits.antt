@@ -4,11 +4,13 @@ use Rattle.std.specs.List.{AllByRecursion}
 use Rattle.pn_values.specs.declared.identity.Identity.{Identity}
 use Rattle.settings_journal.specs.settings_store.Machine.{Outcome}
 use Rattle.records.specs.declared.writes.taken.TakenRecord.{TakenRecord}
+use Rattle.cyclic_data.specs.declared.status.StationState.{StationState}
 use Rattle.cyclic_data.specs.Image.{Shown}
 use Rattle.cyclic_data.specs.declared.exchange.route.Route.{Route}
 use Rattle.pn_alarms.specs.declared.abort.Abort.{Abort}
 use Rattle.pn_alarms.specs.Device.{end_later}
 use Rattle.pn_alarms.specs.Ends.{DeviceEnd}
+use Rattle.relations.specs.exchange.Flow.{state_of}
 use Rattle.relations.specs.declared.phase.Phase.{Phase}
 use Rattle.relations.specs.exchange.Frames.{Inputs}
 use Rattle.relations.specs.exchange.Opening.{route_of as inputs_route}
@@ -76,20 +78,20 @@ only_cyclic false high low false cyclic highs lows readies inputs none unready =
 only_cyclic true high low ready cyclic highs lows readies inputs none unready = absurd cc
 only_cyclic false high low true cyclic highs lows readies inputs none unready = absurd cc
 
-pub all_inputs : (serial : ℕ) (setup : Setup) (identity : Identity) (route : Route) (has_problem : Bool) (inputs : Shown) (counter : ℕ) (due : Bool)
+pub all_inputs : (serial : ℕ) (setup : Setup) (identity : Identity) (route : Route) (state : StationState) (inputs : Shown) (counter : ℕ) (due : Bool)
     → route ≡ inputs_route serial (request_for setup.plan setup.ar)
-    → AllByRecursion (IsInputs setup identity) (map (bytes_of identity) (where_due due (device_exchanges route (Inputs has_problem inputs counter) ∷ [])))
-all_inputs serial setup identity route has_problem inputs counter true same = (
+    → AllByRecursion (IsInputs setup identity) (map (bytes_of identity) (where_due due (device_exchanges route (Inputs state inputs counter) ∷ [])))
+all_inputs serial setup identity route state inputs counter true same = (
   record {
     serial = serial;
-    has_problem = has_problem;
+    state = state;
     inputs = inputs;
     counter = counter;
-    frame = ap (λ (r : Route). bytes_of identity (device_exchanges r (Inputs has_problem inputs counter))) same;
+    frame = ap (λ (r : Route). bytes_of identity (device_exchanges r (Inputs state inputs counter))) same;
   },
   tt,
 )
-all_inputs serial setup identity route has_problem inputs counter false same = tt
+all_inputs serial setup identity route state inputs counter false same = tt
 
 pub relation_unit : (serial : ℕ) (setup : Setup) (identity : Identity) (outcomes : List Outcome) (station : Station) (live : Live)
     (phase : Phase) (taken : List TakenRecord) (last age : ℕ)
@@ -113,7 +115,7 @@ relation_unit serial setup identity outcomes station live phase taken last age s
       subst (λ (i : Identity). AllByRecursion (IsInputs setup identity) (map (bytes_of i) (due_frames address counter (due_by link None) (Some later))))
           (sym same)
           (subst (λ (sent : List Sent). AllByRecursion (IsInputs setup identity) (map (bytes_of identity) sent)) (sym only)
-          (all_inputs serial setup identity later.flow.cyclic.route later.flow.low.has_problem later.flow.cyclic.shown counter (tick_of link.flow).is_cyclic
+          (all_inputs serial setup identity later.flow.cyclic.route (state_of later.flow) later.flow.cyclic.shown counter (tick_of link.flow).is_cyclic
           before.numbered.route)),
       refl,
       record {

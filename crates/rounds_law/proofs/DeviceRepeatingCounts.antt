@@ -33,7 +33,7 @@ pub inputs_differ : InputsAreHeard → IsSound ethernet → IsSoundWhole layers 
 inputs_differ hears sound whole setup identity good real ready octets is same =
     subst IsCyclicOrNone ready
     (subst (λ (bytes : List ℕ). IsCyclicOrNone (controller.heard_of setup.plan.controller bytes)) (sym is.frame ∙ same)
-    (inputs_heard hears sound whole setup.plan.controller identity (inputs_route is.serial (request_for setup.plan setup.ar)) is.has_problem is.inputs is.counter real
+    (inputs_heard hears sound whole setup.plan.controller identity (inputs_route is.serial (request_for setup.plan setup.ar)) is.state is.inputs is.counter real
     (routed is.serial setup good)))
 
 -- ---- counts

@@ -8,6 +8,7 @@ use Rattle.connects.specs.requests.Request.{Request}
 use Rattle.records.specs.declared.writes.taken.TakenRecord.{TakenRecord}
 use Rattle.settings_journal.specs.settings_store.Machine.{Outcome}
 use Rattle.pn_alarms.specs.declared.abort.Abort.TheVariants.{Activity}
+use Rattle.relations.specs.exchange.Flow.{state_of}
 use Rattle.relations.specs.declared.phase.Phase.{Phase}
 use Rattle.relations.specs.declared.phase.Phase.TheVariants.{Awaiting}
 use Rattle.relations.specs.declared.phase.Partner.{Partner}
@@ -106,7 +107,7 @@ module _ (setup : Setup) (identity : Identity) (outcomes : List Outcome) (statio
       (record {
         inputs = map (bytes_of identity) inputs;
         are_inputs =
-            all_inputs serial setup identity later.flow.cyclic.route later.flow.low.has_problem later.flow.cyclic.shown counter (tick_of link.flow).is_cyclic
+            all_inputs serial setup identity later.flow.cyclic.route (state_of later.flow) later.flow.cyclic.shown counter (tick_of link.flow).is_cyclic
             before.numbered.route;
         frames =
             ap (λ (i : Identity). map (bytes_of i) (due_frames address counter (due_by link None) (Some later))) same ∙ frames_are addressed;

@@ -1,6 +1,6 @@
 -- The stations of a start-up that succeeds: what the device and the controller are after each of its rounds, and which frames go
 -- between them.
-use Rattle.std.specs.Prelude.{◌≡◌, ◌≤◌, ◌<◌, ◌+◌, ◌*◌, ◌⊎◌, ℕ, Bool, true, false, List, [], ◌∷◌, Option, Some, None, is_some, length}
+use Rattle.std.specs.Prelude.{◌≡◌, ◌≤◌, ◌<◌, ◌+◌, ◌*◌, ◌⊎◌, ℕ, true, false, List, [], ◌∷◌, Option, Some, None, is_some, length}
 use Rattle.pn_values.specs.IpSuite.{Suite}
 use Rattle.pn_values.specs.declared.identity.Identity.{Identity}
 use Rattle.pn_values.specs.declared.mac.Mac.{Mac}
@@ -15,6 +15,7 @@ use Rattle.block_codec.specs.declared.block.Block.TheVariants as is
 use Rattle.block_codec.specs.Block.{block_bytes}
 use Rattle.records.specs.declared.writes.taken.TakenRecord.{TakenRecord}
 use Rattle.records.specs.status.Status.{done}
+use Rattle.cyclic_data.specs.declared.status.StationState.{StationState}
 use Rattle.cyclic_data.specs.Image.{Shown}
 use Rattle.cyclic_data.specs.declared.exchange.route.Route.{Route}
 use Rattle.cyclic_data.specs.exchange.Cyclic.{Cyclic}
@@ -150,10 +151,10 @@ pub record Exchanges (setup : Setup) (serial : ℕ) (age : ℕ) (live : Live) : 
 -- A frame of inputs in the plan's relation, of any number.
 pub record IsInputs (setup : Setup) (identity : Identity) (octets : List ℕ) : Type 0 where
   pub serial : ℕ
-  pub has_problem : Bool
+  pub state : StationState
   pub inputs : Shown
   pub counter : ℕ
-  pub frame : octets ≡ device_bytes identity (device_exchanges (inputs_route serial (request_for setup.plan setup.ar)) (Inputs has_problem inputs counter))
+  pub frame : octets ≡ device_bytes identity (device_exchanges (inputs_route serial (request_for setup.plan setup.ar)) (Inputs state inputs counter))
 
 -- An alarm of low priority that reports a diagnosis, in the plan's relation, of any number.
 pub record IsReport (setup : Setup) (identity : Identity) (octets : List ℕ) : Type 0 where

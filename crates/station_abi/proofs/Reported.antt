@@ -13,7 +13,8 @@ use Rattle.device_abi.specs.port.ServedSteps.{PassesBoth}
 use Rattle.pn_values.specs.declared.settings.Settings.{Settings}
 use Rattle.cyclic_data.specs.declared.exchange.exchange.ProviderStatus.{ProviderStatus}
 use Rattle.c_layout.specs.Reported.{with_octets}
-use Rattle.station_abi.specs.Serves.{IsConflicts, IsDue, IsHanded, IsLeft, IsNumber, IsPassedOn, IsReceivedAt, IsSettings, IsTick, IsValue, IsValueOf, settings_octets, with_frame, with_nothing}
+use Rattle.station_abi.specs.declared.confirmation.Confirmation.TheVariants.{Nothing}
+use Rattle.station_abi.specs.Serves.{IsConflicts, IsDue, IsHanded, IsLeft, IsNumber, IsPassedOn, IsReceivedAt, IsSettings, IsTickWith, IsValue, IsValueOf, settings_octets, with_frame, with_nothing}
 
 -- The next piece of work, as it is reported, is what is handed out.
 pub handed_nothing : (calls : List Call) (frames : List (List ℕ)) (asked : Op) (octets : List ℕ) (reported : Op) → calls ≡ [] → frames ≡ [] → octets ≡ [] → reported ≡ with_nothing asked
@@ -43,13 +44,13 @@ received_known status octets (Some value) real slot subslot inside holds asked a
 
 -- Units that all passed, as they are reported.
 pub passed_all : (old new : Served) (asked reported : Op) (answer due work : ℕ) → barred_both old ≡ None → PassesBoth old asked.units 0 new → due ≡ due_both new → work ≡ waiting_both new
-    → answer ≡ 0 → reported ≡ record asked { units = 0; due = due; note = 0; work = work } → IsTick old asked answer new reported
+    → answer ≡ 0 → reported ≡ record asked { units = 0; due = due; note = 0; work = work; confirmed = 0 } → IsTickWith Nothing old asked answer new reported
 passed_all old new asked reported answer due work free passes is waits done told = (
   Ok (record { left = 0; due = due }),
   (free, passes, is),
   done,
-  told ∙ (ap (λ (n : ℕ). let op : Op = record asked { units = 0; due = n; note = 0; work = work } in op) is
-      ∙ ap (λ (n : ℕ). let op : Op = record asked { units = 0; due = due_both new; note = 0; work = n } in op) waits),
+  told ∙ (ap (λ (n : ℕ). let op : Op = record asked { units = 0; due = n; note = 0; work = work; confirmed = 0 } in op) is
+      ∙ ap (λ (n : ℕ). let op : Op = record asked { units = 0; due = due_both new; note = 0; work = n; confirmed = 0 } in op) waits),
 )
 
 -- The kind of the next piece of work, if only frames of the port may be.

@@ -1,3 +1,4 @@
+pub mod Confirmed
 pub mod Made
 pub mod Reasons
 pub mod Serves

@@ -21,7 +21,7 @@ use Rattle.device_frames.specs.declared.event.Event.{Event}
 use Rattle.device_frames.specs.declared.event.Event.TheVariants.{Frame, Application}
 use Rattle.arrayvec.specs.ArrayVec.{ArrayVec}
 use Rattle.device_frames.specs.declared.local.Local.{Local}
-use Rattle.device_frames.specs.declared.local.Local.TheVariants.{Input, Alarm, Status, Diagnosis, Ready}
+use Rattle.device_frames.specs.declared.local.Local.TheVariants.{Input, Alarm, Status, Diagnosis, ProviderState, Ready}
 use Rattle.device_core.specs.Handled.{change_of}
 use Rattle.device_frames.specs.declared.note.Note.{Note}
 use Rattle.device_frames.specs.Notes.{note_number}
@@ -35,7 +35,10 @@ use Rattle.device_abi.specs.port.Refusals.{refusal_number}
 use Rattle.device_abi.specs.port.State.{State, closed}
 use Rattle.device_abi.specs.port.Served.{Served, advanced_both, conflicts_of, due_both, frames_of, linked_both, lost_both, waiting_both}
 use Rattle.device_abi.specs.port.ServedSteps.{AnswersBoth, KnowsBothOrNot, PassesBothOrNot, QuietOrNot, StartsBothOrNot}
+use Rattle.station_abi.specs.declared.confirmation.Confirmation.{Confirmation}
+use Rattle.station_abi.specs.declared.confirmation.Confirmation.TheVariants.{Nothing}
 use Rattle.station_abi.specs.declared.reason.Reason.{Reason}
+use Rattle.station_abi.specs.Confirmed.{confirmed_by, confirmed_in_time, with_confirmation}
 use Rattle.station_abi.specs.Reasons.{reason_number, why_no_alarm, why_no_diagnosis, why_no_input, why_no_status, why_not_ready}
 use Rattle.station_abi.specs.declared.operation.Operation.{Operation}
 use Rattle.station_abi.specs.declared.operation.Operation.TheVariants as operation
@@ -66,7 +69,9 @@ operation_of what =
     if what == 22 then Some operation.Passed else
     if what == 23 then Some operation.PassedOn else
     if what == 24 then Some operation.FrameAfter else
-    if what == 25 then Some operation.Received else None
+    if what == 25 then Some operation.Received else
+    if what == 26 then Some operation.Run else
+    if what == 27 then Some operation.Stop else None
 
 -- The result of what was done, or of what was refused.
 abbrev pub answer_of : {T : Type 0} → Result T Refusal → ℕ
@@ -75,15 +80,20 @@ answer_of (Err refusal) = refusal_number refusal
 
 -- ---- events
 
--- The outcome of an event, and the kind of the first piece of its work.
-abbrev pub noted : Result Note Refusal → Served → Op → Op
-noted (Ok note) new asked = record asked { note = note_number note; work = waiting_both new }
-noted (Err refusal) new asked = asked
+-- The outcome of an event, the kind of the first piece of its work, and what became of the open alarm.
+abbrev pub noted : Result Note Refusal → Confirmation → Served → Op → Op
+noted (Ok note) became new asked = with_confirmation became (record asked { note = note_number note; work = waiting_both new })
+noted (Err refusal) became new asked = asked
 
--- An event was handled, and its outcome is reported and what work it made, or it was refused and nothing changed.
+-- An event was handled, and its outcome is reported, what work it made, and that this became of the open alarm, or it was refused and nothing
+-- changed.
+abbrev pub IsEventWith : Confirmation → Served → Event → Op → ℕ → Served → Op → Type 0
+IsEventWith became old event asked answer new reported =
+    (result : Result Note Refusal) × AnswersBoth old event result new × (answer ≡ answer_of result) × (reported ≡ noted result became new asked)
+
+-- The same with what became of the alarm that was open before it.
 abbrev pub IsEvent : Served → Event → Op → ℕ → Served → Op → Type 0
-IsEvent old event asked answer new reported =
-    (result : Result Note Refusal) × AnswersBoth old event result new × (answer ≡ answer_of result) × (reported ≡ noted result new asked)
+IsEvent old event asked answer new reported = IsEventWith (confirmed_by old event new) old event asked answer new reported
 
 -- A frame after units of time that passed before it: as many of them as bring nothing pass, the number of the others is reported, and then the
 -- frame is handled; or nothing changes.
@@ -112,10 +122,10 @@ abbrev pub KeepsIf : Bool → State → State → Type 0
 KeepsIf true old new = IsUntouched old new
 KeepsIf false old new = ⊤
 
--- What is returned of an outcome, with this reason if it is a refusal.
+-- What is returned of an outcome, with this reason if it is a refusal. What the application says confirms no alarm.
 abbrev pub IsOutcomeBy : Bool → Result Note Refusal → Reason → Served → Op → ℕ → Op → Type 0
 IsOutcomeBy true result why new asked answer reported = (answer ≡ 44) × (reported ≡ record asked { reason = reason_number why })
-IsOutcomeBy false result why new asked answer reported = (answer ≡ answer_of result) × (reported ≡ noted result new asked)
+IsOutcomeBy false result why new asked answer reported = (answer ≡ answer_of result) × (reported ≡ noted result Nothing new asked)
 
 -- What is returned of an outcome.
 abbrev pub IsOutcome : Result Note Refusal → Reason → Served → Op → ℕ → Op → Type 0
@@ -163,18 +173,23 @@ IsDiagnosis (Some place) (Some what) old asked answer new reported =
 IsDiagnosis (Some place) None old asked answer new reported = (answer ≡ 9) × (new ≡ old) × (reported ≡ asked)
 IsDiagnosis None what old asked answer new reported = (answer ≡ 9) × (new ≡ old) × (reported ≡ asked)
 
--- The number of units that remain, what is due, and the kind of the first piece of work. The note is 0, done. Due is the
--- number of units up to and including the next one with which anything is due.
-abbrev pub with_passed : Result Passed Refusal → Served → Op → Op
-with_passed (Ok units) new asked =
-    record asked { units = units.left; due = due_both new; note = 0; work = waiting_both new }
-with_passed (Err refusal) new asked = asked
+-- The number of units that remain, what is due, the kind of the first piece of work, and what became of the open alarm. The note is 0, done.
+-- Due is the number of units up to and including the next one with which anything is due.
+abbrev pub with_passed : Result Passed Refusal → Confirmation → Served → Op → Op
+with_passed (Ok units) became new asked =
+    with_confirmation became (record asked { units = units.left; due = due_both new; note = 0; work = waiting_both new })
+with_passed (Err refusal) became new asked = asked
 
--- The units of time that are asked for passed, and the number that remains is reported, or none passed and nothing
--- changed.
+-- The units of time that are asked for passed, and the number that remains is reported, and that this became of the open alarm, or none passed
+-- and nothing changed.
+abbrev pub IsTickWith : Confirmation → Served → Op → ℕ → Served → Op → Type 0
+IsTickWith became old asked answer new reported =
+    (result : Result Passed Refusal) × PassesBothOrNot old asked.units result new × (answer ≡ answer_of result)
+    × (reported ≡ with_passed result became new asked)
+
+-- The same with what became of the alarm that was open before them.
 abbrev pub IsTick : Served → Op → ℕ → Served → Op → Type 0
-IsTick old asked answer new reported =
-    (result : Result Passed Refusal) × PassesBothOrNot old asked.units result new × (answer ≡ answer_of result) × (reported ≡ with_passed result new asked)
+IsTick old asked answer new reported = IsTickWith (confirmed_in_time old new) old asked answer new reported
 
 -- ---- a start
 
@@ -420,6 +435,8 @@ Serves (Some operation.Status) old asked given answer new reported = IsStatus (p
 Serves (Some operation.Diagnosis) old asked given answer new reported =
     IsDiagnosis (place_in asked.slot asked.subslot) (place_in asked.channel asked.error) old asked answer new reported
 Serves (Some operation.Ready) old asked given answer new reported = IsSaid old Ready (why_not_ready (reached_in old)) asked answer new reported
+Serves (Some operation.Run) old asked given answer new reported = IsEventWith Nothing old (Application (ProviderState true)) asked answer new reported
+Serves (Some operation.Stop) old asked given answer new reported = IsEventWith Nothing old (Application (ProviderState false)) asked answer new reported
 Serves (Some operation.Provider) old asked given answer new reported =
     (new ≡ old) × IsProvider (place_in asked.slot asked.subslot) old.port asked answer reported
 Serves (Some operation.Conflicts) old asked given answer new reported =

@@ -23,7 +23,7 @@ const ABI: u32 = 6;
 const ROOM: usize = 79872;
 
 /// The number of octets of an operation.
-const OP_SIZE: usize = 1664;
+const OP_SIZE: usize = 1668;
 
 /// The identity that a device has from the factory, and the modules that are plugged, at most 16.
 #[repr(C)]

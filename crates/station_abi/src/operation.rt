@@ -29,6 +29,8 @@ pub enum Operation {
     PassedOn,
     FrameAfter,
     Received,
+    Run,
+    Stop,
 }
 
 // The operation of this number, if it exists.
@@ -60,6 +62,8 @@ pub(crate) fn operation_of(what: u32) -> Option<Operation>
         23 => Some(Operation::PassedOn),
         24 => Some(Operation::FrameAfter),
         25 => Some(Operation::Received),
+        26 => Some(Operation::Run),
+        27 => Some(Operation::Stop),
         _ => None,
     }
 }

@@ -1,7 +1,7 @@
 //! One operation of the host.
 ghost use Rattle.std.specs.Prelude.{◌≡◌, ◌≤◌, ℕ, IfSome, Ok, Option, Some, [], length, min, option_map, slice_get, take, true};
-ghost use Rattle.device_frames.specs.declared.event.Event.TheVariants.{Frame as Framed};
-ghost use Rattle.device_frames.specs.declared.local.Local.TheVariants.{Ready as IsReady};
+ghost use Rattle.device_frames.specs.declared.event.Event.TheVariants.{Application, Frame as Framed};
+ghost use Rattle.device_frames.specs.declared.local.Local.TheVariants.{ProviderState, Ready as IsReady};
 ghost use Rattle.device_abi.specs.recorded.Entry.{call_of};
 ghost use Rattle.device_abi.specs.recorded.Fits.{fits_in};
 ghost use Rattle.relations.specs.Exchanged.{provider_in};
@@ -17,11 +17,15 @@ ghost use Rattle.c_layout.specs.Places.{place_in};
 ghost use Rattle.c_layout.specs.Reported.{with_octets};
 ghost use Rattle.station_abi.specs.Serves.{IsAlarm, IsBoot, IsCall, IsDiagnosis, IsEvent, IsFrameAfter, IsInput, IsLink, IsLoss, HandsOut, IsHanded, IsOutput, with_frame, with_nothing};
 ghost use Rattle.station_abi.specs.Serves.{IsNumber, IsReceived, IsReceivedAt, IsReceivedOf, IsRecordAt, IsRecordOf, IsProvider, IsProviderAt, IsProviderOf, IsSector, IsSettings, IsState, IsStatus, IsTick, IsValueOf, Serves, answer_of, back_at, link_of};
+ghost use Rattle.station_abi.specs.declared.confirmation.Confirmation.TheVariants.{Nothing};
+ghost use Rattle.station_abi.specs.Confirmed.{is_open as is_open_in, with_confirmation};
 ghost use Rattle.station_abi.specs.Reasons.{why_not_ready as why_not_ready_in};
+ghost use Rattle.station_abi.specs.Serves.{IsEventWith, IsTickWith};
 ghost use Rattle.station_abi.specs.Serves.{IsOutcome, IsSaid, is_refused as is_refused_in, reached_in, with_statuses};
 ghost use Rattle.station_abi.specs.Serves.{noted as is_noted, operation_of as operation_in, with_passed, phase_number};
 ghost use Rattle.station_abi.specs.Serves.{sector_number as number_of, sector_of, settings_octets, value_of};
 
+use crate::confirmation::{Confirmation, acknowledged_in, is_open, over_by};
 use crate::operation::{Operation, operation_of};
 use crate::reason::{
     Reason, why_no_alarm, why_no_diagnosis, why_no_input, why_no_status, why_not_ready,
@@ -104,6 +108,8 @@ fn perform(operation: Operation, port: &mut Port, op: &mut Op, given: &[u8]) -> 
         Operation::PassedOn => tell_number(port.passed_on(), &mut op.count),
         Operation::FrameAfter => frame_after(port, op, given),
         Operation::Received => received(port, op),
+        Operation::Run => provider_state(port, op, true),
+        Operation::Stop => provider_state(port, op, false),
     }
 }
 
@@ -158,14 +164,54 @@ fn frame(port: &mut Port, op: &mut Op, given: &[u8]) -> u32
     hear(port, op, given)
 }
 
-// The same. It is part of both functions that handle a frame.
+// The same. It is part of both functions that handle a frame. Nearly always no alarm is open, and then none is confirmed.
 #[inline(always)]
 fn hear(port: &mut Port, op: &mut Op, given: &[u8]) -> u32
     ensures { IsEvent port.old (Framed (record { items = take 1519 given.now })) op.old result port.new op.new }
 {
+    if is_open(port) {
+        return hear_open(port, op, given);
+    }
+    hear_any(port, op, given)
+}
+
+// The same while an alarm is open.
+#[inline(never)]
+fn hear_open(port: &mut Port, op: &mut Op, given: &[u8]) -> u32
+    requires { is_open_in port.old ≡ true }
+    ensures { IsEvent port.old (Framed (record { items = take 1519 given.now })) op.old result port.new op.new }
+{
+    let status = acknowledged_in(port, given);
+    let answer = hear_any(port, op, given);
+    if is_open(port) {
+        return answer;
+    }
+    tell_confirmation(over_by(status), op);
+    answer
+}
+
+// A frame, and that nothing became of an open alarm.
+#[inline(always)]
+fn hear_any(port: &mut Port, op: &mut Op, given: &[u8]) -> u32
+    ensures { IsEventWith Nothing port.old (Framed (record { items = take 1519 given.now })) op.old result port.new op.new }
+{
     match port.frame(given) {
         Some(outcome) => noted(outcome, port, op),
         None => silent(op),
+    }
+}
+
+// Reports what became of the open alarm.
+fn tell_confirmation(became: Confirmation, op: &mut Op)
+    ensures { op.new ≡ with_confirmation became op.old }
+{
+    match became {
+        Confirmation::Nothing => op.confirmed = 0,
+        Confirmation::Acknowledged(status) => {
+            op.confirmed = 1;
+            op.status = status;
+        }
+        Confirmation::GivenUp => op.confirmed = 2,
     }
 }
 
@@ -187,10 +233,11 @@ fn frame_after(port: &mut Port, op: &mut Op, given: &[u8]) -> u32
 #[inline(always)]
 fn silent(op: &mut Op) -> u32
     ensures answer { result ≡ 0 }
-    ensures reported { op.new ≡ record op.old { note = 0; work = 0 } }
+    ensures reported { op.new ≡ record op.old { note = 0; work = 0; confirmed = 0 } }
 {
     op.note = 0;
     op.work = 0;
+    op.confirmed = 0;
     0
 }
 
@@ -306,6 +353,15 @@ fn ready(port: &mut Port, op: &mut Op) -> u32
     conclude(outcome, why, port, op)
 }
 
+// The application runs from now on, or is stopped. No device refuses that.
+#[inline(never)]
+fn provider_state(port: &mut Port, op: &mut Op, is_running: bool) -> u32
+    ensures { IsEventWith Nothing port.old (Application (ProviderState is_running)) op.old result port.new op.new }
+{
+    let outcome = port.provider_state(is_running);
+    noted(outcome, port, op)
+}
+
 // The outcome of what the application said. This is why, if the device refused it.
 #[inline(never)]
 fn conclude(outcome: Result<Note, Refusal>, why: Reason, port: &Port, op: &mut Op) -> u32
@@ -328,36 +384,55 @@ fn is_refused(outcome: &Result<Note, Refusal>) -> bool
     }
 }
 
-// The outcome of an event and the kind of the first piece of its work, or why it was refused.
+// The outcome of an event and the kind of the first piece of its work, and that nothing became of an open alarm; or why it was refused.
 #[inline(never)]
 fn noted(outcome: Result<Note, Refusal>, port: &Port, op: &mut Op) -> u32
     ensures answer { result ≡ answer_of outcome }
-    ensures reported { op.new ≡ is_noted outcome port.now op.old }
+    ensures reported { op.new ≡ is_noted outcome Nothing port.now op.old }
 {
     match outcome {
         Ok(note) => {
             op.note = u32::from(note.number());
             op.work = port.waiting();
+            op.confirmed = 0;
             0
         }
         Err(refusal) => refusal.number(),
     }
 }
 
+// Units of time. Nearly always no alarm is open, and then none is given up.
 #[inline(never)]
 fn tick(port: &mut Port, op: &mut Op) -> u32
     ensures { IsTick port.old op.old result port.new op.new }
 {
+    if is_open(port) {
+        return tick_open(port, op);
+    }
     match port.skip(op.units) {
         Some(due) => tell_passed(op, due, 0, 0),
         None => tick_more(port, op),
     }
 }
 
-// The same if the units may bring something.
+// The same while an alarm is open.
+#[inline(never)]
+fn tick_open(port: &mut Port, op: &mut Op) -> u32
+    requires { is_open_in port.old ≡ true }
+    ensures { IsTick port.old op.old result port.new op.new }
+{
+    let answer = tick_more(port, op);
+    if is_open(port) {
+        return answer;
+    }
+    tell_confirmation(Confirmation::GivenUp, op);
+    answer
+}
+
+// Units of time that may bring something, and that nothing became of an open alarm.
 #[inline(never)]
 fn tick_more(port: &mut Port, op: &mut Op) -> u32
-    ensures { IsTick port.old op.old result port.new op.new }
+    ensures { IsTickWith Nothing port.old op.old result port.new op.new }
 {
     if op.units != 1 {
         return tick_all(port, op);
@@ -374,7 +449,7 @@ fn tick_more(port: &mut Port, op: &mut Op) -> u32
 // The same of any units.
 #[inline(never)]
 fn tick_all(port: &mut Port, op: &mut Op) -> u32
-    ensures { IsTick port.old op.old result port.new op.new }
+    ensures { IsTickWith Nothing port.old op.old result port.new op.new }
 {
     match port.tick(op.units) {
         Ok(passed) => {
@@ -385,16 +460,18 @@ fn tick_all(port: &mut Port, op: &mut Op) -> u32
     }
 }
 
-// Reports units that passed: what is due then, the number that remains, and the kind of the first piece of work.
+// Reports units that passed: what is due then, the number that remains, and the kind of the first piece of work; and that nothing became of
+// an open alarm.
 #[inline(always)]
 fn tell_passed(op: &mut Op, due: u32, left: u32, work: u32) -> u32
     ensures answer { result ≡ 0 }
-    ensures reported { op.new ≡ record op.old { units = left; due = due; note = 0; work = work } }
+    ensures reported { op.new ≡ record op.old { units = left; due = due; note = 0; work = work; confirmed = 0 } }
 {
     op.due = due;
     op.units = left;
     op.note = 0;
     op.work = work;
+    op.confirmed = 0;
     0
 }
 

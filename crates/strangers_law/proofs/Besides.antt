@@ -24,27 +24,28 @@ use Rattle.strangers_law.proofs.Floods.{step_left, step_silent}
 use Rattle.strangers_law.proofs.Sending.{DatagramsAreRead, PacketsAreRead, RealTimeIsRead, ResponsesAreRead}
 
 kept_of : (old new : Live) → IsLeft old new → IsKept old new
-kept_of old new left = record { values = left.values; link = left.link; units = left.units; statuses = left.statuses; diagnoses = left.diagnoses; made = left.made }
+kept_of old new left = record { values = left.values; link = left.link; units = left.units; is_running = left.is_running; statuses = left.statuses; diagnoses = left.diagnoses; made = left.made }
 
 kept_both : (a b c : Live) → IsKept a b → IsKept b c → IsKept a c
 kept_both a b c one two = record {
   values = two.values ∙ one.values;
   link = two.link ∙ one.link;
   units = two.units ∙ one.units;
+  is_running = two.is_running ∙ one.is_running;
   statuses = two.statuses ∙ one.statuses;
   diagnoses = two.diagnoses ∙ one.diagnoses;
   made = two.made ∙ one.made;
 }
 
 kept_same : (a b : Live) → b ≡ a → IsKept a b
-kept_same a b is = subst (IsKept a) (sym is) (record { values = refl; link = refl; units = refl; statuses = refl; diagnoses = refl; made = refl })
+kept_same a b is = subst (IsKept a) (sym is) (record { values = refl; link = refl; units = refl; is_running = refl; statuses = refl; diagnoses = refl; made = refl })
 
 -- ---- the neighbour
 
 told_kept : (station : Station) (live : Live) (services : Serving) (news : Bool) → IsKept live (told_if news station live services).live
 unfolding heard_of heard_step handled_step
-told_kept station live services true = record { values = refl; link = refl; units = refl; statuses = refl; diagnoses = refl; made = refl }
-told_kept station live services false = record { values = refl; link = refl; units = refl; statuses = refl; diagnoses = refl; made = refl }
+told_kept station live services true = record { values = refl; link = refl; units = refl; is_running = refl; statuses = refl; diagnoses = refl; made = refl }
+told_kept station live services false = record { values = refl; link = refl; units = refl; is_running = refl; statuses = refl; diagnoses = refl; made = refl }
 
 told_calls : (station : Station) (live : Live) (services : Serving) (news : Bool) → (told_if news station live services).live.rest.calls ≡ live.rest.calls
 unfolding heard_of heard_step handled_step

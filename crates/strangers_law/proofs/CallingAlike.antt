@@ -198,6 +198,7 @@ module _ (own : List ℕ) (others : List (List ℕ)) (station : Station) (live :
       let change : Change = change_of slot subslot channel error appears in
       either (may_be_diagnosed station live change) _ _ _ _ (change_same change (changed change live.rest.diagnoses)) refl
   local_same local.Ready = either (is_preparing (phase_of live.rest.link)) _ _ _ _ (calls, refl, kept, recent) refl
+  local_same (local.ProviderState is_running) = (calls, refl, kept, recent)
 
   pub handled_same : (heard : Heard) → IsOwn own heard → Same own others (handled station live heard) (handled station (swapped calls live) heard)
   handled_same (Asks asker request) is = request_same asker request.service request

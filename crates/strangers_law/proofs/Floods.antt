@@ -38,6 +38,7 @@ left_both a b c one two = record {
   values = two.values ∙ one.values;
   link = two.link ∙ one.link;
   units = two.units ∙ one.units;
+  is_running = two.is_running ∙ one.is_running;
   statuses = two.statuses ∙ one.statuses;
   peer = two.peer ∙ one.peer;
   diagnoses = two.diagnoses ∙ one.diagnoses;
@@ -53,6 +54,7 @@ tick_left outcomes station one other left = record {
   values = left.values;
   link = ap (λ (l : Option RelationState). updated (passing l) l) left.link;
   units = ap (λ n. (n + 1) % 18446744073709551616) left.units;
+  is_running = left.is_running;
   statuses = left.statuses;
   peer = left.peer;
   diagnoses = left.diagnoses;
@@ -153,7 +155,7 @@ module _ (station : Station) where
 
 pub runs_as_alone : RunsAsAlone
 runs_as_alone station live link outcomes events exists are some =
-    runs station outcomes events live live link exists (record { values = refl; link = refl; units = refl; statuses = refl; peer = refl; diagnoses = refl; made = refl }) are some
+    runs station outcomes events live live link exists (record { values = refl; link = refl; units = refl; is_running = refl; statuses = refl; peer = refl; diagnoses = refl; made = refl }) are some
 
 -- ---- a step of a device
 

@@ -57,6 +57,7 @@ use Rattle.strangers_law.proofs.Unnamed.{IsNoEnd, connect_still, connect_uncount
 pub record RestStays (old new : Rest) : Type 0 where
   pub link : new.link ≡ old.link
   pub units : new.units ≡ old.units
+  pub is_running : new.is_running ≡ old.is_running
   pub statuses : new.statuses ≡ old.statuses
   pub peer : new.peer ≡ old.peer
   pub diagnoses : new.diagnoses ≡ old.diagnoses
@@ -88,16 +89,17 @@ Remains live (Moves rest sent) = RestStays live.rest rest × AllByRecursion (IsA
 -- Whether a relation is counted or not, nothing else changes.
 record IsCount (old new : Rest) : Type 0 where
   units : new.units ≡ old.units
+  is_running : new.is_running ≡ old.is_running
   statuses : new.statuses ≡ old.statuses
   peer : new.peer ≡ old.peer
   diagnoses : new.diagnoses ≡ old.diagnoses
 
 count_alone : {A : Type 0} (answer : Result A CallFault) (rest : Rest) → IsCount rest (counted_by answer rest)
-count_alone (Ok answer) rest = record { units = refl; statuses = refl; peer = refl; diagnoses = refl }
-count_alone (Err why) rest = record { units = refl; statuses = refl; peer = refl; diagnoses = refl }
+count_alone (Ok answer) rest = record { units = refl; is_running = refl; statuses = refl; peer = refl; diagnoses = refl }
+count_alone (Err why) rest = record { units = refl; is_running = refl; statuses = refl; peer = refl; diagnoses = refl }
 
 stays_as_is : (rest : Rest) → RestStays rest rest
-stays_as_is rest = record { link = refl; units = refl; statuses = refl; peer = refl; diagnoses = refl; made = refl }
+stays_as_is rest = record { link = refl; units = refl; is_running = refl; statuses = refl; peer = refl; diagnoses = refl; made = refl }
 
 looked_stored : (activity : List ℕ) (sequence : ℕ) (calls : List Kept) (frame : List ℕ) → looked activity sequence calls ≡ again frame → IsIn frame (frames_stored calls)
 looked_stored activity sequence [] frame e = absurd cc
@@ -126,12 +128,13 @@ quiet_resets (Answer error ∷ items) (answer ∷ answers) quiet = quiet_resets 
 
 pub remains_left : (outcomes : List Outcome) (station : Station) (live : Live) (what : Handled) → Remains live what → IsLeft live (handled_step outcomes station live what).live
 unfolding handled_step
-remains_left outcomes station live (Refuses note) remains = record { values = refl; link = refl; units = refl; statuses = refl; peer = refl; diagnoses = refl; made = refl }
+remains_left outcomes station live (Refuses note) remains = record { values = refl; link = refl; units = refl; is_running = refl; statuses = refl; peer = refl; diagnoses = refl; made = refl }
 remains_left outcomes station live (Sets asker request in_operation) remains = record {
   values = quiet_carried outcomes live.values (plan_of in_operation request) remains;
   link = ap (λ ends. link_after ends live.rest.link)
       (quiet_resets (plan_of in_operation request) (carried outcomes live.values (plan_of in_operation request)).answers remains);
   units = refl;
+  is_running = refl;
   statuses = refl;
   peer = refl;
   diagnoses = refl;
@@ -140,7 +143,7 @@ remains_left outcomes station live (Sets asker request in_operation) remains = r
 remains_left outcomes station live (Writes caller address call header value) remains = absurd remains
 remains_left outcomes station live (WritesEach caller address call header judged) remains = absurd remains
 remains_left outcomes station live (Moves rest sent) remains =
-    record { values = refl; link = remains.0.link; units = remains.0.units; statuses = remains.0.statuses; peer = remains.0.peer; diagnoses = remains.0.diagnoses; made = remains.0.made }
+    record { values = refl; link = remains.0.link; units = remains.0.units; is_running = remains.0.is_running; statuses = remains.0.statuses; peer = remains.0.peer; diagnoses = remains.0.diagnoses; made = remains.0.made }
 
 pub remains_sent : (outcomes : List Outcome) (station : Station) (live : Live) (what : Handled) → Remains live what → AllByRecursion (IsAnswer (stored_in live)) (handled_step outcomes station live what).sent
 unfolding handled_step
@@ -162,6 +165,7 @@ module _ (station : Station) (live : Live) (link : RelationState) (exists : live
       link = subst (λ (l : Option RelationState). updated (making station.real (partner_of caller) station.options (starting_of station live) (connect_within station.options caller.mac l blocks)) l ≡ l)
           (sym exists) (connect_still station.real (partner_of caller) station.options (starting_of station live) caller.mac link blocks);
       units = (count_alone answer logged).units;
+      is_running = (count_alone answer logged).is_running;
       statuses = (count_alone answer logged).statuses;
       peer = (count_alone answer logged).peer;
       diagnoses = (count_alone answer logged).diagnoses;
@@ -180,6 +184,7 @@ module _ (station : Station) (live : Live) (link : RelationState) (exists : live
     record {
       link = subst (λ (l : Option RelationState). updated (answered Ended (release_of l blocks)) l ≡ l) (sym exists) (release_still link blocks other);
       units = refl;
+      is_running = refl;
       statuses = refl;
       peer = refl;
       diagnoses = refl;
@@ -191,6 +196,7 @@ module _ (station : Station) (live : Live) (link : RelationState) (exists : live
     record {
       link = by_result (relation_read (known_of station live) station.identity station.real live.values.running blocks) refl;
       units = refl;
+      is_running = refl;
       statuses = refl;
       peer = refl;
       diagnoses = refl;
@@ -209,7 +215,7 @@ module _ (station : Station) (live : Live) (link : RelationState) (exists : live
       by_result : (r : Result Writing CallFault) → writing_of (uuid_of live.rest.link) station.real blocks ≡ r → Remains live (handled_write station live caller call r)
       by_result (Ok writing) is =
           absurd (no_write link station.real blocks writing other (subst (λ (l : Option RelationState). writing_of (uuid_of l) station.real blocks ≡ Ok writing) exists is))
-      by_result (Err why) is = (record { link = refl; units = refl; statuses = refl; peer = refl; diagnoses = refl; made = refl }, (tt, tt))
+      by_result (Err why) is = (record { link = refl; units = refl; is_running = refl; statuses = refl; peer = refl; diagnoses = refl; made = refl }, (tt, tt))
   new_remains caller call blocks Control other = by_result (prm_end_of live.rest.link blocks) refl
     where
       none : IsNoEnd link blocks
@@ -224,11 +230,12 @@ module _ (station : Station) (live : Live) (link : RelationState) (exists : live
           ∷ ready_behind station.options.ready_by_application live.values.running.suite.address
           (updated (answered (Named (partner_of caller)) r) (updated (answered (Parameterized station.options.ready_by_application) r) live.rest.link)) r)
       by_result (Ok block) is = absurd (let e : prm_end_of (Some link) blocks ≡ Ok block = subst (λ (l : Option RelationState). prm_end_of l blocks ≡ Ok block) exists is in let n = none.is in cc)
-      by_result (Err why) is = (record { link = refl; units = refl; statuses = refl; peer = refl; diagnoses = refl; made = refl }, (tt, tt))
+      by_result (Err why) is = (record { link = refl; units = refl; is_running = refl; statuses = refl; peer = refl; diagnoses = refl; made = refl }, (tt, tt))
   new_remains caller call blocks ReadImplicit other = (
     record {
       link = by_result (implicit_read (known_of station live) station.identity station.real live.values.running blocks);
       units = refl;
+      is_running = refl;
       statuses = refl;
       peer = refl;
       diagnoses = refl;
@@ -255,7 +262,7 @@ module _ (station : Station) (live : Live) (link : RelationState) (exists : live
 
   blocks_remain : (caller : Caller) (call : Call) (operation : Operation) (blocks : Option (List ℕ)) → call.blocks ≡ blocks → IsUnnamed link call
       → Remains live (handled_blocks station live caller call operation blocks)
-  blocks_remain caller call operation None is other = (record { link = refl; units = refl; statuses = refl; peer = refl; diagnoses = refl; made = refl }, (tt, tt))
+  blocks_remain caller call operation None is other = (record { link = refl; units = refl; is_running = refl; statuses = refl; peer = refl; diagnoses = refl; made = refl }, (tt, tt))
   blocks_remain caller call operation (Some blocks) is other =
       looked_remains caller call blocks operation (looked call.header.activity call.header.sequence live.rest.calls) refl (other blocks is)
 

@@ -26,13 +26,14 @@ marks_of link = record {
 abbrev pub IsStrange : Station → RelationState → Event → Type 0
 IsStrange station link event = is_own station.identity.mac.octets (marks_of link) event ≡ false
 
--- The settings are as they were, and the relation with its phase, outputs, records, alarms, numbers and times; so are the units, the
--- statuses, the neighbour, the diagnoses and the number of relations since the start. The lamp, the stored answers to calls and the log may
--- have changed.
+-- The settings are as they were, and the relation with its phase, outputs, records, alarms, numbers and times; so are the units,
+-- whether the application runs, the statuses, the neighbour, the diagnoses and the number of relations since the start. The lamp, the stored
+-- answers to calls and the log may have changed.
 pub record IsLeft (old new : Live) : Type 0 where
   pub values : new.values ≡ old.values
   pub link : new.rest.link ≡ old.rest.link
   pub units : new.rest.units ≡ old.rest.units
+  pub is_running : new.rest.is_running ≡ old.rest.is_running
   pub statuses : new.rest.statuses ≡ old.rest.statuses
   pub peer : new.rest.peer ≡ old.rest.peer
   pub diagnoses : new.rest.diagnoses ≡ old.rest.diagnoses

@@ -29,12 +29,13 @@ IsStrangeOrNone station link None = Unit {0}
 abbrev pub IsStrangeAt : Station → Serving → RelationState → Event → Type 0
 IsStrangeAt station services link event = IsStrange station link event × IsStrangeOrNone station link (completing services event)
 
--- The settings are as they were, and so are the relation with its times, the units, the statuses, the diagnoses and the number of relations
--- since the start. The neighbour may be another one.
+-- The settings are as they were, and so are the relation with its times, the units, whether the application runs, the statuses, the
+-- diagnoses and the number of relations since the start. The neighbour may be another one.
 pub record IsKept (old new : Live) : Type 0 where
   pub values : new.values ≡ old.values
   pub link : new.rest.link ≡ old.rest.link
   pub units : new.rest.units ≡ old.rest.units
+  pub is_running : new.rest.is_running ≡ old.rest.is_running
   pub statuses : new.rest.statuses ≡ old.rest.statuses
   pub diagnoses : new.rest.diagnoses ≡ old.rest.diagnoses
   pub made : new.rest.made ≡ old.rest.made

@@ -609,6 +609,21 @@ fn a_status_of_no_output_changes_nothing() {
     assert_eq!(ends.outputs().as_slice(), OUTPUTS.as_slice());
 }
 
+// The controller accepts the frames of a device whose application is stopped, and reads that in their DataStatus.
+#[test]
+fn a_device_that_is_stopped_goes_on_to_exchange() {
+    let mut ends = Ends::new(Global, PUMP);
+    ends.turns(5);
+    ends.is_at(State::Exchanging);
+    for (is_running, data_status) in [(false, 0x25), (true, 0x35)] {
+        ends.notes(&Event::provider_state(is_running), Note::Done);
+        let inputs = ends.inputs();
+        assert_eq!(told(&mut ends.controller, &ControllerEvent::Frame(inputs)).len(), 0);
+        assert_eq!(ends.provided(1, 1), Some((0x80, data_status)));
+        ends.is_at(State::Exchanging);
+    }
+}
+
 // IOPS and DataStatus of inputs, while the relation is established and as soon as a frame was accepted. Bit 4 of DataStatus is
 // clear where the device is stopped.
 #[test]

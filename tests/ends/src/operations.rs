@@ -61,6 +61,7 @@ pub(crate) fn asked(what: u32) -> Op {
         specifier: 0,
         structure: 0,
         sequence: 0,
+        confirmed: 0,
         port_length: 0,
         chassis_length: 0,
         work: 0,

@@ -4,6 +4,7 @@
 #![cfg(test)]
 
 mod calls;
+mod confirmed;
 mod cycles;
 mod host;
 mod judged;

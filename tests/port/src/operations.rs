@@ -10,7 +10,7 @@ use test_stations::SET;
 const HEADER: &str = include_str!("../../../include/nandutable.h");
 
 /// The lines of the header from this one on, up to the one that ends it.
-fn lines_of(begin: &str) -> impl Iterator<Item = &'static str> {
+pub(crate) fn lines_of(begin: &str) -> impl Iterator<Item = &'static str> {
     HEADER.lines().skip_while(move |line| !line.starts_with(begin)).skip(1).take_while(|line| !line.starts_with('}'))
 }
 
@@ -46,6 +46,7 @@ pub(crate) fn asked(what: u32) -> Op {
         specifier: 0,
         structure: 0,
         sequence: 0,
+        confirmed: 0,
         port_length: 0,
         chassis_length: 0,
         work: 0,
@@ -67,7 +68,7 @@ fn answer(port: &mut Port, what: u32) -> u32 {
 fn before_a_start_and_behind_a_loss() {
     let mut early = made();
     let mut late = lost();
-    for what in (3..26).filter(|what| *what != 7) {
+    for what in (3..28).filter(|what| *what != 7) {
         assert_eq!(answer(&mut early, what), 5);
         assert_eq!(answer(&mut late, what), 14);
     }
@@ -83,7 +84,7 @@ fn before_a_start_and_behind_a_loss() {
 #[test]
 fn no_such_operation_sector_or_slot() {
     let mut port = made();
-    for what in [0, 7, 26, u32::MAX] {
+    for what in [0, 7, 28, u32::MAX] {
         assert_eq!(answer(&mut port, what), 10);
     }
     let mut op = asked(1);
@@ -275,6 +276,25 @@ fn a_33rd_diagnosis_finds_no_room() {
     }
 }
 
+// ProviderState, bit 4 of DataStatus, is 0 in each frame while the application is stopped (IEC 61158-6-10, 4.7.2.1.3).
+#[test]
+fn a_stop_is_in_each_frame() {
+    assert_eq!(answer(&mut booted(), 27), 0);
+    assert_eq!(answer(&mut busy(), 27), 7);
+    let mut port = crate::passed::exchanging(false);
+    for (what, wanted) in [(27, 0x25), (26, 0x35)] {
+        let mut op = asked(what);
+        assert_eq!((serve(&mut port, &mut op, &[]), op.note, op.work), (0, 0, 0));
+        let (mut op, mut answer) = (asked(4), 0);
+        op.units = 32;
+        assert_eq!((serve(&mut port, &mut op, &[]), op.work), (0, 3));
+        let sent = hand_out(&mut port, &mut op, &mut answer);
+        assert_eq!(sent[sent.len() - 2..], [wanted, 0]);
+        let _ = hand_out(&mut port, &mut op, &mut answer);
+        assert_eq!(op.work, 0);
+    }
+}
+
 // Without a relation nobody waits for the application, and no frame was accepted.
 #[test]
 fn ready_and_the_provider_need_a_relation() {
@@ -349,6 +369,7 @@ fn the_fields_are_those_of_the_header() {
         ("specifier", offset_of!(Op, specifier)),
         ("structure", offset_of!(Op, structure)),
         ("sequence", offset_of!(Op, sequence)),
+        ("confirmed", offset_of!(Op, confirmed)),
         ("port_length", offset_of!(Op, port_length)),
         ("chassis_length", offset_of!(Op, chassis_length)),
         ("work", offset_of!(Op, work)),
@@ -361,7 +382,7 @@ fn the_fields_are_those_of_the_header() {
     for (place, (name, offset)) in fields.into_iter().enumerate() {
         assert_eq!((named[place], 4 * place), (name, offset));
     }
-    assert_eq!((offset_of!(Op, octets), size_of::<Op>()), (4 * named.len(), 1664));
+    assert_eq!((offset_of!(Op, octets), size_of::<Op>()), (4 * named.len(), 1668));
 }
 
 #[test]

@@ -192,6 +192,12 @@ fn the_status_of_the_last_frame_is_read() {
     assert_eq!(sent_status(&mut device), 0x35);
     device.notes(&Event::diagnosis(1, 1, 0x8000, 3, true), Note::Done);
     assert_eq!(told_status(&mut device, 6), 0x35);
+    // The same holds of an application that stops.
+    device.notes(&Event::provider_state(false), Note::Done);
+    assert_eq!(told_status(&mut device, 7), 0x35);
+    assert_eq!(sent_status(&mut device), 0x05);
+    device.notes(&Event::provider_state(true), Note::Done);
+    assert_eq!(told_status(&mut device, 8), 0x05);
     // The next relation has sent none.
     let _ = crate::requests::served(&mut device.station, &call(1, 7, 100, &test_stations::END));
     let again = crate::connects::connect(0x11, 600, THREE);

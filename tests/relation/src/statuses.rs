@@ -1,5 +1,6 @@
 //! The IOPS of inputs: what the application says of them, and an option by which they begin bad. What the controller says of
-//! its outputs, whether all parameters came, and the problem bit of DataStatus. The octets were worked out by hand from IEC 61158-6-10.
+//! its outputs, whether all parameters came, and the problem bit and the provider state of DataStatus. The octets were worked out by
+//! hand from IEC 61158-6-10.
 use crate::Tried;
 use crate::connects::{Blocks, INPUT_MOVED, OTHER, THREE, connect};
 use crate::exchange::outputs;
@@ -47,6 +48,11 @@ impl Tried {
     // The application says this of the inputs of a submodule.
     fn rates(&mut self, slot: u16, subslot: u16, is_good: bool, note: Note) {
         self.sends_none(&Event::status(slot, subslot, is_good), note);
+    }
+
+    // The application runs from now on, or is stopped.
+    fn turns(&mut self, is_running: bool) {
+        self.sends_none(&Event::provider_state(is_running), Note::Done);
     }
 
     // The application gives the input of the module in slot 1.
@@ -264,6 +270,53 @@ fn a_diagnosis_is_a_problem_of_the_station() {
     device.serve(RELEASE, 1, &END);
     device.serve(CONNECT, 2, &three());
     device.shows_with(&ZEROS, 0x15);
+    device.station.load().expect("starts again");
+    device.is_at(None);
+    device.serve(CONNECT, 0, &three());
+    device.shows(&ZEROS);
+}
+
+// Bit 4 of DataStatus, ProviderState, is 1 for Run and 0 for Stop (IEC 61158-6-10, 4.7.2.1.3): 0x25 of a device that is stopped, 0x05 if it
+// has a problem too. The data, its IOPS and all other bits stay as they are.
+#[test]
+fn a_stopped_application_is_in_each_frame() {
+    let mut device = station(false);
+    device.turns(false);
+    device.serve(CONNECT, 0, &three());
+    device.gives(&[0x12, 0x34], Note::Done);
+    device.shows_with(&GOOD, 0x25);
+    device.turns(true);
+    device.shows(&GOOD);
+    device.turns(false);
+    device.turns(false);
+    device.shows_with(&GOOD, 0x25);
+    device.diagnoses((1, 1, 3, 6), true);
+    device.shows_with(&GOOD, 0x05);
+    device.turns(true);
+    device.shows_with(&GOOD, 0x15);
+    device.diagnoses((1, 1, 3, 6), false);
+    device.turns(false);
+    device.rates(1, 1, false, Note::Done);
+    device.shows_with(&BAD, 0x25);
+}
+
+// It outlives the relation, and is forgotten at a start.
+#[test]
+fn a_stopped_application_is_stopped_in_the_next_relation() {
+    let mut device = station(false);
+    device.serve(CONNECT, 0, &three());
+    device.shows(&ZEROS);
+    device.turns(false);
+    device.shows_with(&ZEROS, 0x25);
+    device.serve(RELEASE, 1, &END);
+    device.passes(64, 0);
+    device.serve(CONNECT, 2, &three());
+    device.shows_with(&ZEROS, 0x25);
+    device.serve(RELEASE, 3, &END);
+    device.turns(true);
+    device.serve(CONNECT, 4, &three());
+    device.shows(&ZEROS);
+    device.turns(false);
     device.station.load().expect("starts again");
     device.is_at(None);
     device.serve(CONNECT, 0, &three());

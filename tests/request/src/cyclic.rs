@@ -4,7 +4,7 @@ use arrayvec::ArrayVec;
 use connect_blocks::{IoObject, IoObjects, IocrType};
 use cyclic_data::{
     Consumer, CyclicTail, DataStatus, ExpectedData, Image, Layout, LayoutFault, Place, PlaceKind,
-    Provider, ReceivedImage, ShortFrame, put_cyclic, read_cyclic,
+    Provider, ReceivedImage, ShortFrame, StationState, put_cyclic, read_cyclic,
 };
 use connect_blocks::SubmoduleData;
 
@@ -151,7 +151,7 @@ fn numbers_of_faults() {
 #[test]
 fn counters_come_round() {
     let mut consumer = Consumer::new(3, 32);
-    let good = DataStatus::running(false);
+    let good = StationState::in_order().data_status();
     assert!(consumer.accept(65_520, good, 0));
     assert!(consumer.accept(16, good, 0));
     assert!(!consumer.accept(65_520, good, 0));
@@ -234,10 +234,20 @@ fn an_image_of_outputs() {
     assert_eq!(image.status(PlaceKind::Iocs, 0, 1), Some(0));
 }
 
+// Bits 0 (State: primary) and 2 (DataValid) are set, bit 4 (ProviderState) is 1 for Run, and bit 5 (StationProblemIndicator) is 1 for no
+// problem (IEC 61158-6-10, 4.7.2.1.3).
+#[test]
+fn what_a_station_says_of_itself() {
+    for (is_running, has_problem, wanted) in [(true, false, 0x35), (true, true, 0x15), (false, false, 0x25), (false, true, 0x05)] {
+        let state = StationState { is_running, has_problem };
+        assert_eq!(CyclicTail::of(0x1234, state).octets().as_slice(), [0x12, 0x34, wanted, 0].as_slice());
+    }
+}
+
 #[test]
 fn octets_of_a_frame() {
     let mut out = ArrayVec::<u8, 20>::new();
-    put_cyclic(&mut out, &[1, 2, 3], CyclicTail::running(0x1234, false));
+    put_cyclic(&mut out, &[1, 2, 3], CyclicTail::of(0x1234, StationState::in_order()));
     let wanted = [1, 2, 3, 0x12, 0x34, 0x35, 0];
     assert_eq!(out.as_slice(), &wanted[..]);
     // padding is not looked at

@@ -54,6 +54,7 @@ impl Device {
             Operation::Connect => {
                 let application = Application {
                     options: &DeviceOptions::default(),
+                    is_running: true,
                     statuses: &[],
                     units: 0,
                     diagnoses: &Diagnoses::new(),

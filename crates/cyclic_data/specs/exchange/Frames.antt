@@ -1,8 +1,10 @@
 -- The frames of cyclic data and of alarms, at both ends.
-use Rattle.std.specs.Prelude.{ℕ, Bool, false, List, [], Some, None, if◌then◌else◌}
+use Rattle.std.specs.Prelude.{ℕ, List, [], Some, None}
 use Rattle.pn_values.specs.declared.mac.Mac.{Mac}
 use Rattle.frame_codec.specs.Meaning.{Content, RealTime}
 use Rattle.frame_codec.specs.Frame.{frame_bytes}
+use Rattle.cyclic_data.specs.declared.status.StationState.{StationState}
+use Rattle.cyclic_data.specs.Status.{data_status_of, in_order}
 use Rattle.cyclic_data.specs.declared.tail.CyclicTail.{CyclicTail}
 use Rattle.cyclic_data.specs.Image.{Shown, octets_of}
 use Rattle.cyclic_data.specs.Tail.{cyclic_bytes}
@@ -17,32 +19,31 @@ abbrev pub tagged_frame : Mac → Mac → ℕ → Content → List ℕ
 tagged_frame source destination tag content =
     frame_bytes (record { destination = destination; source = source; tag = Some tag; content = content })
 
--- The fields after the data: DataStatus 0x35, of a provider that runs and has no problem, or 0x15, of one that runs and has
--- a problem, and TransferStatus 0.
-abbrev pub tail_at : Bool → ℕ → CyclicTail
-tail_at has_problem counter = record {
+-- The fields after the data, of a provider in this state: its DataStatus, and TransferStatus 0.
+abbrev pub tail_at : StationState → ℕ → CyclicTail
+tail_at state counter = record {
   counter = counter;
-  data_status = record { 0 = if has_problem then 0x15 else 0x35 };
+  data_status = record { 0 = data_status_of state };
   transfer_status = 0;
 }
 
 -- The tail of a cyclic frame with this CycleCounter, with DataStatus 0x35: run, valid, primary, no problem.
 abbrev pub running_at : ℕ → CyclicTail
-running_at counter = tail_at false counter
+running_at counter = tail_at in_order counter
 
 -- The octets that follow the FrameID of a cyclic frame at this CycleCounter.
-abbrev pub body_at : Bool → Shown → ℕ → List ℕ
-body_at has_problem shown counter = cyclic_bytes (octets_of shown) (tail_at has_problem counter) []
+abbrev pub body_at : StationState → Shown → ℕ → List ℕ
+body_at state shown counter = cyclic_bytes (octets_of shown) (tail_at state counter) []
 
 -- A cyclic frame from this station to its partner.
-abbrev pub frame_at : Mac → Route → Bool → Shown → ℕ → List ℕ
-frame_at source route has_problem shown counter =
-    tagged_frame source route.partner route.sent_tag (RealTime route.sent_id (body_at has_problem shown counter))
+abbrev pub frame_at : Mac → Route → StationState → Shown → ℕ → List ℕ
+frame_at source route state shown counter =
+    tagged_frame source route.partner route.sent_tag (RealTime route.sent_id (body_at state shown counter))
 
--- The octets after the FrameID of a cyclic frame of a station without a problem.
+-- The octets after the FrameID of a cyclic frame of a station that runs and has no problem.
 abbrev pub cyclic_body : Shown → ℕ → List ℕ
-cyclic_body shown counter = body_at false shown counter
+cyclic_body shown counter = body_at in_order shown counter
 
--- The octets of a cyclic frame of an end without a problem.
+-- The octets of a cyclic frame of an end that runs and has no problem.
 abbrev pub cyclic_frame : Mac → Route → Shown → ℕ → List ℕ
-cyclic_frame source route shown counter = frame_at source route false shown counter
+cyclic_frame source route shown counter = frame_at source route in_order shown counter

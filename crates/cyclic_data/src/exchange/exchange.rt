@@ -11,7 +11,7 @@ use crate::image::Image;
 use crate::layout::Layout;
 use crate::place::PlaceKind;
 use crate::received::ReceivedImage;
-use crate::status::{DataStatus, GOOD};
+use crate::status::{DataStatus, GOOD, StationState};
 use crate::tail::CyclicTail;
 use crate::timing::{Consumer, Provider};
 use crate::zero_octets::zeros;
@@ -252,17 +252,14 @@ impl CyclicExchange {
         }
     }
 
-    /// The octets that follow the FrameID of a frame that is sent at this CycleCounter by a station with or without a
-    /// problem: the data, at most 1,440 octets, and the four octets after it.
+    /// The octets that follow the FrameID of a frame that is sent at this CycleCounter by a station in this state:
+    /// the data, at most 1,440 octets, and the four octets after it.
     #[inline(always)]
-    pub fn data(&self, counter: u16, has_problem: bool) -> (&[u8], ArrayVec<u8, 4>)
-        ensures exact { result.0.now ++ result.1.items ≡ body_at has_problem self.now.shown counter }
+    pub fn data(&self, counter: u16, state: StationState) -> (&[u8], ArrayVec<u8, 4>)
+        ensures exact { result.0.now ++ result.1.items ≡ body_at state self.now.shown counter }
         ensures few { length result.0.now ≤ 1440 }
         ensures tail { array_vec_len result.1 ≡ 4 }
     {
-        (
-            self.sent.bytes(),
-            CyclicTail::running(counter, has_problem).octets(),
-        )
+        (self.sent.bytes(), CyclicTail::of(counter, state).octets())
     }
 }

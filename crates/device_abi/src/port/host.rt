@@ -136,6 +136,9 @@ fn hand_on(port: &mut Port, local: &Local<Octets<'_, 1519>>)
         Local::Ready => {
             let _ = port.ready();
         }
+        Local::ProviderState(is_running) => {
+            let _ = port.provider_state(*is_running);
+        }
     }
 }
 

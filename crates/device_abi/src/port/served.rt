@@ -4,7 +4,7 @@ ghost use Rattle.std.specs.Option.{option_map};
 ghost use Rattle.device_abi.specs.port.State.{IsIdle, IsRead, closed, has_some, has_work as is_left, waiting as waiting_in};
 ghost use Rattle.device_abi.specs.declared.port.stage.Stage.TheVariants.{Booted, Made};
 ghost use Rattle.device_frames.specs.declared.event.Event.TheVariants.{Application, Frame as Framed};
-ghost use Rattle.device_frames.specs.declared.local.Local.TheVariants.{Alarm, Diagnosis, Input, Ready, Status};
+ghost use Rattle.device_frames.specs.declared.local.Local.TheVariants.{Alarm, Diagnosis, Input, ProviderState, Ready, Status};
 ghost use Rattle.device_abi.specs.port.Pace.{AreCalm};
 ghost use Rattle.device_abi.specs.port.Served.{IsFetched, IsNextBoth, advanced_both, barred_both, conflicts_of, due_both, frames_of, linked_both, lost_both, or_own as kind_or_own, waiting_both};
 ghost use Rattle.device_abi.specs.port.ServedSteps.{AnswersBoth, HearsBoth, IsOfApplication, KnowsBothOrNot, PassesBothOrNot, PassesOneOrNot, QuietOrNot, SkipsOrNot};
@@ -324,6 +324,14 @@ impl Port {
         ensures { AnswersBoth self.old (Application Ready) result self.new }
     {
         self.apply(&Event::ready())
+    }
+
+    /// The application runs from now on, or is stopped.
+    #[inline(never)]
+    pub fn provider_state(&mut self, is_running: bool) -> Result<Note, Refusal>
+        ensures { AnswersBoth self.old (Application (ProviderState is_running)) result self.new }
+    {
+        self.apply(&Event::provider_state(is_running))
     }
 
     // Any event but a frame and a unit of time: of the services it only lets them see the running settings.

@@ -89,7 +89,7 @@ input_value station events slot subslot place = unwrap_or (last_given station sl
 
 -- Whether a message is a frame of inputs, and whether one is sent.
 abbrev pub is_inputs : Sent → Bool
-is_inputs (Exchanges route (Inputs has_problem inputs counter)) = true
+is_inputs (Exchanges route (Inputs state inputs counter)) = true
 is_inputs message = false
 
 -- Whether one of these frames is a cyclic frame of inputs.
@@ -98,7 +98,7 @@ sends_inputs sent = list_any is_inputs sent
 
 -- A frame of inputs has for each input of the relation the value that was given last.
 abbrev pub HasTheLast : Station → List Happening → Request → Sent → Type 0
-HasTheLast station events request (Exchanges route (Inputs has_problem inputs counter)) = (slot subslot : ℕ)
+HasTheLast station events request (Exchanges route (Inputs state inputs counter)) = (slot subslot : ℕ)
     → option_map (λ cell. cell.value) (cell_at Data slot subslot inputs.cells)
     ≡ option_map (input_value station events slot subslot) (place_at Data slot subslot request.input.layout.places)
 HasTheLast station events request message = Unit {0}

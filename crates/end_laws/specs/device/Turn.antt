@@ -95,7 +95,7 @@ IsSameOr before after = (option_map standing_of after ≡ option_map standing_of
 
 -- a message without alarm data and without a reply to it: inputs and the ERR belong to the relation that existed
 abbrev pub IsCalm : Option RelationState → Sent → Type 0
-IsCalm before (Exchanges route (Inputs has_problem inputs counter)) = (link : RelationState) × (before ≡ Some link) × (route ≡ link.flow.cyclic.route)
+IsCalm before (Exchanges route (Inputs state inputs counter)) = (link : RelationState) × (before ≡ Some link) × (route ≡ link.flow.cyclic.route)
 IsCalm before (Exchanges route (Notifies header alarm)) = ⊥
 IsCalm before (Exchanges route (Replies header)) = ⊥
 IsCalm before (Exchanges route (Reports tag header alarm)) = ⊥

@@ -14,10 +14,11 @@ use Rattle.relations.specs.declared.exchange.statuses.InputStatus.{InputStatus}
 use Rattle.relations.specs.exchange.Statuses.{is_bad}
 
 -- What a relation begins with. What the application says of its inputs: whether the IOPS of a submodule with inputs is bad
--- until the first input is given, and the statuses that it gave. The units since the start of the device. And the diagnoses
+-- until the first input is given, whether it runs or is stopped, and the statuses that it gave. The units since the start of the device. And the diagnoses
 -- that exist. And the number of the relation.
 pub record Starting : Type 0 where
   pub begin_bad : Bool
+  pub is_running : Bool
   pub statuses : List InputStatus
   pub units : ℕ
   pub diagnoses : List Diagnosis

@@ -1,5 +1,5 @@
 -- The exchange of a relation that is established now, with the answer to its Connect (IEC 61158-6-10, 5.2.4).
-use Rattle.std.specs.Prelude.{◌*◌, ℕ, List, None, false, map, if◌then◌else◌}
+use Rattle.std.specs.Prelude.{◌*◌, ℕ, List, None, map, if◌then◌else◌}
 use Rattle.wire.specs.blocks.modules.Lists.{Listed}
 use Rattle.connect_blocks.specs.declared.module_diff.DiffModule.{DiffModule}
 use Rattle.connect_blocks.specs.declared.module_diff.DiffSubmodule.{DiffSubmodule}
@@ -7,6 +7,7 @@ use Rattle.module_diff.specs.Diff.{is_listed}
 use Rattle.cyclic_data.specs.declared.place.PlaceKind.TheVariants.{Data, Iocs}
 use Rattle.cyclic_data.specs.declared.place.Place.{Place}
 use Rattle.cyclic_data.specs.Image.{Cell, good}
+use Rattle.cyclic_data.specs.Status.{in_order}
 use Rattle.connects.specs.declared.requests.parts.Iocr.{Iocr}
 use Rattle.connects.specs.requests.Request.{Request}
 use Rattle.pn_alarms.specs.Device.{idle}
@@ -67,7 +68,8 @@ opened request rows starting = record {
   alarms = idle request.alarm.timeout_factor request.alarm.retries;
   low = low_opened (terms_of request) request.expected rows starting.diagnoses;
   marks = first_marks request rows starting;
-  problem_sent = false;
+  is_running = starting.is_running;
+  state_sent = in_order;
   endpoint = endpoint_of starting.number;
 }
 

@@ -29,6 +29,10 @@ given_at flow slot subslot value = option_map (with_input flow slot subslot) (cy
 abbrev pub rated_at : Flow → ℕ → ℕ → Bool → Flow
 rated_at flow slot subslot is_good = remarked flow slot subslot (Some is_good)
 
+-- The application says that it runs or is stopped from now on.
+abbrev pub turned : Flow → Bool → Flow
+turned flow is_running = record flow { is_running = is_running }
+
 -- The output of a submodule, if it has a place: its data in the last accepted frame. All zeros if no frame was accepted
 -- yet, or if the IOPS is not good.
 abbrev pub output_at : Flow → ℕ → ℕ → Option (List ℕ)

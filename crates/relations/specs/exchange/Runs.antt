@@ -17,13 +17,13 @@ use Rattle.cyclic_data.specs.exchange.Process.{given_at as cyclic_given}
 use Rattle.cyclic_data.specs.exchange.Runs.{held_in, later_one}
 use Rattle.diagnosis.specs.alarms.Alarms.{Low}
 use Rattle.relations.specs.exchange.Diagnosis.{with_low}
-use Rattle.relations.specs.exchange.Flow.{Flow}
+use Rattle.relations.specs.exchange.Flow.{Flow, state_of}
 use Rattle.relations.specs.declared.exchange.marks.Mark.{Mark}
 use Rattle.relations.specs.exchange.Marks.{Starting, awaits, change_by, first_mark, iops_by, iops_of, mark_at, marked}
 use Rattle.relations.specs.exchange.Opening.{begun_of, interval_of, opened, status_of}
 use Rattle.relations.specs.exchange.Units.{flow_later, is_silent}
 use Rattle.relations.specs.exchange.Received.{behind_frame}
-use Rattle.relations.specs.exchange.Process.{given_at, rated_at}
+use Rattle.relations.specs.exchange.Process.{given_at, rated_at, turned}
 use Rattle.relations.specs.exchange.Notices.{behind_message, raised_at}
 
 -- What happens to an exchange that was opened: each call that changes it. A call that changes the alarms of low priority leaves
@@ -37,6 +37,7 @@ pub data Event : Type 0 where
   Raises : (real : List RealModule) → (slot : ℕ) → (subslot : ℕ) → (octets : List ℕ) → Event
   Says : (message : ToDevice) → Event
   Lowers : (low : Low) → Event
+  Turns : (is_running : Bool) → Event
 
 -- The state after an event, and after several events in order.
 abbrev pub behind : Event → Flow → Flow
@@ -48,6 +49,7 @@ behind (Rates slot subslot is_good) flow = rated_at flow slot subslot is_good
 behind (Raises real slot subslot octets) flow = unwrap_or (raised_at flow real slot subslot octets) flow
 behind (Says message) flow = behind_message flow message
 behind (Lowers low) flow = with_low flow low
+behind (Turns is_running) flow = turned flow is_running
 
 -- The exchange after these events.
 abbrev pub behind_all : List Event → Flow → Flow
@@ -75,6 +77,7 @@ cyclic_event (Rates slot subslot is_good) flow = core.States slot subslot (iops_
 cyclic_event (Raises real slot subslot octets) flow = core.Rests ∷ []
 cyclic_event (Says message) flow = core.Rests ∷ []
 cyclic_event (Lowers low) flow = core.Rests ∷ []
+cyclic_event (Turns is_running) flow = core.Rests ∷ []
 
 -- What these events are to the cyclic data.
 abbrev pub cyclic_events : List Event → Flow → List core.Event
@@ -91,6 +94,7 @@ units_of (Rates slot subslot is_good) = 0
 units_of (Raises real slot subslot octets) = 0
 units_of (Says message) = 0
 units_of (Lowers low) = 0
+units_of (Turns is_running) = 0
 
 -- How many of these events are units of time.
 abbrev pub units_in : List Event → ℕ
@@ -113,6 +117,7 @@ given_with slot subslot size (Rates to_slot to_subslot is_good) = None
 given_with slot subslot size (Raises real of_slot of_subslot octets) = None
 given_with slot subslot size (Says message) = None
 given_with slot subslot size (Lowers low) = None
+given_with slot subslot size (Turns is_running) = None
 
 -- The value that was given last for an input of this size, if one was given.
 abbrev pub last_given : ℕ → ℕ → ℕ → List Event → Option (List ℕ)
@@ -130,6 +135,7 @@ rated_with slot subslot (Rates to_slot to_subslot is_good) =
 rated_with slot subslot (Raises real of_slot of_subslot octets) = None
 rated_with slot subslot (Says message) = None
 rated_with slot subslot (Lowers low) = None
+rated_with slot subslot (Turns is_running) = None
 
 -- The later of two statuses, if there is one.
 abbrev pub later_rated : Option Bool → Option Bool → Option Bool
@@ -157,6 +163,23 @@ mark_after slot subslot events mark = record mark {
 abbrev pub input_iops : Listed DiffModule DiffSubmodule → Starting → ℕ → ℕ → List Event → Place → ℕ
 input_iops rows starting slot subslot events place = iops_by (mark_after slot subslot events (first_mark starting rows place))
 
+-- Whether the application runs, if this event says it, and what it said last.
+abbrev pub turned_with : Event → Bool → Bool
+turned_with Begins was = was
+turned_with Passes was = was
+turned_with (Comes source frame_id body) was = was
+turned_with (Gives slot subslot value) was = was
+turned_with (Rates slot subslot is_good) was = was
+turned_with (Raises real slot subslot octets) was = was
+turned_with (Says message) was = was
+turned_with (Lowers low) was = was
+turned_with (Turns is_running) was = is_running
+
+-- Whether the application runs after these events: as it said last, and as before if it said nothing.
+abbrev pub last_turned : List Event → Bool → Bool
+last_turned [] was = was
+last_turned (event ∷ events) was = last_turned events (turned_with event was)
+
 -- Whether none of the events restarts or stops the data hold time.
 abbrev pub AreNoRenewals : List Event → Flow → Type 0
 AreNoRenewals events flow = core.AreNoRenewals (cyclic_events events flow) flow.cyclic
@@ -183,6 +206,12 @@ abbrev pub AreTheIops : Type 0
 AreTheIops = (request : Request) (rows : Listed DiffModule DiffSubmodule) (starting : Starting) (events : List Event) (slot subslot : ℕ)
     → option_map (λ cell. cell.status) (cell_at Data slot subslot (behind_all events (opened request rows starting)).cyclic.shown.cells)
     ≡ option_map (input_iops rows starting slot subslot events) (place_at Data slot subslot request.input.layout.places)
+
+-- For any events, a frame of inputs says that the device runs exactly if its application said so last. What it said before the
+-- Connect counts too.
+abbrev pub RunsAsSaid : Type 0
+RunsAsSaid = (request : Request) (rows : Listed DiffModule DiffSubmodule) (starting : Starting) (events : List Event)
+    → (state_of (behind_all events (opened request rows starting))).is_running ≡ last_turned events starting.is_running
 
 -- For any events, the IOCS that are sent are those of the answer to the Connect.
 abbrev pub AreStillTheIocs : Type 0

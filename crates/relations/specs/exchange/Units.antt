@@ -4,11 +4,12 @@ use Rattle.pn_alarms.specs.declared.abort.Abort.{Abort}
 use Rattle.pn_alarms.specs.declared.repeats.Due.{Due}
 use Rattle.pn_alarms.specs.Device.{end_later}
 use Rattle.pn_alarms.specs.Sending.{due, either_due, is_again, is_repeated}
+use Rattle.cyclic_data.specs.declared.status.StationState.{StationState}
 use Rattle.cyclic_data.specs.exchange.Units.{cyclic_later}
 use Rattle.cyclic_data.specs.exchange.Units.{Brought, ending_of as cyclic_ending, is_silent as is_cyclic_silent, tick_of as cyclic_tick}
 use Rattle.diagnosis.specs.alarms.Alarms.{later as low_later}
 use Rattle.relations.specs.declared.exchange.cyclic.Repeated.{Repeated}
-use Rattle.relations.specs.exchange.Flow.{Flow}
+use Rattle.relations.specs.exchange.Flow.{Flow, state_of}
 
 -- Whether the data hold time is over with this unit. It runs while data is exchanged.
 abbrev pub is_silent : Flow → Bool
@@ -35,10 +36,9 @@ ending_of flow = cyclic_ending flow.cyclic (alarm_due flow)
 abbrev pub tick_of : Flow → Brought
 tick_of flow = cyclic_tick flow.cyclic (alarm_due flow)
 
--- DataStatus of the last frame of inputs: a frame that is sent with this unit says whether a submodule of the relation has a
--- diagnosis.
-abbrev pub problem_later : Flow → Bool
-problem_later flow = if (tick_of flow).is_cyclic then flow.low.has_problem else flow.problem_sent
+-- What the last frame of inputs said of the station, after a unit of time: what one says that is sent with this unit.
+abbrev pub state_later : Flow → StationState
+state_later flow = if (tick_of flow).is_cyclic then state_of flow else flow.state_sent
 
 -- The state after a unit of time.
 abbrev pub flow_later : Flow → Flow
@@ -46,5 +46,5 @@ flow_later flow = record flow {
   cyclic = cyclic_later flow.cyclic;
   alarms = end_later flow.alarms;
   low = low_later flow.low;
-  problem_sent = problem_later flow;
+  state_sent = state_later flow;
 }

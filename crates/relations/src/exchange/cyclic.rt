@@ -1,12 +1,13 @@
 //! Cyclic frames, and the units of time.
 ghost use Rattle.std.specs.Prelude.{◌≡◌, ◌≢◌, ◌+◌, ◌<◌, ◌≤◌, false};
 ghost use Rattle.pn_alarms.specs.Leaps.{after};
+ghost use Rattle.relations.specs.exchange.Flow.{state_of};
 ghost use Rattle.relations.specs.exchange.Leaps.{BringNothing, flow_due_in};
 ghost use Rattle.relations.specs.exchange.Received.{behind_frame, received_as};
 ghost use Rattle.relations.specs.exchange.Units.{flow_later, repeated_in, repeated_of, tick_of};
 
 use crate::exchange::data_exchange::DataExchange;
-use cyclic_data::{Received, Tick};
+use cyclic_data::{Received, StationState, Tick};
 use pn_alarms::Due;
 use pn_values::Mac;
 
@@ -46,16 +47,28 @@ impl DataExchange {
             due => self.cyclic.tick(due),
         };
         if tick.is_cyclic() {
-            self.problem_sent = self.low.has_problem();
+            self.state_sent = self.state();
         }
         tick
     }
 
-    /// Whether the last frame of inputs said that a submodule of the relation has a diagnosis.
-    pub fn problem_sent(&self) -> bool
-        ensures { result ≡ self.now.problem_sent }
+    /// What a frame of inputs says of the station now: whether its application runs, and whether a submodule of the relation
+    /// has a diagnosis.
+    #[inline(always)]
+    pub fn state(&self) -> StationState
+        ensures { result ≡ state_of self.now }
     {
-        self.problem_sent
+        StationState {
+            is_running: self.is_running,
+            has_problem: self.low.has_problem(),
+        }
+    }
+
+    /// What the last frame of inputs said of the station.
+    pub fn state_sent(&self) -> StationState
+        ensures { result ≡ self.now.state_sent }
+    {
+        self.state_sent
     }
 
     /// Which alarms are sent again after the unit that passed last.

@@ -1,14 +1,14 @@
 //! The data exchange of a relation.
 ghost use Rattle.std.specs.Prelude.{◌≡◌, ◌<◌, ◌≤◌, IfSome, None, [], false, is_some, length, option_map, unwrap_or};
 ghost use Rattle.relations.specs.exchange.Opening.{begun_of, opened};
-ghost use Rattle.relations.specs.exchange.Process.{given_at, output_at, rated_at, remarked};
+ghost use Rattle.relations.specs.exchange.Process.{given_at, output_at, rated_at, remarked, turned};
 
 use crate::exchange::marks::{Mark, Starting, awaits, begin, change, iops_in};
 use crate::exchange::opening::{Differing, route_of};
 use crate::numbers::endpoint_of;
 use arrayvec::ArrayVec;
 use connects::ConnectRequest;
-use cyclic_data::{Consumer, CyclicExchange, Provider, Route};
+use cyclic_data::{Consumer, CyclicExchange, Provider, Route, StationState};
 use diagnosis::{DiagnosisAlarms, Terms};
 use module_diff::DiffRows;
 use pn_alarms::DeviceAlarms;
@@ -23,8 +23,10 @@ pub struct DataExchange {
     pub(crate) low: DiagnosisAlarms,
     /// Why the IOPS of inputs are not good, for each place.
     pub(crate) marks: ArrayVec<Mark, 128>,
-    /// Whether the last frame of inputs said that a submodule of the relation has a diagnosis.
-    pub(crate) problem_sent: bool,
+    /// Whether the application runs (`true`) or is stopped.
+    pub(crate) is_running: bool,
+    /// What the last frame of inputs said of the station.
+    pub(crate) state_sent: StationState,
     /// The endpoint of the alarms of the device: the LocalAlarmReference that it returns in AlarmCRBlockRes.
     pub(crate) endpoint: u16,
 }
@@ -35,7 +37,7 @@ impl Model for DataExchange {
 
     ghost Value = { Flow };
 
-    ghost view = { λ exchange. record { cyclic = exchange.cyclic; alarms = exchange.alarms; low = exchange.low; marks = exchange.marks.items; problem_sent = exchange.problem_sent; endpoint = exchange.endpoint } };
+    ghost view = { λ exchange. record { cyclic = exchange.cyclic; alarms = exchange.alarms; low = exchange.low; marks = exchange.marks.items; is_running = exchange.is_running; state_sent = exchange.state_sent; endpoint = exchange.endpoint } };
 }
 
 impl DataExchange {
@@ -52,7 +54,8 @@ impl DataExchange {
             alarms: DeviceAlarms::new(1, 1),
             low: DiagnosisAlarms::new(),
             marks: ArrayVec::new(),
-            problem_sent: false,
+            is_running: true,
+            state_sent: StationState::in_order(),
             endpoint: 1,
         }
     }
@@ -63,7 +66,7 @@ impl DataExchange {
     pub fn open(&mut self, request: &ConnectRequest, rows: &DiffRows, starting: Starting<'_>)
         requires { starting.number < 14336 }
         ensures { self.new ≡ opened request.now rows.now
-            (record { begin_bad = starting.entry.begin_bad; statuses = starting.entry.statuses.now; units = starting.entry.units; diagnoses = starting.entry.diagnoses.now; number = starting.entry.number }) }
+            (record { begin_bad = starting.entry.begin_bad; is_running = starting.entry.is_running; statuses = starting.entry.statuses.now; units = starting.entry.units; diagnoses = starting.entry.diagnoses.now; number = starting.entry.number }) }
     {
         let (input, output, alarm) = (request.input(), request.output(), request.alarm());
         begin(&mut self.marks, input.layout.places(), rows, starting);
@@ -86,7 +89,8 @@ impl DataExchange {
         };
         self.low
             .open(terms, request.expected(), rows, starting.diagnoses);
-        self.problem_sent = false;
+        self.is_running = starting.is_running;
+        self.state_sent = StationState::in_order();
         self.endpoint = endpoint_of(starting.number);
     }
 
@@ -141,6 +145,13 @@ impl DataExchange {
         ensures { self.new ≡ rated_at self.old slot subslot is_good }
     {
         self.remark(slot, subslot, Some(is_good));
+    }
+
+    /// Says that the application runs or is stopped from now on. The inputs and their IOPS are not changed.
+    pub fn set_running(&mut self, is_running: bool)
+        ensures { self.new ≡ turned self.old is_running }
+    {
+        self.is_running = is_running;
     }
 
     /// Changes the marks of the inputs of a submodule: an input was given, or this status. The IOPS follows.

@@ -1,5 +1,5 @@
 //! What holds for exchanges over many events.
-ghost use Rattle.relations.specs.exchange.Runs.{AreOfTheLast, AreStillTheIocs, AreTheIops, AreTheLastGiven, IsDueEachInterval, IsHeldSoLong};
+ghost use Rattle.relations.specs.exchange.Runs.{AreOfTheLast, AreStillTheIocs, AreTheIops, AreTheLastGiven, IsDueEachInterval, IsHeldSoLong, RunsAsSaid};
 
 use cyclic_data::cyclic_data_is_kept;
 
@@ -16,6 +16,9 @@ pub fn exchange_is_kept()
     // For any events, the IOPS of a submodule is good exactly if the ModuleDiffBlock does not list it, if the application
     // did not say last that it is bad, and, if inputs begin bad, if it has no octets of data or an input was given.
     ensures iops { AreTheIops }
+    // For any events, a frame of inputs says that the device runs exactly if its application said so last. What it said before
+    // the Connect counts too.
+    ensures run { RunsAsSaid }
     // For any events, the IOCS that are sent are those of the answer to the Connect.
     ensures iocs { AreStillTheIocs }
     // Counted from its start, the data hold time is over from the unit on that completes it, and not before, unless

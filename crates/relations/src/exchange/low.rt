@@ -40,13 +40,6 @@ impl DataExchange {
         self.low.tag()
     }
 
-    /// Whether a submodule of the relation has a diagnosis.
-    pub fn has_problem(&self) -> bool
-        ensures { result ≡ self.now.low.has_problem }
-    {
-        self.low.has_problem()
-    }
-
     /// Data exchange begins: the diagnoses that exist are reported. Returns whether an alarm must be sent.
     pub fn begin_diagnosis(&mut self, real: &Real, diagnoses: &Diagnoses) -> bool
         ensures sent { result ≡ begins_with_one real.now.modules.items diagnoses.now self.old }

@@ -28,6 +28,8 @@ pub struct Mark {
 pub struct Starting<'a> {
     /// Whether the IOPS of a submodule with inputs is bad until the first input is given.
     pub begin_bad: bool,
+    /// Whether the application runs (`true`) or is stopped.
+    pub is_running: bool,
     /// The statuses that it gave.
     pub statuses: &'a [InputStatus],
     /// The units since the start of the device.
@@ -41,7 +43,7 @@ pub struct Starting<'a> {
 impl Mark {
     /// The first mark of a place.
     fn first(place: &Place, rows: &DiffRows, starting: Starting<'_>) -> Mark
-        ensures { result ≡ first_mark (record { begin_bad = starting.entry.begin_bad; statuses = starting.entry.statuses.now; units = starting.entry.units; diagnoses = starting.entry.diagnoses.now; number = starting.entry.number }) rows.now place.now }
+        ensures { result ≡ first_mark (record { begin_bad = starting.entry.begin_bad; is_running = starting.entry.is_running; statuses = starting.entry.statuses.now; units = starting.entry.units; diagnoses = starting.entry.diagnoses.now; number = starting.entry.number }) rows.now place.now }
     {
         Mark {
             place: *place,
@@ -98,7 +100,7 @@ pub(crate) fn begin(
 )
     requires { length places.now ≤ 128 }
     ensures { marks.new.items
-        ≡ map (first_mark (record { begin_bad = starting.entry.begin_bad; statuses = starting.entry.statuses.now; units = starting.entry.units; diagnoses = starting.entry.diagnoses.now; number = starting.entry.number }) rows.now) places.now }
+        ≡ map (first_mark (record { begin_bad = starting.entry.begin_bad; is_running = starting.entry.is_running; statuses = starting.entry.statuses.now; units = starting.entry.units; diagnoses = starting.entry.diagnoses.now; number = starting.entry.number }) rows.now) places.now }
 {
     marks.clear();
     for place in places {

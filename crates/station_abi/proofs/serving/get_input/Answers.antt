@@ -23,4 +23,4 @@ returns-in-Some c =
 pub returns-in-None : goal.returns-in-None
 returns-in-None c =
     let op = c.args.op.now in
-    (Ok Done, c.in-None.ensures.0, tt, (c.silent.ensures.answer, c.silent.ensures.reported ∙ ap (λ (n : ℕ). record op { note = 0; work = n }) (sym c.in-None.ensures.1)))
+    (Ok Done, c.in-None.ensures.0, tt, (c.silent.ensures.answer, c.silent.ensures.reported ∙ ap (λ (n : ℕ). record op { note = 0; work = n; confirmed = 0 }) (sym c.in-None.ensures.1)))

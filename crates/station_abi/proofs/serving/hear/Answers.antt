@@ -1,12 +1,8 @@
--- It is accepted in silence, or handled, or refused.
-use Rattle.std.proofs.Common.{ℕ, Ok, sym, ap, ◌∙◌}
-use Rattle.device_frames.specs.declared.note.Note.TheVariants.{Done}
+-- No alarm is open: nothing becomes of one.
+use Rattle.std.proofs.Common.{◌∙◌, sym}
+use Rattle.station_abi.proofs.Confirming.{heard_without}
 use Rattle.station_abi.proofs.serving.hear.Goals as goal
 
-pub returns-in-Some : goal.returns-in-Some
-returns-in-Some c = (c.in-Some.outcome, c.in-Some.ensures, c.noted.ensures.answer, c.noted.ensures.reported)
-
-pub returns-in-None : goal.returns-in-None
-returns-in-None c =
-    let op = c.args.op.now in
-    (Ok Done, c.in-None.ensures.0, c.silent.ensures.answer, c.silent.ensures.reported ∙ ap (λ (n : ℕ). record op { note = 0; work = n }) (sym c.in-None.ensures.1))
+pub returns : goal.returns
+returns c =
+    heard_without c.args.port.now _ c.args.op.now c.hear_any.result c.hear_any.new.port c.hear_any.new.op (sym c.is_open.ensures ∙ c.if-is_open.false) c.hear_any.ensures

@@ -2,7 +2,8 @@
 use Rattle.std.proofs.Common.{◌≡◌, ◌∙◌, ℕ, Bool, if◌then◌else◌, sym, ap, subst}
 use Rattle.device_abi.specs.port.Served.{Served, waiting_both}
 use Rattle.device_abi.specs.port.ServedSteps.{PassesBoth}
-use Rattle.station_abi.specs.Serves.{IsTick}
+use Rattle.station_abi.specs.declared.confirmation.Confirmation.TheVariants.{Nothing}
+use Rattle.station_abi.specs.Serves.{IsTickWith}
 use Rattle.station_abi.proofs.Reported.{passed_all, waiting_only}
 use Rattle.station_abi.proofs.serving.tick_more.Goals.{then-has_frames, else-has_frames}
 use Rattle.station_abi.proofs.serving.tick_more.Goals as goal
@@ -24,4 +25,4 @@ returns-after-has_frames c =
 
 pub returns-in-None : goal.returns-in-None
 returns-in-None c =
-    subst (λ (s : Served). IsTick s c.args.op.now c.tick_all-in-None.result c.tick_all-in-None.new.port c.tick_all-in-None.new.op) c.in-None.ensures.passes c.tick_all-in-None.ensures
+    subst (λ (s : Served). IsTickWith Nothing s c.args.op.now c.tick_all-in-None.result c.tick_all-in-None.new.port c.tick_all-in-None.new.op) c.in-None.ensures.passes c.tick_all-in-None.ensures

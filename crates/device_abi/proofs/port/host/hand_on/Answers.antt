@@ -22,3 +22,6 @@ returns-in-Diagnosis c = rw c.in-Diagnosis.is (answered_in _ _ _ _ c.diagnosis.e
 
 pub returns-in-Ready : goal.returns-in-Ready
 returns-in-Ready c = rw c.in-Ready.is (answered_in _ _ _ _ c.ready.ensures)
+
+pub returns-in-ProviderState : goal.returns-in-ProviderState
+returns-in-ProviderState c = rw c.in-ProviderState.is (answered_in _ _ _ _ c.provider_state.ensures)

@@ -1,5 +1,5 @@
--- Inputs and statuses send nothing; the octets of an event are those that are given.
-use Rattle.std.proofs.Common.{ap, map, sym, ◌∙◌}
+-- Inputs, statuses and the provider state send nothing; the octets of an event are those that are given.
+use Rattle.std.proofs.Common.{refl, ap, map, sym, ◌∙◌}
 use Rattle.relations.specs.Exchanged.{given_to}
 use Rattle.relations.specs.exchange.Statuses.{statuses_at}
 use Rattle.device_frames.specs.Sent.{bytes_of}
@@ -56,3 +56,9 @@ returns-in-Status-clause-sendable g c =
     let is_good = c.in-Status.is_good in
     let statuses = statuses_at old.station.real.modules.items (record { slot = slot; subslot = subslot; is_good = is_good }) old.live.rest.statuses in
     rw c.in-Status.is (none_sendable old.station.identity _ (status_sends_nothing old.station old.live slot subslot is_good statuses))
+
+pub returns-in-ProviderState-clause-frames : goal.returns-in-ProviderState-clause-frames
+returns-in-ProviderState-clause-frames g c = rw c.in-ProviderState.is (ap (map (λ frame. frame.items)) c.requires.empty)
+
+pub returns-in-ProviderState-clause-sendable : goal.returns-in-ProviderState-clause-sendable
+returns-in-ProviderState-clause-sendable g c = rw c.in-ProviderState.is (none_sendable c.args.self.now.station.identity _ refl)

@@ -1,5 +1,6 @@
 use Rattle.relations.proofs.ExchangeKept.{are_of_the_last, is_due_each_interval, is_held_so_long}
 use Rattle.relations.proofs.ExchangeInputs.{are_still_the_iocs, are_the_iops, are_the_last_given}
+use Rattle.relations.proofs.ExchangeRuns.{runs_as_said}
 use Rattle.relations.proofs.exchange.laws.exchange_is_kept.Goals as goal
 
 pub returns-clause-interval : goal.returns-clause-interval
@@ -13,6 +14,9 @@ returns-clause-given c = are_the_last_given
 
 pub returns-clause-iops : goal.returns-clause-iops
 returns-clause-iops c = are_the_iops
+
+pub returns-clause-run : goal.returns-clause-run
+returns-clause-run c = runs_as_said
 
 pub returns-clause-iocs : goal.returns-clause-iocs
 returns-clause-iocs c = are_still_the_iocs
