@@ -10,7 +10,6 @@ use Rattle.pn_alarms.specs.declared.pdu.Header.{Header}
 use Rattle.pn_alarms.specs.declared.pdu.PduType.TheVariants as pdu
 use Rattle.diagnosis.specs.declared.reports.priority.Priority.{Priority}
 use Rattle.diagnosis.specs.declared.reports.priority.Priority.TheVariants.{High, Low}
-use Rattle.cyclic_data.specs.Status.{in_order}
 use Rattle.cyclic_data.specs.declared.exchange.route.Route.{Route}
 use Rattle.device_frames.specs.Heard.{Said, Calls, Garbled, Responds, heard_of, heard_reply, is_own}
 use Rattle.device_frames.specs.Heard.{Heard, Elsewhere, Reported, Cyclic, Alarms, LowReplies, LowConfirms}
@@ -72,7 +71,7 @@ module _ (setup : Setup) (laws : ExchangeLaws setup) (good : IsSetup setup) (ide
       subst (IsOfData setup route) (sym (laws.agrees identity caller answer can.0 can.1))
       (reported_so setup route _ caller.endpoint.address answer (is_own identity caller.mac) _)
   message_so (Cycles sent shown counter) can way is =
-      heard_so (controller_bytes setup (Cycles sent shown counter)) sent.partner _ (laws.cycles identity as_device sent in_order shown counter good.mac way can.1)
+      heard_so (controller_bytes setup (Cycles sent shown counter)) sent.partner _ (laws.cycles identity as_device sent false shown counter good.mac way can.1)
       (refl, ap (λ (r : Route). r.sent_id) is)
   message_so (Confirms sent High header ack) can way is =
       heard_so (controller_bytes setup (Confirms sent High header ack)) sent.partner _ (laws.confirms identity sent header ack way can.1 can.2 can.3) tt

@@ -1,5 +1,5 @@
 -- The AlarmAck in a frame.
-use Rattle.std.proofs.Common.{◌≡◌, ◌∙◌, ◌==◌, ℕ, Bool, true, false, List, Option, None, refl, sym, ap}
+use Rattle.std.proofs.Common.{◌≡◌, ◌∙◌, ◌==◌, ℕ, Bool, true, false, List, Option, Some, None, refl, sym, ap}
 use Rattle.std.specs.Prelude.{◌&&◌, ◌||◌, nat_eq, if◌then◌else◌, Result, Ok, Err}
 use Rattle.std.specs.Cmp.Lexicographic.{pointwise}
 use Rattle.pn_values.specs.declared.identity.Identity.{Identity}
@@ -10,6 +10,8 @@ use Rattle.frame_codec.specs.declared.udp.Caller.{Caller}
 use Rattle.frame_codec.specs.Calls.{call_port}
 use Rattle.frame_codec.specs.Meaning.{Content, IsNoRealTime, IsOther, Meaning, RealTime, ArpPacket, UdpDatagram}
 use Rattle.frame_codec.specs.Frame.{frame_of}
+use Rattle.dcp_core.specs.declared.request.DcpFault.{DcpFault}
+use Rattle.dcp_core.specs.Request.{Asked}
 use Rattle.pn_alarms.specs.declared.fault.AlarmFault.{AlarmFault}
 use Rattle.pn_alarms.specs.declared.message.Notice.TheVariants as message
 use Rattle.pn_alarms.specs.declared.pdu.Header.{Header}
@@ -19,7 +21,7 @@ use Rattle.diagnosis.specs.declared.reports.priority.Priority.TheVariants.{High,
 use Rattle.diagnosis.specs.reports.Message.{low_message_of}
 use Rattle.diagnosis.specs.reports.Priority.{priority_of}
 use Rattle.device_frames.specs.declared.event.Event.TheVariants.{Frame}
-use Rattle.device_frames.specs.Heard.{Elsewhere, Reported, Resolves, Said, broadcast, heard_alarm, heard_content, heard_frame, heard_low, heard_of, heard_reply, is_own, said_by}
+use Rattle.device_frames.specs.Heard.{Elsewhere, Reported, Resolves, Said, broadcast, heard_alarm, heard_content, heard_frame, heard_low, heard_of, heard_reply, heard_request, is_own, said_by}
 use Rattle.station_abi.specs.Confirmed.{status_by, status_in}
 
 -- An ACK of either priority has no status.
@@ -49,6 +51,10 @@ of_unread source frame_id body (Err other) fault is = sym (of_low source (low_me
 of_unread source frame_id body (Ok x) fault is = cc
 
 -- ---- other frames
+
+pub of_request : (source : Mac) (read : Result Asked DcpFault) → None ≡ status_by (heard_request source read)
+of_request source (Ok request) = refl
+of_request source (Err fault) = refl
 
 of_packet : (is_taken : Bool) (source : Mac) (arp : Arp) → None ≡ status_by (if is_taken then Resolves source arp else Elsewhere)
 of_packet true source arp = refl

@@ -1,5 +1,5 @@
 -- What became of the open alarm, from whether it is open before and after.
-use Rattle.std.proofs.Common.{◌≡◌, ◌∙◌, ℕ, Bool, true, false, Option, None, refl, sym, ap, subst}
+use Rattle.std.proofs.Common.{◌≡◌, ◌∙◌, ℕ, Bool, true, false, Option, Some, None, refl, sym, ap, subst}
 use Rattle.std.specs.Prelude.{Result, Ok, Err}
 use Rattle.device_frames.specs.declared.event.Event.{Event}
 use Rattle.device_frames.specs.declared.note.Note.{Note}
@@ -7,7 +7,7 @@ use Rattle.device_frames.specs.Heard.{heard_of}
 use Rattle.c_layout.specs.declared.op.Op.{Op}
 use Rattle.device_abi.specs.declared.port.device.Passed.{Passed}
 use Rattle.device_abi.specs.declared.port.refusal.Refusal.{Refusal}
-use Rattle.device_abi.specs.port.Served.{Served, due_both, waiting_both}
+use Rattle.device_abi.specs.port.Served.{Served}
 use Rattle.device_abi.specs.port.ServedSteps.{AnswersBoth, PassesBothOrNot}
 use Rattle.station_abi.specs.declared.confirmation.Confirmation.{Confirmation}
 use Rattle.station_abi.specs.declared.confirmation.Confirmation.TheVariants.{Nothing, Acknowledged, GivenUp}
@@ -85,7 +85,7 @@ passed_by : (result : Result Passed Refusal) (old : Served) (asked : Op) (answer
     → PassesBothOrNot old asked.units result new → answer ≡ answer_of result → middle ≡ with_passed result Nothing new asked → reported ≡ with_confirmation GivenUp middle
     → IsTickWith GivenUp old asked answer new reported
 passed_by (Ok passed) old asked answer new middle reported was is passes done told last =
-    (Ok passed, passes, done, last ∙ (ap (with_confirmation GivenUp) told ∙ told_last GivenUp (record asked { units = passed.left; due = due_both new; note = 0; work = waiting_both new })))
+    (Ok passed, passes, done, last ∙ (ap (with_confirmation GivenUp) told ∙ told_last GivenUp _))
 passed_by (Err refusal) old asked answer new middle reported was is passes done told last = never (sym was ∙ (sym (ap is_open passes.1) ∙ is))
 
 pub passed_over : (old : Served) (asked : Op) (answer : ℕ) (new : Served) (middle reported : Op) → is_open old ≡ true → is_open new ≡ false

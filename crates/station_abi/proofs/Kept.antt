@@ -15,7 +15,7 @@ use Rattle.lldp.specs.Peer.{Peer}
 use Rattle.device_abi.specs.declared.recorded.flash.RecordedFlash.{RecordedFlash}
 use Rattle.device_core.specs.Handled.{Handled, Refuses, Sets, Writes, WritesEach, Moves, handled}
 use Rattle.device_core.specs.Machine.{handled_step, heard_step, step_of}
-use Rattle.station.specs.Beside.{idle, observing}
+use Rattle.station.specs.Beside.{beside, idle, observing}
 use Rattle.station.specs.Serving.{Serving, news_in}
 use Rattle.pn_values.specs.declared.settings.Settings.{Settings}
 use Rattle.device_abi.specs.declared.port.refusal.Refusal.{Refusal}

@@ -1,8 +1,10 @@
 -- How a controller confirms a process alarm. One alarm at a time is open: from the event that raised it to the one that brings its AlarmAck, or
 -- with which its relation ends. The alarm that was open before a frame or units of time is over if none is open afterwards: only the
 -- application raises one.
-use Rattle.std.specs.Prelude.{ℕ, Bool, true, false, Option, Some, None}
+use Rattle.std.specs.Prelude.{ℕ, Bool, true, false, Option, Some, None, Result, Ok, Err}
+use Rattle.pn_alarms.specs.declared.fault.AlarmFault.{AlarmFault}
 use Rattle.pn_alarms.specs.declared.message.Notice.TheVariants as message
+use Rattle.pn_alarms.specs.declared.pdu.Header.{Header}
 use Rattle.pn_alarms.specs.Message.{ToDevice}
 use Rattle.device_frames.specs.declared.event.Event.{Event}
 use Rattle.device_frames.specs.Heard.{Heard, Alarms, heard_of}

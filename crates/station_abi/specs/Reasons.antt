@@ -1,6 +1,6 @@
 -- Why a device refuses what its application says: from what is plugged, what the relation waits for, and the diagnoses that exist, all
 -- before the event. Each reason is that of an event that was refused: the last one of each list is then the only one that remains.
-use Rattle.std.specs.Prelude.{◌==◌, ℕ, nat_le, nat_lt, List, length, if◌then◌else◌, Option, Some, None, is_some, option_map}
+use Rattle.std.specs.Prelude.{◌==◌, ℕ, Bool, not, nat_le, nat_lt, List, length, if◌then◌else◌, Option, Some, None, is_some, option_map}
 use Rattle.std.specs.List.{find}
 use Rattle.diagnosis.specs.Existing.{exists, is_valid}
 use Rattle.diagnosis.specs.declared.diagnosis.Change.{Change}

@@ -9,4 +9,4 @@ pub returns : goal.returns
 returns c =
     c.acknowledged_by.ensures
     ∙ (ap (λ identity. status_by (heard_of identity (Frame (record { items = c.at_most.result.now })))) (c.identity.ensures ∙ ap (λ device. device.station.identity) c.device.ensures)
-    ∙ ap (λ octets. status_by (heard_of c.args.port.now.port.device.station.identity (Frame (record { items = octets })))) c.at_most.ensures.value)
+    ∙ ap (λ octets. status_by (heard_of c.args.port.now.port.device.station.identity (Frame (record { items = octets })))) c.at_most.ensures)

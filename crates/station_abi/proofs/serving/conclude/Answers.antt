@@ -1,5 +1,5 @@
 -- It was refused, or not.
-use Rattle.std.proofs.Common.{◌∙◌, ℕ, refl, sym, ap}
+use Rattle.std.proofs.Common.{◌≡◌, ◌∙◌, ℕ, refl, sym, ap}
 use Rattle.c_layout.specs.declared.op.Op.{Op}
 use Rattle.station_abi.proofs.serving.conclude.Goals as goal
 

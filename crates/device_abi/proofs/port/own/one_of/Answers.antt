@@ -1,0 +1,21 @@
+-- The first part, or the second.
+use Rattle.std.proofs.Common.{length, drop, take, arith}
+use Rattle.std.proofs.lemmas.List.{length-drop, length-take-le}
+use Rattle.device_abi.proofs.PortOwn.{first_at, second_at}
+use Rattle.device_abi.proofs.port.own.one_of.Goals as goal
+
+pub returns-then-index-eq0-clause-at : goal.returns-then-index-eq0-clause-at
+returns-then-index-eq0-clause-at c = first_at c.args.index (take c.args.first c.args.octets.now) (drop c.args.first c.args.octets.now) c.if-index-eq0.true
+
+pub returns-then-index-eq0-clause-short : goal.returns-then-index-eq0-clause-short
+returns-then-index-eq0-clause-short c =
+    let long = length-take-le c.args.first c.args.octets.now c.requires.fits.1 in
+    omega (arith, long, c.requires.fits.0)
+
+pub returns-else-index-eq0-clause-at : goal.returns-else-index-eq0-clause-at
+returns-else-index-eq0-clause-at c = second_at c.args.index (take c.args.first c.args.octets.now) (drop c.args.first c.args.octets.now) c.if-index-eq0.false c.requires.there
+
+pub returns-else-index-eq0-clause-short : goal.returns-else-index-eq0-clause-short
+returns-else-index-eq0-clause-short c =
+    let long = length-drop c.args.first c.args.octets.now in
+    omega (arith, long, c.requires.fits.2)
