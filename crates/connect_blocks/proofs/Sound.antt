@@ -7,7 +7,7 @@ use Rattle.wire.proofs.Counts.{bounded_sound, counted_sound}
 use Rattle.wire.specs.declared.blocks.fault.BlockFault.TheVariants.{Count, Field}
 use Rattle.connect_blocks.specs.declared.control.ControlBlock.{ControlBlock}
 use Rattle.wire.specs.blocks.Fields.{two, four, mac}
-use Rattle.wire.proofs.BlocksSound.{numeral_sound, octets_sound, blank_sound, ranged_sound, fixed_sound, fixed_four_sound, unchecked_two_sound, mac_sound}
+use Rattle.wire.proofs.BlocksSound.{numeral_sound, octets_sound, blank_sound, ranged_sound, fixed_sound, fixed_one_sound, fixed_four_sound, unchecked_two_sound, mac_sound}
 use Rattle.connect_blocks.specs.declared.io_object.IoObject.{IoObject}
 use Rattle.connect_blocks.specs.declared.iocr.IocrType.{IocrType}
 use Rattle.connect_blocks.specs.declared.iocr.IocrType.TheVariants.{Input, Output}
@@ -18,6 +18,7 @@ use Rattle.connect_blocks.specs.Iocr.{iocr_type_of, number_of_iocr, iocr_type, r
 use Rattle.connect_blocks.specs.ArBlock.{is_some_uuid, ar_uuid, is_unicast, initiator_mac, station_name, ar_block_req, ar_block_res}
 use Rattle.connect_blocks.specs.AlarmCr.{alarm_cr_block_req, alarm_cr_block_res}
 use Rattle.connect_blocks.specs.Control.{is_command, command, control}
+use Rattle.connect_blocks.specs.PlugControl.{plug_control}
 
 pub command_sound : (wanted : Option ℕ) → IsSound (command wanted)
 unfolding command
@@ -132,3 +133,12 @@ iocr_block_req_sound = seen_sound _ _ _ (λ _. refl) (then_by_sound _ _ iocr_hea
 pub iocr_block_res_sound : IsSound iocr_block_res
 unfolding iocr_block_res
 iocr_block_res_sound = seen_sound _ _ _ (λ _. refl) (then_by_sound _ _ (numeral_sound 2) (λ _. then_by_sound _ _ (numeral_sound 2) (λ _. numeral_sound 2)))
+
+-- ---- PrmEnd and ApplicationReady after a plug
+
+pub plug_control_sound : (kind : ℕ) → IsSound (plug_control kind)
+unfolding plug_control
+plug_control_sound kind = seen_sound _ _ _ (λ _. refl) (then_by_sound _ _ (fixed_sound 0 kind) (λ _. then_by_sound _ _ (fixed_sound 1 28)
+    (λ _. then_by_sound _ _ (fixed_one_sound 2 1) (λ _. then_by_sound _ _ (fixed_one_sound 3 0) (λ _. then_by_sound _ _ (blank_sound 2)
+    (λ _. then_by_sound _ _ (octets_sound 16) (λ _. then_by_sound _ _ (numeral_sound 2) (λ _. then_by_sound _ _ (numeral_sound 2)
+    (λ _. then_by_sound _ _ (numeral_sound 2) (λ _. numeral_sound 2))))))))))

@@ -1,4 +1,5 @@
 pub mod Control
+pub mod PlugControl
 pub mod ArBlock
 pub mod AlarmCr
 pub mod Iocr

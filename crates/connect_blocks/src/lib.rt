@@ -15,6 +15,7 @@ mod io_objects;
 mod iocr;
 mod law;
 mod module_diff;
+mod plug_control;
 mod submodule_data;
 
 pub use alarm_cr::{
@@ -36,9 +37,13 @@ pub use iocr::{
     IocrBlockReq, IocrBlockRes, IocrType, RtClass, iocr_block_req_at, iocr_block_req_len,
     iocr_block_res_at, iocr_block_res_len, put_iocr_block_req, put_iocr_block_res,
 };
-pub use law::diffs_are_short;
+pub use law::{diffs_are_short, plug_controls_are_read_back};
 pub use module_diff::{
     DiffModule, DiffModules, DiffSubmodule, ModuleDiffBlock, module_diff_at, module_diff_len,
     put_module_diff,
+};
+pub use plug_control::{
+    PLUG_PRM_END, PlugControlBlock, plug_prm_end_at, plug_ready_res_at, put_plug_prm_end_res,
+    put_plug_ready,
 };
 pub use submodule_data::SubmoduleData;

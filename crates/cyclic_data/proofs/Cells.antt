@@ -2,7 +2,7 @@
 use Rattle.std.proofs.Common.{◌≡◌, inl, inr, ℕ, ◌+◌, ◌-◌, ◌<◌, ◌≤◌, ◌++◌, Bool, cond, List, [], ◌∷◌, length, take, drop, map, get_or, replicate, Option, Some, None, option_map, refl, sym, ap, subst, ◌∙◌, arith}
 use Rattle.std.specs.List.{AllByRecursion}
 use Rattle.std.proofs.lemmas.Bool.{cases_Bool, cases_lt}
-use Rattle.std.proofs.lemmas.List.{ext_get_or, length-append, length-take, length-drop, length-take-le, get_or-take, get_or-drop, get_or-append_right, get_or_append_left, get_or-replicate, get_or_past, drop-replicate, take-replicate, length-replicate}
+use Rattle.std.proofs.lemmas.List.{ext_get_or, length-append, length-take, length-drop, length-take-le, get_or-take, get_or-drop, get_or-append_right, get_or_append_left, get_or-replicate, get_or_past, drop-replicate, take-replicate, length-replicate, length-map}
 use borrow.Rule.Slice.PartMut.{put_mid, post_of}
 use Rattle.cyclic_data.specs.declared.place.PlaceKind.{PlaceKind}
 use Rattle.cyclic_data.specs.declared.place.Place.{Place}
@@ -211,3 +211,17 @@ module _ (n : ℕ) (places : List Place) (octets : List ℕ) (old : Shown)
           (map_changed kind slot subslot change octets new written.size places place (written_elsewhere octets new value start place written from to) here
           image.table.apart image.table.solid (image.table.once kind slot subslot) found_in)
           ∙ ap (λ (s : Shown). changed kind slot subslot change s) is
+
+-- The places of cells at places are these places.
+places_there : (octets : List ℕ) (places : List Place) → map (λ (cell : Cell). cell.place) (map (cell_of octets) places) ≡ places
+places_there octets [] = refl
+places_there octets (place ∷ places) = ap (λ (ones : List Place). place ∷ ones) (places_there octets places)
+
+pub places_shown : (n : ℕ) (places : List Place) (octets : List ℕ) (old : Shown)
+    → ◌≡◌ {A = Shown} (record { data_length = n; cells = map (cell_of octets) places }) old
+    → map (λ (cell : Cell). cell.place) old.cells ≡ places
+places_shown n places octets old is = ap (λ (s : Shown). map (λ (cell : Cell). cell.place) s.cells) (sym is) ∙ places_there octets places
+
+pub count_shown : (n : ℕ) (places : List Place) (octets : List ℕ) (old : Shown)
+    → ◌≡◌ {A = Shown} (record { data_length = n; cells = map (cell_of octets) places }) old → length old.cells ≡ length places
+count_shown n places octets old is = ap (λ (s : Shown). length s.cells) (sym is) ∙ length-map places (cell_of octets)

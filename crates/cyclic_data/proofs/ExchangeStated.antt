@@ -1,5 +1,5 @@
 -- The statuses of an image, place by place.
-use Rattle.std.proofs.Common.{◌≡◌, inl, inr, ◌-◌, ℕ, ◌==◌, ◌&&◌, ◌||◌, Bool, true, false, List, [], ◌∷◌, map, replicate, Some, is_some, refl, sym, ap, ◌∙◌, if◌then◌else◌}
+use Rattle.std.proofs.Common.{◌≡◌, inl, inr, ◌+◌, ℕ, ◌==◌, ◌&&◌, ◌||◌, Bool, true, false, List, [], ◌∷◌, drop, map, Some, is_some, slice_get, refl, sym, ap, ◌∙◌, if◌then◌else◌}
 use Rattle.std.specs.List.{AllByRecursion}
 use Rattle.std.proofs.lemmas.Bool.{cases_Bool, and_parts, and_from, eqb-true, eq-eqb, true≢false, false≢true}
 use Rattle.cyclic_data.specs.declared.place.PlaceKind.{PlaceKind}
@@ -7,7 +7,8 @@ use Rattle.cyclic_data.specs.declared.place.PlaceKind.TheVariants.{Data, Iocs}
 use Rattle.cyclic_data.specs.declared.place.Place.{Place}
 use Rattle.cyclic_data.specs.Image.{Cell, Shown, cell_at, changed, changed_in, with_status, zero_cell}
 use Rattle.cyclic_data.specs.Layout.{Table, is_of, is_same_kind}
-use Rattle.cyclic_data.specs.exchange.Opening.{StatusOf, first_cell, first_shown, first_taken}
+use Rattle.cyclic_data.proofs.Checked.{drop_read}
+use Rattle.cyclic_data.specs.exchange.Opening.{StatusOf, first_cell, first_shown, first_taken, stated as all_stated_of, stated_cell}
 
 -- ---- places of a kind and submodule
 
@@ -43,6 +44,10 @@ none_changed kind slot subslot change (cell ∷ cells) none =
           let behind = sym (ap (λ (b : Bool). is_some (if b then Some cell else cell_at kind slot subslot cells)) t) ∙ none in
           rw t (ap (λ (xs : List Cell). cell ∷ xs) (none_changed kind slot subslot change cells behind))
     ]
+
+-- The places of cells.
+abbrev pub places_of : List Cell → List Place
+places_of cells = map (λ cell. cell.place) cells
 
 module _ (statuses : StatusOf) where
   -- An image in which the cell of a place has its status.
@@ -126,33 +131,75 @@ module _ (statuses : StatusOf) where
         | inr t ↦ rw t (gets places other value status (sym (ap (λ (b : Bool). b || is_among places other) t) ∙ among))
       ]
 
-  among_more : (place : Place) (places others : List Place) → AllByRecursion (λ other. is_among places other ≡ true) others
-      → AllByRecursion (λ other. is_among (place ∷ places) other ≡ true) others
+  among_more : (place : Place) (places : List Place) (cells : List Cell) → AllByRecursion (λ cell. is_among places cell.place ≡ true) cells
+      → AllByRecursion (λ cell. is_among (place ∷ places) cell.place ≡ true) cells
   among_more place places [] all = tt
-  among_more place places (other ∷ others) all =
-      let here : is_among (place ∷ places) other ≡ true =
-      elim (cases_Bool (is_of place.kind place.slot place.subslot other)) [ inl t ↦ rw t refl | inr t ↦ rw t all.0 ] in
-      (here, among_more place places others all.1)
+  among_more place places (cell ∷ cells) all =
+      let here : is_among (place ∷ places) cell.place ≡ true =
+      elim (cases_Bool (is_of place.kind place.slot place.subslot cell.place)) [ inl t ↦ rw t refl | inr t ↦ rw t all.0 ] in
+      (here, among_more place places cells all.1)
 
-  all_among : (places : List Place) → AllByRecursion (λ other. is_among places other ≡ true) places
+  all_among : (cells : List Cell) → AllByRecursion (λ cell. is_among (places_of cells) cell.place ≡ true) cells
   all_among [] = tt
-  all_among (place ∷ places) =
-      let here : is_among (place ∷ places) place ≡ true = rw (of_itself place) refl in
-      (here, among_more place places places (all_among places))
+  all_among (cell ∷ cells) =
+      let here : is_among (places_of (cell ∷ cells)) cell.place ≡ true = rw (of_itself cell.place) refl in
+      (here, among_more cell.place (places_of cells) cells (all_among cells))
 
-  each_gets : (places others : List Place) → AllByRecursion (λ other. is_among places other ≡ true) others
-      → map (turned_all places) (map zero_cell others) ≡ map (first_cell statuses) others
+  each_gets : (places : List Place) (cells : List Cell) → AllByRecursion (λ cell. is_among places cell.place ≡ true) cells
+      → map (turned_all places) cells ≡ map (stated_cell statuses) cells
   each_gets places [] all = refl
-  each_gets places (other ∷ others) all =
-      ap (λ (cell : Cell). cell ∷ map (turned_all places) (map zero_cell others)) (gets places other (replicate (other.size - 1) 0) 0 all.0)
-      ∙ ap (λ (cells : List Cell). first_cell statuses other ∷ cells) (each_gets places others all.1)
+  each_gets places (cell ∷ cells) all =
+      ap (λ (one : Cell). one ∷ map (turned_all places) cells) (gets places cell.place cell.value cell.status all.0)
+      ∙ ap (λ (ones : List Cell). stated_cell statuses cell ∷ ones) (each_gets places cells all.1)
 
-  statuses_are : (layout : Table) → stated layout.places (first_taken layout) ≡ first_shown statuses layout
-  statuses_are layout =
-      all_stated layout.places layout.data_length (map zero_cell layout.places)
-      ∙ ap (shown_by layout.data_length) (each_gets layout.places layout.places (all_among layout.places))
+  statuses_are : (shown : Shown) → stated (places_of shown.cells) shown ≡ all_stated_of statuses shown
+  statuses_are shown =
+      all_stated (places_of shown.cells) shown.data_length shown.cells
+      ∙ ap (shown_by shown.data_length) (each_gets (places_of shown.cells) shown.cells (all_among shown.cells))
 
   -- If no place remains.
-  pub none_left : (layout : Table) (left : List Place) (image : Shown) → left ≡ [] → stated left image ≡ stated layout.places (first_taken layout)
-      → image ≡ first_shown statuses layout
-  none_left layout left image none same = sym (ap (λ (places : List Place). stated places image) none) ∙ (same ∙ statuses_are layout)
+  pub none_left : (first : Shown) (left : List Place) (image : Shown) → left ≡ [] → stated left image ≡ stated (places_of first.cells) first
+      → image ≡ all_stated_of statuses first
+  none_left first left image none same = sym (ap (λ (places : List Place). stated places image) none) ∙ (same ∙ statuses_are first)
+
+  -- A status leaves the places as they are.
+  places_changed : (place : Place) (cells : List Cell) → places_of (map (turned place) cells) ≡ places_of cells
+  places_changed place [] = refl
+  places_changed place (cell ∷ cells) =
+      let here : ◌≡◌ {A = Place} (turned place cell).place cell.place =
+      elim (cases_Bool (is_of place.kind place.slot place.subslot cell.place)) [ inl t ↦ rw t refl | inr t ↦ rw t refl ] in
+      ap (λ (one : Place). one ∷ places_of (map (turned place) cells)) here
+      ∙ ap (λ (ones : List Place). cell.place ∷ ones) (places_changed place cells)
+
+  pub places_kept : (place : Place) (shown : Shown) → places_of (with_state place shown).cells ≡ places_of shown.cells
+  places_kept place shown =
+      elim (cases_Bool (is_some (cell_at place.kind place.slot place.subslot shown.cells))) [
+        | inl t ↦ rw t (places_changed place shown.cells)
+        | inr t ↦ rw t refl
+      ]
+
+  -- The status of a place is set, if there is such a place.
+  pub status_set : (image next : Shown) (place : Place) (status : ℕ) (done : Bool) → status ≡ statuses place.kind place.slot place.subslot
+      → done ≡ is_some (cell_at place.kind place.slot place.subslot image.cells)
+      → next ≡ (if done then changed place.kind place.slot place.subslot (with_status status) image else image)
+      → next ≡ with_state place image
+  status_set image next place status done read found set =
+      set
+      ∙ (ap (λ (b : Bool). if b then changed place.kind place.slot place.subslot (with_status status) image else image) found
+      ∙ ap (λ (n : ℕ). if is_some (cell_at place.kind place.slot place.subslot image.cells)
+      then changed place.kind place.slot place.subslot (with_status n) image else image) read)
+
+  -- The place that is next is the first of those that remain.
+  pub one_more : (places : List Place) (index : ℕ) (place : Place) (image next last : Shown) → slice_get places index ≡ Some place
+      → next ≡ with_state place image → stated (drop index places) image ≡ last → stated (drop (index + 1) places) next ≡ last
+  one_more places index place image next last read set rest =
+      ap (λ (shown : Shown). stated (drop (index + 1) places) shown) set
+      ∙ (ap (λ (left : List Place). stated left image) (sym (drop_read places index place read)) ∙ rest)
+
+  -- The first image is the one of zeros with its statuses.
+  each_first : (places : List Place) → map (stated_cell statuses) (map zero_cell places) ≡ map (first_cell statuses) places
+  each_first [] = refl
+  each_first (place ∷ places) = ap (λ (cells : List Cell). first_cell statuses place ∷ cells) (each_first places)
+
+  pub first_stated : (layout : Table) → all_stated_of statuses (first_taken layout) ≡ first_shown statuses layout
+  first_stated layout = ap (shown_by layout.data_length) (each_first layout.places)

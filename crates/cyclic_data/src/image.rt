@@ -1,12 +1,14 @@
 //! Images of the cyclic data to be sent.
-ghost use Rattle.std.specs.Prelude.{◌≡◌, ◌+◌, ◌≤◌, IfSome, [], length, map, option_map, is_some, if◌then◌else◌};
+ghost use Rattle.std.specs.Prelude.{◌≡◌, ◌+◌, ◌<◌, ◌≤◌, IfSome, Some, slice_get, [], length, map, option_map, is_some, if◌then◌else◌};
 ghost use Rattle.cyclic_data.specs.declared.place.PlaceKind.TheVariants.{Data};
+ghost use Rattle.cyclic_data.specs.exchange.Opening.{blanked};
 ghost use Rattle.cyclic_data.specs.Image.{zero_cell, cell_at, changed, with_value, with_status, has_size, octets_of, IsFrame};
 
 use crate::laid_out::LaidOut;
 use crate::layout::Layout;
 use crate::octets::{place_at, write_at};
-use crate::place::PlaceKind;
+use crate::place::{Place, PlaceKind};
+use crate::zero_octets::zeros;
 use std::marker::Model;
 
 /// The content of the frames of a layout that are sent: the data and the status at each place, as octets on the wire.
@@ -50,6 +52,21 @@ impl Image {
         self.laid_out.start(layout);
     }
 
+    /// The number of places.
+    pub(crate) fn len(&self) -> usize
+        ensures { result ≡ length self.now.cells }
+    {
+        self.laid_out.places.len()
+    }
+
+    /// The place with this index.
+    pub(crate) fn place(&self, index: usize) -> Place
+        requires { index < length self.now.cells }
+        ensures { slice_get (map (λ cell. cell.place) self.now.cells) index ≡ Some result }
+    {
+        self.laid_out.places.as_slice()[index]
+    }
+
     /// Sets the data of a submodule. Returns whether the submodule has data of this length in these frames; if not,
     /// nothing changes.
     pub fn put(&mut self, slot: u16, subslot: u16, value: &[u8]) -> bool
@@ -70,6 +87,27 @@ impl Image {
         }
         write_at(&mut self.laid_out.octets, place.offset as usize, value);
         true
+    }
+
+    /// Sets the data of a submodule to zeros, if it has data in these frames.
+    pub fn clear(&mut self, slot: u16, subslot: u16)
+        ensures { self.new ≡ blanked slot subslot self.old }
+    {
+        let Some(place) = place_at(
+            self.laid_out.places.as_slice(),
+            PlaceKind::Data,
+            slot,
+            subslot,
+        ) else {
+            return;
+        };
+        // The IOPS follows the data, in the same place.
+        let size = place.size as usize - 1;
+        write_at(
+            &mut self.laid_out.octets,
+            place.offset as usize,
+            zeros(size),
+        );
     }
 
     /// Sets the status of a place: the IOPS of data, or an IOCS. Returns whether there is such a place; if not, nothing

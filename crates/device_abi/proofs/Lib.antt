@@ -14,6 +14,7 @@ pub mod PortHanded
 pub mod PortHosted
 pub mod PortLeaps
 pub mod PortLeft
+pub mod PortOwn
 pub mod PortStages
 pub mod PortReported
 pub mod PortPlays

@@ -429,6 +429,13 @@ pub rests : {E : Type 0} (port : Served) (chip : Image) (sent : List (List ℕ))
 rests port chip sent result none ok =
     subst (λ c. Performs c (frames_of port) chip sent result chip sent) (sym none.0.0) (subst (λ l. Performs [] l chip sent result chip sent) (sym (fetched_frames port none)) (ok, refl, refl))
 
+-- A frame is sent.
+pub sends : {E : Type 0} (port : Served) (chip : Image) (sent now : List (List ℕ)) (frame items : List ℕ) (result : Result (Unit {0}) E) → port.port.calls ≡ [] → ((rest : List (List ℕ)) × (frames_of port ≡ frame ∷ rest))
+    → items ≡ frame → IsOk result → now ≡ sent ++ items ∷ [] → Performs port.port.calls (frames_of port) chip sent result chip now
+sends port chip sent now frame items result none first same ok is =
+    subst (λ c. Performs c (frames_of port) chip sent result chip now) (sym none)
+    (subst (λ l. Performs [] l chip sent result chip now) (sym first.1) (ok, refl, is ∙ ap (λ f. sent ++ f ∷ []) same))
+
 -- Less work remains after a piece of it.
 smaller_by : (calls : List Call) (frames own : List (List ℕ)) (port : Served) → port.port.calls ≡ calls → port.port.frames ≡ frames → port.frames ≡ own → has_work calls (frames ++ own) ≡ true
     → length (advanced_from port calls frames).port.calls + length (frames_of (advanced_from port calls frames)) < length port.port.calls + length (frames_of port)

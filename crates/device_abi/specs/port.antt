@@ -1,4 +1,5 @@
 pub mod Host
+pub mod Own
 pub mod Pace
 pub mod Plays
 pub mod Refusals

@@ -7,6 +7,7 @@
 mod beside;
 mod device;
 mod host;
+mod own;
 mod refusal;
 mod reports;
 mod served;

@@ -1,2 +1,4 @@
 pub mod Listed
 pub mod Sizes
+pub mod ChangedLists
+pub mod ChangedModules

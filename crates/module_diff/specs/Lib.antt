@@ -1,3 +1,4 @@
 pub mod Plugged
+pub mod Changes
 pub mod Rows
 pub mod Diff

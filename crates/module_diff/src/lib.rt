@@ -2,12 +2,14 @@
 //! modules that differ for its ModuleDiffBlock.
 #![tactic(auto)]
 
+mod changes;
 mod differing;
 mod expected;
 mod plugged;
 mod rows;
 
-pub use differing::diff;
+pub use changes::{Affected, ChangeKind, RealChange, can_plug, plug, pull, pull_module};
+pub use differing::{diff, split_own};
 pub use expected::Expected;
 pub use plugged::{module_in, part_ident};
 pub use rows::DiffRows;

@@ -1,3 +1,5 @@
+ghost use Rattle.std.specs.Prelude.{◌≡◌, []};
+
 use arrayvec::ArrayVec;
 
 /// The modules that are plugged in a device: at most 16, in slots 0 to 15.
@@ -37,4 +39,59 @@ pub struct ParameterRecord {
     pub index: u16,
     /// The exact length, 1 to 64 bytes.
     pub length: u16,
+}
+
+impl RealSubmodule {
+    /// A copy, which needs no memory.
+    pub fn copy(&self) -> RealSubmodule
+        ensures { result ≡ self.now }
+    {
+        let mut parameters = ArrayVec::new();
+        let _ = parameters.try_extend_from_slice(self.parameters.as_slice());
+        RealSubmodule {
+            subslot: self.subslot,
+            ident: self.ident,
+            input: self.input,
+            output: self.output,
+            parameters,
+        }
+    }
+}
+
+impl RealModule {
+    /// A copy, which needs no memory.
+    pub fn copy(&self) -> RealModule
+        ensures { result ≡ self.now }
+    {
+        let mut submodules = ArrayVec::new();
+        for part in self.submodules.as_slice() {
+            submodules.push(part.copy());
+        }
+        RealModule {
+            slot: self.slot,
+            ident: self.ident,
+            submodules,
+        }
+    }
+}
+
+impl Real {
+    /// No modules.
+    pub fn none() -> Real
+        ensures { result.modules.items ≡ [] }
+    {
+        Real {
+            modules: ArrayVec::new(),
+        }
+    }
+
+    /// Replaces the modules by copies of others. They are made where they stay.
+    pub fn replace_by(&mut self, given: &Real)
+        ensures { self.new.modules.items ≡ given.now.modules.items }
+    {
+        self.modules.clear();
+        for entry in given.modules.as_slice() {
+            self.modules.push(entry.copy());
+        }
+    }
 }

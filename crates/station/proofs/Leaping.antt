@@ -22,7 +22,7 @@ use Rattle.services.specs.State as ip
 use Rattle.services.specs.Leaps.{announcement_due_in, never}
 use Rattle.station.specs.Serving.{NoNews, NoneSends, Serving, due_in, knows, observed, sent_by_tick, serving_ticks, ticked}
 use Rattle.station.specs.Beside.{Beside, beside, event_beside, idle, observing}
-use Rattle.station.specs.Leaps.{Follows, LeapsAreTicks, Leapt, OnlyTheLastMeets, OnlyTheLastOfPlain, OnlyTheLastSends, QuietUnitsAreTicks, QuietUnitsBringNoNews, QuietUnitsCount, QuietUnitsCountDown}
+use Rattle.station.specs.Leaps.{Follows, LeapsAreTicks, Leapt, NoNewsBeside, NoneSendsBeside, OnlyTheLastMeets, OnlyTheLastOfPlain, OnlyTheLastSends, QuietUnitsAreTicks, QuietUnitsBringNoNews, QuietUnitsCount, QuietUnitsCountDown}
 use Rattle.station.specs.Leaps.{beside_ticks, due_at, due_beside, plain_tick, plain_ticks, services_due, then_leap, tick_beside, tick_of, ticks_of, told_at, told_if}
 use Rattle.station.proofs.ServingTicks.{before_due, counts_down, no_more, quiet_news}
 
@@ -368,6 +368,26 @@ pub follows : (identity : Identity) (values : Values) (units before : ℕ) (stat
     → AreSilent values before state → SameNews values (suc before) state → sent ≡ sent_beside values (side values before state) → Follows identity values units state after sent
 follows identity values units before state after sent count is silent quiet frames =
     subst (λ (n : ℕ). Follows identity values n state after sent) (sym count) (follows_at identity values before state after sent is silent quiet frames)
+
+-- Units before anything is due of the services, once power is lost and else.
+pub lost_quiet : (identity : Identity) (values : Values) (units : ℕ) (state : Serving) → values.is_lost ≡ true
+    → (state ≡ beside_ticks identity values units state) × NoneSendsBeside units identity values state × NoNewsBeside units identity values state
+lost_quiet identity values units state lost = (
+  sym (beside_side identity values units state ∙ idle_side values units state lost),
+  λ before sooner. beside_sent identity values before state ∙ idle_sent values (side values before state) lost,
+  λ before sooner. ap (λ (s : Serving). s.has_news) (beside_side identity values before state ∙ idle_side values before state lost),
+)
+
+pub quiet_passed : (identity : Identity) (values : Values) (units : ℕ) (state after : Serving) → values.is_lost ≡ false → units < services_due values state → after ≡ serving_ticks units state
+    → (after ≡ beside_ticks identity values units state) × NoneSendsBeside units identity values state × NoNewsBeside units identity values state
+quiet_passed identity values units state after there few is =
+    let all = quiet_units identity values units state there few in (
+      is ∙ sym all.0,
+      all.1,
+      λ before sooner.
+          let first = quiet_units identity values before state there (omega (arith, sooner, few)) in
+          ap (λ (s : Serving). s.has_news) first.0 ∙ quiet_no_news before state first.2,
+    )
 
 pub lost_follows : (identity : Identity) (values : Values) (units before : ℕ) (state : Serving) (sent : List (List ℕ)) → units ≡ suc before → values.is_lost ≡ true → sent ≡ []
     → Follows identity values units state state sent

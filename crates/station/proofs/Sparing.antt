@@ -14,10 +14,12 @@ use Rattle.device_core.specs.Steps.{Steps}
 use Rattle.pn_values.specs.declared.settings.Settings.{Settings}
 use Rattle.services.specs.State.{frames_in}
 use Rattle.services.specs.State as ip
-use Rattle.station.specs.Serving.{Completes, Other, Piece, Serving, Taken, announces, answer_by, answered, completed, disputes, is_piece, meets, piece_in, replied, said_of, sent_by_tick, takes}
+use Rattle.station.specs.Serving.{Completes, Other, Piece, Serving, Taken, announces, answer_by, answered, completed, disputes, heard, is_piece, meets, overheard, piece_in, replied, said_of, sent_by_tick, takes}
 use Rattle.lldp.specs.Announcement.{announcement}
 use Rattle.station.specs.State.{State, Frames, no_frames}
-use Rattle.station.specs.Beside.{Beside, answer_beside, event_beside, idle, is_dropped, joined_beside, joined_by, observing}
+use Rattle.settings_journal.specs.settings_store.State.{Values}
+use Rattle.station.specs.Beside.{Beside, answer_beside, event_beside, heard_beside, idle, is_dropped, joined_beside, joined_by, joined_from, observing}
+use Rattle.station.specs.Leaps.{tick_beside}
 use Rattle.station.specs.Steps.{AtMostOne, Gives, IsSparing, StationSteps}
 use Rattle.station.proofs.Stepping.{not_done}
 
@@ -39,7 +41,53 @@ both_few (Some frame) false other = omega arith
 at_most_two : (state : Serving) → length (sent_by_tick state) ≤ 2
 at_most_two state = both_few (ip.sent_by_tick state.ip) (announces state) (announcement (said_of state))
 
+tick_few_by : (is_lost : Bool) (identity : Identity) (state : Serving) (running : Settings) → length (with_power is_lost identity state running Done Tick).sent ≤ 2
+tick_few_by true identity state running = omega arith
+tick_few_by false identity state running = at_most_two state
+
+pub tick_few : (identity : Identity) (values : Values) (state : Serving) → length (tick_beside identity values state).sent ≤ 2
+tick_few identity values state = tick_few_by values.is_lost identity state values.running
+
 -- ---- at most one frame
+
+few_frames : (frame : Option (List ℕ)) → length (frames_in frame) ≤ 1
+few_frames None = omega arith
+few_frames (Some frame) = omega arith
+
+-- The services answer a frame by at most one.
+pub heard_few : (identity : Identity) (state : Serving) (note : Note) (bytes : List ℕ) → length (heard_beside identity state note bytes).sent ≤ 1
+heard_few identity state note bytes = few_frames (answer_beside identity state note bytes)
+
+-- They do not answer one that completes a call.
+alone_by : (dropped : Bool) (piece : Piece) (reply : Option (List ℕ)) (call : Event) → Some call ≡ (if dropped then completed piece else None)
+    → frames_in (if dropped then answer_by piece reply else None) ≡ []
+alone_by false piece reply call e = refl
+alone_by true Other reply call e = absurd cc
+alone_by true (Taken own) reply call e = absurd cc
+alone_by true (Completes other) reply call e = refl
+
+pub joined_alone : (identity : Identity) (state : Serving) (note : Note) (bytes : List ℕ) (call : Event) → Some call ≡ joined_from state note bytes
+    → (heard_beside identity state note bytes).sent ≡ []
+joined_alone identity state note bytes call e = alone_by (is_dropped note) (piece_in state bytes) (replied identity state bytes) call e
+
+-- They only count a frame that the device did not drop, if it is a conflict.
+undropped_by : (dropped disputed taken : Bool) (after other : Serving) (answer : Option (List ℕ)) (note : Note) → dropped ≡ false
+    → ◌≡◌ {A = Beside} (record {
+      services = if dropped then after else other;
+      sent = frames_in (if dropped then answer else None);
+      note = if is_some (if dropped then answer else None) || (disputed || (dropped && taken)) then Done else note;
+    }) (record { services = other; sent = []; note = if disputed then Done else note })
+undropped_by true disputed taken after other answer note kept = cc kept
+undropped_by false true taken after other answer note kept = refl
+undropped_by false false taken after other answer note kept = refl
+
+pub undropped_beside : (identity : Identity) (state : Serving) (note : Note) (bytes : List ℕ) → is_dropped note ≡ false
+    → heard_beside identity state note bytes ≡ record { services = overheard state bytes; sent = []; note = if disputes state bytes then Done else note }
+undropped_beside identity state note bytes kept =
+    undropped_by (is_dropped note) (disputes state bytes) (takes state bytes) (heard state bytes) (overheard state bytes) (answered identity state bytes) note kept
+
+pub undropped_call : (state : Serving) (note : Note) (bytes : List ℕ) → is_dropped note ≡ false → ◌≡◌ {A = Option Event} None (joined_from state note bytes)
+undropped_call state note bytes kept = rw kept refl
 
 sparing_frame : (b : Bool) (answer : Option (List ℕ)) (frames : Frames) → frames.services ≡ frames_in (if b then answer else None)
     → (b ≡ true → frames.device ≡ []) → (bytes : _) → IsSparing (Frame bytes) frames

@@ -1,7 +1,8 @@
 -- What the services' results mean, with the call that was written beside them.
-use Rattle.std.specs.Prelude.{Option, Some, None}
+use Rattle.std.specs.Prelude.{ℕ, Option, Some, None, List, []}
 use Rattle.services.specs.Answer.{frame_in}
 use Rattle.device_frames.specs.declared.event.Event.{Event}
+use Rattle.device_frames.specs.declared.event.Event.TheVariants.{Frame, Call, Tick, Neighbour, Application}
 use Rattle.device_frames.specs.declared.note.Note.{Note}
 use Rattle.device_frames.specs.declared.note.Note.TheVariants.{Done}
 use Rattle.station.specs.declared.device_services.Attended.{Attended}
@@ -25,3 +26,11 @@ note_in attended.Joined = Done
 abbrev pub joined_in : Attended → Event → Option Event
 joined_in (attended.Noted note) call = None
 joined_in attended.Joined call = Some call
+
+-- the octets of a call
+abbrev pub call_octets : Event → List ℕ
+call_octets (Frame bytes) = []
+call_octets (Call caller address octets) = octets.items
+call_octets Tick = []
+call_octets (Application local) = []
+call_octets (Neighbour neighbour) = []

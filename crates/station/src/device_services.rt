@@ -377,7 +377,7 @@ impl DeviceServices {
 
     /// It hears a frame that the device answered. Only a conflict concerns it.
     #[inline(never)]
-    fn overhear(&mut self, bytes: &[u8], note: Note) -> Note
+    pub(crate) fn overhear(&mut self, bytes: &[u8], note: Note) -> Note
         ensures state { self.new ≡ overheard self.old bytes.now }
         ensures note { result ≡ (if disputes self.old bytes.now then Note.Done else note) }
     {

@@ -1,5 +1,5 @@
 //! Several units of time at once at a station.
-ghost use Rattle.std.specs.Prelude.{◌≡◌, ◌<◌, ◌≤◌, ◌-◌, []};
+ghost use Rattle.std.specs.Prelude.{◌≡◌, ◌<◌, ◌≤◌, ◌-◌, [], length};
 ghost use Rattle.device_core.specs.Leaps.{live_due_in, ticks_of as ticks_alone};
 ghost use Rattle.frame_codec.specs.Outbox.{boxed};
 ghost use Rattle.station.specs.Leaps.{FollowsAt, LeapsAreTicks, NoNewsBeside, NoneSendsBeside, OnlyTheLastMeets, OnlyTheLastOfPlain, OnlyTheLastSends, QuietUnitsAreTicks, QuietUnitsBringNoNews, QuietUnitsCount, QuietUnitsCountDown};
@@ -141,8 +141,26 @@ pub fn follow_units<F: Flash<S>, const S: usize>(
     ensures quiet { NoNewsBeside units device.now.station.identity device.now.live.values services.old }
     ensures frames { boxed outbox.new ≡ (tick_beside device.now.station.identity device.now.live.values
         (beside_ticks device.now.station.identity device.now.live.values (units - 1) services.old)).sent }
+    ensures few { length (boxed outbox.new) ≤ 2 }
 {
     pass_units(device.is_lost(), device.running(), services, units, outbox);
+}
+
+/// The same with fewer units than `services_due` returned: the services send nothing.
+pub fn follow_quiet_units<F: Flash<S>, const S: usize>(
+    device: &Device<F, S>,
+    services: &mut DeviceServices,
+    units: u32,
+)
+    requires { units < services_due device.now.live.values services.old }
+    ensures state { services.new ≡ beside_ticks device.now.station.identity device.now.live.values units services.old }
+    ensures none { NoneSendsBeside units device.now.station.identity device.now.live.values services.old }
+    ensures quiet { NoNewsBeside units device.now.station.identity device.now.live.values services.old }
+{
+    if device.is_lost() {
+        return;
+    }
+    services.pass(units);
 }
 
 /// The same beside a device that has lost its power or not, and has these running settings.

@@ -18,9 +18,9 @@ pub use headline::{cycle, cycle_with};
 pub use joined_call::JoinedCall;
 pub use law::conflicts_are_noticed;
 pub use leaps::{
-    due_beside, elapse_alone, elapse_beside, follow_units, leaps_are_ticks, quiet_units_are_ticks,
-    services_due,
+    due_beside, elapse_alone, elapse_beside, follow_quiet_units, follow_units, leaps_are_ticks,
+    quiet_units_are_ticks, services_due,
 };
 pub use outbox::StationOutbox;
 pub use station::IoStation;
-pub use step::{follow_frame, give, step_alone, step_beside, tell_beside};
+pub use step::{follow_answered, follow_frame, give, step_alone, step_beside, tell_beside};

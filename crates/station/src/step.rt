@@ -1,11 +1,12 @@
 //! One step of a station.
-ghost use Rattle.std.specs.Prelude.{◌≡◌, [], false};
+ghost use Rattle.std.specs.Prelude.{◌≡◌, ◌≤◌, [], None, false, length};
 ghost use Rattle.frame_codec.specs.Outbox.{boxed};
 ghost use Rattle.device_frames.specs.declared.event.Event.TheVariants.{Frame as Framed};
 ghost use Rattle.station.specs.Beside.{beside, has_any, is_dropped, joined_beside};
 ghost use Rattle.station.specs.Leaps.{due_beside};
 ghost use Rattle.station.specs.Serving.{disputes, news_in};
 ghost use Rattle.station.specs.Views.{joined_in, note_in};
+ghost use Rattle.station.specs.declared.device_services.Attended.TheVariants.{Joined};
 ghost use Rattle.device_core.specs.Machine.{step_of};
 ghost use Rattle.device_frames.specs.declared.note.Note.TheVariants.{Done};
 ghost use Rattle.station.specs.Steps.{DeviceSteps, StationSteps, StationTakes, Tells, station_of};
@@ -177,6 +178,9 @@ pub fn follow_frame<F: Flash<S>, const S: usize>(
         ≡ beside device.now.station.identity services.old device.now.live.values note (Framed (record { items = octets.now })) }
     ensures call { joined_in result call.new
         ≡ joined_beside services.old device.now.live.values note (Framed (record { items = octets.now })) }
+    // They send at most one frame, and none if the frame completed a call.
+    ensures few { length (boxed outbox.new) ≤ 1 }
+    ensures alone { result ≡ Joined → boxed outbox.new ≡ [] }
 {
     outbox.clear(); // of what the event before sent
     if device.is_lost() {
@@ -185,6 +189,27 @@ pub fn follow_frame<F: Flash<S>, const S: usize>(
     let attended = services.attend_frame(device.identity(), octets, note, has_sent, outbox, call);
     services.observe(device.running());
     attended
+}
+
+/// The same with a frame that the device did not drop, as one that it answered: the services only count a conflict. They send nothing,
+/// and the frame completes no call.
+pub fn follow_answered<F: Flash<S>, const S: usize>(
+    device: &Device<F, S>,
+    services: &mut DeviceServices,
+    octets: &[u8],
+    note: Note,
+) -> Note
+    requires { is_dropped note ≡ false }
+    ensures beside { record { services = services.new; sent = []; note = result }
+        ≡ beside device.now.station.identity services.old device.now.live.values note (Framed (record { items = octets.now })) }
+    ensures call { None ≡ joined_beside services.old device.now.live.values note (Framed (record { items = octets.now })) }
+{
+    if device.is_lost() {
+        return note;
+    }
+    let said = services.overhear(octets, note);
+    services.observe(device.running());
+    said
 }
 
 /// Whether there is a frame in the outbox.

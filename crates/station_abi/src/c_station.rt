@@ -20,7 +20,7 @@ use relations::DeviceOptions;
 const ABI: u32 = 6;
 
 /// The number of octets of the memory for a port.
-const ROOM: usize = 79872;
+const ROOM: usize = 73728;
 
 /// The number of octets of an operation.
 const OP_SIZE: usize = 1668;

@@ -61,6 +61,9 @@ pub fn serve(port: &mut Port, op: &mut Op, given: &[u8]) -> u32
     if op.what == 25 {
         return received(port, op);
     }
+    if op.what == 8 {
+        return output(port, op);
+    }
     if op.what == 3 {
         return frame(port, op, given);
     }
@@ -547,7 +550,7 @@ fn hand_out_own<'a>(port: &'a mut Port, op: &mut Op) -> &'a [u8]
         (record op.old { more = waiting_both new }) result.now op.new × (new ≡ advanced_both port.old))) }
 {
     match port.fetch_own(&mut op.more) {
-        Some(frame) => tell_frame(frame, op),
+        Some(octets) => tell_octets(octets, op),
         None => tell_nothing(op),
     }
 }
@@ -580,7 +583,16 @@ fn tell_frame<'a>(frame: &'a Frame, op: &mut Op) -> &'a [u8]
     ensures octets { result.now ≡ frame.now.items }
     ensures reported { op.new ≡ with_frame frame.now.items op.old }
 {
-    let octets = frame.as_slice();
+    tell_octets(frame.as_slice(), op)
+}
+
+// Reports a frame of these octets, and returns them.
+#[inline(always)]
+fn tell_octets<'a>(octets: &'a [u8], op: &mut Op) -> &'a [u8]
+    requires { length octets.now ≤ 1518 }
+    ensures octets { result.now ≡ octets.now }
+    ensures reported { op.new ≡ with_frame octets.now op.old }
+{
     op.work = 3;
     op.length = octets.len() as u32;
     octets

@@ -207,7 +207,7 @@ fn two(outbox: &Outbox) -> Option<(Event<'_>, Event<'_>)> {
 /// The two frames in a box are these octets, each filled up.
 fn are_filled(outbox: &Outbox, first: &[u8], second: &[u8]) -> bool {
     match outbox.as_slice() {
-        [one, other] => is_filled(one, first) && is_filled(other, second),
+        [one, other] => is_filled(one.as_slice(), first) && is_filled(other.as_slice(), second),
         _ => false,
     }
 }

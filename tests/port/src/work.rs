@@ -27,7 +27,7 @@ fn alarm_noted(port: &mut Port, octets: &[u8]) -> Option<Note> {
 // Whether the frame that is next is these octets, filled up.
 fn is_next(port: &Port, octets: &[u8]) -> bool {
     match port.work() {
-        Ok(Work::Send(frame)) => is_filled(frame, octets),
+        Ok(Work::Send(sent)) => is_filled(sent, octets),
         _ => false,
     }
 }

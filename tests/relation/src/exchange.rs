@@ -132,10 +132,10 @@ fn patient() -> Option<Station> {
 // The alarm is sent again, in front of the frame of inputs where one is due in this unit.
 fn is_notified_again(outbox: &Outbox, with_inputs: bool) -> bool {
     match outbox.as_slice() {
-        [sent] => !with_inputs && is_filled(sent, &NOTIFIED),
+        [sent] => !with_inputs && is_filled(sent.as_slice(), &NOTIFIED),
         [sent, inputs] => {
             with_inputs
-                && is_filled(sent, &NOTIFIED)
+                && is_filled(sent.as_slice(), &NOTIFIED)
                 && inputs.as_slice().starts_with(&INPUTS[..20])
         }
         _ => false,

@@ -3,8 +3,9 @@
 use arrayvec::ArrayVec;
 use connect_blocks::{IoObject, IoObjects, IocrType};
 use cyclic_data::{
-    Consumer, CyclicTail, DataStatus, ExpectedData, Image, Layout, LayoutFault, Place, PlaceKind,
-    Provider, ReceivedImage, ShortFrame, StationState, put_cyclic, read_cyclic,
+    Consumer, CyclicExchange, CyclicTail, DataStatus, ExpectedData, Image, Layout, LayoutFault, Place,
+    PlaceKind, Provider, ReceivedImage, Route, ShortFrame, StationState, Statuses, put_cyclic,
+    read_cyclic,
 };
 use connect_blocks::SubmoduleData;
 
@@ -200,6 +201,50 @@ fn an_image_of_inputs() {
     assert_eq!(image.get(1, 1), Some(&[0x12, 0x34][..]));
     assert_eq!(image.get(2, 1), None);
     assert_eq!(image.status(PlaceKind::Iocs, 2, 1), Some(0x80));
+}
+
+/// A status for data, and one for IOCS. In slot 0 both are bad.
+struct Given {
+    iops: u8,
+    iocs: u8,
+}
+
+impl Statuses for Given {
+    fn status(&self, kind: PlaceKind, slot: u16, _subslot: u16) -> u8 {
+        match (slot, kind) {
+            (0, _) => 0,
+            (_, PlaceKind::Data) => self.iops,
+            (_, PlaceKind::Iocs) => self.iocs,
+        }
+    }
+}
+
+#[test]
+fn data_is_cleared_and_statuses_are_set_anew() {
+    let (Ok(input), Ok(output)) = (
+        checked(IocrType::Input, &INPUTS, &INPUT_IOCS),
+        checked(IocrType::Output, &OUTPUTS, &OUTPUT_IOCS),
+    ) else {
+        panic!("no layouts");
+    };
+    let mut exchange = CyclicExchange::new();
+    exchange.clear(1, 1);
+    exchange.restate(&Given { iops: 0x80, iocs: 0x80 });
+    assert_eq!(exchange.sent().bytes().len(), 0);
+    let given = Given { iops: 0x80, iocs: 0x60 };
+    exchange.open(Route::blank(), Provider::start(1, 1), Consumer::new(1, 1), &input, &output, &given);
+    let first = |exchange: &CyclicExchange| exchange.sent().bytes()[..8].to_vec();
+    assert_eq!(first(&exchange), [0, 0, 0, 0, 0, 0x80, 0x60, 0]);
+    assert!(exchange.give(1, 1, &[0x12, 0x34]));
+    exchange.restate(&Given { iops: 0x40, iocs: 0x20 });
+    assert_eq!(first(&exchange), [0, 0, 0, 0x12, 0x34, 0x40, 0x20, 0]);
+    // no data there, or none at all
+    exchange.clear(0, 1);
+    exchange.clear(2, 1);
+    exchange.clear(9, 1);
+    assert_eq!(first(&exchange), [0, 0, 0, 0x12, 0x34, 0x40, 0x20, 0]);
+    exchange.clear(1, 1);
+    assert_eq!(first(&exchange), [0, 0, 0, 0, 0, 0x40, 0x20, 0]);
 }
 
 #[test]

@@ -2,7 +2,7 @@
 use arrayvec::ArrayVec;
 use device_core::{Device, Event, Note, Octets};
 use flash_model::{Flash, FlashFault, MemoryFlash, Sector};
-use frame_codec::{Bytes, Frame, Outbox};
+use frame_codec::{Bytes, Outbox};
 use pn_values::{Real, RealModule, RealSubmodule, demo_identity};
 
 /// A device over the smallest flash.
@@ -126,16 +126,16 @@ pub fn set_pump(digit: u8) -> [u8; 38] {
 }
 
 /// A frame is these bytes, filled up with zeros to at least 60.
-pub fn is_filled(sent: &Frame, bytes: &[u8]) -> bool {
-    sent.as_slice().starts_with(bytes)
+pub fn is_filled(sent: &[u8], bytes: &[u8]) -> bool {
+    sent.starts_with(bytes)
         && sent.len() == bytes.len().max(60)
-        && sent.as_slice().iter().skip(bytes.len()).all(|x| *x == 0)
+        && sent.iter().skip(bytes.len()).all(|x| *x == 0)
 }
 
 /// The outbox has one frame: these bytes, filled up in the same way.
 pub fn is_padded(outbox: &Outbox, bytes: &[u8]) -> bool {
     match outbox.as_slice() {
-        [sent] => is_filled(sent, bytes),
+        [sent] => is_filled(sent.as_slice(), bytes),
         _ => false,
     }
 }

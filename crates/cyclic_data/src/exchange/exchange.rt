@@ -2,10 +2,10 @@
 ghost use Rattle.std.specs.Prelude.{◌≡◌, ◌≤◌, ◌++◌, IfSome, Some, [], false, is_some, length, option_map, unwrap_or};
 ghost use Rattle.arrayvec.specs.ArrayVec.{array_vec_len};
 ghost use Rattle.cyclic_data.specs.exchange.Frames.{body_at};
-ghost use Rattle.cyclic_data.specs.exchange.Opening.{begun_of, ended_of, opened, related};
+ghost use Rattle.cyclic_data.specs.exchange.Opening.{begun_of, cleared, ended_of, opened, related, restated};
 ghost use Rattle.cyclic_data.specs.exchange.Process.{given_at, provided_at, provider_at, stated_at, taken_tail, value_at};
 
-use crate::exchange::opening::{Statuses, fill};
+use crate::exchange::opening::{Statuses, fill, state};
 use crate::exchange::route::Route;
 use crate::image::Image;
 use crate::layout::Layout;
@@ -180,6 +180,20 @@ impl CyclicExchange {
         ensures { self.new ≡ stated_at self.old slot subslot iops }
     {
         self.sent.set_status(PlaceKind::Data, slot, subslot, iops);
+    }
+
+    /// Sets the data of a submodule to zeros, if it has data, which frames carry from now on. Its IOPS is not changed.
+    pub fn clear(&mut self, slot: u16, subslot: u16)
+        ensures { self.new ≡ cleared slot subslot self.old }
+    {
+        self.sent.clear(slot, subslot);
+    }
+
+    /// Sets the IOPS and IOCS at all places to `statuses`, which frames carry from now on. The data is not changed.
+    pub fn restate<S: Statuses>(&mut self, statuses: &S)
+        ensures { self.new ≡ restated (S.status_of statuses.now) self.old }
+    {
+        state(&mut self.sent, statuses);
     }
 
     /// The data of a submodule in the partner's last accepted frame, if the submodule has data there. All zeros if no

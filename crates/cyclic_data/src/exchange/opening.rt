@@ -1,6 +1,6 @@
 //! Opening an end.
 ghost use Rattle.std.specs.Prelude.{◌≡◌};
-ghost use Rattle.cyclic_data.specs.exchange.Opening.{first_shown};
+ghost use Rattle.cyclic_data.specs.exchange.Opening.{first_shown, stated};
 
 use crate::image::Image;
 use crate::layout::Layout;
@@ -23,7 +23,15 @@ pub(crate) fn fill<S: Statuses>(image: &mut Image, layout: &Layout, statuses: &S
     ensures { image.new ≡ first_shown (S.status_of statuses.now) layout.now }
 {
     image.start(layout);
-    for place in layout.places() {
+    state(image, statuses);
+}
+
+/// Sets the status at each place. The data stays as it is.
+pub(crate) fn state<S: Statuses>(image: &mut Image, statuses: &S)
+    ensures { image.new ≡ stated (S.status_of statuses.now) image.old }
+{
+    for index in 0..image.len() {
+        let place = image.place(index);
         let status = statuses.status(place.kind, place.slot, place.subslot);
         image.set_status(place.kind, place.slot, place.subslot, status);
     }

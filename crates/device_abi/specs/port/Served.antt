@@ -1,5 +1,5 @@
 -- What a host sees of a port with the services beside its device.
-use Rattle.std.specs.Prelude.{◌≡◌, ◌==◌, ◌++◌, Bool, true, ℕ, if◌then◌else◌, List, [], ◌∷◌, drop, Option, Some, None}
+use Rattle.std.specs.Prelude.{◌≡◌, ◌==◌, ◌≤◌, ◌++◌, Bool, true, ℕ, if◌then◌else◌, List, [], ◌∷◌, drop, length, Option, Some, None}
 use Rattle.flash_model.specs.Calls.{Call}
 use Rattle.device_core.specs.Leaps.{live_due_in}
 use Rattle.device_core.specs.State.{Live}
@@ -46,7 +46,7 @@ waiting_both served = or_own (waiting served.port.calls served.port.frames) (wai
 abbrev pub IsNextBoth : Served → Work → Type 0
 IsNextBoth served Nothing = IsFetched served
 IsNextBoth served (Carry call) = (rest : List Call) × (served.port.calls ≡ call_of call ∷ rest) × (fits_in 4096 (call_of call) ≡ true)
-IsNextBoth served (Send frame) = (served.port.calls ≡ []) × ((rest : List (List ℕ)) × (frames_of served ≡ frame.now.items ∷ rest))
+IsNextBoth served (Send octets) = (served.port.calls ≡ []) × ((rest : List (List ℕ)) × (frames_of served ≡ octets.now ∷ rest)) × (length octets.now ≤ 1518)
 
 -- The first piece of work is fetched.
 abbrev pub advanced_from : Served → List Call → List (List ℕ) → Served

@@ -1,5 +1,5 @@
 -- What a host sees of a port.
-use Rattle.std.specs.Prelude.{◌≡◌, ◌<◌, ◌≤◌, Bool, true, false, ℕ, List, [], ◌∷◌, drop, if◌then◌else◌, Option, Some, None, Result, MatchResult}
+use Rattle.std.specs.Prelude.{◌≡◌, ◌<◌, ◌≤◌, Bool, true, false, ℕ, List, [], ◌∷◌, drop, length, if◌then◌else◌, Option, Some, None, Result, MatchResult}
 use Rattle.flash_model.specs.Calls.{Call, Programs, Erases, Arms}
 use Rattle.device_abi.specs.declared.recorded.flash.RecordedFlash.{RecordedFlash}
 use Rattle.device_abi.specs.recorded.Entry.{call_of}
@@ -83,12 +83,12 @@ barred_by Lost is_left = Some refusal.PowerLost
 abbrev pub barred : State → Option Refusal
 barred port = barred_by port.stage (has_work port.calls port.frames)
 
--- The next piece of work: a flash call if one remains, which lies in its sector, a frame only if no call remains, and nothing
--- if no work remains.
+-- The next piece of work: a flash call if one remains, which lies in its sector, a frame only if no call remains, which has at most
+-- 1,518 octets, and nothing if no work remains.
 abbrev pub IsNext : State → Work → Type 0
 IsNext port Nothing = IsIdle port
 IsNext port (Carry call) = (rest : List Call) × (port.calls ≡ call_of call ∷ rest) × (fits_in 4096 (call_of call) ≡ true)
-IsNext port (Send frame) = (port.calls ≡ []) × ((rest : List (List ℕ)) × (port.frames ≡ frame.now.items ∷ rest))
+IsNext port (Send octets) = (port.calls ≡ []) × ((rest : List (List ℕ)) × (port.frames ≡ octets.now ∷ rest)) × (length octets.now ≤ 1518)
 
 -- The first piece of work is fetched.
 abbrev pub advanced_by : State → List Call → State
@@ -103,7 +103,7 @@ advanced port = advanced_by port port.calls
 abbrev pub work_kind : Work → ℕ
 work_kind Nothing = 0
 work_kind (Carry call) = kind_of (call_of call)
-work_kind (Send frame) = 3
+work_kind (Send octets) = 3
 
 -- The first of these, or none if there are none.
 abbrev pub IsFirst : {T : Type 0} → List T → Option T → Type 0

@@ -1,6 +1,5 @@
 //! The services beside the port of a device: what they do with what happens at it.
 ghost use Rattle.std.specs.Prelude.{◌≡◌, ◌<◌, ◌≤◌, ℕ, [], None, Some, true};
-ghost use Rattle.frame_codec.specs.Outbox.{boxed};
 ghost use Rattle.device_frames.specs.declared.event.Event.TheVariants.{Frame as Framed};
 ghost use Rattle.device_abi.specs.port.State.{barred};
 ghost use Rattle.device_abi.specs.port.Steps.{Ticks};
@@ -13,12 +12,12 @@ ghost use Rattle.device_abi.specs.port.ServedSteps.{GivesAny, GivesPort, IsBesid
 
 use crate::RecordedFlash;
 use crate::port::device::DevicePort;
+use crate::port::own::OwnFrames;
 use device_core::{Device, Note};
-use frame_codec::Outbox;
 use services::NEVER;
 use station::{
-    Attended, DeviceServices, JoinedCall, due_beside, follow_frame, follow_units,
-    quiet_units_are_ticks, services_due,
+    Attended, DeviceServices, JoinedCall, due_beside, follow_answered, follow_quiet_units,
+    services_due,
 };
 
 // The services begin beside a device that has started, if the station has them. They are large: made in each branch they are written where they
@@ -59,51 +58,43 @@ pub(crate) fn follow(
     services: &mut Option<DeviceServices>,
     octets: &[u8],
     note: Note,
-    outbox: &mut Outbox,
-    call: &mut JoinedCall,
+    own: &mut OwnFrames,
 ) -> Note
     requires known { IsNoticed port.old services.old octets.now note }
     requires dropped { is_dropped note ≡ true → barred port.old ≡ None }
     ensures beside { IsBeside services.old port.old.device.station.identity port.old.device.live.values note
-        (Framed (record { items = octets.now })) services.new (boxed outbox.new) result }
+        (Framed (record { items = octets.now })) services.new own.new.frames result }
     ensures gives { GivesAny services.old port.old.device.live.values note (Framed (record { items = octets.now })) port.old port.new }
 {
     match services {
-        Some(services) => {
-            let attended = attend(port, services, octets, note, outbox, call);
-            give(port, call, attended)
-        }
+        Some(services) => follow_of(port, services, octets, note, own),
         None => {
-            outbox.clear();
+            own.clear();
             note
         }
     }
 }
 
-// The services' part of it. A call that the frame completed is written into `call`.
-fn attend(
-    port: &DevicePort,
+// The same of services that there are. A frame that the device answered is no call, and they do not answer it.
+fn follow_of(
+    port: &mut DevicePort,
     services: &mut DeviceServices,
     octets: &[u8],
     note: Note,
-    outbox: &mut Outbox,
-    call: &mut JoinedCall,
-) -> Attended
-    requires known { IsNoticed port.now (Some services.old) octets.now note }
-    ensures beside { record { services = services.new; sent = boxed outbox.new; note = note_in result }
-        ≡ beside port.now.device.station.identity services.old port.now.device.live.values note (Framed (record { items = octets.now })) }
-    ensures call { joined_in result call.new
-        ≡ joined_beside services.old port.now.device.live.values note (Framed (record { items = octets.now })) }
+    own: &mut OwnFrames,
+) -> Note
+    requires known { IsNoticed port.old (Some services.old) octets.now note }
+    requires dropped { is_dropped note ≡ true → barred port.old ≡ None }
+    ensures beside { record { services = services.new; sent = own.new.frames; note = result }
+        ≡ beside port.old.device.station.identity services.old port.old.device.live.values note (Framed (record { items = octets.now })) }
+    ensures gives { GivesPort (joined_beside services.old port.old.device.live.values note (Framed (record { items = octets.now }))) port.old port.new }
 {
-    follow_frame(
-        port.device(),
-        services,
-        octets,
-        note,
-        port.has_frames(),
-        outbox,
-        call,
-    )
+    if port.has_frames() {
+        own.clear();
+        return follow_answered(port.device(), services, octets, note);
+    }
+    let attended = port.attend(services, octets, note, own);
+    give(port, own.call(), attended)
 }
 
 // The device is given the call that the services joined, if they did. Returns the note of the station.
@@ -229,7 +220,7 @@ pub(crate) fn pass_both(
     port: &mut DevicePort,
     services: &mut Option<DeviceServices>,
     most: u32,
-    outbox: &mut Outbox,
+    own: &mut OwnFrames,
 ) -> u32
     requires free { barred port.old ≡ None }
     requires some { 0 < most }
@@ -237,23 +228,24 @@ pub(crate) fn pass_both(
     ensures most { result ≤ most }
     ensures ticks { Ticks result port.old port.new }
     ensures quiet { port.new.calls ≡ [] }
-    ensures beside { TicksBesideAny result port.new.device.station.identity port.new.device.live.values services.old services.new (boxed outbox.new) }
+    ensures beside { TicksBesideAny result port.new.device.station.identity port.new.device.live.values services.old services.new own.new.frames }
 {
     match services {
-        Some(services) => pass_beside(port, services, most, outbox),
+        Some(services) => pass_beside(port, services, most, own),
         None => {
-            outbox.clear();
+            own.clear();
             pass_alone(port, most)
         }
     }
 }
 
-// The same with services that there are.
+// The same with services that there are. In the unit with which something is due of them they go first, as long as the outbox of the
+// device is free.
 fn pass_beside(
     port: &mut DevicePort,
     services: &mut DeviceServices,
     most: u32,
-    outbox: &mut Outbox,
+    own: &mut OwnFrames,
 ) -> u32
     requires free { barred port.old ≡ None }
     requires some { 0 < most }
@@ -261,12 +253,16 @@ fn pass_beside(
     ensures most { result ≤ most }
     ensures ticks { Ticks result port.old port.new }
     ensures quiet { port.new.calls ≡ [] }
-    ensures beside { TicksBeside result port.new.device.station.identity port.new.device.live.values services.old services.new (boxed outbox.new) }
+    ensures beside { TicksBeside result port.new.device.station.identity port.new.device.live.values services.old services.new own.new.frames }
 {
-    quiet_units_are_ticks();
     let device = port.device();
     let due = services_due(device.is_lost(), device.running(), services);
-    let passed = pass_alone(port, most.min(due));
-    follow_units(port.device(), services, passed, outbox);
+    if due == 1 {
+        port.follow_unit(services, own);
+        return pass_alone(port, 1);
+    }
+    own.clear();
+    let passed = pass_alone(port, most.min(due - 1));
+    follow_quiet_units(port.device(), services, passed);
     passed
 }

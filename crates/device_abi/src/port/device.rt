@@ -15,7 +15,13 @@ ghost use Rattle.device_abi.specs.port.State.{past_start as too_late};
 ghost use Rattle.device_abi.specs.port.Steps.{KnowsOrNot, Passes, PassesOrNot, StartsOrNot, Takes, Ticks};
 ghost use Rattle.device_core.specs.Leaps.{live_due_in};
 ghost use Rattle.frame_codec.specs.Outbox.{boxed};
+ghost use Rattle.station.specs.Beside.{beside, is_dropped, joined_beside};
+ghost use Rattle.station.specs.Leaps.{services_due};
+ghost use Rattle.station.specs.Serving.{disputes};
+ghost use Rattle.station.specs.Views.{joined_in, note_in};
+ghost use Rattle.device_abi.specs.port.Pace.{TicksBeside};
 
+use crate::port::own::OwnFrames;
 use crate::port::{Refusal, Stage};
 use crate::{Recorded, RecordedFlash, leap, skip, step, step_cyclic, step_input, unit};
 use device_core::{Device, Event, Note};
@@ -24,6 +30,7 @@ use frame_codec::{Frame, Outbox};
 use pn_values::{Identity, Real};
 use relations::DeviceOptions;
 use settings_journal::Fill;
+use station::{Attended, DeviceServices};
 use std::marker::Model;
 
 /// The number of octets of each of the two sectors.
@@ -83,8 +90,8 @@ pub enum Work<'a> {
     Nothing,
     /// A flash call.
     Carry(Recorded<'a>),
-    /// A frame to be sent.
-    Send(&'a Frame),
+    /// A frame to be sent: its octets.
+    Send(&'a [u8]),
 }
 
 // The octets of a sector of the chip.
@@ -261,7 +268,7 @@ impl DevicePort {
             return Work::Carry(flash.call(self.calls_past));
         }
         if self.frames_past < self.outbox.len() {
-            return Work::Send(&self.outbox.as_slice()[self.frames_past]);
+            return Work::Send(self.outbox.as_slice()[self.frames_past].as_slice());
         }
         Work::Nothing
     }
@@ -393,6 +400,40 @@ impl DevicePort {
         step_input(&mut self.device, slot, subslot, octets)
     }
 
+    // What services do with a frame that the device has handled, if it left no frame. Its outbox is free then: theirs go through it.
+    pub(crate) fn attend(
+        &mut self,
+        services: &mut DeviceServices,
+        octets: &[u8],
+        note: Note,
+        own: &mut OwnFrames,
+    ) -> Attended
+        requires free { self.old.frames ≡ [] }
+        requires known { is_dropped note ≡ false → disputes services.old octets.now ≡ false }
+        ensures same { self.new ≡ self.old }
+        ensures beside { record { services = services.new; sent = own.new.frames; note = note_in result }
+            ≡ beside self.old.device.station.identity services.old self.old.device.live.values note (Framed (record { items = octets.now })) }
+        ensures call { joined_in result own.new.call
+            ≡ joined_beside services.old self.old.device.live.values note (Framed (record { items = octets.now })) }
+    {
+        let attended = own.attend(&self.device, services, octets, note, &mut self.outbox);
+        self.outbox.clear();
+        self.frames_past = 0;
+        attended
+    }
+
+    // What they do in a unit of time that is about to pass, in the same way.
+    pub(crate) fn follow_unit(&mut self, services: &mut DeviceServices, own: &mut OwnFrames)
+        requires free { self.old.frames ≡ [] }
+        requires due { 1 ≤ services_due self.old.device.live.values services.old }
+        ensures same { self.new ≡ self.old }
+        ensures ticks { TicksBeside 1 self.old.device.station.identity self.old.device.live.values services.old services.new own.new.frames }
+    {
+        own.follow_unit(&self.device, services, &mut self.outbox);
+        self.outbox.clear();
+        self.frames_past = 0;
+    }
+
     // ---- units of time. None of them makes a flash call, so the flash is not looked at.
 
     // Whether that many units of time surely bring nothing, and no work remains.
@@ -436,6 +477,7 @@ impl DevicePort {
     }
 
     // Lets one unit pass while events are accepted. Returns what is due then.
+    #[inline(always)]
     pub(crate) fn unit(&mut self) -> u32
         requires { barred self.old ≡ None }
         ensures ticks { Ticks 1 self.old self.new }

@@ -13,6 +13,7 @@ use crate::Recorded;
 use crate::port::{Port, Stage, Work};
 use device_core::{Event, Local, Octets, Sink};
 use flash_model::{Flash, FlashFault};
+use frame_codec::Frame;
 
 /// What a host does next.
 #[derive(Drop)]
@@ -180,8 +181,10 @@ fn perform<C: Flash<4096>, K: Sink>(
 {
     match port.work() {
         Ok(Work::Carry(call)) => carry(chip, &call),
-        Ok(Work::Send(frame)) => {
-            sink.take(frame);
+        Ok(Work::Send(octets)) => {
+            let mut frame = Frame::new();
+            frame.append(octets);
+            sink.take(&frame);
             Ok(())
         }
         Ok(Work::Nothing) | Err(_) => Ok(()),

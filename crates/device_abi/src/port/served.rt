@@ -1,5 +1,5 @@
 //! A port of a device with the services beside it, and the work of their last step that the host has not fetched yet.
-ghost use Rattle.std.specs.Prelude.{◌≡◌, ◌≢◌, ◌==◌, ◌<◌, ◌≤◌, ℕ, [], None, Some, IsSome, MatchResult, false, take, true};
+ghost use Rattle.std.specs.Prelude.{◌≡◌, ◌≢◌, ◌==◌, ◌<◌, ◌≤◌, ℕ, [], None, Some, IfSome, IsSome, MatchResult, false, length, take, true};
 ghost use Rattle.std.specs.Option.{option_map};
 ghost use Rattle.device_abi.specs.port.State.{IsIdle, IsRead, closed, has_some, has_work as is_left, waiting as waiting_in};
 ghost use Rattle.device_abi.specs.declared.port.stage.Stage.TheVariants.{Booted, Made};
@@ -14,16 +14,17 @@ use crate::port::beside::{
     begin, catch_up, due_of, follow, observe, pass_both, rest_of, soonest, tell_neighbour,
 };
 use crate::port::device::{DevicePort, Passed, Work};
+use crate::port::own::OwnFrames;
 use crate::port::{Refusal, Stage};
 use crate::{Recorded, RecordedFlash};
 use device_core::{Device, Event, Note, Octets};
 use flash_model::Sector;
-use frame_codec::{Frame, Outbox};
+use frame_codec::Frame;
 use lldp::Link;
 use pn_values::{Identity, Real};
 use relations::DeviceOptions;
 use services::only_conflicts_are_counted;
-use station::{DeviceServices, JoinedCall, conflicts_are_noticed, quiet_units_are_ticks};
+use station::{DeviceServices, conflicts_are_noticed, quiet_units_are_ticks};
 use std::marker::Model;
 use wire::at_most;
 
@@ -47,17 +48,14 @@ pub struct Port {
     rest: u32,
     /// The same of the services as they learned of units last: that many less `rest` have passed since.
     limit: u32,
-    /// The frames of the services.
-    outbox: Outbox,
-    /// The number of these that the host has fetched.
+    /// The frames of the services, or the call that they joined.
+    own: OwnFrames,
+    /// The number of these frames that the host has fetched.
     frames_past: usize,
-    /// The place of a call that the services join from its fragments.
-    call: JoinedCall,
 }
 
 impl Model for Port {
     ghost use Rattle.std.specs.Prelude.{◌-◌, drop};
-    ghost use Rattle.frame_codec.specs.Outbox.{boxed};
     ghost use Rattle.device_abi.specs.port.Pace.{IsPaced, caught_up};
     ghost use Rattle.device_abi.specs.port.Served.{Served};
 
@@ -67,10 +65,10 @@ impl Model for Port {
       port = all.port;
       serves = all.serves;
       services = caught_up (all.limit - all.rest) all.services;
-      frames = drop all.frames_past (boxed all.outbox);
+      frames = drop all.frames_past all.own.frames;
     } };
 
-    ghost invariant = { λ all. IsPaced all.rest all.limit all.port.device.live.values all.services (drop all.frames_past (boxed all.outbox)) };
+    ghost invariant = { λ all. IsPaced all.rest all.limit all.port.device.live.values all.services (drop all.frames_past all.own.frames) };
 }
 
 impl Port {
@@ -98,9 +96,8 @@ impl Port {
             services: None,
             rest: 0,
             limit: 0,
-            outbox: Outbox::new(),
+            own: OwnFrames::new(),
             frames_past: 0,
-            call: JoinedCall::new(),
         }
     }
 
@@ -182,7 +179,7 @@ impl Port {
         self.limit = 0;
         match self.port.boot() {
             Ok(()) => {
-                self.frames_past = self.outbox.len();
+                self.frames_past = self.own.len();
                 begin(&mut self.services, self.serves, &self.port);
                 Ok(())
             }
@@ -237,8 +234,7 @@ impl Port {
             &mut self.services,
             octets,
             note,
-            &mut self.outbox,
-            &mut self.call,
+            &mut self.own,
         )
     }
 
@@ -506,7 +502,7 @@ impl Port {
     {
         match self.port.lose() {
             Ok(()) => {
-                self.frames_past = self.outbox.len();
+                self.frames_past = self.own.len();
                 Ok(())
             }
             Err(refusal) => Err(refusal),
@@ -532,7 +528,7 @@ impl Port {
         match self.port.next() {
             Work::Nothing => self.next_own(),
             Work::Carry(call) => Work::Carry(call),
-            Work::Send(frame) => Work::Send(frame),
+            Work::Send(octets) => Work::Send(octets),
         }
     }
 
@@ -541,8 +537,8 @@ impl Port {
         requires { IsIdle self.now.port }
         ensures { IsNextBoth self.now result }
     {
-        if self.frames_past < self.outbox.len() {
-            return Work::Send(&self.outbox.as_slice()[self.frames_past]);
+        if self.frames_past < self.own.len() {
+            return Work::Send(self.own.frame(self.frames_past));
         }
         Work::Nothing
     }
@@ -553,7 +549,7 @@ impl Port {
     {
         if self.port.has_work() {
             self.port.advance();
-        } else if self.frames_past < self.outbox.len() {
+        } else if self.frames_past < self.own.len() {
             self.frames_past += 1;
         }
     }
@@ -646,20 +642,21 @@ impl Port {
         self.port.fetch_frame(more)
     }
 
-    /// Takes the next frame of the services once no work of the port remains.
-    pub fn fetch_own(&mut self, more: &mut u32) -> Option<&Frame>
+    /// Takes the octets of the next frame of the services once no work of the port remains.
+    pub fn fetch_own(&mut self, more: &mut u32) -> Option<&[u8]>
         requires calls { self.old.port.calls ≡ [] }
         requires frames { self.old.port.frames ≡ [] }
-        ensures* { sem 𝓛 (follows_so the_row the_row self.entry.ghost_name none (λ _ _. ⊤) (λ new. FetchesBoth self.old (option_map (λ frame. frame.now.items) result) more.new new)) }
+        ensures* fetches { sem 𝓛 (follows_so the_row the_row self.entry.ghost_name none (λ _ _. ⊤) (λ new. FetchesBoth self.old (option_map (λ octets. octets.now) result) more.new new)) }
+        ensures short { IfSome result (λ octets. length octets.now ≤ 1518) }
     {
         let past = self.frames_past;
-        if past >= self.outbox.len() {
+        if past >= self.own.len() {
             *more = 0;
             return None;
         }
         self.frames_past = past + 1;
         *more = self.waiting_own();
-        Some(&self.outbox.as_slice()[past])
+        Some(self.own.frame(past))
     }
 
     // ---- what is due
@@ -732,7 +729,7 @@ impl Port {
     fn has_own_frames(&self) -> bool
         ensures { result ≡ has_some self.now.frames }
     {
-        self.frames_past < self.outbox.len()
+        self.frames_past < self.own.len()
     }
 
     // The neighbour is reported to the device, if that changed.
@@ -787,7 +784,7 @@ impl Port {
         self.limit = 0;
         self.frames_past = 0;
         tell_neighbour(&mut self.port, &mut self.services);
-        pass_both(&mut self.port, &mut self.services, most, &mut self.outbox)
+        pass_both(&mut self.port, &mut self.services, most, &mut self.own)
     }
 }
 

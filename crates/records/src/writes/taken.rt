@@ -1,6 +1,6 @@
 //! The parameter records that a relation has accepted.
 ghost use Rattle.std.specs.Prelude.{◌≡◌, [], IfErr, IfOk, Err, Ok};
-ghost use Rattle.records.specs.writes.Taken.{keep_of};
+ghost use Rattle.records.specs.writes.Taken.{forgotten_at, is_at, keep_of};
 
 use crate::CallFault;
 use arrayvec::ArrayVec;
@@ -17,6 +17,15 @@ pub struct TakenRecord {
     pub index: u16,
     /// Its octets: as many as the submodule requires.
     pub value: ArrayVec<u8, 64>,
+}
+
+impl TakenRecord {
+    /// Whether it is of the submodule in this slot and subslot.
+    fn is_at(&self, slot: u16, subslot: u16) -> bool
+        ensures { result ≡ is_at slot subslot self.now }
+    {
+        self.slot == slot && self.subslot == subslot
+    }
 }
 
 /// The parameter records that a relation has accepted, in their order: at most 64. A record that is written again is
@@ -68,6 +77,13 @@ impl TakenRecords {
         // their order.
         self.records.push(taken);
         Ok(())
+    }
+
+    /// Removes the records of a submodule. The others keep their order.
+    pub fn forget_at(&mut self, slot: u16, subslot: u16)
+        ensures { self.new ≡ forgotten_at slot subslot self.old }
+    {
+        self.records.retain(|taken| !taken.is_at(slot, subslot));
     }
 
     /// The records, in the order in which they were accepted.

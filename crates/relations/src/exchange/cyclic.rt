@@ -35,6 +35,7 @@ impl DataExchange {
     /// Counts a unit of 31.25 microseconds. A frame of inputs is due each interval. Once data is exchanged, the
     /// relation ends if no frame of outputs was accepted for the data hold time, or else if an alarm was sent as often
     /// as allowed without an ACK. Returns what is due.
+    #[inline(always)]
     pub fn tick(&mut self) -> Tick
         ensures brought { result ≡ tick_of self.old }
         ensures repeated { repeated_in self.new ≡ repeated_of self.old }

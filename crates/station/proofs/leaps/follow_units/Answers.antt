@@ -1,6 +1,8 @@
 -- Only whether power is lost, and the running settings count.
-use Rattle.std.proofs.Common.{sym}
+use Rattle.std.proofs.Common.{◌≤◌, ◌-◌, ℕ, List, length, subst, sym}
+use Rattle.station.specs.Leaps.{beside_ticks}
 use Rattle.station.proofs.Leaping.{parts_of_due}
+use Rattle.station.proofs.Sparing.{tick_few}
 use Rattle.station.proofs.leaps.follow_units.Goals as goal
 
 pub pass_units-requires-clause-due : goal.pass_units-requires-clause-due
@@ -22,3 +24,10 @@ returns-clause-quiet g c =
 pub returns-clause-frames : goal.returns-clause-frames
 returns-clause-frames g c =
     (c.pass_units.ensures c.args.device.now.station.identity c.args.device.now.live.values (sym c.is_lost.ensures) (sym c.running.ensures)).frames
+
+pub returns-clause-few : goal.returns-clause-few
+returns-clause-few g c =
+    let identity = c.args.device.now.station.identity in
+    let values = c.args.device.now.live.values in
+    let follows = c.pass_units.ensures identity values (sym c.is_lost.ensures) (sym c.running.ensures) in
+    subst (λ (f : List (List ℕ)). length f ≤ 2) (sym follows.frames) (tick_few identity values (beside_ticks identity values (c.args.units - 1) c.args.services.now))

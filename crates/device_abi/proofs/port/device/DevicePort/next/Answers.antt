@@ -1,5 +1,5 @@
 -- The next piece of work.
-use Rattle.std.proofs.Common.{◌<◌, ◌≤◌, length, map, sym, ap, ◌∙◌, arith}
+use Rattle.std.proofs.Common.{◌<◌, ◌≤◌, ◌∷◌, length, map, sym, ap, ◌∙◌, arith}
 use Rattle.std.specs.Prelude.{slice_get}
 use Rattle.std.proofs.lemmas.List.{drop_all}
 use Rattle.device_abi.specs.recorded.Entry.{call_of}
@@ -21,8 +21,10 @@ returns-then-self-len c =
     let none : length (recalled port.device.flash) ≤ port.calls_past = omega (arith, c.if-self-stored.false, c.stored.ensures, all) in
     let known = ap length c.as_slice.ensures.value in
     let some : port.frames_past < length c.as_slice.result.now = omega (arith, c.if-self-len.true, c.len.ensures.value, known) in
+    let next = next_of (λ frame. frame.items) c.as_slice.result.now (map (λ frame. frame.items) port.outbox.items) port.frames_past c.index-as_slice-self.result
+    (ap (map (λ frame. frame.items)) c.as_slice.ensures.value) some c.index-as_slice-self.is in
     rw (← c.self.view_is) (
       drop_all port.calls_past (recalled port.device.flash) none,
-      next_of (λ frame. frame.items) c.as_slice.result.now (map (λ frame. frame.items) port.outbox.items) port.frames_past c.index-as_slice-self.result
-          (ap (map (λ frame. frame.items)) c.as_slice.ensures.value) some c.index-as_slice-self.is,
+      (next.0, next.1 ∙ ap (λ octets. octets ∷ next.0) (sym c.as_slice-then-self-len.ensures.value)),
+      c.as_slice-then-self-len.ensures.most,
     )

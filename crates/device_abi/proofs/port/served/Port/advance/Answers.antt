@@ -1,6 +1,6 @@
 -- A piece of work is fetched.
-use Rattle.std.proofs.Common.{◌+◌, ◌∙◌, ℕ, List, map, drop, refl, subst, sym, ap, arith}
-use Rattle.std.proofs.lemmas.List.{drop_all, length-map}
+use Rattle.std.proofs.Common.{◌+◌, ◌∙◌, drop, refl, subst, sym, ap, arith}
+use Rattle.std.proofs.lemmas.List.{drop_all}
 use Rattle.settings_journal.specs.settings_store.State.{Values}
 use Rattle.device_abi.specs.port.Pace.{IsPaced}
 use Rattle.device_abi.specs.port.Served.{advanced_both}
@@ -14,16 +14,15 @@ use Rattle.device_abi.proofs.port.served.Port.advance.Goals as goal
 pub invariant_of-self : goal.invariant_of-self
 invariant_of-self c =
     let all = c.self.inside in
-    let frames : List (List ℕ) = map (λ frame. frame.items) all.outbox.items in
+    let frames = all.own.frames in
     subst (λ (v : Values). IsPaced all.rest all.limit v all.services (drop all.frames_past frames))
     (sym (ap (λ d. d.live.values) (same_device all.port c.advance.new.self c.advance.ensures))) c.self.invariant
 
 pub invariant_of-self-then-self-len : goal.invariant_of-self-then-self-len
 invariant_of-self-then-self-len c =
     let all = c.self.inside in
-    let frames : List (List ℕ) = map (λ frame. frame.items) all.outbox.items in
-    let long = length-map all.outbox.items (λ frame. frame.items) in
-    let some = is_left all.frames_past frames (omega (arith, c.if-self-len.true, c.len.ensures.value, long)) in
+    let frames = all.own.frames in
+    let some = is_left all.frames_past frames (omega (arith, c.if-self-len.true, c.len.ensures)) in
     some_paced all.rest all.limit all.port.device.live.values all.services (drop all.frames_past frames) (drop (all.frames_past + 1) frames) some c.self.invariant
 
 pub returns-then-has_work : goal.returns-then-has_work
@@ -34,15 +33,14 @@ returns-then-has_work c =
 pub returns-then-self-len : goal.returns-then-self-len
 returns-then-self-len c =
     let all = c.self.inside in
-    let frames : List (List ℕ) = map (λ frame. frame.items) all.outbox.items in
+    let frames = all.own.frames in
     let idle = idle_of all.port.calls all.port.frames (sym c.has_work.ensures ∙ c.if-has_work.false) in
     after_own (the_view all) all.frames_past frames idle.0 idle.1 refl ∙ ap advanced_both c.self.view_is
 
 pub returns-else-self-len : goal.returns-else-self-len
 returns-else-self-len c =
     let all = c.self.inside in
-    let frames : List (List ℕ) = map (λ frame. frame.items) all.outbox.items in
+    let frames = all.own.frames in
     let idle = idle_of all.port.calls all.port.frames (sym c.has_work.ensures ∙ c.if-has_work.false) in
-    let long = length-map all.outbox.items (λ frame. frame.items) in
-    let none = drop_all all.frames_past frames (omega (arith, c.if-self-len.false, c.len.ensures.value, long)) in
+    let none = drop_all all.frames_past frames (omega (arith, c.if-self-len.false, c.len.ensures)) in
     sym c.self.view_is ∙ after_none (the_view all) idle.0 idle.1 none ∙ ap advanced_both c.self.view_is

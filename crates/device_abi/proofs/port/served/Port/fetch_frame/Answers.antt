@@ -1,7 +1,6 @@
 -- The first frame of the device is the first of all.
 use Rattle.std.proofs.Common.{◌≡◌, ◌∙◌, ℕ, [], true, drop, refl, subst, sym, ap}
 use Rattle.std.specs.Prelude.{option_map}
-use Rattle.frame_codec.specs.Outbox.{boxed}
 use Rattle.device_abi.specs.port.State.{has_some, waiting}
 use Rattle.device_abi.specs.port.Served.{Served, advanced_both, or_own}
 use Rattle.device_abi.specs.contracts.port.served.Port.{the_view}
@@ -11,7 +10,7 @@ use Rattle.device_abi.proofs.port.served.Port.fetch_frame.Goals as goal
 pub returns : goal.returns
 returns c =
     let all = c.self.inside in
-    let frames = drop all.frames_past (boxed all.outbox) in
+    let frames = drop all.frames_past all.own.frames in
     let some = subst (λ (s : Served). has_some s.port.frames ≡ true) (sym c.self.view_is) c.requires.frames in
     let none = subst (λ (s : Served). s.port.calls ≡ []) (sym c.self.view_is) c.requires.calls in
     let fetched = c.fetch_frame-frame.follows.holds-at-none in

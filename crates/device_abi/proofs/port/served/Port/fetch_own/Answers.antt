@@ -1,39 +1,34 @@
 -- The first frame of the services is the first of all, since the device has none.
-use Rattle.std.proofs.Common.{◌≡◌, ◌+◌, ◌<◌, ◌∙◌, ℕ, List, [], length, map, drop, refl, subst, sym, ap, arith}
-use Rattle.std.proofs.lemmas.List.{length-map}
+use Rattle.std.proofs.Common.{◌≡◌, ◌+◌, ◌∙◌, [], drop, refl, subst, sym, ap, arith}
 use Rattle.device_abi.specs.port.Served.{Served, advanced_both}
 use Rattle.device_abi.specs.port.State.{waiting}
 use Rattle.device_abi.specs.contracts.port.served.Port.{the_view}
 use Rattle.device_abi.proofs.ServedFetching.{after_own, own_frames, own_waits}
-use Rattle.device_abi.proofs.PortLeft.{is_left, next_of}
+use Rattle.device_abi.proofs.PortLeft.{is_left, next_at}
 use Rattle.device_abi.proofs.ServedPacing.{some_paced}
 use Rattle.device_abi.proofs.port.served.Port.fetch_own.Goals as goal
 
 pub invariant_of-self-2 : goal.invariant_of-self-2
 invariant_of-self-2 c =
     let all = c.self.inside in
-    let frames : List (List ℕ) = map (λ frame. frame.items) all.outbox.items in
-    let long = length-map all.outbox.items (λ frame. frame.items) in
-    let some = is_left all.frames_past frames (omega (arith, c.if-past-len.false, c.len.ensures.value, long)) in
+    let frames = all.own.frames in
+    let some = is_left all.frames_past frames (omega (arith, c.if-past-len.false, c.len.ensures)) in
     some_paced all.rest all.limit all.port.device.live.values all.services (drop all.frames_past frames) (drop (all.frames_past + 1) frames) some c.self.invariant
 
 pub invariant_of-self-3 : goal.invariant_of-self-3
 invariant_of-self-3 c =
     let all = c.self.inside in
-    let frames : List (List ℕ) = map (λ frame. frame.items) all.outbox.items in
-    let long = length-map all.outbox.items (λ frame. frame.items) in
-    let some = is_left all.frames_past frames (omega (arith, c.if-past-len.false, c.len.ensures.value, long)) in
+    let frames = all.own.frames in
+    let some = is_left all.frames_past frames (omega (arith, c.if-past-len.false, c.len.ensures)) in
     some_paced all.rest all.limit all.port.device.live.values all.services (drop all.frames_past frames) (drop (all.frames_past + 1) frames) some c.self.invariant
 
 pub returns : goal.returns
 returns c =
     let all = c.self.inside in
-    let frames : List (List ℕ) = map (λ frame. frame.items) all.outbox.items in
+    let frames = all.own.frames in
     let no_call = subst (λ (s : Served). s.port.calls ≡ []) (sym c.self.view_is) c.requires.calls in
     let no_frame = subst (λ (s : Served). s.port.frames ≡ []) (sym c.self.view_is) c.requires.frames in
-    let known = ap length c.as_slice.ensures.value in
-    let some : all.frames_past < length c.as_slice.result.now = omega (arith, c.if-past-len.false, c.len.ensures.value, known) in
-    let next = next_of (λ frame. frame.items) c.as_slice.result.now frames all.frames_past c.index-as_slice-past.result (ap (map (λ frame. frame.items)) c.as_slice.ensures.value) some c.index-as_slice-past.is in
+    let next = next_at all.frames_past frames c.frame.result.now c.frame.ensures.at in
     let after = after_own (the_view all) all.frames_past frames no_call no_frame refl in (
       (
         refl,
@@ -44,5 +39,5 @@ returns c =
           c.waiting_own.ensures ∙ own_waits all.port.calls all.port.frames (waiting [] (drop (all.frames_past + 1) frames)) no_call no_frame,
         ),
       ),
-      tt,
+      record { fetches = tt; short = c.frame.ensures.short },
     )

@@ -1,7 +1,6 @@
 -- The device takes the input, in which services that rest have no part.
 use Rattle.std.proofs.Common.{◌-◌, List, ℕ, Ok, drop, take, subst, arith}
 use Rattle.arrayvec.specs.ArrayVec.{ArrayVec}
-use Rattle.frame_codec.specs.Outbox.{boxed}
 use Rattle.device_frames.specs.declared.event.Event.TheVariants.{Application}
 use Rattle.device_frames.specs.declared.local.Local.TheVariants.{Input}
 use Rattle.device_frames.specs.declared.note.Note.{Note}
@@ -19,13 +18,13 @@ use Rattle.device_abi.proofs.port.served.Port.input.Goals as goal
 pub invariant_of-self : goal.invariant_of-self
 invariant_of-self c =
     let all = c.self.inside in
-    input_paced all.rest all.limit all.port c.give.new.self all.services (drop all.frames_past (boxed all.outbox)) c.args.slot c.args.subslot (record { items = c.at_most.result.now }) c.give.result c.give.ensures.takes c.self.invariant
+    input_paced all.rest all.limit all.port c.give.new.self all.services (drop all.frames_past all.own.frames) c.args.slot c.args.subslot (record { items = c.at_most.result.now }) c.give.result c.give.ensures.takes c.self.invariant
 
 pub returns : goal.returns
 returns c =
     let all = c.self.inside in
     let laws = c.quiet_units_are_ticks.ensures in
-    let frames = drop all.frames_past (boxed all.outbox) in
+    let frames = drop all.frames_past all.own.frames in
     let value : ArrayVec ℕ = record { items = take 1519 c.args.octets.now } in
     let new = c.give.new.self in
     let free = is_free new c.give.ensures.free in

@@ -1,6 +1,5 @@
 -- The neighbour is reported to the device, and then the units pass at both.
 use Rattle.std.proofs.Common.{◌≡◌, ◌-◌, drop, Option, None, subst, sym}
-use Rattle.frame_codec.specs.Outbox.{boxed}
 use Rattle.station.specs.Serving.{Serving}
 use Rattle.device_abi.specs.port.Pace.{caught_up}
 use Rattle.device_abi.specs.port.Served.{Served, barred_both}
@@ -15,5 +14,5 @@ returns-clause-ticks c =
     let new = c.pass_both.new in
     let free = subst (λ (s : Served). barred_both s ≡ None) (sym c.self.view_is) c.requires.free in
     let tells = subst (λ (o : Option Serving). TellsPortAny o all.port told.port told.services) c.catch_up.ensures c.tell_neighbour.ensures.tells in
-    rw (← c.self.view_is) (leapt_both c.pass_both.result all.serves all.port told.port new.port (caught_up (all.limit - all.rest) all.services) told.services new.services (drop all.frames_past (boxed all.outbox)) (boxed new.outbox)
+    rw (← c.self.view_is) (leapt_both c.pass_both.result all.serves all.port told.port new.port (caught_up (all.limit - all.rest) all.services) told.services new.services (drop all.frames_past all.own.frames) new.own.frames
     c.pass_both.ensures.some free tells c.tell_neighbour.ensures.told c.pass_both.ensures.ticks c.pass_both.ensures.beside)

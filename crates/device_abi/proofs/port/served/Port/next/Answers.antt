@@ -1,6 +1,5 @@
 -- The next piece of work of the device, or else a frame of the services.
 use Rattle.std.proofs.Common.{◌++◌, drop, ap, subst}
-use Rattle.frame_codec.specs.Outbox.{boxed}
 use Rattle.device_abi.specs.port.Served.{Served}
 use Rattle.device_abi.specs.port.State.{IsIdle, IsNext}
 use Rattle.device_abi.proofs.port.served.Port.next.Goals as goal
@@ -14,6 +13,6 @@ returns-in-Carry c = rw (← c.self.view_is) (subst (λ w. IsNext c.self.inside.
 pub returns-in-Send : goal.returns-in-Send
 returns-in-Send c =
     let all = c.self.inside in
-    let own = drop all.frames_past (boxed all.outbox) in
+    let own = drop all.frames_past all.own.frames in
     let next = subst (λ w. IsNext all.port w) c.in-Send.is c.next.ensures in
-    rw (← c.self.view_is) (next.0, (next.1.0 ++ own, ap (λ f. f ++ own) next.1.1))
+    rw (← c.self.view_is) (next.0, (next.1.0 ++ own, ap (λ f. f ++ own) next.1.1), next.2)

@@ -1,6 +1,5 @@
 -- Units pass in which the services have no part.
 use Rattle.std.proofs.Common.{◌-◌, ◌∙◌, ◌<◌, drop, refl, subst, arith}
-use Rattle.frame_codec.specs.Outbox.{boxed}
 use Rattle.device_core.specs.Leaps.{live_due_in}
 use Rattle.device_abi.specs.port.Pace.{caught_up}
 use Rattle.device_abi.specs.port.Served.{due_both}
@@ -13,13 +12,13 @@ use Rattle.device_abi.proofs.port.served.Port.pass_quiet.Goals as goal
 pub invariant_of-self : goal.invariant_of-self
 invariant_of-self c =
     let all = c.self.inside in
-    let frames = drop all.frames_past (boxed all.outbox) in
+    let frames = drop all.frames_past all.own.frames in
     passed_paced c.args.units all.rest all.limit all.port c.pass_quietly.new.self all.services frames (omega (arith, c.if-units-self.false)) c.self.invariant c.pass_quietly.ensures.ticks
 
 pub returns : goal.returns
 returns c =
     let all = c.self.inside in
-    let frames = drop all.frames_past (boxed all.outbox) in
+    let frames = drop all.frames_past all.own.frames in
     let laws = c.quiet_units_are_ticks.ensures in
     let new = c.pass_quietly.new.self in
     let few : c.args.units < all.rest = omega (arith, c.if-units-self.false) in

@@ -1,6 +1,5 @@
 -- Units pass as far as it is found that they bring nothing.
 use Rattle.std.proofs.Common.{◌≡◌, ◌-◌, ◌∙◌, ◌<◌, Option, Some, min, drop, refl, sym, ap, subst, arith}
-use Rattle.frame_codec.specs.Outbox.{boxed}
 use Rattle.device_core.specs.Leaps.{live_due_in}
 use Rattle.station.specs.Serving.{Serving}
 use Rattle.device_abi.specs.port.Pace.{AreCalm, caught_up, soonest}
@@ -15,7 +14,7 @@ use Rattle.device_abi.proofs.port.served.Port.pass_some.Goals as goal
 pub invariant_of-self : goal.invariant_of-self
 invariant_of-self c =
     let all = c.self.inside in
-    let frames = drop all.frames_past (boxed all.outbox) in
+    let frames = drop all.frames_past all.own.frames in
     let rest = c.rest_of-rest.result in
     let free = sym c.barred.ensures ∙ c.in_default.is in
     let fetched = ap (λ (s : Served). s.frames) c.self.view_is ∙ (free_fetched c.args.self.now free).1 in
@@ -25,7 +24,7 @@ invariant_of-self c =
 pub returns-then-rest-le1 : goal.returns-then-rest-le1
 returns-then-rest-le1 c =
     let all = c.self.inside in
-    let frames = drop all.frames_past (boxed all.outbox) in
+    let frames = drop all.frames_past all.own.frames in
     let rest = c.rest_of-rest.result in
     let services = c.catch_up.new.services in
     let free = sym c.barred.ensures ∙ c.in_default.is in
@@ -50,7 +49,7 @@ returns-then-rest-le1 c =
 pub invariant_of-self-2 : goal.invariant_of-self-2
 invariant_of-self-2 c =
     let all = c.self.inside in
-    let frames = drop all.frames_past (boxed all.outbox) in
+    let frames = drop all.frames_past all.own.frames in
     let rest = c.rest_of-rest.result in
     let free = sym c.barred.ensures ∙ c.in_default.is in
     let fetched = ap (λ (s : Served). s.frames) c.self.view_is ∙ (free_fetched c.args.self.now free).1 in
@@ -61,7 +60,7 @@ invariant_of-self-2 c =
 pub returns : goal.returns
 returns c =
     let all = c.self.inside in
-    let frames = drop all.frames_past (boxed all.outbox) in
+    let frames = drop all.frames_past all.own.frames in
     let rest = c.rest_of-rest.result in
     let quiet = c.min-quiet.result in
     let services = c.catch_up.new.services in

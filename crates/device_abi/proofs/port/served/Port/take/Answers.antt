@@ -1,6 +1,5 @@
 -- The device handles the event, and the services see the settings.
 use Rattle.std.proofs.Common.{◌≡◌, ◌-◌, ◌∙◌, None, ap, drop, refl, subst, sym}
-use Rattle.frame_codec.specs.Outbox.{boxed}
 use Rattle.device_abi.specs.port.Pace.{caught_up}
 use Rattle.device_abi.specs.port.Served.{Served, barred_both}
 use Rattle.device_abi.specs.port.ServedSteps.{StepsBoth, seen_by}
@@ -19,7 +18,7 @@ take-note-requires c =
 pub returns : goal.returns
 returns c =
     let all = c.self.inside in
-    let frames = drop all.frames_past (boxed all.outbox) in
+    let frames = drop all.frames_past all.own.frames in
     let services = caught_up (all.limit - all.rest) all.services in
     let after = c.observe.new.services in
     let new = c.take-note.new.self in

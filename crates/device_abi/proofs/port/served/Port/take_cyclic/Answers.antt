@@ -1,7 +1,6 @@
 -- Cyclic data is accepted in silence, or nothing changes.
 use Rattle.std.proofs.Common.{◌-◌, ℕ, List, ap, drop, subst, take, arith}
 use Rattle.arrayvec.specs.ArrayVec.{ArrayVec}
-use Rattle.frame_codec.specs.Outbox.{boxed}
 use Rattle.device_frames.specs.declared.event.Event.TheVariants.{Frame}
 use Rattle.device_frames.specs.declared.note.Note.TheVariants.{Done}
 use Rattle.device_abi.specs.port.State.{State}
@@ -17,14 +16,14 @@ use Rattle.device_abi.proofs.port.served.Port.take_cyclic.Goals as goal
 pub invariant_of-self : goal.invariant_of-self
 invariant_of-self c =
     let all = c.self.inside in
-    cyclic_paced c.hear_cyclic.result all.rest all.limit all.port c.hear_cyclic.new.self all.services (drop all.frames_past (boxed all.outbox)) (record { items = c.at_most.result.now }) c.hear_cyclic.ensures.taken
+    cyclic_paced c.hear_cyclic.result all.rest all.limit all.port c.hear_cyclic.new.self all.services (drop all.frames_past all.own.frames) (record { items = c.at_most.result.now }) c.hear_cyclic.ensures.taken
     (is_free c.hear_cyclic.new.self c.hear_cyclic.ensures.free).frames c.hear_cyclic.ensures.left c.self.invariant
 
 pub returns-clause-taken : goal.returns-clause-taken
 returns-clause-taken c = λ is.
     let all = c.self.inside in
     let laws = c.quiet_units_are_ticks.ensures in
-    let frames = drop all.frames_past (boxed all.outbox) in
+    let frames = drop all.frames_past all.own.frames in
     let bytes : ArrayVec ℕ = record { items = take 1519 c.args.octets.now } in
     let new = c.hear_cyclic.new.self in
     let free = is_free new c.hear_cyclic.ensures.free in
@@ -39,4 +38,4 @@ returns-clause-taken c = λ is.
 pub returns-clause-left : goal.returns-clause-left
 returns-clause-left c = λ is.
     let all = c.self.inside in
-    rw (← c.self.view_is) (ap (λ (p : State). at all.serves p (caught_up (all.limit - all.rest) all.services) (drop all.frames_past (boxed all.outbox))) (c.hear_cyclic.ensures.left is))
+    rw (← c.self.view_is) (ap (λ (p : State). at all.serves p (caught_up (all.limit - all.rest) all.services) (drop all.frames_past all.own.frames)) (c.hear_cyclic.ensures.left is))

@@ -1,7 +1,6 @@
 -- What the services do beside the step of the device.
 use Rattle.std.proofs.Common.{◌≡◌, ◌-◌, ℕ, List, Option, None, drop, subst, sym}
 use Rattle.arrayvec.specs.ArrayVec.{ArrayVec}
-use Rattle.frame_codec.specs.Outbox.{boxed}
 use Rattle.device_frames.specs.declared.event.Event.{Event}
 use Rattle.device_frames.specs.declared.event.Event.TheVariants.{Frame}
 use Rattle.station.specs.Serving.{Serving}
@@ -43,8 +42,8 @@ returns c =
     let event : Event = Frame (record { items = c.at_most-octets.result.now }) in
     let note = c.take-note.result in
     let after = c.follow.new.services in
-    let sent = boxed c.follow.new.outbox in
+    let sent = c.follow.new.own.frames in
     let beside = subst (λ (o : Option Serving). IsBeside o middle.device.station.identity middle.device.live.values note event after sent c.follow.result) c.catch_up.ensures c.follow.ensures.beside in
     let gives = subst (λ (o : Option Serving). GivesAny o middle.device.live.values note event middle new) c.catch_up.ensures c.follow.ensures.gives in
     rw (← c.self.view_is) (subst (λ (b : List ℕ). StepsBoth (the_view all) (Frame (record { items = b })) c.follow.result (at all.serves new (caught_up 0 after) sent)) c.at_most-octets.ensures.value
-    (frame_steps (all.limit - all.rest) all.serves all.port middle new all.services after (drop all.frames_past (boxed all.outbox)) sent event note c.follow.result takes beside gives))
+    (frame_steps (all.limit - all.rest) all.serves all.port middle new all.services after (drop all.frames_past all.own.frames) sent event note c.follow.result takes beside gives))

@@ -1,6 +1,5 @@
 -- Nothing waits then, since nothing waited before.
 use Rattle.std.proofs.Common.{◌∙◌, ap, drop}
-use Rattle.frame_codec.specs.Outbox.{boxed}
 use Rattle.device_abi.specs.port.Pace.{caught_up}
 use Rattle.device_abi.specs.port.Served.{Served}
 use Rattle.device_abi.proofs.ServedBarring.{barred_alone, free_fetched}
@@ -11,4 +10,4 @@ pub returns-clause-free : goal.returns-clause-free
 returns-clause-free c =
     let all = c.self.inside in
     let fetched = ap (λ (s : Served). s.frames) c.self.view_is ∙ (free_fetched c.args.self.now c.requires.free).1 in
-    barred_alone (at all.serves c.tell_neighbour.new.port (caught_up 0 c.tell_neighbour.new.services) (drop all.frames_past (boxed all.outbox))) fetched ∙ c.tell_neighbour.ensures.free
+    barred_alone (at all.serves c.tell_neighbour.new.port (caught_up 0 c.tell_neighbour.new.services) (drop all.frames_past all.own.frames)) fetched ∙ c.tell_neighbour.ensures.free

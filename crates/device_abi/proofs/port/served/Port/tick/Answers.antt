@@ -1,6 +1,5 @@
 -- Units pass in which the services have no part: they are counted for these.
 use Rattle.std.proofs.Common.{◌-◌, ◌∙◌, ◌<◌, drop, arith}
-use Rattle.frame_codec.specs.Outbox.{boxed}
 use Rattle.device_abi.specs.port.Pace.{caught_up}
 use Rattle.device_abi.proofs.ServedBarring.{barred_alone}
 use Rattle.device_abi.proofs.ServedComposed.{due_calm, passed_paced, passes_left}
@@ -11,7 +10,7 @@ use Rattle.device_abi.proofs.port.served.Port.tick.Goals as goal
 pub invariant_of-self-2 : goal.invariant_of-self-2
 invariant_of-self-2 c =
     let all = c.self.inside in
-    let frames = drop all.frames_past (boxed all.outbox) in
+    let frames = drop all.frames_past all.own.frames in
     let new = c.tick.new.self in
     let count = c.args.units - c.in_ok-passed.passed.left in
     let passes = c.in_ok-passed.ensures.passes.1 in
@@ -21,7 +20,7 @@ invariant_of-self-2 c =
 pub returns : goal.returns
 returns c =
     let all = c.self.inside in
-    let frames = drop all.frames_past (boxed all.outbox) in
+    let frames = drop all.frames_past all.own.frames in
     let laws = c.quiet_units_are_ticks.ensures in
     let new = c.tick.new.self in
     let left = c.in_ok-passed.passed.left in

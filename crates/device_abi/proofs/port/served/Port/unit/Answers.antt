@@ -1,6 +1,5 @@
 -- A unit passes in which the services have no part.
 use Rattle.std.proofs.Common.{◌-◌, ◌∙◌, ◌<◌, drop, sym, ap, arith}
-use Rattle.frame_codec.specs.Outbox.{boxed}
 use Rattle.device_abi.specs.port.Served.{Served, barred_both}
 use Rattle.device_abi.proofs.ServedComposed.{due_calm, passed_paced, passes_calm}
 use Rattle.device_abi.proofs.ServedPacing.{resting_of}
@@ -9,7 +8,7 @@ use Rattle.device_abi.proofs.port.served.Port.unit.Goals as goal
 pub is_open-requires : goal.is_open-requires
 is_open-requires c =
     let all = c.self.inside in
-    let frames = drop all.frames_past (boxed all.outbox) in
+    let frames = drop all.frames_past all.own.frames in
     let few : 1 < all.rest = omega (arith, c.if-self-le1.false) in
     let fetched = (resting_of all.rest all.limit all.port.device.live.values all.services frames (omega (arith, few)) c.self.invariant).fetched in
     sym (ap (λ (s : Served). s.frames) c.self.view_is) ∙ fetched
@@ -17,7 +16,7 @@ is_open-requires c =
 pub invariant_of-self : goal.invariant_of-self
 invariant_of-self c =
     let all = c.self.inside in
-    let frames = drop all.frames_past (boxed all.outbox) in
+    let frames = drop all.frames_past all.own.frames in
     let new = c.unit-due.new.self in
     let few : 1 < all.rest = omega (arith, c.if-self-le1.false) in
     passed_paced 1 all.rest all.limit all.port new all.services frames few c.self.invariant c.unit-due.ensures.ticks
@@ -25,7 +24,7 @@ invariant_of-self c =
 pub returns-clause-passes : goal.returns-clause-passes
 returns-clause-passes c =
     let all = c.self.inside in
-    let frames = drop all.frames_past (boxed all.outbox) in
+    let frames = drop all.frames_past all.own.frames in
     let laws = c.quiet_units_are_ticks.ensures in
     let new = c.unit-due.new.self in
     let few : 1 < all.rest = omega (arith, c.if-self-le1.false) in

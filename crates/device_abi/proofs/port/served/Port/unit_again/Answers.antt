@@ -1,6 +1,5 @@
 -- A unit passes if it is found that the services have no part in it.
 use Rattle.std.proofs.Common.{◌≡◌, ◌-◌, ◌∙◌, ◌<◌, Option, drop, sym, ap, subst, arith}
-use Rattle.frame_codec.specs.Outbox.{boxed}
 use Rattle.station.specs.Serving.{Serving}
 use Rattle.device_abi.specs.port.Pace.{AreCalm, caught_up}
 use Rattle.device_abi.specs.port.Served.{Served}
@@ -14,7 +13,7 @@ use Rattle.device_abi.proofs.port.served.Port.unit_again.Goals as goal
 pub invariant_of-self : goal.invariant_of-self
 invariant_of-self c =
     let all = c.self.inside in
-    let frames = drop all.frames_past (boxed all.outbox) in
+    let frames = drop all.frames_past all.own.frames in
     let rest = c.rest_of-rest.result in
     let free = sym c.barred.ensures ∙ none_of c.barred.result (sym c.is_some.ensures ∙ c.if-is_some.false) in
     let fetched = ap (λ (s : Served). s.frames) c.self.view_is ∙ (free_fetched c.args.self.now free).1 in
@@ -30,7 +29,7 @@ returns-then-rest-le1-clause-done c = λ free limit some calm.
 pub invariant_of-self-2 : goal.invariant_of-self-2
 invariant_of-self-2 c =
     let all = c.self.inside in
-    let frames = drop all.frames_past (boxed all.outbox) in
+    let frames = drop all.frames_past all.own.frames in
     let rest = c.rest_of-rest.result in
     let free = sym c.barred.ensures ∙ none_of c.barred.result (sym c.is_some.ensures ∙ c.if-is_some.false) in
     let fetched = ap (λ (s : Served). s.frames) c.self.view_is ∙ (free_fetched c.args.self.now free).1 in
@@ -42,7 +41,7 @@ invariant_of-self-2 c =
 pub returns-clause-passes : goal.returns-clause-passes
 returns-clause-passes c =
     let all = c.self.inside in
-    let frames = drop all.frames_past (boxed all.outbox) in
+    let frames = drop all.frames_past all.own.frames in
     let rest = c.rest_of-rest.result in
     let free = sym c.barred.ensures ∙ none_of c.barred.result (sym c.is_some.ensures ∙ c.if-is_some.false) in
     let fetched = ap (λ (s : Served). s.frames) c.self.view_is ∙ (free_fetched c.args.self.now free).1 in

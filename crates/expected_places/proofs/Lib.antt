@@ -1,0 +1,4 @@
+pub mod Unready
+pub mod Times
+pub mod Called
+pub mod Released

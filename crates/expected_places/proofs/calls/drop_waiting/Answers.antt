@@ -1,0 +1,7 @@
+-- What is kept passes the test.
+use Rattle.std.proofs.Common.{rules}
+use Rattle.arrayvec.proofs.ArrayVecLemmas.{filter-from_retain}
+use Rattle.expected_places.proofs.calls.drop_waiting.Goals as goal
+
+pub returns : goal.returns
+returns c = filter-from_retain _ _ _ (λ x b f' y called. search rules) _ _ c.retain.ensures.filtered

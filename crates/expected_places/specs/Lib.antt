@@ -1,0 +1,5 @@
+pub mod Places
+pub mod Calls
+pub mod Machine
+pub mod Called
+pub mod Events

@@ -1,0 +1,8 @@
+//! Tests of the records that the application answers. The expected octets were written by hand from the standard's tables.
+#![cfg(test)]
+
+mod answers;
+mod judging;
+mod machine;
+mod names;
+mod samples;
