@@ -43,7 +43,7 @@ pub use module_diff::{
     put_module_diff,
 };
 pub use plug_control::{
-    PLUG_PRM_END, PlugControlBlock, plug_prm_end_at, plug_ready_res_at, put_plug_prm_end_res,
-    put_plug_ready,
+    PLUG_PRM_END, PlugControlBlock, plug_prm_end_at, plug_ready_at, plug_ready_res_at,
+    put_plug_prm_end, put_plug_prm_end_res, put_plug_ready, put_plug_ready_res,
 };
 pub use submodule_data::SubmoduleData;

@@ -102,3 +102,39 @@ pub fn plug_ready_res_at(bytes: &[u8]) -> Result<(PlugControlBlock, &[u8]), Bloc
         Err(fault) => Err(fault),
     }
 }
+
+/// Appends a PrmEnd after a plug. There must be room for its 32 octets.
+#[tactic(auto, unfolding(crate::specs::PlugControl::plug_control))]
+pub fn put_plug_prm_end<const N: usize>(out: &mut ArrayVec<u8, N>, value: &PlugControlBlock)
+    requires { array_vec_len out.old + 32 ≤ N }
+    // The octets of the block are appended.
+    ensures items { (tail : List ℕ) → out.new.items ++ tail ≡ out.old.items ++ (plug_control 0x0111).write value.now tail }
+    // They are 32.
+    ensures len { array_vec_len out.new ≡ array_vec_len out.old + 32 }
+    // Each block can be read back.
+    ensures fits { (plug_control 0x0111).Fits value.now }
+{
+    plug_control_fields!(put_fields [out, value] 0x0111);
+}
+
+/// Reads the ApplicationReady for a plug at the start of the octets, with any ControlCommand. Returns it and the rest.
+#[tactic(auto, unfolding(crate::specs::PlugControl::plug_control))]
+pub fn plug_ready_at(bytes: &[u8]) -> Result<(PlugControlBlock, &[u8]), BlockFault>
+    ensures { Gives (λ x. (x.0, x.1.now)) result ((plug_control 0x0113).read bytes.now) }
+{
+    plug_control_fields!(read_fields [bytes] 0x0113)
+}
+
+/// Appends the answer to an ApplicationReady for a plug. There must be room for its 32 octets.
+#[tactic(auto, unfolding(crate::specs::PlugControl::plug_control))]
+pub fn put_plug_ready_res<const N: usize>(out: &mut ArrayVec<u8, N>, value: &PlugControlBlock)
+    requires { array_vec_len out.old + 32 ≤ N }
+    // The octets of the block are appended.
+    ensures items { (tail : List ℕ) → out.new.items ++ tail ≡ out.old.items ++ (plug_control 0x8113).write value.now tail }
+    // They are 32.
+    ensures len { array_vec_len out.new ≡ array_vec_len out.old + 32 }
+    // Each block can be read back.
+    ensures fits { (plug_control 0x8113).Fits value.now }
+{
+    plug_control_fields!(put_fields [out, value] 0x8113);
+}

@@ -3,8 +3,10 @@
 mod alarm_relation;
 mod connect;
 mod law;
+mod listed;
 mod usable;
 
 pub use alarm_relation::{AlarmRelation, put_alarm_relation};
 pub use connect::{Found, found_in};
 pub use law::blocks_are_found;
+pub use listed::is_listed;

@@ -1,3 +1,4 @@
 pub mod Channel
+pub mod Place
 pub mod Reported
 pub mod Followed

@@ -4,3 +4,4 @@ pub mod Read
 pub mod Text
 pub mod Show
 pub mod Reports
+pub mod Places

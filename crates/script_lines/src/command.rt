@@ -11,6 +11,7 @@ ghost use Rattle.script_lines.specs.Line.{Choose, Elapse, OutputStatus, Read, St
 ghost use Rattle.script_lines.specs.Numbers.{number_of};
 ghost use Rattle.script_lines.specs.Read.{command_read, line_read};
 
+use crate::plugging::{PlugLine, plug_in};
 use crate::{digits, numbers};
 use flash_model::Order;
 use memchr::memchr;
@@ -45,6 +46,16 @@ pub enum Command<'a> {
     Choose(Choice),
     /// The device's application says that its parameters are checked and its data is valid.
     Ready,
+    /// The same for the plug in this slot and subslot.
+    ReadyAt(u16, u16),
+    /// Pulls the submodule in this slot and subslot.
+    Pull(u16, u16),
+    /// Pulls the module in this slot with all its submodules.
+    PullModule(u16),
+    /// Plugs a submodule.
+    Plug(PlugLine),
+    /// Shows how far each submodule is that the Connect of the device's relation expects.
+    Expected,
     /// Orders the flash to fail at a later call.
     Arm(Order),
     /// A diagnosis of the submodule in this slot and subslot, of this channel and error, appears or disappears.
@@ -77,6 +88,8 @@ pub enum Command<'a> {
     Write(u16, u16, u16, &'a [u8]),
     /// Shows what the last request of the controller's application was answered with.
     Reply,
+    /// Shows what the controller knows of each place of its plan.
+    Places,
     /// Hands over the frames that wait: those for the device, then those for the controller.
     Deliver,
     /// Starts the services beside the device.
@@ -216,13 +229,16 @@ pub fn meaning<'a>(line: &[u8], buffer: &'a mut Vec<u8>) -> Result<Line<'a>, All
     }
 }
 
-/// The command of a line: `config` with a catalogue, or what its words say.
+/// The command of a line: `config` with a catalogue, `plug` with its numbers, or what its words say.
 fn asked<'a>(line: &[u8], buffer: &'a mut Vec<u8>) -> Result<Option<Command<'a>>, AllocError>
     ensures { IfOk result (λ command. option_map command_read command ≡ command_in (catalogue_in line.now) (words_of line.now)) }
 {
     match catalogue_in(line) {
         Some(catalogue) => Ok(Some(Command::Config(kept(catalogue, buffer)?))),
-        None => asked_by(words_in(line), buffer),
+        None => match plug_in(line) {
+            Some(plug) => Ok(Some(Command::Plug(plug))),
+            None => asked_by(words_in(line), buffer),
+        },
     }
 }
 
@@ -286,6 +302,8 @@ fn bare(word: &[u8]) -> Option<Command<'static>>
         Some(Command::Due)
     } else if word == b"ready".as_slice() {
         Some(Command::Ready)
+    } else if word == b"expected".as_slice() {
+        Some(Command::Expected)
     } else {
         bare_of_both(word)
     }
@@ -305,6 +323,8 @@ fn bare_of_both(word: &[u8]) -> Option<Command<'static>>
         Some(Command::Told)
     } else if word == b"reply".as_slice() {
         Some(Command::Reply)
+    } else if word == b"places".as_slice() {
+        Some(Command::Places)
     } else {
         None
     }
@@ -325,6 +345,8 @@ fn with_one<'a>(
         Ok(elapse(first))
     } else if word == b"services".as_slice() {
         Ok(services(first))
+    } else if word == b"pull".as_slice() {
+        Ok(pull_module(first))
     } else {
         Ok(None)
     }
@@ -381,6 +403,10 @@ fn with_two(
         Ok(choose(first, second))
     } else if word == b"provider".as_slice() {
         Ok(provider(first, second))
+    } else if word == b"pull".as_slice() {
+        Ok(pull(first, second))
+    } else if word == b"ready".as_slice() {
+        Ok(ready_at(first, second))
     } else {
         ordered(word, first, second, buffer)
     }
@@ -442,6 +468,26 @@ fn provider(first: &[u8], second: &[u8]) -> Option<Command<'static>>
     let slot = place_number(first)?;
     let subslot = place_number(second)?;
     Some(Command::Provider(slot, subslot))
+}
+
+/// The command that pulls the submodule in this slot and subslot.
+fn pull(first: &[u8], second: &[u8]) -> Option<Command<'static>> {
+    let slot = place_number(first)?;
+    let subslot = place_number(second)?;
+    Some(Command::Pull(slot, subslot))
+}
+
+/// The command that pulls the module in this slot.
+fn pull_module(digits: &[u8]) -> Option<Command<'static>> {
+    let slot = place_number(digits)?;
+    Some(Command::PullModule(slot))
+}
+
+/// The command that says that the application is ready for the plug in this slot and subslot.
+fn ready_at(first: &[u8], second: &[u8]) -> Option<Command<'static>> {
+    let slot = place_number(first)?;
+    let subslot = place_number(second)?;
+    Some(Command::ReadyAt(slot, subslot))
 }
 
 /// The command that starts a controller with this ARUUID and this activity UUID.

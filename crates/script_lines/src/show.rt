@@ -8,6 +8,7 @@ use crate::render::hex_digits;
 use bitflags::Flags;
 use controller_core::{Cause, Diagnosis, State};
 use cyclic_data::DataStatus;
+use expected_places::Progress;
 use itoa::Buffer;
 use pn_values::{IpSuite, Settings, StationName};
 use relations::{Phase, ProviderStatus};
@@ -251,4 +252,36 @@ fn ended(cause: Cause, text: &mut Vec<u8>) -> Result<(), AllocError>
 {
     text.extend_from_slice(b"ended ")?;
     number(u32::from(cause.number()), text)
+}
+
+/// A submodule that the Connect of the device's relation expects, and how far it is.
+pub fn expected(
+    slot: u16,
+    subslot: u16,
+    progress: Progress,
+    text: &mut Vec<u8>,
+) -> Result<(), AllocError> {
+    text.extend_from_slice(b"expected ")?;
+    number(u32::from(slot), text)?;
+    text.extend_from_slice(b" ")?;
+    number(u32::from(subslot), text)?;
+    text.extend_from_slice(b" ")?;
+    text.extend_from_slice(progress_word(progress))?;
+    text.extend_from_slice(b"\n")
+}
+
+/// That the device has no relation, and so expects nothing.
+pub fn nothing_expected(text: &mut Vec<u8>) -> Result<(), AllocError> {
+    text.extend_from_slice(b"expected -\n")
+}
+
+fn progress_word(progress: Progress) -> &'static [u8] {
+    match progress {
+        Progress::Differs => b"differs",
+        Progress::Plugged => b"plugged",
+        Progress::Told => b"told",
+        Progress::Ended => b"ended",
+        Progress::Refused => b"refused",
+        Progress::Good => b"good",
+    }
 }

@@ -9,6 +9,7 @@ mod device;
 mod laws;
 mod other_end;
 mod outputs;
+mod places;
 mod power;
 mod session;
 mod waiting;

@@ -14,6 +14,7 @@ use crate::both::{exchange, leaps, respond, ticks};
 use crate::bytes::copied;
 use crate::other_end::OtherEnd;
 use crate::outputs::outputs;
+use crate::places::expected;
 use crate::power::Power;
 use configurator::PlanFault;
 use controller_core::{Event as ControllerEvent, MOST_RECORD_OCTETS};
@@ -55,7 +56,7 @@ impl<'a> Session<'a> {
     ghost use Rattle.script_session.specs.Ends.{IsRightFor, cleared, nobody};
     ghost use Rattle.script_session.specs.Said.{arms, config_outcome, deliver_answer, deliver_outcome, factory_device};
     ghost use Rattle.script_session.specs.Said.{heard_outcome, is_order, outcome_of, restart_answer, said, serve_answer, show_answer, stands_outcome, start_outcome};
-    ghost use Rattle.script_session.specs.Said.{due_answer, fits_record, provider_answer, record_outcome, reply_outcome, tick_answer, told_outcome};
+    ghost use Rattle.script_session.specs.Said.{due_answer, fits_record, places_outcome, provider_answer, record_outcome, reply_outcome, tick_answer, told_outcome};
     ghost use Rattle.script_session.specs.Power.{IsArmed, IsBack, is_off, refusal_of};
     ghost use Rattle.script_session.specs.Session.{Are, AreRightFor, Comes, Obeys};
     ghost use Rattle.script_session.specs.Off.{Delivers, GivesBack, Leaves, LeavesBy, Orders, TakesOff, TakesOrder, hands, is_handed};
@@ -161,6 +162,13 @@ impl<'a> Session<'a> {
                 always(Ok(()))
             }
             Command::Ready => always(self.say(Local::Ready, text)),
+            Command::ReadyAt(slot, subslot) => {
+                always(self.say(Local::ReadyAt(slot, subslot), text))
+            }
+            Command::Pull(slot, subslot) => always(self.say(Local::Pull(slot, subslot), text)),
+            Command::PullModule(slot) => always(self.say(Local::PullModule(slot), text)),
+            Command::Plug(plug) => always(self.say(plug.said(), text)),
+            Command::Expected => always(self.expected(text)),
             Command::Diagnosis(slot, subslot, channel, error, appears) => {
                 let change = Local::Diagnosis(slot, subslot, channel, error, appears);
                 always(self.say(change, text))
@@ -187,6 +195,7 @@ impl<'a> Session<'a> {
                 if_there(self.write(slot, subslot, index, octets, text))
             }
             Command::Reply => if_there(self.reply(text)),
+            Command::Places => if_there(self.places(text)),
             Command::Deliver => if_there(self.deliver(text)),
             Command::Serve => {
                 self.power.serve();
@@ -228,6 +237,14 @@ impl<'a> Session<'a> {
             &mut self.other,
             text,
         )
+    }
+
+    /// Shows the places of the device's relation.
+    fn expected(&self, text: &mut Vec<u8>) -> Result<(), AllocError> {
+        match &self.power {
+            Power::On(demo) => expected(demo.device(), text),
+            Power::Off(_, _) | Power::Away => text.extend_from_slice(b"off\n"),
+        }
     }
 
     /// Switches the device's power off and on again. The frames that wait are lost.
@@ -409,6 +426,20 @@ impl<'a> Session<'a> {
             return Ok(false);
         }
         self.other.show_diagnoses(text)?;
+        Ok(true)
+    }
+
+    /// Shows what the controller knows of each place of its plan. Returns whether there is a controller.
+    #[inline(never)]
+    fn places(&mut self, text: &mut Vec<u8>) -> Result<bool, AllocError>
+        ensures obeys { (network : Network) → Are network self.old →
+            IfOk result (Comes (places_outcome network network.other.controller) self.new text.old.items text.new.items) }
+        ensures same { self.new ≡ self.old }
+    {
+        if !self.other.is_started() {
+            return Ok(false);
+        }
+        self.other.show_places(text)?;
         Ok(true)
     }
 

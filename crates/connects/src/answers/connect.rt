@@ -160,11 +160,11 @@ fn take_alarm(found: Found, bytes: &[u8]) -> Option<(Found, &[u8])>
 }
 
 /// A block of any type: its type and its octets, and the rest.
-type Skipped<'a> = ((u16, &'a [u8]), &'a [u8]);
+pub(crate) type Skipped<'a> = ((u16, &'a [u8]), &'a [u8]);
 
 /// Skips a block of any type by its BlockLength. Returns its type, its octets, and the rest.
 #[tactic(auto, unfolding(crate::specs::answers::OtherBlock::other_block))]
-fn other_at(bytes: &[u8]) -> Result<Skipped<'_>, BlockFault>
+pub(crate) fn other_at(bytes: &[u8]) -> Result<Skipped<'_>, BlockFault>
     ensures { Gives (λ x. ((x.0.0, x.0.1.now), x.1.now)) result (other_block.read bytes.now) }
 {
     let (kind, rest) = u16_at(bytes, BlockFault::Truncated)?;

@@ -5,6 +5,8 @@ use Rattle.diagnosis.specs.Existing.{exists, is_at, is_same, others}
 use Rattle.diagnosis.specs.declared.diagnosis.Diagnosis.{Diagnosis}
 use Rattle.diagnosis.specs.declared.reports.report.Report.{Report}
 use Rattle.diagnosis.specs.reported.Channel.{channel_report}
+use Rattle.diagnosis.specs.reported.Place.{is_pull_of, place_report}
+use Rattle.diagnosis.specs.declared.reported.place.PlaceReport.{PlaceReport}
 use Rattle.diagnosis.specs.declared.reported.channel.ChannelReport.{ChannelReport}
 use Rattle.diagnosis.specs.declared.reported.channel.Specifier.{Specifier}
 use Rattle.diagnosis.specs.declared.reported.channel.Specifier.TheVariants.{AllDisappear, Appears, Disappears, OthersRemain}
@@ -62,6 +64,12 @@ abbrev pub after_found : Option ChannelReport → Reported → Reported
 after_found (Some report) reported = after_channel report reported
 after_found None reported = reported
 
+-- The diagnoses of a submodule or a module disappear with its pull.
+abbrev pub after_place : Option PlaceReport → Reported → Reported
+after_place (Some report) reported =
+    record reported { existing = filter (λ other. not (is_pull_of other.slot other.subslot report)) reported.existing }
+after_place None reported = reported
+
 -- The list of a controller after an alarm that it accepted.
 abbrev pub after_report : Report → Reported → Reported
-after_report report reported = after_found (channel_report report) reported
+after_report report reported = after_place (place_report report) (after_found (channel_report report) reported)

@@ -2,10 +2,13 @@
 ghost use Rattle.std.specs.Prelude.{◌≡◌, ◌≤◌, length, not};
 ghost use Rattle.std.specs.List.{filter};
 ghost use Rattle.diagnosis.specs.Existing.{exists};
-ghost use Rattle.diagnosis.specs.reported.Reported.{after_channel, after_report, is_gone, nothing_reported, with_diagnosis, without_channel, without_diagnosis};
+ghost use Rattle.diagnosis.specs.reported.Reported.{after_channel, after_found, after_report, is_gone, nothing_reported, with_diagnosis, without_channel, without_diagnosis};
+ghost use Rattle.diagnosis.specs.reported.Channel.{channel_report as channel_in};
+ghost use Rattle.diagnosis.specs.reported.Place.{is_pull_of as is_pulled};
 
 use crate::diagnosis::Diagnosis;
 use crate::reported::channel::{ChannelReport, Specifier, channel_report};
+use crate::reported::place::{PlaceReport, is_pull_of, place_report};
 use crate::reports::Report;
 use arrayvec::ArrayVec;
 use std::marker::Model;
@@ -64,9 +67,20 @@ impl ReportedDiagnoses {
         self.left_out
     }
 
-    /// The device reports this by an alarm. Only what an alarm of diagnosis says of one channel changes the list.
+    /// The device reports this by an alarm. The list is changed by what an alarm of diagnosis says of one channel, and by the
+    /// pull of a submodule or a module: the diagnoses of what was pulled disappear with it.
     pub fn take(&mut self, report: &Report<'_>)
         ensures { self.new ≡ after_report report.now self.old }
+    {
+        self.take_channel(report);
+        if let Some(place) = place_report(report) {
+            keep_elsewhere(&mut self.entries, place);
+        }
+    }
+
+    /// Only what an alarm of diagnosis says of one channel.
+    fn take_channel(&mut self, report: &Report<'_>)
+        ensures { self.new ≡ after_found (channel_in report.now) self.old }
     {
         if let Some(channel) = channel_report(report) {
             self.follow(&channel);
@@ -139,6 +153,19 @@ fn keep_others(entries: &mut ArrayVec<Diagnosis, 256>, whole_channel: bool, diag
     let mut next = ArrayVec::new();
     for other in entries.as_slice() {
         if !is_gone(whole_channel, diagnosis, other) {
+            next.push(*other);
+        }
+    }
+    *entries = next;
+}
+
+/// Keeps all diagnoses but those of what this report says was pulled.
+fn keep_elsewhere(entries: &mut ArrayVec<Diagnosis, 256>, report: PlaceReport)
+    ensures { entries.new.items ≡ filter (λ other. not (is_pulled other.slot other.subslot report)) entries.old.items }
+{
+    let mut next = ArrayVec::new();
+    for other in entries.as_slice() {
+        if !is_pull_of(other.slot, other.subslot, report) {
             next.push(*other);
         }
     }
