@@ -37,7 +37,7 @@ extern "C" {
 #endif
 
 /* Octets of the room of a device; its address is a multiple of 16. */
-#define PN_DEVICE_SIZE 73728u
+#define PN_DEVICE_SIZE 71680u
 /* Octets of each of the two flash sectors. An erased sector is all ones; a program call turns ones to zeros. */
 #define PN_SECTOR_SIZE 4096u
 /* The longest sent frame, without its check sequence. A received frame may be longer; it is refused. */

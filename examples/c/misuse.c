@@ -260,7 +260,7 @@ int main(void)
         return 1;
     wants("a second start", pn_boot(&device, &op, erased, erased), PN_IS_BOOTED);
     wants("no operation", pn_ask(&device, &op, 0, NULL, 0), PN_UNKNOWN);
-    wants("another operation", pn_ask(&device, &op, 28, NULL, 0), PN_UNKNOWN);
+    wants("another operation", pn_ask(&device, &op, 26, NULL, 0), PN_UNKNOWN);
     wants("no operation's room", pn_frame(&device, NULL, set, sizeof set), PN_NULL);
     wants("no octets", pn_frame(&device, &op, NULL, 1), PN_NULL);
     wants("no operation for a frame after units", pn_frame_after(&device, NULL, 1, set, sizeof set), PN_NULL);

@@ -81,7 +81,6 @@ struct device {
     uint32_t phase;
     int is_lamp_on;
     int is_stopped; /* the controller; -1: it is not known */
-    int is_application_stopped;
     uint32_t due;   /* units until something is due, as the last pn_tick said; 0: an event came since, or it did not say */
     int has_told_link; /* whether the link was reported to the device that runs */
     int is_link_up;    /* what was reported */
@@ -155,7 +154,6 @@ static void start(struct device *device)
 static void look(struct device *device, int is_first);
 static void look_at_link(void *context);
 static int rate(struct device *device, const struct status *status);
-static void say_state(struct device *device);
 static int diagnose(struct device *device, const struct diagnosis *diagnosis, int appears);
 
 /* Reports what became of the alarm that a line raised, once its event says so. */
@@ -172,8 +170,9 @@ static void tell_confirmation(struct device *device)
                    (unsigned)(s & 0xFF));
 }
 
-/* After each event: does the work of its step. It may change what is due, and may confirm an alarm. A flash call that fails counts as lost
- * power: nothing more is sent, and the device starts again from the file. */
+/* Takes the work of a step and does it. A flash call that fails counts as lost power: nothing more is sent, and the device starts again
+ * from the file. */
+/* After each event, which may change what is due, and may confirm an alarm. */
 static void carry_out(struct device *device)
 {
     uint32_t answer = pn_carry_out(&device->room, &device->op, &device->host);
@@ -185,8 +184,6 @@ static void carry_out(struct device *device)
     start(device);
     lines_tell(&device->loop.lines, "boot ok");
     look_at_link(device);
-    if (device->is_application_stopped)
-        say_state(device);
     for (unsigned i = 0; i < device->status_count; i++)
         rate(device, &device->statuses[i]);
     for (unsigned i = 0; i < device->diagnosis_count; i++)
@@ -669,26 +666,6 @@ static void take_ready(void *context, char *words[])
     look_at_state(device);
 }
 
-/* Hands in whether the application runs, which the device never refuses. */
-static void say_state(struct device *device)
-{
-    is_accepted(device, pn_provider_state(&device->room, &device->op, !device->is_application_stopped), "pn_provider_state");
-}
-
-/* The application stops or runs again. It is kept for the next start of the device, as the device keeps it over relations. */
-static void take_application(void *context, char *words[])
-{
-    struct device *device = context;
-    int stops = strcmp(words[1], "stop") == 0;
-    if (!stops && strcmp(words[1], "run") != 0) {
-        lines_answer(&device->loop.lines, "wrong: application run|stop");
-        return;
-    }
-    device->is_application_stopped = stops;
-    say_state(device);
-    lines_answer(&device->loop.lines, "note done");
-}
-
 /* A line with three arguments: a place and octets. */
 static void take_place(void *context, char *words[])
 {
@@ -708,7 +685,6 @@ static const struct command commands[] = {
     {"alarm", 4, take_place, "alarm SLOT SUBSLOT HEX   raises a process alarm with these octets"},
     {"status", 4, take_status, "status SLOT SUBSLOT good|bad   sets whether a submodule is good: the IOPS of its inputs"},
     {"diagnosis", 6, take_diagnosis, "diagnosis SLOT SUBSLOT CHANNEL ERROR appears|disappears   reports what is wrong at a channel, or no more"},
-    {"application", 2, take_application, "application run|stop     the application runs or stops, with all its inputs: bit 4 of DataStatus"},
     {"ready", 1, take_ready, "ready                    the parameters are in use (--ready-by-application)"},
     {"show", 1, show, "show                     name, address, remaining commits, phase, lamp, inputs and outputs"},
     {"statistics", 1, NULL, "statistics               counts since the start"},
@@ -761,7 +737,7 @@ static void usage(void)
          "  nandutable-device eth1 --flash pump.flash --station pump.json --identity pump.identity --socket /run/pump --realtime 50\n"
          "\n"
          "Lines that it accepts: `input SLOT SUBSLOT HEX`, `alarm SLOT SUBSLOT HEX`, `status SLOT SUBSLOT good|bad`,\n"
-         "`diagnosis SLOT SUBSLOT CHANNEL ERROR appears|disappears`, `application run|stop`, `ready`, `show`, `statistics`, `help`, `quit`.\n"
+         "`diagnosis SLOT SUBSLOT CHANNEL ERROR appears|disappears`, `ready`, `show`, `statistics`, `help`, `quit`.\n"
          "On SIGUSR1 it prints its statistics; SIGTERM ends it.");
 }
 

@@ -2,13 +2,9 @@
 use Rattle.std.proofs.Common.{◌≡◌, ◌+◌, ◌-◌, ◌<◌, ◌≤◌, ◌∷◌, ◌++◌, ℕ, Bool, true, false, zero, suc, List, [], None, Some, length, map, take, drop, get_or, refl, sym, ap, subst, ◌∙◌, arith, append-nil, drop_at}
 use Rattle.std.proofs.lemmas.List.{length-append, take_at}
 use Rattle.std.specs.Prelude.{◌≢◌, slice_get}
-use Rattle.device_frames.specs.declared.event.Event.{Event}
-use Rattle.station.specs.declared.device_services.Attended.{Attended}
-use Rattle.station.specs.declared.device_services.Attended.TheVariants.{Noted, Joined}
-use Rattle.station.specs.Views.{joined_in}
 use Rattle.pn_values.specs.declared.identity.Identity.{Identity}
 use Rattle.settings_journal.specs.settings_store.State.{Values}
-use Rattle.station.specs.Leaps.{NoNewsBeside, NoneSendsBeside, beside_ticks}
+use Rattle.station.specs.Leaps.{IsShortFirst, NoNewsBeside, NoneSendsBeside, beside_ticks}
 use Rattle.station.specs.Serving.{Serving}
 use Rattle.device_abi.specs.port.Own.{AreFrames, kept_in}
 use Rattle.device_abi.specs.port.Pace.{TicksBeside}
@@ -32,46 +28,50 @@ second_at (suc (suc index)) one other some few = absurd (omega (arith, few))
 
 -- ---- frames that are kept
 
-pub kept_length : (count first : ℕ) (octets : List ℕ) → AreFrames count first octets → count ≡ length (kept_in count first octets)
-kept_length zero first octets fit = refl
-kept_length (suc zero) first octets fit = refl
-kept_length (suc (suc zero)) first octets fit = refl
-kept_length (suc (suc (suc more))) first octets fit = absurd fit
-
-pub none_kept : (count first : ℕ) (octets : List ℕ) → count ≡ 0 → [] ≡ kept_in count first octets
-none_kept zero first octets is = refl
-none_kept (suc count) first octets is = absurd (omega (arith, is))
+pub kept_length : (count : ℕ) (octets : List ℕ) → AreFrames count octets → count ≡ length (kept_in count octets)
+kept_length zero octets fit = refl
+kept_length (suc zero) octets fit = refl
+kept_length (suc (suc zero)) octets fit = refl
+kept_length (suc (suc (suc more))) octets fit = absurd fit
 
 -- one frame, which is at this position
-pub one_at : (count first index : ℕ) (octets : List ℕ) → count ≡ 1 → index < length (kept_in count first octets) → AreFrames count first octets
-    → (slice_get (kept_in count first octets) index ≡ Some octets) × (length octets ≤ 1518)
-one_at zero first index octets is there fit = absurd (omega (arith, is))
-one_at (suc zero) first index octets is there fit = (only_at index octets there, fit)
-one_at (suc (suc count)) first index octets is there fit = absurd (omega (arith, is))
+pub one_at : (count index : ℕ) (octets : List ℕ) → count ≡ 1 → index < length (kept_in count octets) → AreFrames count octets
+    → (slice_get (kept_in count octets) index ≡ Some octets) × (length octets ≤ 1518)
+one_at zero index octets is there fit = absurd (omega (arith, is))
+one_at (suc zero) index octets is there fit = (only_at index octets there, fit)
+one_at (suc (suc count)) index octets is there fit = absurd (omega (arith, is))
 
 -- two frames
-pub two_at : (count first index : ℕ) (octets : List ℕ) → count ≢ 1 → index < length (kept_in count first octets) → AreFrames count first octets
-    → (kept_in count first octets ≡ take first octets ∷ drop first octets ∷ []) × (index < 2)
-    × ((first ≤ 1518) × (first ≤ length octets) × (length octets ≤ first + 1518))
-two_at zero first index octets other there fit = absurd (omega (arith, there))
-two_at (suc zero) first index octets other there fit = absurd (other refl)
-two_at (suc (suc zero)) first index octets other there fit = (refl, there, fit)
-two_at (suc (suc (suc more))) first index octets other there fit = absurd fit
+pub two_at : (count index : ℕ) (octets : List ℕ) → count ≢ 1 → index < length (kept_in count octets) → AreFrames count octets
+    → (kept_in count octets ≡ take 60 octets ∷ drop 60 octets ∷ []) × (index < 2) × ((60 ≤ length octets) × (length octets ≤ 1578))
+two_at zero index octets other there fit = absurd (omega (arith, there))
+two_at (suc zero) index octets other there fit = absurd (other refl)
+two_at (suc (suc zero)) index octets other there fit = (refl, there, fit)
+two_at (suc (suc (suc more))) index octets other there fit = absurd fit
 
-pub one_is : (octets one none : List ℕ) → octets ≡ one ++ none → none ≡ [] → octets ≡ one
-one_is octets one none is empty = is ∙ ap (λ (n : List ℕ). one ++ n) empty ∙ append-nil one
+-- Octets that are appended to a room that was cleared are all that is there.
+pub one_is : (before octets one : List ℕ) → before ≡ [] → octets ≡ before ++ one → octets ≡ one
+one_is before octets one none is = is ∙ ap (λ (b : List ℕ). b ++ one) none
 
-pub two_fit : (first : ℕ) (octets one two : List ℕ) → octets ≡ one ++ two → first ≡ length one → length one ≤ 1518 → length two ≤ 1518
-    → (first ≤ 1518) × (first ≤ length octets) × (length octets ≤ first + 1518)
-two_fit first octets one two is at short other =
+pub two_fit : (octets one two : List ℕ) → octets ≡ one ++ two → length one ≡ 60 → length two ≤ 1518 → (60 ≤ length octets) × (length octets ≤ 1578)
+two_fit octets one two is short other =
     let long = ap length is ∙ length-append one two in
-    (omega (arith, at, short), omega (arith, at, long), omega (arith, at, long, other))
+    (omega (arith, long, short), omega (arith, long, short, other))
 
-pub two_are : (first : ℕ) (octets one two : List ℕ) → octets ≡ one ++ two → first ≡ length one → take first octets ∷ drop first octets ∷ [] ≡ one ∷ two ∷ []
-two_are first octets one two is at =
-    ap (λ (o : List ℕ). take first o ∷ drop first o ∷ []) is
-    ∙ ap (λ (o : List ℕ). o ∷ drop first (one ++ two) ∷ []) (take_at one two first (sym at))
-    ∙ ap (λ (o : List ℕ). one ∷ o ∷ []) (drop_at one two first (sym at))
+pub two_are : (octets one two : List ℕ) → octets ≡ one ++ two → length one ≡ 60 → take 60 octets ∷ drop 60 octets ∷ [] ≡ one ∷ two ∷ []
+two_are octets one two is short =
+    ap (λ (o : List ℕ). take 60 o ∷ drop 60 o ∷ []) is
+    ∙ ap (λ (o : List ℕ). o ∷ drop 60 (one ++ two) ∷ []) (take_at one two 60 short)
+    ∙ ap (λ (o : List ℕ). one ∷ o ∷ []) (drop_at one two 60 short)
+
+-- The first of two is short, if there are two.
+pub first_short : (frames : List (List ℕ)) (one two : List ℕ) → frames ≡ one ∷ two ∷ [] → IsShortFirst frames → length one ≡ 60
+first_short frames one two is short = subst IsShortFirst is short
+
+pub few_short : (frames : List (List ℕ)) → length frames ≤ 1 → IsShortFirst frames
+few_short [] few = tt
+few_short (one ∷ []) few = tt
+few_short (one ∷ two ∷ more) few = absurd (omega (arith, few))
 
 -- no item, one or two of a list of that length
 pub no_item : {T : Type 0} (all : List T) → length all < 1 → all ≡ []
@@ -88,12 +88,6 @@ two_items [] one two some few at next = absurd (omega (arith, some))
 two_items (first ∷ []) one two some few at next = absurd (omega (arith, some))
 two_items (first ∷ second ∷ []) one two some few at next = ap (λ item. item ∷ second ∷ []) (sym at) ∙ ap (λ item. one ∷ item ∷ []) (sym next)
 two_items (first ∷ second ∷ third ∷ others) one two some few at next = absurd (omega (arith, few))
-
--- A call stays as long as no frame is kept.
-pub joined_kept : (attended : Attended) (before after : Event) (frames : List (List ℕ)) → (attended ≡ Joined → frames ≡ []) → (frames ≡ [] → after ≡ before)
-    → joined_in attended after ≡ joined_in attended before
-joined_kept (Noted note) before after frames none same = refl
-joined_kept Joined before after frames none same = ap (λ (e : Event). Some e) (same (none refl))
 
 -- ---- units of time
 

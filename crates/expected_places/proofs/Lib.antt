@@ -1,4 +1,1 @@
 pub mod Unready
-pub mod Times
-pub mod Called
-pub mod Released

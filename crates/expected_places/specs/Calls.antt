@@ -1,5 +1,5 @@
 -- The calls ApplicationReady of plugs: one is active, and the others wait in the order in which their parameters ended.
-use Rattle.std.specs.Prelude.{◌≡◌, ◌<◌, ◌+◌, ◌-◌, ◌==◌, ◌&&◌, ◌++◌, ℕ, zero, suc, Bool, true, false, not, List, [], ◌∷◌, Option, Some, None, if◌then◌else◌}
+use Rattle.std.specs.Prelude.{◌+◌, ◌-◌, ◌==◌, ◌&&◌, ◌++◌, ℕ, Bool, true, false, not, List, [], ◌∷◌, Option, Some, None, if◌then◌else◌}
 use Rattle.std.specs.List.{filter, find}
 use Rattle.std.specs.Option.{option_map}
 use Rattle.module_diff.specs.declared.changes.Affected.{Affected}
@@ -15,7 +15,6 @@ pub record PlugQueue : Type 0 where
   pub sequence : ℕ
   pub waited : ℕ
 
--- No calls, before the first.
 abbrev pub no_calls : PlugQueue
 no_calls = record { waiting = []; standing = None; sequence = 0; waited = 0 }
 
@@ -23,42 +22,36 @@ no_calls = record { waiting = []; standing = None; sequence = 0; waited = 0 }
 abbrev pub pushed : WaitingCall → PlugQueue → PlugQueue
 pushed call queue = record queue { waiting = queue.waiting ++ call ∷ [] }
 
--- A call is of an affected place.
+-- Without those of affected places.
 abbrev pub is_affected : Affected → WaitingCall → Bool
 is_affected affected call = covers affected call.slot call.subslot
 
--- Those that wait and are not of affected places.
 abbrev pub kept_calls : Affected → List WaitingCall → List WaitingCall
 kept_calls affected calls = filter (λ call. not (is_affected affected call)) calls
 
--- The active one, if its place is not affected.
 abbrev pub kept_call : Affected → Option PlugCall → Option PlugCall
 kept_call affected None = None
 kept_call affected (Some call) = if covers affected call.slot call.subslot then None else Some call
 
--- The calls without those of affected places.
 abbrev pub dropped : Affected → PlugQueue → PlugQueue
 dropped affected queue = record queue { waiting = kept_calls affected queue.waiting; standing = kept_call affected queue.standing }
 
--- A call is of this place, and the application was not ready for it yet.
+-- The application is ready for those at a place for which it was not yet.
 abbrev pub is_unready : ℕ → ℕ → WaitingCall → Bool
 is_unready slot subslot call = call.slot == slot && (call.subslot == subslot && not call.is_ready)
 
--- Such a call is ready then, and any other as it was.
 abbrev pub readied_call : ℕ → ℕ → WaitingCall → WaitingCall
 readied_call slot subslot call = if is_unready slot subslot call then record call { is_ready = true } else call
 
 -- ---- the next one
 
--- The first that is ready.
+-- The first that is ready is sent with the next sequence, modulo 2^32. Its place does not wait any more.
 abbrev pub first_ready : List WaitingCall → Option WaitingCall
 first_ready calls = find (λ call. call.is_ready) calls
 
--- The sequence after this one, modulo 2^32.
 abbrev pub next_sequence : ℕ → ℕ
 next_sequence sequence = if sequence == 4294967295 then 0 else sequence + 1
 
--- This call is active, with the next sequence, and its place does not wait any more.
 abbrev pub sent_with : PlugQueue → WaitingCall → PlugQueue
 sent_with queue call = record {
   waiting = kept_calls (record { slot = call.slot; subslot = Some call.subslot }) queue.waiting;
@@ -67,12 +60,11 @@ sent_with queue call = record {
   waited = 0;
 }
 
--- The next one beside this active one. None if nothing is sent.
+-- If none is active. None if nothing is sent.
 abbrev pub sent_beside : PlugQueue → Option PlugCall → Option PlugQueue
 sent_beside queue (Some standing) = None
 sent_beside queue None = option_map (sent_with queue) (first_ready queue.waiting)
 
--- The first that is ready is sent, if none is active. None if nothing is sent.
 abbrev pub sent_next : PlugQueue → Option PlugQueue
 sent_next queue = sent_beside queue queue.standing
 
@@ -82,47 +74,32 @@ finished queue = record queue { standing = None }
 
 -- ---- time: the active one is sent again each 32,000 units
 
--- A unit later, with this active call.
 abbrev pub counted_with : PlugQueue → Option PlugCall → PlugQueue
 counted_with queue None = queue
 counted_with queue (Some call) = record queue { waited = if queue.waited + 1 == 32000 then 0 else queue.waited + 1 }
 
--- A unit later. The active one has waited for one unit more, and begins again when it is sent again.
 abbrev pub counted : PlugQueue → PlugQueue
 counted queue = counted_with queue queue.standing
 
--- Whether this active call is sent again with the next unit.
 abbrev pub is_again_with : PlugQueue → Option PlugCall → Bool
 is_again_with queue None = false
 is_again_with queue (Some call) = queue.waited + 1 == 32000
 
--- Whether the active one is sent again with the next unit.
 abbrev pub is_again : PlugQueue → Bool
 is_again queue = is_again_with queue queue.standing
 
--- The number of units up to and including the next one with which this active call is sent again, 4,294,967,295 if none is active.
+-- The number of units up to and with the next one with which that is, 4,294,967,295 if none is active.
 abbrev pub again_with : PlugQueue → Option PlugCall → ℕ
 again_with queue None = 4294967295
 again_with queue (Some call) = 32000 - queue.waited
 
--- The number of units up to and including the next one with which the active one is sent again.
 abbrev pub again_in : PlugQueue → ℕ
 again_in queue = again_with queue queue.standing
 
--- The calls after several units, one after another.
-abbrev pub counted_by : ℕ → PlugQueue → PlugQueue
-counted_by zero queue = queue
-counted_by (suc units) queue = counted (counted_by units queue)
-
--- The active one is sent again with none of the next units.
-abbrev pub NoneAgain : ℕ → PlugQueue → Type 0
-NoneAgain units queue = (before : ℕ) → before < units → is_again (counted_by before queue) ≡ false
-
--- Several units later at once, if this active call is sent again with none of them.
+-- Several units later, of which none is that one.
 abbrev pub passed_with : ℕ → PlugQueue → Option PlugCall → PlugQueue
 passed_with units queue None = queue
 passed_with units queue (Some call) = record queue { waited = queue.waited + units }
 
--- The calls several units later, if the active one is sent again with none of them.
 abbrev pub passed_by : ℕ → PlugQueue → PlugQueue
 passed_by units queue = passed_with units queue queue.standing

@@ -1,6 +1,6 @@
 //! The calls ApplicationReady of plugs: one at a time is active, and the others wait in the order in which their parameters
 //! ended.
-ghost use Rattle.std.specs.Prelude.{◌≡◌, ◌<◌, false, is_some, length, map, unwrap_or};
+ghost use Rattle.std.specs.Prelude.{◌≡◌, ◌==◌, ◌<◌, ◌≤◌, IfSome, false, is_some, length, map, unwrap_or};
 ghost use Rattle.std.specs.List.{list_any};
 ghost use Rattle.expected_places.specs.Calls.{again_in, counted, dropped, finished, first_ready, is_affected, is_again, is_unready, kept_call, kept_calls};
 ghost use Rattle.expected_places.specs.Calls.{no_calls, passed_by, pushed, readied_call, sent_next, sent_with};
@@ -87,6 +87,14 @@ impl PlugCalls {
         self.standing = None;
         self.sequence = 0;
         self.waited = 0;
+    }
+
+    /// Whether no further call can wait.
+    pub(crate) fn is_full(&self) -> bool
+        ensures value { result ≡ (length self.now.waiting == 64) }
+        ensures fits { length self.now.waiting ≤ 64 }
+    {
+        self.waiting.is_full()
     }
 
     /// One more call, after the others.
@@ -224,20 +232,6 @@ impl WaitingCall {
     {
         self.slot == slot && self.subslot == subslot && !self.is_ready
     }
-
-    /// The same call: its application is ready if it is of this place.
-    fn readied(self, slot: u16, subslot: u16) -> WaitingCall
-        ensures { result ≡ readied_call slot subslot self }
-    {
-        if self.is_unready(slot, subslot) {
-            WaitingCall {
-                is_ready: true,
-                ..self
-            }
-        } else {
-            self
-        }
-    }
 }
 
 /// Drops the calls of affected places from those that wait.
@@ -269,7 +263,9 @@ fn ready_at(waiting: &mut [WaitingCall], slot: u16, subslot: u16)
     ensures { waiting.new ≡ map (readied_call slot subslot) waiting.old }
 {
     for call in waiting.iter_mut() {
-        *call = call.readied(slot, subslot);
+        if call.is_unready(slot, subslot) {
+            call.is_ready = true;
+        }
     }
 }
 

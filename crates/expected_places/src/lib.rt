@@ -7,12 +7,10 @@
 #![tactic(auto)]
 
 mod calls;
-mod law;
 mod place;
 mod places;
 mod plugs;
 
 pub use calls::{PlugCall, WaitingCall};
-pub use law::only_a_confirmation_releases;
 pub use place::{ExpectedPlace, Progress, Step};
 pub use plugs::Plugs;

@@ -73,7 +73,7 @@ impl Step {
         }
     }
 
-    /// Whether its alarm was sent, with this number.
+    /// Whether it is told with this number.
     pub(crate) fn is_told_with(self, number: u16) -> bool
         ensures { result ≡ is_told_with number self }
     {

@@ -3,7 +3,7 @@ ghost use Rattle.std.specs.Prelude.{◌≡◌, ◌+◌, ◌≤◌, ◌++◌, len
 ghost use Rattle.std.specs.List.{list_any};
 ghost use Rattle.arrayvec.specs.ArrayVec.{array_vec_len};
 ghost use Rattle.module_diff.specs.Changes.{covers};
-ghost use Rattle.expected_places.specs.Places.{first_place, first_told, opened_places, place_at, places_restated, stepped, touched_places};
+ghost use Rattle.expected_places.specs.Places.{first_place, first_told, opened_places, place_at, places_restated, touched_places};
 
 use crate::place::{ExpectedPlace, Step};
 use arrayvec::ArrayVec;
@@ -62,17 +62,6 @@ pub(crate) fn touch(places: &mut [ExpectedPlace], affected: Affected, step: Step
     }
 }
 
-/// Says that the place in this slot and subslot is this far.
-pub(crate) fn step(places: &mut [ExpectedPlace], slot: u16, subslot: u16, step: Step)
-    ensures { places.new ≡ stepped slot subslot step places.old }
-{
-    let affected = Affected {
-        slot,
-        subslot: Some(subslot),
-    };
-    touch(places, affected, step);
-}
-
 /// The place in this slot and subslot, if there is one.
 pub(crate) fn place_at(places: &[ExpectedPlace], slot: u16, subslot: u16) -> Option<ExpectedPlace>
     ensures { result ≡ place_at slot subslot places.now }
@@ -94,7 +83,7 @@ pub(crate) fn is_any(places: &[ExpectedPlace], affected: Affected) -> bool
         .any(|place| affected.covers(place.slot, place.subslot))
 }
 
-/// The first place whose plug is reported with this number.
+/// The first place whose plug was told with this number.
 pub(crate) fn told_with(places: &[ExpectedPlace], number: u16) -> Option<ExpectedPlace>
     ensures { result ≡ first_told number places.now }
 {

@@ -1,15 +1,14 @@
 //! What pulls and plugs did to the places of a relation.
-ghost use Rattle.std.specs.Prelude.{◌≡◌, ◌<◌, ◌≤◌, ◌+◌, IfSome, Some, false, length, true};
+ghost use Rattle.std.specs.Prelude.{◌≡◌, ◌<◌, ◌≤◌, false, length};
 ghost use Rattle.expected_places.specs.declared.place.Step.TheVariants as at;
-ghost use Rattle.expected_places.specs.Called.{ends_with};
-ghost use Rattle.expected_places.specs.Calls.{NoneAgain, again_in, counted, counted_by, is_again};
+ghost use Rattle.expected_places.specs.Calls.{again_in, counted, is_again, passed_by};
 ghost use Rattle.expected_places.specs.Machine.{answered, closed, differs_at, ended, ended_at, is_ended, is_hit, is_next_called, is_readied, is_touched_at};
 ghost use Rattle.expected_places.specs.Machine.{next_called, opened, readied, restated, told, touched};
-ghost use Rattle.expected_places.specs.Places.{first_told, is_plugged, place_at};
+ghost use Rattle.expected_places.specs.Places.{is_plugged, place_at, stepped};
 
 use crate::calls::{PlugCall, PlugCalls, WaitingCall};
 use crate::place::{ExpectedPlace, Step};
-use crate::places::{is_any, open, place_at, restate, step, told_with, touch};
+use crate::places::{is_any, open, place_at, restate, told_with, touch};
 use arrayvec::ArrayVec;
 use module_diff::{Affected, DiffRows, Expected};
 use std::marker::Model;
@@ -23,17 +22,13 @@ pub struct Plugs {
     has_told: bool,
 }
 
-// Its model: the parts. Each call is for a place of its own, whose parameters ended with its number. So at most as many calls
-// wait as there are places.
+// Its model: the parts.
 impl Model for Plugs {
-    ghost use Rattle.expected_places.specs.Called.{HaveOwn, called_keys};
     ghost use Rattle.expected_places.specs.Machine.{PlugState};
 
     ghost Value = { PlugState };
 
     ghost view = { λ plugs. record { places = plugs.places.items; calls = plugs.calls; has_told = plugs.has_told } };
-
-    ghost invariant = { λ plugs. HaveOwn plugs.places.items (called_keys plugs.calls) };
 }
 
 impl Plugs {
@@ -122,18 +117,13 @@ impl Plugs {
     }
 
     /// The alarm of the plug at a place was first sent, with this sequence; `is_last` says that no later one waits. Then the
-    /// place is reported: an earlier plug, after which something was pulled there, says nothing of what is plugged now.
+    /// place is told: an earlier plug, after which something was pulled there, tells nothing of what is plugged now.
     pub fn tell(&mut self, slot: u16, subslot: u16, number: u16, is_last: bool)
         ensures { self.new ≡ told slot subslot number is_last self.old }
     {
         self.has_told = true;
         if is_last && self.is_plugged(slot, subslot) {
-            step(
-                self.places.as_mut_slice(),
-                slot,
-                subslot,
-                Step::Told(number),
-            );
+            self.step(slot, subslot, Step::Told(number));
         }
     }
 
@@ -145,11 +135,14 @@ impl Plugs {
     }
 
     /// The controller ended the parameters of the plug with this number. ApplicationReady for it may be sent if the application
-    /// `is_ready` or is not asked. Returns whether a place is reported with this number; if not, nothing changes.
+    /// `is_ready` or is not asked. Returns whether a place is told with this number; if not, nothing changes.
     pub fn end(&mut self, number: u16, is_ready: bool) -> bool
         ensures done { result ≡ is_ended number self.old }
         ensures state { self.new ≡ ended number is_ready self.old }
     {
+        if self.calls.is_full() {
+            return false;
+        }
         match told_with(self.places.as_slice(), number) {
             Some(place) => {
                 self.end_at(&place, number, is_ready);
@@ -159,19 +152,13 @@ impl Plugs {
         }
     }
 
-    /// The parameters of this place, the first that is reported with this number, have ended. Its ApplicationReady waits: there is
-    /// room for it, since each call has a place of its own.
+    /// The parameters of this place have ended, and its ApplicationReady waits.
     fn end_at(&mut self, place: &ExpectedPlace, number: u16, is_ready: bool)
-        requires { first_told number self.old.places ≡ Some place.now }
+        requires { length self.old.calls.waiting < 64 }
         ensures { self.new ≡ ended_at number is_ready self.old place.now }
     {
         let (slot, subslot) = (place.slot, place.subslot);
-        step(
-            self.places.as_mut_slice(),
-            slot,
-            subslot,
-            Step::Ended(number),
-        );
+        self.step(slot, subslot, Step::Ended(number));
         self.calls.push(WaitingCall {
             slot,
             subslot,
@@ -199,9 +186,7 @@ impl Plugs {
 
     /// The active ApplicationReady, if there is one.
     pub fn standing(&self) -> Option<PlugCall>
-        ensures value { result ≡ self.now.calls.standing }
-        // It is for the last plug at its place: the parameters of that have ended with this number.
-        ensures ended { IfSome result (λ call. ends_with call.number (place_at call.slot call.subslot self.now.places) ≡ true) }
+        ensures { result ≡ self.now.calls.standing }
     {
         self.calls.standing()
     }
@@ -211,17 +196,12 @@ impl Plugs {
         ensures { self.new ≡ answered is_positive self.old }
     {
         if let Some(call) = self.calls.standing() {
-            let answered = if is_positive {
+            let step = if is_positive {
                 Step::Settled
             } else {
                 Step::Refused
             };
-            step(
-                self.places.as_mut_slice(),
-                call.slot,
-                call.subslot,
-                answered,
-            );
+            self.step(call.slot, call.subslot, step);
             self.calls.finish();
         }
     }
@@ -234,6 +214,17 @@ impl Plugs {
             Some(place) => place.step.is_plugged(),
             None => false,
         }
+    }
+
+    /// A place is this far now.
+    fn step(&mut self, slot: u16, subslot: u16, step: Step)
+        ensures { self.new ≡ record self.old { places = stepped slot subslot step self.old.places } }
+    {
+        let affected = Affected {
+            slot,
+            subslot: Some(subslot),
+        };
+        touch(self.places.as_mut_slice(), affected, step);
     }
 
     /// Counts a unit of time. Returns whether the active ApplicationReady is due again.
@@ -258,10 +249,7 @@ impl Plugs {
     /// Counts several units of time at once. Nothing may be due with any of them.
     pub fn pass(&mut self, units: u32)
         requires { units < again_in self.old.calls }
-        ensures state { self.new ≡ record self.old { calls = counted_by units self.old.calls } }
-        ensures nothing { NoneAgain units self.old.calls }
-        // What is due comes nearer by these units, and by no more.
-        ensures due { again_in self.old.calls ≤ again_in self.new.calls + units }
+        ensures { self.new ≡ record self.old { calls = passed_by units self.old.calls } }
     {
         self.calls.pass(units);
     }

@@ -35,13 +35,13 @@ module _ {A : Type 0} where
   some_gone xs place None = refl
   some_gone xs place (Some x) = refl
 
-  -- Whether one was removed.
+  -- Whether one was taken out.
   pub is_gone : (test : A → Bool) (xs : List A) (found : Option A) → found ≡ slice_get xs (position_or_len test xs) → is_some found ≡ is_some (without test xs)
   is_gone test xs found is =
       ap (λ (o : Option A). is_some o) is
       ∙ sym (ap (λ (o : Option (List A)). is_some o) (without_is test xs) ∙ some_gone xs (position_or_len test xs) (slice_get xs (position_or_len test xs)))
 
-  -- What remains.
+  -- What is left.
   pub left : (test : A → Bool) (before after : ArrayVec A) (found : Option A) → found ≡ slice_get before.items (position_or_len test before.items)
       → OnSome found (after.items ≡ remove before.items (position_or_len test before.items)) → IfNone found (after ≡ before)
       → after.items ≡ unwrap_or (without test before.items) before.items

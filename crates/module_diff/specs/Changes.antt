@@ -17,17 +17,14 @@ abbrev pub reaches : Option ℕ → ℕ → Bool
 reaches None subslot = true
 reaches (Some own) subslot = own == subslot
 
--- A submodule is affected.
 abbrev pub covers : Affected → ℕ → ℕ → Bool
 covers affected slot subslot = affected.slot == slot && reaches affected.subslot subslot
 
--- Which subslot a change affects, None for each of the slot.
 abbrev pub subslot_by : ChangeKind → ℕ → Option ℕ
 subslot_by Pull subslot = Some subslot
 subslot_by PullModule subslot = None
 subslot_by Plug subslot = Some subslot
 
--- What a change affects.
 abbrev pub affected_by : RealChange → Affected
 affected_by change = record { slot = change.slot; subslot = subslot_by change.kind change.subslot }
 
@@ -55,7 +52,6 @@ with_before test y (x ∷ xs) = if test x then y ∷ x ∷ xs else x ∷ with_be
 abbrev pub is_in_slot : ℕ → RealModule → Bool
 is_in_slot slot entry = entry.slot == slot
 
--- A submodule is in this subslot.
 abbrev pub is_in_subslot : ℕ → RealSubmodule → Bool
 is_in_subslot subslot part = part.subslot == subslot
 
@@ -81,7 +77,6 @@ slot_pulled slot modules = without (is_in_slot slot) modules
 abbrev pub is_record : ParameterRecord → Bool
 is_record entry = nat_le entry.index 32767 && (nat_lt 0 entry.length && nat_le entry.length 64)
 
--- At most two valid records, each with an index of its own.
 abbrev pub are_records : List ParameterRecord → Bool
 are_records [] = true
 are_records (first ∷ []) = is_record first
@@ -108,7 +103,6 @@ is_pluggable slot ident part modules =
 abbrev pub is_past_slot : ℕ → RealModule → Bool
 is_past_slot slot entry = nat_lt slot entry.slot
 
--- A submodule is in a later subslot.
 abbrev pub is_past_subslot : ℕ → RealSubmodule → Bool
 is_past_subslot subslot part = nat_lt subslot part.subslot
 

@@ -100,7 +100,7 @@ fn module_place(modules: &[RealModule], slot: u16) -> usize
     modules.len()
 }
 
-/// The index of the first submodule in this subslot, or the number of submodules.
+/// The index of the first submodule in this subslot, or the number of submodules if there is none.
 fn part_place(parts: &[RealSubmodule], subslot: u16) -> usize
     ensures { result ≡ position_or_len (is_in_subslot subslot) parts.now }
 {

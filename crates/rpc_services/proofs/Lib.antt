@@ -8,3 +8,4 @@ pub mod PiecesReading
 pub mod PiecesSplitting
 pub mod PiecesDue
 pub mod PiecesRoom
+mod PiecesWhole

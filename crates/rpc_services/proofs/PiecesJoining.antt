@@ -8,7 +8,7 @@ use Rattle.std.proofs.lemmas.List.Elements.{All-map, All-set}
 use Rattle.rpc_core.specs.declared.call_headers.call.Head.{Head}
 use Rattle.rpc_services.specs.declared.pieces.piece.Kind.{Kind}
 use Rattle.rpc_services.specs.pieces.Piece.{Piece, is_same, number_of, piece_of}
-use Rattle.rpc_services.specs.pieces.State.{Drops, Joined, Waits, State, Unfinished, after_piece, at_place, begun, blank, comes_next, completes, continued, fack_of, fresh, heard, heard_as, holds, is_live, is_next, older, outcome_by, outcome_of, place_in, started, taken, whole_bytes}
+use Rattle.rpc_services.specs.pieces.State.{Drops, Joined, State, Unfinished, Waits, after_piece, at_place, begun, blank, comes_next, completes, continued, fack_of, finished_with, fresh, grown_with, heard, heard_as, holds, is_live, is_next, older, outcome_by, outcome_of, place_in, started, taken, whole_bytes}
 use Rattle.rpc_services.specs.pieces.Run.{Began, Event, Hears, IsAmong, IsCompleted, IsJoined, Ticks, since}
 use Rattle.rpc_services.proofs.PiecesPlaces.{read_all, three, two}
 
@@ -59,7 +59,7 @@ continued_made : (kind : Kind) (past : List Event) (u : Unfinished) (p : Piece) 
 continued_made kind past u p came made = by (completes u p) (is_next u p) refl (comes_next u p)
   where
     by : (a b : Bool) → is_next u p ≡ b → (c : Bool)
-        → IsMade kind past (if a then record u { is_whole = true } else if b then record u { octets = u.octets ++ p.octets; next = u.next + 1 } else if c then record u { left = 0 } else u)
+        → IsMade kind past (if a then finished_with u p else if b then grown_with u p else if c then record u { left = 0 } else u)
     by true b e c = made
     by false true e c = (grown kind past u p came e made.0, made.1)
     by false false e true = (made.0, λ live. absurd cc)

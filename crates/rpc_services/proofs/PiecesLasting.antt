@@ -8,7 +8,7 @@ use Rattle.std.proofs.lemmas.List.Folds.{list_any_none}
 use Rattle.rpc_core.specs.declared.call_headers.call.Head.{Head}
 use Rattle.rpc_services.specs.declared.pieces.piece.Kind.{Kind}
 use Rattle.rpc_services.specs.pieces.Piece.{Piece, is_same, number_of, piece_of}
-use Rattle.rpc_services.specs.pieces.State.{State, Unfinished, after_piece, at_place, begun, blank, comes_next, completes, continued, fresh, heard, holds, is_live, is_next, older, place_in, starts, taken, ticked}
+use Rattle.rpc_services.specs.pieces.State.{State, Unfinished, after_piece, at_place, begun, blank, comes_next, completes, continued, finished_with, fresh, grown_with, heard, holds, is_live, is_next, older, place_in, starts, taken, ticked}
 use Rattle.rpc_services.specs.pieces.Run.{BeginsNone, Event, Hears, StartsNone, Ticks, after, begins, starts_it, ticks_in}
 use Rattle.rpc_services.proofs.PiecesPlaces.{not_true, read_all, two}
 
@@ -43,7 +43,7 @@ continued_lasts : (h : Head) (most : ℕ) (u : Unfinished) (p : Piece) → Lasts
 continued_lasts h most u p lasts = by (completes u p) (is_next u p) (comes_next u p)
   where
     by : (a b c : Bool)
-        → Lasts h most (if a then record u { is_whole = true } else if b then record u { octets = u.octets ++ p.octets; next = u.next + 1 } else if c then record u { left = 0 } else u)
+        → Lasts h most (if a then finished_with u p else if b then grown_with u p else if c then record u { left = 0 } else u)
     by true b c = lasts
     by false true c = lasts
     by false false true = λ same. omega arith

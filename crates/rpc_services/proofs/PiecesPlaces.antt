@@ -8,7 +8,7 @@ use Rattle.std.proofs.lemmas.List.Elements.{All-map, All-set}
 use Rattle.std.proofs.lemmas.List.Sums.{position_or_len_is}
 use Rattle.rpc_core.specs.declared.call_headers.call.Head.{Head}
 use Rattle.rpc_services.specs.pieces.Piece.{Piece}
-use Rattle.rpc_services.specs.pieces.State.{State, Unfinished, after_piece, begun, blank, comes_next, completes, continued, fresh, is_next, is_of, older_than, oldest, oldest_from, older, place_of, starts, ticked, turn_of}
+use Rattle.rpc_services.specs.pieces.State.{State, Unfinished, after_piece, begun, blank, comes_next, completes, continued, finished_with, fresh, grown_with, is_next, is_of, older, older_than, oldest, oldest_from, place_of, starts, ticked, turn_of}
 
 -- ---- tests
 
@@ -100,7 +100,7 @@ pub young_continued : (u : Unfinished) (p : Piece) → u.left ≤ 64000 → (con
 young_continued u p young = by (completes u p) (is_next u p) (comes_next u p)
   where
     by : (a b c : Bool)
-        → (if a then record u { is_whole = true } else if b then record u { octets = u.octets ++ p.octets; next = u.next + 1 } else if c then record u { left = 0 } else u).left ≤ 64000
+        → (if a then finished_with u p else if b then grown_with u p else if c then record u { left = 0 } else u).left ≤ 64000
     by true b c = young
     by false true c = young
     by false false true = omega arith

@@ -11,7 +11,7 @@ use Rattle.std.proofs.lemmas.List.Sums.{fails_before_first, position_or_len_is}
 use Rattle.rpc_core.specs.declared.call_headers.call.Head.{Head}
 use Rattle.rpc_core.specs.call_headers.Call.{head}
 use Rattle.rpc_services.specs.pieces.Piece.{Piece, is_activity, is_last, is_same, piece_of}
-use Rattle.rpc_services.specs.pieces.State.{Drops, Joined, State, Unfinished, Waits, after_piece, ages_after, at_place, begun, blank, comes_next, completes, continued, fack_of, fresh, heard, heard_as, holds, is_live, is_next, is_of, oldest, older, outcome_by, outcome_of, place_in, place_of, starts, taken, ticked, whole_bytes}
+use Rattle.rpc_services.specs.pieces.State.{Drops, Joined, State, Unfinished, Waits, after_piece, ages_after, at_place, begun, blank, comes_next, completes, continued, fack_of, finished_with, fresh, grown_with, heard, heard_as, holds, is_live, is_next, is_of, older, oldest, outcome_by, outcome_of, place_in, place_of, starts, taken, ticked, whole_bytes}
 use Rattle.rpc_services.specs.pieces.Split.{IsSendable, carried, is_final, piece_bytes, piece_head, piece_in, pieces_in, whole_of}
 use Rattle.rpc_services.specs.pieces.Run.{AreBeside, AreOf, Arrival, Brings, CanJoin, Comes, Event, IsBeside, Passes, after, events_of, next_after, next_of, passed_in}
 use Rattle.rpc_services.proofs.PiecesJoining.{whole_parts}
@@ -51,9 +51,9 @@ second_false false b e = refl
 -- a fragment that does not come next changes nothing
 unchanged : (u : Unfinished) (p : Piece) → is_next u p ≡ false → comes_next u p ≡ false → continued u p ≡ u
 unchanged u p next comes =
-    let more : Unfinished = record u { octets = u.octets ++ p.octets; next = u.next + 1 } in
+    let more : Unfinished = grown_with u p in
     let otherwise : Unfinished = if comes_next u p then record u { left = 0 } else u in
-    if_false _ (record u { is_whole = true }) (if is_next u p then more else otherwise) (first_false _ _ next)
+    if_false _ (finished_with u p) (if is_next u p then more else otherwise) (first_false _ _ next)
     ∙ (if_false _ more otherwise next ∙ if_false _ (record u { left = 0 }) u comes)
 
 never_both : (b : Bool) → b ≡ true → b ≡ false → ⊥
@@ -222,7 +222,7 @@ module _ (h : Head) (wanted : Bool) (body : List ℕ) (few : length body ≤ 415
   one_more : (n : ℕ) → take (n * 1392) body ++ carried n body ≡ take ((n + 1) * 1392) body
   one_more n = sym (take-add (n * 1392) 1392 body) ∙ ap (λ (k : ℕ). take k body) (omega arith)
 
-  grown : (u : Unfinished) (n passed i : ℕ) → IsBegun u n passed → i ≡ n → IsBegun (record u { octets = u.octets ++ (part i).octets; next = u.next + 1 }) (n + 1) passed
+  grown : (u : Unfinished) (n passed i : ℕ) → IsBegun u n passed → i ≡ n → IsBegun (grown_with u (part i)) (n + 1) passed
   grown u n passed i is e = record {
     here = is.here;
     next = ap (λ (k : ℕ). k + 1) is.next;
@@ -235,10 +235,10 @@ module _ (h : Head) (wanted : Bool) (body : List ℕ) (few : length body ≤ 415
   go_on u n passed i is there = by (i == n) refl (is_final i body) refl
     where
       more : Unfinished
-      more = record u { octets = u.octets ++ (part i).octets; next = u.next + 1 }
+      more = grown_with u (part i)
 
       whole_is : Unfinished
-      whole_is = record u { is_whole = true }
+      whole_is = finished_with u (part i)
 
       otherwise : Unfinished
       otherwise = if comes_next u (part i) then record u { left = 0 } else u
@@ -309,7 +309,7 @@ module _ (h : Head) (wanted : Bool) (body : List ℕ) (few : length body ≤ 415
   other_continued v p none = by (completes v p) (is_next v p) (comes_next v p)
     where
       by : (a b c : Bool)
-          → holds h (if a then record v { is_whole = true } else if b then record v { octets = v.octets ++ p.octets; next = v.next + 1 } else if c then record v { left = 0 } else v) ≡ false
+          → holds h (if a then finished_with v p else if b then grown_with v p else if c then record v { left = 0 } else v) ≡ false
       by true b c = none
       by false true c = none
       by false false true = refl
@@ -326,7 +326,7 @@ module _ (h : Head) (wanted : Bool) (body : List ℕ) (few : length body ≤ 415
   other_kept v p none = by (completes v p) (is_next v p) (comes_next v p)
     where
       by : (a b c : Bool)
-          → is_of h (if a then record v { is_whole = true } else if b then record v { octets = v.octets ++ p.octets; next = v.next + 1 } else if c then record v { left = 0 } else v) ≡ false
+          → is_of h (if a then finished_with v p else if b then grown_with v p else if c then record v { left = 0 } else v) ≡ false
       by true b c = none
       by false true c = none
       by false false true = refl

@@ -14,7 +14,7 @@ mod split;
 mod unfinished;
 
 pub use acknowledgement::Acknowledgement;
-pub use joiner::{Heard, Joiner, LONGEST, WholeCall};
+pub use joiner::{Heard, Joiner, LONGEST};
 pub use law::{
     calls_are_kept_until_due, finished_calls_make_room, fragments_are_read, headers_are_sound,
     joined_calls_are_their_fragments, joined_is_what_was_split, unfinished_calls_are_dropped,

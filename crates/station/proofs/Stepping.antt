@@ -12,6 +12,10 @@ use Rattle.device_core.specs.State as device
 use Rattle.station.specs.Serving.{Serving, completed, observed, piece_in}
 use Rattle.station.specs.Beside.{Beside, beside, event_beside, idle, is_dropped, joined_beside, joined_by, joined_from, joined_of, observing}
 use Rattle.station.specs.Steps.{DeviceSteps, Gives, StationSteps, station_of}
+use Rattle.pn_values.specs.declared.settings.Settings.{Settings}
+use Rattle.station.specs.declared.device_services.Attended.{Attended}
+use Rattle.station.specs.declared.device_services.Attended.TheVariants.{Noted, Joined}
+use Rattle.station.specs.Views.{joined_in}
 
 abbrev made : Serving → List (List ℕ) → Note → Beside
 made state frames said = record { services = state; sent = frames; note = said }
@@ -31,6 +35,11 @@ idle_beside identity state values note event lost =
 pub idle_silent : (identity : Identity) (state : Serving) (values : Values) (note : Note) (event : Event) (frames : List (List ℕ)) → frames ≡ [] → values.is_lost ≡ true
     → made state frames note ≡ beside identity state values note event
 idle_silent identity state values note event frames none lost = ap (λ (f : List (List ℕ)). made state f note) none ∙ idle_beside identity state values note event lost
+
+-- The services see the running settings, and keep the call.
+pub joined_observed : (attended : Attended) (state : Serving) (running : Settings) → joined_in attended (observed state running) ≡ joined_in attended state
+joined_observed (Noted note) state running = refl
+joined_observed (Joined call) state running = refl
 
 -- The services do their part, and then see the running settings.
 pub observed_beside : (own identity : Identity) (state mid seen : Serving) (values : Values) (note said : Note) (event : Event) (frames : List (List ℕ)) → identity ≡ own → values.is_lost ≡ false

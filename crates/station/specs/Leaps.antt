@@ -1,5 +1,5 @@
 -- Several units of time at once at a station, which do what as many Tick events do, one by one.
-use Rattle.std.specs.Prelude.{◌≡◌, ◌<◌, ◌≤◌, ◌+◌, ◌-◌, ◌++◌, false, true, ℕ, Bool, zero, suc, min, List, [], ◌∷◌, sum, if◌then◌else◌}
+use Rattle.std.specs.Prelude.{◌≡◌, ◌<◌, ◌≤◌, ◌+◌, ◌-◌, ◌++◌, ⊤, false, true, ℕ, Bool, zero, suc, min, List, [], ◌∷◌, length, sum, if◌then◌else◌}
 use Rattle.pn_values.specs.declared.settings.Settings.{Settings}
 use Rattle.settings_journal.specs.settings_store.State.{Values}
 use Rattle.pn_values.specs.declared.identity.Identity.{Identity}
@@ -34,6 +34,12 @@ tick_beside identity values state = beside identity state values Done Tick
 abbrev pub beside_ticks : Identity → Values → ℕ → Serving → Serving
 beside_ticks identity values zero state = state
 beside_ticks identity values (suc units) state = (tick_beside identity values (beside_ticks identity values units state)).services
+
+-- Of two frames that a Tick event sends the first one is of ARP, and has 60 octets.
+abbrev pub IsShortFirst : List (List ℕ) → Type 0
+IsShortFirst [] = ⊤
+IsShortFirst (one ∷ []) = ⊤
+IsShortFirst (one ∷ two ∷ more) = length one ≡ 60
 
 -- None of these Tick events sends a frame.
 abbrev pub NoneSendsBeside : ℕ → Identity → Values → Serving → Type 0

@@ -4,7 +4,7 @@ ghost use Rattle.arrayvec.specs.ArrayVec.{array_vec_len};
 ghost use Rattle.frame_codec.specs.Outbox.{boxed};
 ghost use Rattle.services.specs.Answer.{frame_in};
 ghost use Rattle.station.specs.Beside.{Beside, IsUndisputed, by_address, by_call, by_concern, event_beside, joined_by_concern, heard_beside, is_dropped as is_dropped_by, joined_from, joined_of};
-ghost use Rattle.station.specs.Views.{joined_in, note_in, piece_as};
+ghost use Rattle.station.specs.Views.{event_in, joined_in, note_in, piece_as};
 ghost use Rattle.services.specs.Concern.{IsShort, concern_as};
 ghost use Rattle.services.specs.Views.{call_as};
 ghost use Rattle.station.specs.Serving.{after_piece, called_reply, completed, meets, piece_of};
@@ -17,7 +17,7 @@ ghost use Rattle.std.specs.Cmp.Lexicographic.{pointwise};
 ghost use Rattle.station.specs.Serving.{aged, met, overheard, said_of, sent_by_tick, serving_at, serving_ticks, ticked, told};
 
 use crate::JoinedCall;
-use device_core::{Caller, Event, Note};
+use device_core::{Caller, Event, Note, Octets};
 use frame_codec::{Frame, Outbox};
 use lldp::{Heard, Link, Neighbours, announcement};
 use pn_values::{Identity, Settings, StationName};
@@ -31,7 +31,7 @@ pub enum Attended {
     /// The station gives the event this note.
     Noted(Note),
     /// It completed a call, which the device is now given. The note of the station is `Done`.
-    Joined,
+    Joined(JoinedCall),
 }
 
 /// What a frame that the device dropped is to the calls of which fragments are missing.
@@ -43,7 +43,7 @@ pub(crate) enum Piece {
     /// one does: the acknowledgement, or the rejection of the call.
     Taken(Option<Frame>),
     /// It completes a call of the device. The answer acknowledges it.
-    Completes,
+    Completes(JoinedCall),
 }
 
 /// All that is beside a device in a station: the services of its IP address, its neighbours by LLDP, and the calls of which
@@ -175,10 +175,21 @@ impl DeviceServices {
         running.suite.address() == self.ip.address() && self.is_named(running)
     }
 
+    /// The event of a call that was joined, which borrows its octets.
+    pub fn event_of(&self, call: &JoinedCall) -> Event<'_>
+        ensures { result ≡ event_in self.now call.now }
+    {
+        Event::Call(
+            call.caller,
+            call.address,
+            Octets::of(self.pieces.whole(call.place)),
+        )
+    }
+
     // ---- events
 
     /// What it does with an event, once the device has given it this note. Appends the frames to send to the outbox. Returns
-    /// the note of the station, or that the event completed a call, which is written into `call`.
+    /// the note of the station, or the call that the event completed.
     pub fn attend(
         &mut self,
         identity: &Identity,
@@ -186,7 +197,6 @@ impl DeviceServices {
         note: Note,
         has_sent: bool,
         outbox: &mut Outbox,
-        call: &mut JoinedCall,
     ) -> Attended
         requires empty { outbox.old.items ≡ [] }
         // A conflict was dropped or answered by the device.
@@ -194,11 +204,11 @@ impl DeviceServices {
         ensures state { self.new ≡ (event_beside identity.now self.old note event.now).services }
         ensures frames { boxed outbox.new ≡ (event_beside identity.now self.old note event.now).sent }
         ensures note { note_in result ≡ (event_beside identity.now self.old note event.now).note }
-        ensures call { joined_in result call.new ≡ joined_of self.old note event.now }
+        ensures call { joined_in result self.new ≡ joined_of self.old note event.now }
     {
         match event {
             Event::Frame(bytes) => {
-                self.attend_frame(identity, bytes.as_slice(), note, has_sent, outbox, call)
+                self.attend_frame(identity, bytes.as_slice(), note, has_sent, outbox)
             }
             Event::Tick => {
                 self.tick(outbox);
@@ -209,7 +219,7 @@ impl DeviceServices {
     }
 
     /// What it does with a frame, once the device has given it this note. It answers the frame if the device dropped it.
-    /// Returns the note of the station, or that the frame completed a call, which is written into `call`.
+    /// Returns the note of the station, or the call that the frame completed.
     pub fn attend_frame(
         &mut self,
         identity: &Identity,
@@ -217,7 +227,6 @@ impl DeviceServices {
         note: Note,
         has_sent: bool,
         outbox: &mut Outbox,
-        call: &mut JoinedCall,
     ) -> Attended
         requires empty { outbox.old.items ≡ [] }
         // A conflict was dropped or answered by the device.
@@ -225,10 +234,10 @@ impl DeviceServices {
         ensures state { self.new ≡ (heard_beside identity.now self.old note bytes.now).services }
         ensures frames { boxed outbox.new ≡ (heard_beside identity.now self.old note bytes.now).sent }
         ensures note { note_in result ≡ (heard_beside identity.now self.old note bytes.now).note }
-        ensures call { joined_in result call.new ≡ joined_from self.old note bytes.now }
+        ensures call { joined_in result self.new ≡ joined_from self.old note bytes.now }
     {
         if is_dropped(note) {
-            return self.answer(identity, bytes, note, outbox, call);
+            return self.answer(identity, bytes, note, outbox);
         }
         // Most frames of an exchange are accepted without an answer. A packet of ARP is not, so these are not read again.
         only_conflicts_are_counted();
@@ -246,17 +255,16 @@ impl DeviceServices {
         bytes: &[u8],
         note: Note,
         outbox: &mut Outbox,
-        call: &mut JoinedCall,
     ) -> Attended
         requires empty { outbox.old.items ≡ [] }
         requires dropped { is_dropped_by note ≡ true }
         ensures state { self.new ≡ (heard_beside identity.now self.old note bytes.now).services }
         ensures frames { boxed outbox.new ≡ (heard_beside identity.now self.old note bytes.now).sent }
         ensures note { note_in result ≡ (heard_beside identity.now self.old note bytes.now).note }
-        ensures call { joined_in result call.new ≡ joined_from self.old note bytes.now }
+        ensures call { joined_in result self.new ≡ joined_from self.old note bytes.now }
     {
         let concern = self.ip.concern(bytes);
-        self.handle(identity, bytes, &concern, note, outbox, call)
+        self.handle(identity, bytes, &concern, note, outbox)
     }
 
     /// It handles a frame that the device dropped, by what of it concerns the services.
@@ -267,17 +275,16 @@ impl DeviceServices {
         concern: &Concern<'_>,
         note: Note,
         outbox: &mut Outbox,
-        call: &mut JoinedCall,
     ) -> Attended
         requires empty { outbox.old.items ≡ [] }
         requires short { IsShort (concern_as concern.now) }
         ensures state { self.new ≡ (by_concern identity.now self.old note bytes.now (concern_as concern.now)).services }
         ensures frames { boxed outbox.new ≡ (by_concern identity.now self.old note bytes.now (concern_as concern.now)).sent }
         ensures note { note_in result ≡ (by_concern identity.now self.old note bytes.now (concern_as concern.now)).note }
-        ensures call { joined_in result call.new ≡ joined_by_concern self.old (concern_as concern.now) }
+        ensures call { joined_in result self.new ≡ joined_by_concern self.old (concern_as concern.now) }
     {
         match *concern {
-            Concern::Call(ref called) => self.answer_call(identity, called, note, outbox, call),
+            Concern::Call(ref called) => self.answer_call(identity, called, note, outbox),
             Concern::OtherType => Attended::Noted(note_of(self.meet(bytes), note)),
             Concern::Nothing | Concern::Packet { .. } | Concern::Echo(_) => {
                 Attended::Noted(self.answer_alone(concern, note, outbox))
@@ -305,20 +312,19 @@ impl DeviceServices {
         called: &Called<'_>,
         note: Note,
         outbox: &mut Outbox,
-        call: &mut JoinedCall,
     ) -> Attended
         requires empty { outbox.old.items ≡ [] }
         ensures state { self.new ≡ (by_call identity.now self.old note (call_as called.now)).services }
         ensures frames { boxed outbox.new ≡ (by_call identity.now self.old note (call_as called.now)).sent }
         ensures note { note_in result ≡ (by_call identity.now self.old note (call_as called.now)).note }
-        ensures call { joined_in result call.new ≡ completed (piece_of self.old (Some (call_as called.now))) }
+        ensures call { joined_in result self.new ≡ completed (piece_of self.old (Some (call_as called.now))) }
     {
-        match self.join(called, call) {
+        match self.join(called) {
             Piece::Other => {
                 Attended::Noted(put_reply(&self.replied(identity, called), false, note, outbox))
             }
             Piece::Taken(own) => Attended::Noted(put_reply(&own, true, note, outbox)),
-            Piece::Completes => Attended::Joined,
+            Piece::Completes(call) => Attended::Joined(call),
         }
     }
 
@@ -337,28 +343,28 @@ impl DeviceServices {
         }
     }
 
-    /// It hears a fragment of a call. A call of the device that is complete with it is written into `call`.
-    fn join(&mut self, called: &Called<'_>, call: &mut JoinedCall) -> Piece
+    /// It hears a fragment of a call.
+    fn join(&mut self, called: &Called<'_>) -> Piece
         ensures state { self.new ≡ after_piece self.old (Some (call_as called.now)) }
-        ensures piece { piece_as result call.new ≡ piece_of self.old (Some (call_as called.now)) }
+        ensures piece { piece_as result self.new ≡ piece_of self.old (Some (call_as called.now)) }
     {
-        match self.pieces.hear(called.body, &mut call.octets) {
+        match self.pieces.hear(called.body) {
             Pieced::Nothing | Pieced::Dropped(None) => Piece::Other,
             Pieced::Dropped(Some(fack)) => Piece::Taken(Some(
                 self.ip.reply(called, fack.as_slice()),
             )),
             Pieced::Waits(Some(fack)) => Piece::Taken(Some(self.ip.reply(called, fack.as_slice()))),
             Pieced::Waits(None) => Piece::Taken(None),
-            Pieced::Joined => match self.ip.refuse(called, call.octets.as_slice()) {
+            Pieced::Joined(place) => match self.ip.refuse(called, self.pieces.whole(place)) {
                 Some(frame) => Piece::Taken(Some(frame)),
-                None => {
-                    call.caller = Caller {
+                None => Piece::Completes(JoinedCall {
+                    caller: Caller {
                         mac: called.source,
                         endpoint: called.caller,
-                    };
-                    call.address = self.ip.address();
-                    Piece::Completes
-                }
+                    },
+                    address: self.ip.address(),
+                    place,
+                }),
             },
         }
     }

@@ -2,7 +2,7 @@
 ghost use Rattle.std.specs.Prelude.{◌≡◌, ◌<◌, ◌≤◌, ◌-◌, [], length};
 ghost use Rattle.device_core.specs.Leaps.{live_due_in, ticks_of as ticks_alone};
 ghost use Rattle.frame_codec.specs.Outbox.{boxed};
-ghost use Rattle.station.specs.Leaps.{FollowsAt, LeapsAreTicks, NoNewsBeside, NoneSendsBeside, OnlyTheLastMeets, OnlyTheLastOfPlain, OnlyTheLastSends, QuietUnitsAreTicks, QuietUnitsBringNoNews, QuietUnitsCount, QuietUnitsCountDown};
+ghost use Rattle.station.specs.Leaps.{FollowsAt, IsShortFirst, LeapsAreTicks, NoNewsBeside, NoneSendsBeside, OnlyTheLastMeets, OnlyTheLastOfPlain, OnlyTheLastSends, QuietUnitsAreTicks, QuietUnitsBringNoNews, QuietUnitsCount, QuietUnitsCountDown};
 ghost use Rattle.station.specs.Leaps.{beside_ticks, due_at, due_beside, plain_ticks, services_due, tick_beside, ticks_of};
 ghost use Rattle.station.specs.State.{in_order};
 
@@ -142,6 +142,7 @@ pub fn follow_units<F: Flash<S>, const S: usize>(
     ensures frames { boxed outbox.new ≡ (tick_beside device.now.station.identity device.now.live.values
         (beside_ticks device.now.station.identity device.now.live.values (units - 1) services.old)).sent }
     ensures few { length (boxed outbox.new) ≤ 2 }
+    ensures first { IsShortFirst (boxed outbox.new) }
 {
     pass_units(device.is_lost(), device.running(), services, units, outbox);
 }

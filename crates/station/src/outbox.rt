@@ -3,7 +3,6 @@ ghost use Rattle.std.specs.Prelude.{◌≡◌, ◌≤◌, length, map};
 ghost use Rattle.frame_codec.specs.Outbox.{boxed};
 ghost use Rattle.station.specs.State.{no_frames};
 
-use crate::JoinedCall;
 use frame_codec::{Frame, Outbox};
 use std::marker::Model;
 
@@ -13,8 +12,6 @@ use std::marker::Model;
 pub struct StationOutbox {
     pub(crate) device: Outbox,
     pub(crate) services: Outbox,
-    // The place of a call that is joined in a step.
-    pub(crate) call: JoinedCall,
 }
 
 impl Model for StationOutbox {
@@ -34,7 +31,6 @@ impl StationOutbox {
         StationOutbox {
             device: Outbox::new(),
             services: Outbox::new(),
-            call: JoinedCall::new(),
         }
     }
 

@@ -5,8 +5,9 @@ ghost use Rattle.device_frames.specs.declared.event.Event.TheVariants.{Frame as 
 ghost use Rattle.station.specs.Beside.{beside, has_any, is_dropped, joined_beside};
 ghost use Rattle.station.specs.Leaps.{due_beside};
 ghost use Rattle.station.specs.Serving.{disputes, news_in};
-ghost use Rattle.station.specs.Views.{joined_in, note_in};
+ghost use Rattle.station.specs.Views.{event_in, joined_in, note_in};
 ghost use Rattle.station.specs.declared.device_services.Attended.TheVariants.{Joined};
+ghost use Rattle.station.specs.declared.joined_call.JoinedCall.{JoinedCall};
 ghost use Rattle.device_core.specs.Machine.{step_of};
 ghost use Rattle.device_frames.specs.declared.note.Note.TheVariants.{Done};
 ghost use Rattle.station.specs.Steps.{DeviceSteps, StationSteps, StationTakes, Tells, station_of};
@@ -48,12 +49,11 @@ fn step_told<F: Flash<S>, const S: usize>(
         event,
         &mut outbox.device,
         &mut outbox.services,
-        &mut outbox.call,
     );
     match attended {
         Attended::Noted(note) => note,
-        Attended::Joined => {
-            let _ = give(device, &outbox.call, &mut outbox.device);
+        Attended::Joined(call) => {
+            let _ = give(device, services, &call, &mut outbox.device);
             Note::Done
         }
     }
@@ -67,14 +67,13 @@ fn step_both<F: Flash<S>, const S: usize>(
     event: &Event<'_>,
     sent: &mut Outbox,
     outbox: &mut Outbox,
-    call: &mut JoinedCall,
 ) -> (Note, Attended)
     // The device makes its step alone.
     ensures alone { DeviceSteps F.Flash device.old event.now (boxed sent.new) result.0 device.new }
     // The services do what is said of them beside it.
     ensures beside { record { services = services.new; sent = boxed outbox.new; note = note_in result.1 }
         ≡ beside device.old.station.identity services.old device.new.live.values result.0 event.now }
-    ensures call { joined_in result.1 call.new ≡ joined_beside services.old device.new.live.values result.0 event.now }
+    ensures call { joined_in result.1 services.new ≡ joined_beside services.old device.new.live.values result.0 event.now }
 {
     outbox.clear(); // of what the event before sent
     let note = step_device(device, event, sent);
@@ -82,7 +81,7 @@ fn step_both<F: Flash<S>, const S: usize>(
         return (note, Attended::Noted(note));
     }
     let has_sent = has_frames(sent);
-    let attended = services.attend(device.identity(), event, note, has_sent, outbox, call);
+    let attended = services.attend(device.identity(), event, note, has_sent, outbox);
     services.observe(device.running());
     (note, attended)
 }
@@ -91,12 +90,13 @@ fn step_both<F: Flash<S>, const S: usize>(
 /// `step_beside` does it; the owner of a device whose flash calls are carried out elsewhere does it after `follow_frame`.
 pub fn give<F: Flash<S>, const S: usize>(
     device: &mut Device<F, S>,
+    services: &DeviceServices,
     call: &JoinedCall,
     outbox: &mut Outbox,
 ) -> Note
-    ensures { DeviceSteps F.Flash device.old call.now (boxed outbox.new) result device.new }
+    ensures { DeviceSteps F.Flash device.old (event_in services.now call.now) (boxed outbox.new) result device.new }
 {
-    step_device(device, &call.event(), outbox)
+    step_device(device, &services.event_of(call), outbox)
 }
 
 /// Reports its neighbour to a device, if it changed since the last report: a step of its own, with the event Neighbour, which
@@ -159,7 +159,7 @@ fn step_device<F: Flash<S>, const S: usize>(
 
 /// What the services beside a device do with a received frame that the device has handled: it gave the frame this note, and
 /// sent frames or none. Replaces the content of the outbox by the frames that they send, and returns the note of the station, or
-/// that the frame completed a call, which is written into `call`.
+/// the call that the frame completed.
 ///
 /// A device whose flash calls are carried out elsewhere makes its step first, and then this; and then, if a call was completed,
 /// that of `give`.
@@ -170,23 +170,22 @@ pub fn follow_frame<F: Flash<S>, const S: usize>(
     note: Note,
     has_sent: bool,
     outbox: &mut Outbox,
-    call: &mut JoinedCall,
 ) -> Attended
     // A conflict was dropped or answered by the device, as `conflicts_are_noticed` says of each step.
     requires { is_dropped note ≡ false → has_sent ≡ false → disputes services.old octets.now ≡ false }
     ensures beside { record { services = services.new; sent = boxed outbox.new; note = note_in result }
         ≡ beside device.now.station.identity services.old device.now.live.values note (Framed (record { items = octets.now })) }
-    ensures call { joined_in result call.new
+    ensures call { joined_in result services.new
         ≡ joined_beside services.old device.now.live.values note (Framed (record { items = octets.now })) }
     // They send at most one frame, and none if the frame completed a call.
     ensures few { length (boxed outbox.new) ≤ 1 }
-    ensures alone { result ≡ Joined → boxed outbox.new ≡ [] }
+    ensures alone { (call : JoinedCall) → result ≡ Joined call → boxed outbox.new ≡ [] }
 {
     outbox.clear(); // of what the event before sent
     if device.is_lost() {
         return Attended::Noted(note);
     }
-    let attended = services.attend_frame(device.identity(), octets, note, has_sent, outbox, call);
+    let attended = services.attend_frame(device.identity(), octets, note, has_sent, outbox);
     services.observe(device.running());
     attended
 }

@@ -20,7 +20,7 @@ use relations::DeviceOptions;
 const ABI: u32 = 6;
 
 /// The number of octets of the memory for a port.
-const ROOM: usize = 73728;
+const ROOM: usize = 71680;
 
 /// The number of octets of an operation.
 const OP_SIZE: usize = 1668;

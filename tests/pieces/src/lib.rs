@@ -2,7 +2,7 @@
 //! line with the product.
 #![cfg(test)]
 
-use rpc_services::{Heard, Joiner, Kind, WholeCall};
+use rpc_services::{Heard, Joiner, Kind};
 
 mod device;
 mod joined;
@@ -39,14 +39,13 @@ enum Did {
     Joined(Vec<u8>),
 }
 
-/// What the body of a datagram did, with the octets that were written.
+/// What the body of a datagram did, with the octets of the whole.
 fn did(joiner: &mut Joiner, bytes: &[u8]) -> Did {
-    let mut whole = WholeCall::new();
-    match joiner.hear(bytes, &mut whole) {
+    match joiner.hear(bytes) {
         Heard::Nothing => Did::Nothing,
         Heard::Dropped(fack) => Did::Dropped(fack.map(|fack| fack.as_slice().to_vec())),
         Heard::Waits(fack) => Did::Waits(fack.map(|fack| fack.as_slice().to_vec())),
-        Heard::Joined => Did::Joined(whole.as_slice().to_vec()),
+        Heard::Joined(place) => Did::Joined(joiner.whole(place).to_vec()),
     }
 }
 

@@ -65,5 +65,5 @@ fn what_is_due_is_the_next_call_that_is_dropped() {
 #[test]
 fn a_storm_costs_no_memory() {
     let size = size_of_val(&calls());
-    assert!(size < 17_000, "{size}");
+    assert!(size < 17_300, "{size}");
 }

@@ -22,27 +22,24 @@ first_cell statuses place =
 abbrev pub first_shown : StatusOf → Table → Shown
 first_shown statuses layout = record { data_length = layout.data_length; cells = map (first_cell statuses) layout.places }
 
--- A place with its status, while the data stays as it is.
+-- The status at each place, while the data stays as it is.
 abbrev pub stated_cell : StatusOf → Cell → Cell
 stated_cell statuses cell = record cell { status = statuses cell.place.kind cell.place.slot cell.place.subslot }
 
--- An image with the status at each place.
 abbrev pub stated : StatusOf → Shown → Shown
 stated statuses shown = record shown { cells = map (stated_cell statuses) shown.cells }
 
--- A place with zeros as its data, while its status stays as it is.
+-- Zeros as the data of a submodule, while its status stays as it is.
 abbrev pub cleared_cell : Cell → Cell
 cleared_cell cell = record cell { value = replicate (cell.place.size - 1) 0 }
 
--- An image with zeros as the data of a submodule.
 abbrev pub blanked : ℕ → ℕ → Shown → Shown
 blanked slot subslot shown = changed Data slot subslot cleared_cell shown
 
--- An end that sends these statuses at each place.
+-- The same of an end.
 abbrev pub restated : StatusOf → Cyclic → Cyclic
 restated statuses cyclic = record cyclic { shown = stated statuses cyclic.shown }
 
--- An end that sends zeros as the data of a submodule.
 abbrev pub cleared : ℕ → ℕ → Cyclic → Cyclic
 cleared slot subslot cyclic = record cyclic { shown = blanked slot subslot cyclic.shown }
 

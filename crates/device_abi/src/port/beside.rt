@@ -6,6 +6,7 @@ ghost use Rattle.device_abi.specs.port.Steps.{Ticks};
 ghost use Rattle.station.specs.Beside.{beside, is_dropped, joined_beside};
 ghost use Rattle.station.specs.Views.{joined_in, note_in};
 ghost use Rattle.station.specs.declared.device_services.Attended.TheVariants.{Joined};
+ghost use Rattle.station.specs.declared.joined_call.JoinedCall.{JoinedCall};
 ghost use Rattle.device_abi.specs.port.Pace.{AreCalm, Calm, HasNoNews, IsBehind, TicksBeside, TicksBesideAny, caught_up, soonest as soonest_by};
 ghost use Rattle.device_abi.specs.port.Served.{due_with};
 ghost use Rattle.device_abi.specs.port.ServedSteps.{GivesAny, GivesPort, IsBeside, IsNoticed, TellsPort, TellsPortAny, seen_by, services_from};
@@ -16,8 +17,7 @@ use crate::port::own::OwnFrames;
 use device_core::{Device, Note};
 use services::NEVER;
 use station::{
-    Attended, DeviceServices, JoinedCall, due_beside, follow_answered, follow_quiet_units,
-    services_due,
+    Attended, DeviceServices, due_beside, follow_answered, follow_quiet_units, services_due,
 };
 
 // The services begin beside a device that has started, if the station has them. They are large: made in each branch they are written where they
@@ -94,19 +94,19 @@ fn follow_of(
         return follow_answered(port.device(), services, octets, note);
     }
     let attended = port.attend(services, octets, note, own);
-    give(port, own.call(), attended)
+    give(port, services, attended)
 }
 
 // The device is given the call that the services joined, if they did. Returns the note of the station.
-fn give(port: &mut DevicePort, call: &JoinedCall, attended: Attended) -> Note
-    requires { attended ≡ Joined → barred port.old ≡ None }
-    ensures gives { GivesPort (joined_in attended call.now) port.old port.new }
+fn give(port: &mut DevicePort, services: &DeviceServices, attended: Attended) -> Note
+    requires { (call : JoinedCall) → attended ≡ Joined call → barred port.old ≡ None }
+    ensures gives { GivesPort (joined_in attended services.now) port.old port.new }
     ensures note { result ≡ note_in attended }
 {
     match attended {
         Attended::Noted(note) => note,
-        Attended::Joined => {
-            let _ = port.take(&call.event());
+        Attended::Joined(call) => {
+            let _ = port.take(&services.event_of(&call));
             Note::Done
         }
     }

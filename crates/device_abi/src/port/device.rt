@@ -413,7 +413,7 @@ impl DevicePort {
         ensures same { self.new ≡ self.old }
         ensures beside { record { services = services.new; sent = own.new.frames; note = note_in result }
             ≡ beside self.old.device.station.identity services.old self.old.device.live.values note (Framed (record { items = octets.now })) }
-        ensures call { joined_in result own.new.call
+        ensures call { joined_in result services.new
             ≡ joined_beside services.old self.old.device.live.values note (Framed (record { items = octets.now })) }
     {
         let attended = own.attend(&self.device, services, octets, note, &mut self.outbox);

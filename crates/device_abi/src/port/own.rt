@@ -6,45 +6,44 @@ ghost use Rattle.station.specs.Leaps.{services_due};
 ghost use Rattle.station.specs.Serving.{disputes};
 ghost use Rattle.station.specs.Views.{joined_in, note_in};
 ghost use Rattle.device_abi.specs.port.Pace.{TicksBeside};
+ghost use Rattle.station.specs.Leaps.{IsShortFirst};
 
 use crate::RecordedFlash;
+use arrayvec::ArrayVec;
 use device_core::{Device, Note};
 use frame_codec::{Frame, Outbox};
-use station::{Attended, DeviceServices, JoinedCall, follow_frame, follow_units};
+use station::{Attended, DeviceServices, follow_frame, follow_units};
 use std::marker::Model;
+use wire::append;
 
-/// What the services made in the last step: the frames that they sent, at most two, or the call that they joined. They send nothing in a
-/// step that completes a call, so one room is enough for both.
+/// The frames that the services sent in the last step, at most two. The first one of two is of ARP, and has 60 octets.
 #[derive(Drop)]
 pub(crate) struct OwnFrames {
-    room: JoinedCall,
-    /// The number of frames, which lie one after the other. It is all that most calls of a port ask for.
+    /// Their octets, one frame after the other.
+    room: ArrayVec<u8, 1578>,
+    /// The number of frames. It is all that most calls of a port ask for.
     count: usize,
-    /// The number of octets of the first one, if there are two.
-    first: usize,
 }
 
 impl Model for OwnFrames {
-    ghost use Rattle.station.specs.Views.{call_octets};
     ghost use Rattle.device_abi.specs.port.Own.{Own, AreFrames, kept_in};
 
     ghost Value = { Own };
 
-    ghost view = { λ own. record { frames = kept_in own.count own.first (call_octets own.room); call = own.room } };
+    ghost view = { λ own. record { frames = kept_in own.count own.room.items } };
 
-    ghost invariant = { λ own. AreFrames own.count own.first (call_octets own.room) };
+    ghost invariant = { λ own. AreFrames own.count own.room.items };
 }
 
 impl OwnFrames {
-    // No frame, and no call.
+    // No frame.
     #[inline(always)]
     pub(crate) fn new() -> OwnFrames
         ensures { result.frames ≡ [] }
     {
         OwnFrames {
-            room: JoinedCall::new(),
+            room: ArrayVec::new(),
             count: 0,
-            first: 0,
         }
     }
 
@@ -62,31 +61,23 @@ impl OwnFrames {
         ensures short { length result.now ≤ 1518 }
     {
         if self.count == 1 {
-            return self.room.octets();
+            return self.room.as_slice();
         }
-        one_of(self.room.octets(), self.first, index)
-    }
-
-    // The call that was joined, if one was.
-    pub(crate) fn call(&self) -> &JoinedCall
-        ensures { result.now ≡ self.now.call }
-    {
-        &self.room
+        one_of(self.room.as_slice(), 60, index)
     }
 
     // Removes all frames.
     pub(crate) fn clear(&mut self)
-        ensures frames { self.new.frames ≡ [] }
-        ensures call { self.new.call ≡ self.old.call }
+        ensures { self.new.frames ≡ [] }
     {
         self.count = 0;
     }
 
-    // Keeps these frames in place of what was there. If there are none, a call stays.
+    // Keeps these frames in place of what was there.
     fn keep(&mut self, frames: &[Frame])
         requires few { length frames.now ≤ 2 }
-        ensures frames { self.new.frames ≡ map (λ frame. frame.items) frames.now }
-        ensures call { frames.now ≡ [] → self.new.call ≡ self.old.call }
+        requires first { IsShortFirst (map (λ frame. frame.items) frames.now) }
+        ensures { self.new.frames ≡ map (λ frame. frame.items) frames.now }
     {
         match frames {
             [] => self.clear(),
@@ -100,17 +91,20 @@ impl OwnFrames {
         ensures { self.new.frames ≡ one.now.items ∷ [] }
     {
         self.count = 0;
-        self.room.put(one.as_slice(), &[]);
+        self.room.clear();
+        append(&mut self.room, one.as_slice());
         self.count = 1;
     }
 
     // Keeps two frames.
     fn keep_two(&mut self, one: &Frame, two: &Frame)
+        requires { length one.now.items ≡ 60 }
         ensures { self.new.frames ≡ one.now.items ∷ two.now.items ∷ [] }
     {
         self.count = 0;
-        self.room.put(one.as_slice(), two.as_slice());
-        self.first = one.len();
+        self.room.clear();
+        append(&mut self.room, one.as_slice());
+        append(&mut self.room, two.as_slice());
         self.count = 2;
     }
 
@@ -127,19 +121,10 @@ impl OwnFrames {
         requires { is_dropped note ≡ false → disputes services.old octets.now ≡ false }
         ensures beside { record { services = services.new; sent = self.new.frames; note = note_in result }
             ≡ beside device.now.station.identity services.old device.now.live.values note (Framed (record { items = octets.now })) }
-        ensures call { joined_in result self.new.call
+        ensures call { joined_in result services.new
             ≡ joined_beside services.old device.now.live.values note (Framed (record { items = octets.now })) }
     {
-        self.count = 0;
-        let attended = follow_frame(
-            device,
-            services,
-            octets,
-            note,
-            false,
-            outbox,
-            &mut self.room,
-        );
+        let attended = follow_frame(device, services, octets, note, false, outbox);
         self.keep(outbox.as_slice());
         attended
     }

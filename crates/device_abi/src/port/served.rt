@@ -48,7 +48,7 @@ pub struct Port {
     rest: u32,
     /// The same of the services as they learned of units last: that many less `rest` have passed since.
     limit: u32,
-    /// The frames of the services, or the call that they joined.
+    /// The frames of the services.
     own: OwnFrames,
     /// The number of these frames that the host has fetched.
     frames_past: usize,

@@ -20,6 +20,8 @@ pub record Unfinished : Type 0 where
   pub is_whole : Bool
   -- in how many ticks it is dropped; 0: nothing is here
   pub left : ℕ
+  -- the octets of the whole that was completed here last, until something else is joined here
+  pub whole : List ℕ
 
 -- The calls, or answers, of which fragments are missing: four places.
 pub record State : Type 0 where
@@ -41,7 +43,7 @@ blank_head = record {
 
 -- a place with nothing
 abbrev pub blank : Unfinished
-blank = record { head = blank_head; octets = []; next = 0; is_whole = false; left = 0 }
+blank = record { head = blank_head; octets = []; next = 0; is_whole = false; left = 0; whole = [] }
 
 -- at the start nothing is unfinished
 abbrev pub started : Kind → State
@@ -102,7 +104,7 @@ longest = 4152
 
 -- a call of which nothing is joined yet; it is dropped after 64,000 ticks
 abbrev pub fresh : Head → Unfinished
-fresh h = record { head = h; octets = []; next = 0; is_whole = false; left = 64000 }
+fresh h = record { head = h; octets = []; next = 0; is_whole = false; left = 64000; whole = [] }
 
 -- whether this fragment begins its call in this place: a first fragment, unless the call is here
 abbrev pub starts : Unfinished → Piece → Bool
@@ -124,19 +126,6 @@ is_next u p = holds p.head u && number_of p == u.next && nat_le (length u.octets
 abbrev pub completes : Unfinished → Piece → Bool
 completes u p = is_next u p && is_last p.head.opening.flags
 
--- The fragment that comes next is joined. The last one finishes its call, and completes it once more if it comes again. If there
--- is no room for the fragment that comes next, the call is given up. Any other fragment changes nothing.
-abbrev pub continued : Unfinished → Piece → Unfinished
-continued u p =
-    if completes u p then record u { is_whole = true }
-    else if is_next u p then record u { octets = u.octets ++ p.octets; next = u.next + 1 }
-    else if comes_next u p then record u { left = 0 }
-    else u
-
--- a place after a fragment
-abbrev pub taken : Unfinished → Piece → Unfinished
-taken u p = continued (begun u p) p
-
 -- ---- what is joined
 
 -- the header of the whole: that of the first fragment, which is no fragment
@@ -149,6 +138,30 @@ whole_head h size = record h {
 -- the octets of the whole
 abbrev pub whole_bytes : Head → List ℕ → List ℕ
 whole_bytes h body = head.write (whole_head h (length body)) [] ++ body
+
+-- the octets of the whole that this fragment completes
+abbrev pub whole_with : Unfinished → Piece → List ℕ
+whole_with u p = whole_bytes u.head (u.octets ++ p.octets)
+
+-- A place after the fragment that completes its call, and after another one that is joined.
+abbrev pub finished_with : Unfinished → Piece → Unfinished
+finished_with u p = record u { is_whole = true; whole = whole_with u p }
+
+abbrev pub grown_with : Unfinished → Piece → Unfinished
+grown_with u p = record u { octets = u.octets ++ p.octets; next = u.next + 1; whole = [] }
+
+-- The fragment that comes next is joined. The last one finishes its call, and completes it once more if it comes again. If there
+-- is no room for the fragment that comes next, the call is given up. Any other fragment changes nothing.
+abbrev pub continued : Unfinished → Piece → Unfinished
+continued u p =
+    if completes u p then finished_with u p
+    else if is_next u p then grown_with u p
+    else if comes_next u p then record u { left = 0 }
+    else u
+
+-- a place after a fragment
+abbrev pub taken : Unfinished → Piece → Unfinished
+taken u p = continued (begun u p) p
 
 -- the number of the last fragment that is joined, if the sender wants to know it
 abbrev pub acknowledged : Unfinished → Piece → Option ℕ
@@ -186,7 +199,7 @@ fack_of u p = option_map (fack_bytes p) (acknowledged (continued u p) p)
 -- What becomes of a fragment: it completes its call, waits for the next one, or is dropped.
 abbrev pub outcome_by : Unfinished → Piece → Outcome
 outcome_by u p =
-    if completes u p then Joined (whole_bytes u.head (u.octets ++ p.octets))
+    if completes u p then Joined (whole_with u p)
     else if is_next u p then Waits (fack_of u p)
     else Drops (fack_of u p)
 
@@ -199,6 +212,10 @@ place_in state p = place_of p.head state.ages state.calls
 -- What a fragment finds at its place.
 abbrev pub at_place : State → Piece → Unfinished
 at_place state p = get_or state.calls (place_in state p) blank
+
+-- The octets of the whole in a place.
+abbrev pub whole_at : ℕ → State → List ℕ
+whole_at place state = (get_or state.calls place blank).whole
 
 -- The ages after a fragment.
 abbrev pub ages_after : State → Piece → List ℕ

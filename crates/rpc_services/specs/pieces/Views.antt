@@ -5,15 +5,15 @@ use Rattle.rpc_services.specs.declared.pieces.piece.Piece.{Piece as Fragment}
 use Rattle.rpc_services.specs.declared.pieces.joiner.Heard.{Heard}
 use Rattle.rpc_services.specs.declared.pieces.joiner.Heard.TheVariants as heard
 use Rattle.rpc_services.specs.pieces.Piece.{Piece}
-use Rattle.rpc_services.specs.pieces.State.{Outcome, Nothing, Drops, Waits, Joined}
+use Rattle.rpc_services.specs.pieces.State.{Outcome, Nothing, Drops, Waits, Joined, State, whole_at}
 
 -- what a fragment is
 abbrev pub piece_as : Fragment → Piece
 piece_as piece = record { head = piece.head; serial = piece.serial; octets = piece.octets.now }
 
--- what the body of a datagram did, with the octets that were written
-abbrev pub heard_in : Heard → List ℕ → Outcome
-heard_in heard.Nothing whole = Nothing
-heard_in (heard.Dropped fack) whole = Drops (frame_in fack)
-heard_in (heard.Waits fack) whole = Waits (frame_in fack)
-heard_in heard.Joined whole = Joined whole
+-- what the body of a datagram did, of which this is the state afterwards
+abbrev pub heard_in : Heard → State → Outcome
+heard_in heard.Nothing state = Nothing
+heard_in (heard.Dropped fack) state = Drops (frame_in fack)
+heard_in (heard.Waits fack) state = Waits (frame_in fack)
+heard_in (heard.Joined place) state = Joined (whole_at place state)

@@ -1,23 +1,19 @@
 //! The joiner.
-ghost use Rattle.std.specs.Prelude.{◌≡◌, ◌<◌, ◌≤◌, ℕ, List, length, map, Some, if◌then◌else◌};
+ghost use Rattle.std.specs.Prelude.{◌≡◌, ◌<◌, ◌≤◌, ℕ, length, map, Some, if◌then◌else◌};
 ghost use Rattle.std.specs.List.{All};
 ghost use Rattle.std.specs.Option.{option_map};
 ghost use Rattle.services.specs.Answer.{frame_in};
-ghost use Rattle.rpc_services.specs.pieces.State.{Drops, Waits, acknowledged, after_piece, begun, begun_at, fack_bytes, heard, heard_as, older_than as older_by, oldest as oldest_by, outcome_by, outcome_of, place_of as place_by, started, taken, turn_of as turn_by};
+ghost use Rattle.rpc_services.specs.pieces.State.{Drops, State, Waits, acknowledged, after_piece, begun, begun_at, fack_bytes, heard, heard_as, older_than as older_by, oldest as oldest_by, outcome_by, outcome_of, place_of as place_by, started, taken, turn_of as turn_by, whole_at};
 ghost use Rattle.rpc_services.specs.pieces.Views.{heard_in, piece_as};
 
 use crate::pieces::acknowledgement::{Acknowledgement, acknowledgement};
 use crate::pieces::piece::{Kind, Piece};
 use crate::pieces::unfinished::{LIFETIME, Unfinished};
-use arrayvec::ArrayVec;
 use rpc_core::Head;
 use std::marker::Model;
 
 /// The longest body of a call or of an answer that is joined: five words, a header of 64 octets, and a record of 4,068 octets.
 pub const LONGEST: usize = 4152;
-
-/// A call or an answer in one piece: its header and its body.
-pub type WholeCall = ArrayVec<u8, 4232>;
 
 /// What the body of a datagram did.
 #[derive(Drop)]
@@ -29,8 +25,9 @@ pub enum Heard {
     Dropped(Option<Acknowledgement>),
     /// It is a fragment that is joined, and others are missing. The sender may want an acknowledgement.
     Waits(Option<Acknowledgement>),
-    /// It completes a call or an answer. The answer to a call acknowledges it.
-    Joined,
+    /// It completes a call or an answer, which is in this place of the joiner until another one begins there or something else is joined
+    /// there. The answer to a call acknowledges it.
+    Joined(usize),
 }
 
 /// The calls or answers of which fragments came: at most four, each of its own activity. A finished call stays in its place, for a
@@ -161,46 +158,57 @@ impl Joiner {
         }
     }
 
-    /// Handles the body of a datagram. A whole that it completes is written into `whole`, in place of what was there.
+    /// Handles the body of a datagram.
     #[tactic(auto, unfolding(crate::specs::pieces::State::heard, crate::specs::pieces::State::heard_as))]
-    pub fn hear(&mut self, bytes: &[u8], whole: &mut WholeCall) -> Heard
+    pub fn hear(&mut self, bytes: &[u8]) -> Heard
         // The state follows from the machine.
         ensures state { self.new ≡ heard self.old bytes.now }
         // What it did, the octets of the acknowledgement and of the whole are those of the machine.
-        ensures outcome { heard_in result whole.new.items ≡ heard_as self.old bytes.now }
+        ensures outcome { heard_in result self.new ≡ heard_as self.old bytes.now }
     {
         match self.kind.read(bytes) {
-            Some(piece) => self.join(&piece, whole),
+            Some(piece) => self.join(&piece),
             None => Heard::Nothing,
         }
     }
 
+    /// The octets of the call or the answer that was completed in this place last: its header and its body.
+    pub fn whole(&self, place: usize) -> &[u8]
+        ensures { result.now ≡ whole_at place self.now }
+    {
+        if place < self.calls.len() {
+            return self.calls[place].whole();
+        }
+        &[]
+    }
+
     /// Handles a fragment.
-    fn join(&mut self, piece: &Piece<'_>, whole: &mut WholeCall) -> Heard
+    fn join(&mut self, piece: &Piece<'_>) -> Heard
         requires some { 1 ≤ length piece.now.octets.now }
         ensures state { self.new ≡ after_piece self.old (Some (piece_as piece.now)) }
-        ensures outcome { heard_in result whole.new.items ≡ outcome_of self.old (Some (piece_as piece.now)) }
+        ensures outcome { heard_in result self.new ≡ outcome_of self.old (Some (piece_as piece.now)) }
     {
         self.busy = LIFETIME;
         let place = place_of(&self.calls, &self.ages, &piece.head);
         let begins = self.calls[place].is_begun_by(piece);
         begin_at(&mut self.ages, place, begins);
-        take(&mut self.calls[place], piece, whole)
+        take(&mut self.calls[place], piece, place)
     }
 }
 
 /// Handles a fragment in its place.
-fn take(call: &mut Unfinished, piece: &Piece<'_>, whole: &mut WholeCall) -> Heard
+fn take(call: &mut Unfinished, piece: &Piece<'_>, place: usize) -> Heard
     requires some { 1 ≤ length piece.now.octets.now }
     ensures state { call.new ≡ taken call.old (piece_as piece.now) }
-    ensures outcome { heard_in result whole.new.items ≡ outcome_by (begun call.old (piece_as piece.now)) (piece_as piece.now) }
+    ensures outcome { (state : State) → whole_at place state ≡ call.new.whole →
+        heard_in result state ≡ outcome_by (begun call.old (piece_as piece.now)) (piece_as piece.now) }
     // It is dropped as soon as before, or as a call that begins.
     ensures young { call.old.left ≤ 64000 → call.new.left ≤ 64000 }
 {
     call.begin(piece);
     if call.is_completed_by(piece) {
-        call.complete(piece, whole);
-        return Heard::Joined;
+        call.complete(piece);
+        return Heard::Joined(place);
     }
     let joins = call.is_next(piece);
     call.go_on(piece);
@@ -219,7 +227,7 @@ fn fack_of(call: &Unfinished, piece: &Piece<'_>) -> Option<Acknowledgement>
 
 /// What a fragment did that completes no call.
 fn heard_of(joins: bool, fack: Option<Acknowledgement>) -> Heard
-    ensures { (whole : List ℕ) → heard_in result whole ≡ (if joins then Waits (frame_in fack) else Drops (frame_in fack)) }
+    ensures { (state : State) → heard_in result state ≡ (if joins then Waits (frame_in fack) else Drops (frame_in fack)) }
 {
     if joins {
         Heard::Waits(fack)

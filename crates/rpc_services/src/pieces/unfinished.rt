@@ -1,9 +1,11 @@
 //! Calls and answers of which fragments are missing.
-ghost use Rattle.std.specs.Prelude.{◌≡◌, ◌+◌, ◌≤◌, ◌++◌, length, false, true};
-ghost use Rattle.rpc_services.specs.pieces.State.{acknowledged as acknowledged_by, begun, blank, comes_next as comes_next_by, completes as completes_by, continued, holds as holds_by, is_next as is_next_by, is_of as is_of_by, is_unfinished as is_unfinished_by, older, starts, whole_bytes, whole_head};
+ghost use Rattle.std.specs.Prelude.{◌≡◌, ◌+◌, ◌<◌, ◌≤◌, ◌++◌, [], drop, length, nat_le, take, false, true};
+ghost use Rattle.arrayvec.specs.ArrayVec.{array_vec_len};
+ghost use Rattle.rpc_core.specs.call_headers.Call.{head as format};
+ghost use Rattle.rpc_services.specs.pieces.State.{acknowledged as acknowledged_by, begun, blank, comes_next as comes_next_by, completes as completes_by, continued, holds as holds_by, is_next as is_next_by, is_of as is_of_by, is_unfinished as is_unfinished_by, longest, older, starts, whole_head};
 ghost use Rattle.rpc_services.specs.pieces.Views.{piece_as};
 
-use crate::pieces::joiner::{LONGEST, WholeCall};
+use crate::pieces::joiner::LONGEST;
 use crate::pieces::piece::{Piece, is_activity, is_same};
 use arrayvec::ArrayVec;
 use rpc_core::{Extent, Head, Names, Opening, Turn, put_head};
@@ -18,22 +20,34 @@ pub(crate) const LIFETIME: u32 = 64_000;
 pub(crate) struct Unfinished {
     head: Head,
     left: u32,
+    // The room of a whole: 80 octets for its header, which is written once it is complete, what is joined, and the last fragment.
     // What follows this room is short, so that a place with nothing is made without a copy of the room, which is not written then. With `left` after
     // it, a station that starts took 17,000 octets of stack more.
-    octets: ArrayVec<u8, 4152>,
+    octets: ArrayVec<u8, 4232>,
+    // How many octets are joined.
+    joined: u16,
     next: u16,
     is_whole: bool,
+    // Whether the room has a whole.
+    has_whole: bool,
 }
 
 impl Model for Unfinished {
-    ghost use Rattle.std.specs.Prelude.{◌≤◌, length};
+    ghost use Rattle.std.specs.Prelude.{◌+◌, ◌<◌, ◌≤◌, [], drop, length, take, if◌then◌else◌};
     ghost use Rattle.rpc_services.specs.pieces.State.{Unfinished as Missing};
 
     ghost Value = { Missing };
 
-    ghost view = { λ u. record { head = u.head; octets = u.octets.items; next = u.next; is_whole = u.is_whole; left = u.left } };
+    ghost view = { λ u. record {
+      head = u.head;
+      octets = take u.joined (drop 80 u.octets.items);
+      next = u.next;
+      is_whole = u.is_whole;
+      left = u.left;
+      whole = if u.has_whole then u.octets.items else [];
+    } };
 
-    ghost invariant = { λ u. (u.next ≤ length u.octets.items) × (length u.octets.items ≤ 4152) };
+    ghost invariant = { λ u. (u.next ≤ u.joined) × (u.joined ≤ 4152) × (0 < u.left → 80 + u.joined ≤ length u.octets.items) };
 }
 
 /// The header of a whole of this length.
@@ -83,8 +97,10 @@ impl Unfinished {
                 },
             },
             octets: ArrayVec::new(),
+            joined: 0,
             next: 0,
             is_whole: false,
+            has_whole: false,
             left: 0,
         }
     }
@@ -131,8 +147,11 @@ impl Unfinished {
         if self.is_begun_by(piece) {
             self.head = piece.head;
             self.octets.clear();
+            put_head(&mut self.octets, &piece.head);
+            self.joined = 0;
             self.next = 0;
             self.is_whole = false;
+            self.has_whole = false;
             self.left = LIFETIME;
         }
     }
@@ -148,9 +167,18 @@ impl Unfinished {
     pub(crate) fn is_next(&self, piece: &Piece<'_>) -> bool
         ensures { result ≡ is_next_by self.now (piece_as piece.now) }
     {
-        self.holds(&piece.head)
-            && piece.head.extent.fragment == self.next
-            && self.octets.len() + piece.octets.len() <= LONGEST
+        if self.comes_next(piece) {
+            return self.fits(piece);
+        }
+        false
+    }
+
+    /// Whether there is room for this fragment in the place of a call.
+    fn fits(&self, piece: &Piece<'_>) -> bool
+        requires { 0 < self.now.left }
+        ensures { result ≡ nat_le (length self.now.octets + length piece.now.octets.now) longest }
+    {
+        self.joined as usize + piece.octets.len() <= LONGEST
     }
 
     /// Whether this fragment completes the call.
@@ -167,33 +195,35 @@ impl Unfinished {
         ensures { self.new ≡ continued self.old (piece_as piece.now) }
     {
         if self.is_next(piece) {
-            append(&mut self.octets, piece.octets);
+            join(&mut self.octets, self.joined, piece.octets);
+            self.joined += piece.octets.len() as u16;
             self.next += 1;
+            self.has_whole = false;
         } else if self.comes_next(piece) {
             self.left = 0;
         }
     }
 
-    /// Finishes the call with its last fragment, and writes it.
-    pub(crate) fn complete(&mut self, piece: &Piece<'_>, whole: &mut WholeCall)
+    /// Finishes the call with its last fragment: the room has the whole then.
+    pub(crate) fn complete(&mut self, piece: &Piece<'_>)
         requires { completes_by self.old (piece_as piece.now) ≡ true }
-        ensures state { self.new ≡ continued self.old (piece_as piece.now) }
-        ensures whole { whole.new.items ≡ whole_bytes self.old.head (self.old.octets ++ piece.now.octets.now) }
+        ensures { self.new ≡ continued self.old (piece_as piece.now) }
     {
-        self.put_whole(piece, whole);
+        let length = self.joined + piece.octets.len() as u16;
+        join(&mut self.octets, self.joined, piece.octets);
+        begin_with(&mut self.octets, &whole_head(&self.head, length));
         self.is_whole = true;
+        self.has_whole = true;
     }
 
-    /// Writes the call that this fragment completes.
-    fn put_whole(&self, piece: &Piece<'_>, whole: &mut WholeCall)
-        requires { length self.now.octets + length piece.now.octets.now ≤ 4152 }
-        ensures { whole.new.items ≡ whole_bytes self.now.head (self.now.octets ++ piece.now.octets.now) }
+    /// The octets of the whole that was completed here last.
+    pub(crate) fn whole(&self) -> &[u8]
+        ensures { result.now ≡ self.now.whole }
     {
-        let length = (self.octets.len() + piece.octets.len()) as u16;
-        whole.clear();
-        put_head(whole, &whole_head(&self.head, length));
-        append(whole, self.octets.as_slice());
-        append(whole, piece.octets);
+        if self.has_whole {
+            return self.octets.as_slice();
+        }
+        &[]
     }
 
     /// The number of the last fragment that is joined, if the sender wants to know it.
@@ -213,4 +243,33 @@ impl Unfinished {
     {
         self.left = self.left.saturating_sub(ticks);
     }
+}
+
+/// Joins octets to the first ones after the room of a header, of which there are that many, in place of what follows these.
+fn join(octets: &mut ArrayVec<u8, 4232>, joined: u16, more: &[u8])
+    requires there { 80 + joined ≤ length octets.old.items }
+    requires few { joined + length more.now ≤ 4152 }
+    ensures { octets.new.items ≡ take (80 + joined) octets.old.items ++ more.now }
+{
+    octets.truncate(80 + joined as usize);
+    append(octets, more);
+}
+
+/// Writes a header over the first octets, which are its room.
+fn begin_with(octets: &mut ArrayVec<u8, 4232>, head: &Head)
+    requires { 80 ≤ length octets.old.items }
+    ensures value { octets.new.items ≡ format.write head.now [] ++ drop 80 octets.old.items }
+    ensures len { length (format.write head.now []) ≡ 80 }
+{
+    let mut front: ArrayVec<u8, 80> = ArrayVec::new();
+    put_head(&mut front, head);
+    put_first(octets.as_mut_slice(), front.as_slice());
+}
+
+/// Writes octets over the first ones.
+fn put_first(octets: &mut [u8], first: &[u8])
+    requires { length first.now ≤ length octets.old }
+    ensures { octets.new ≡ first.now ++ drop (length first.now) octets.old }
+{
+    octets[..first.len()].copy_from_slice(first);
 }

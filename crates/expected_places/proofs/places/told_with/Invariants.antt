@@ -1,4 +1,4 @@
--- The places so far are not reported with this number.
+-- The places so far are not told with this number.
 use Rattle.std.proofs.Common.{◌≡◌, drop}
 use Rattle.expected_places.specs.Places.{first_told}
 use Rattle.expected_places.proofs.places.told_with.Given as goal

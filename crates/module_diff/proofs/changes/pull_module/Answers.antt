@@ -1,4 +1,4 @@
--- The module at the index of the slot is removed.
+-- The module at the index of the slot is taken out.
 use Rattle.std.proofs.Common.{◌≡◌, ℕ, List, ◌∙◌, ap, subst}
 use Rattle.std.specs.Prelude.{OnSome, remove, slice_get}
 use Rattle.std.specs.List.{position_or_len}

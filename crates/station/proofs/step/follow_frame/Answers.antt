@@ -5,9 +5,9 @@ use Rattle.device_frames.specs.declared.event.Event.{Event}
 use Rattle.device_frames.specs.declared.event.Event.TheVariants.{Frame}
 use Rattle.station.specs.Serving.{observed}
 use Rattle.station.specs.Beside.{joined_from}
-use Rattle.station.specs.Views.{joined_in, note_in}
+use Rattle.station.specs.Views.{event_in, joined_in, note_in}
 use Rattle.station.proofs.Sparing.{heard_few, joined_alone}
-use Rattle.station.proofs.Stepping.{idle_silent, joined_there, none_lost, observed_beside}
+use Rattle.station.proofs.Stepping.{idle_silent, joined_observed, joined_there, none_lost, observed_beside}
 use Rattle.station.proofs.step.follow_frame.Goals as goal
 
 pub returns-then-is_lost-clause-beside : goal.returns-then-is_lost-clause-beside
@@ -33,7 +33,9 @@ pub returns-clause-call : goal.returns-clause-call
 returns-clause-call g c =
     let device = c.args.device.now in
     let event : Event = Frame (record { items = c.args.octets.now }) in
-    joined_there c.args.services.now device.live.values c.args.note event _ (sym c.is_lost.ensures ∙ c.if-is_lost.false) c.attend_frame-attended.ensures.call
+    joined_there c.args.services.now device.live.values c.args.note event _ (sym c.is_lost.ensures ∙ c.if-is_lost.false)
+    (ap (joined_in c.attend_frame-attended.result) c.observe.ensures
+    ∙ (joined_observed c.attend_frame-attended.result c.attend_frame-attended.new.self c.running.result.now ∙ c.attend_frame-attended.ensures.call))
 
 pub returns-then-is_lost-clause-few : goal.returns-then-is_lost-clause-few
 returns-then-is_lost-clause-few g c =
@@ -41,7 +43,7 @@ returns-then-is_lost-clause-few g c =
     subst (λ (f : List (List ℕ)). length f ≤ 1) (sym none) (omega arith)
 
 pub returns-then-is_lost-clause-alone : goal.returns-then-is_lost-clause-alone
-returns-then-is_lost-clause-alone g c = λ is. ap (λ (xs : List (ArrayVec ℕ)). map (λ (f : ArrayVec ℕ). f.items) xs) c.clear.ensures
+returns-then-is_lost-clause-alone g c = λ call is. ap (λ (xs : List (ArrayVec ℕ)). map (λ (f : ArrayVec ℕ). f.items) xs) c.clear.ensures
 
 pub returns-clause-few : goal.returns-clause-few
 returns-clause-few g c =
@@ -49,8 +51,8 @@ returns-clause-few g c =
     (heard_few c.identity.result.now c.args.services.now c.args.note c.args.octets.now)
 
 pub returns-clause-alone : goal.returns-clause-alone
-returns-clause-alone g c = λ is.
-    let call = c.attend_frame-attended.new.call in
+returns-clause-alone g c = λ call is.
+    let after = c.attend_frame-attended.new.self in
     c.attend_frame-attended.ensures.frames
-    ∙ joined_alone c.identity.result.now c.args.services.now c.args.note c.args.octets.now call
-    (subst (λ a. joined_in a call ≡ joined_from c.args.services.now c.args.note c.args.octets.now) is c.attend_frame-attended.ensures.call)
+    ∙ joined_alone c.identity.result.now c.args.services.now c.args.note c.args.octets.now (event_in after call)
+    (subst (λ a. joined_in a after ≡ joined_from c.args.services.now c.args.note c.args.octets.now) is c.attend_frame-attended.ensures.call)

@@ -8,4 +8,4 @@ use Rattle.station.proofs.step.give.Goals as goal
 pub returns : goal.returns
 returns g c =
     subst (λ (event : Event). DeviceSteps g.F.Flash c.args.device.now event (boxed c.step_device.new.outbox) c.step_device.result c.step_device.new.device)
-    c.event.ensures c.step_device.ensures
+    c.event_of.ensures c.step_device.ensures

@@ -3,9 +3,9 @@ use Rattle.std.proofs.Common.{◌≡◌, ℕ, List, [], map, sym, ap, ◌∙◌}
 use Rattle.arrayvec.specs.ArrayVec.{ArrayVec}
 use Rattle.frame_codec.specs.Outbox.{boxed}
 use Rattle.station.specs.Serving.{observed}
-use Rattle.station.specs.Views.{note_in}
+use Rattle.station.specs.Views.{joined_in, note_in}
 use Rattle.station.proofs.Answered.{undisputed}
-use Rattle.station.proofs.Stepping.{idle_silent, joined_there, none_lost, observed_beside}
+use Rattle.station.proofs.Stepping.{idle_silent, joined_observed, joined_there, none_lost, observed_beside}
 use Rattle.station.proofs.step.step_both.Goals as goal
 
 pub attend-attended-requires-clause-known : goal.attend-attended-requires-clause-known
@@ -32,4 +32,5 @@ returns-clause-beside g c =
 
 pub returns-clause-call : goal.returns-clause-call
 returns-clause-call g c =
-    joined_there c.args.services.now c.step_device-note.new.device.live.values c.step_device-note.result c.args.event.now _ (sym c.is_lost.ensures ∙ c.if-is_lost.false) c.attend-attended.ensures.call
+    joined_there c.args.services.now c.step_device-note.new.device.live.values c.step_device-note.result c.args.event.now _ (sym c.is_lost.ensures ∙ c.if-is_lost.false)
+    (ap (joined_in c.attend-attended.result) c.observe.ensures ∙ (joined_observed c.attend-attended.result c.attend-attended.new.self c.running.result.now ∙ c.attend-attended.ensures.call))

@@ -1,5 +1,6 @@
 -- The device's step, what the services do beside it, and the step of a call that was completed.
 use Rattle.device_frames.specs.declared.note.Note.TheVariants.{Done}
+use Rattle.station.specs.Views.{event_in}
 use Rattle.station.proofs.Stepping.{call_given, none_given, station_steps}
 use Rattle.station.proofs.step.step_told.Goals as goal
 
@@ -17,4 +18,4 @@ returns-in-Joined g c =
     let beside = rw c.in-Joined.is at both.ensures.beside in
     let call = rw c.in-Joined.is at both.ensures.call in
     station_steps g.F.Flash c.args.device.now both.new.device c.give.new.device c.args.event.now _ _ _ both.result.0 Done c.args.services.now both.new.services both.ensures.alone beside
-    (call_given g.F.Flash c.args.device.now both.new.device c.give.new.device c.args.event.now both.new.call _ _ both.result.0 c.give.result c.args.services.now both.ensures.alone call c.give.ensures)
+    (call_given g.F.Flash c.args.device.now both.new.device c.give.new.device c.args.event.now (event_in both.new.services c.in-Joined.call) _ _ both.result.0 c.give.result c.args.services.now both.ensures.alone call c.give.ensures)

@@ -7,7 +7,7 @@ use Rattle.device_frames.specs.declared.event.Event.TheVariants.{Frame}
 use Rattle.device_frames.specs.declared.note.Note.{Note}
 use Rattle.station.specs.Beside.{Beside, beside, has_any, is_dropped, joined_beside}
 use Rattle.station.specs.Serving.{Serving, completed, piece_in}
-use Rattle.station.specs.Views.{joined_in}
+use Rattle.station.specs.Views.{event_in, joined_in}
 use Rattle.device_abi.specs.port.State.{State, barred}
 use Rattle.device_abi.specs.port.ServedSteps.{GivesPort}
 use Rattle.device_abi.proofs.PortOwn.{no_some, undropped}
@@ -24,7 +24,7 @@ pub returns-then-has_frames-clause-beside : goal.returns-then-has_frames-clause-
 returns-then-has_frames-clause-beside c =
     let event : Event = Frame (record { items = c.args.octets.now }) in
     let state = c.args.services.now in
-    ap (λ (f : List (List ℕ)). made c.follow_answered.new.services f c.follow_answered.result) c.clear.ensures.frames
+    ap (λ (f : List (List ℕ)). made c.follow_answered.new.services f c.follow_answered.result) c.clear.ensures
     ∙ (c.follow_answered.ensures.beside ∙ ap (λ (d : device.State (RecordedFlash 4096)). beside d.station.identity state d.live.values c.args.note event) c.device.ensures)
 
 pub returns-then-has_frames-clause-gives : goal.returns-then-has_frames-clause-gives
@@ -43,13 +43,13 @@ attend-attended-requires-clause-known c = λ kept.
 
 pub give-requires : goal.give-requires
 give-requires c =
-    λ is.
+    λ call is.
     let state = c.args.services.now in
     let values = c.args.port.now.device.live.values in
-    let call = c.attend-attended.new.own.call in
-    let joined = subst (λ a. joined_in a call ≡ joined_beside state values c.args.note (Frame (record { items = c.args.octets.now }))) is c.attend-attended.ensures.call in
+    let after = c.attend-attended.new.services in
+    let joined = subst (λ a. joined_in a after ≡ joined_beside state values c.args.note (Frame (record { items = c.args.octets.now }))) is c.attend-attended.ensures.call in
     subst (λ (p : State). barred p ≡ None) (sym c.attend-attended.ensures.same)
-    (c.requires.dropped (joined_dropped values.is_lost (is_dropped c.args.note) (completed (piece_in state c.args.octets.now)) call joined))
+    (c.requires.dropped (joined_dropped values.is_lost (is_dropped c.args.note) (completed (piece_in state c.args.octets.now)) (event_in after call) joined))
 
 pub returns-clause-beside : goal.returns-clause-beside
 returns-clause-beside c =
@@ -58,5 +58,5 @@ returns-clause-beside c =
 pub returns-clause-gives : goal.returns-clause-gives
 returns-clause-gives c =
     let attended = c.attend-attended.result in
-    let given = subst (λ (p : State). GivesPort (joined_in attended c.call.result.now) p c.give.new.port) c.attend-attended.ensures.same c.give.ensures.gives in
-    subst (λ (o : Option Event). GivesPort o c.args.port.now c.give.new.port) (ap (joined_in attended) c.call.ensures ∙ c.attend-attended.ensures.call) given
+    let given = subst (λ (p : State). GivesPort (joined_in attended c.attend-attended.new.services) p c.give.new.port) c.attend-attended.ensures.same c.give.ensures.gives in
+    subst (λ (o : Option Event). GivesPort o c.args.port.now c.give.new.port) c.attend-attended.ensures.call given

@@ -6,4 +6,4 @@ use Rattle.device_abi.proofs.port.beside.give.Goals as goal
 
 pub returns-in-Joined-clause-gives : goal.returns-in-Joined-clause-gives
 returns-in-Joined-clause-gives c =
-    rw c.in-Joined.is (c.requires c.in-Joined.is, c.take.result, subst (λ (e : Event). Takes c.args.port.now e c.take.result c.take.new.self) c.event.ensures c.take.ensures)
+    rw c.in-Joined.is (c.requires c.in-Joined.call c.in-Joined.is, c.take.result, subst (λ (e : Event). Takes c.args.port.now e c.take.result c.take.new.self) c.event_of.ensures c.take.ensures)

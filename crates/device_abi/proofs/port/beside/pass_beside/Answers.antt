@@ -75,7 +75,7 @@ returns-clause-beside c =
     let new = c.pass_alone-passed.new.port in
     let units = c.pass_alone-passed.result in
     let after = c.follow_quiet_units.new.services in
-    quiet_beside units new.device.station.identity new.device.live.values state after c.clear.new.self.frames c.pass_alone-passed.ensures.some c.clear.ensures.frames
+    quiet_beside units new.device.station.identity new.device.live.values state after c.clear.new.self.frames c.pass_alone-passed.ensures.some c.clear.ensures
     (c.follow_quiet_units.ensures.state ∙ ap (λ (d : device.State (RecordedFlash 4096)). beside_ticks d.station.identity d.live.values units state) c.device.ensures)
     (subst (λ (d : device.State (RecordedFlash 4096)). NoneSendsBeside units d.station.identity d.live.values state) c.device.ensures c.follow_quiet_units.ensures.none)
     (subst (λ (d : device.State (RecordedFlash 4096)). NoNewsBeside units d.station.identity d.live.values state) c.device.ensures c.follow_quiet_units.ensures.quiet)

@@ -1,3 +1,0 @@
-pub mod Valid
-pub mod Later
-pub mod Runs

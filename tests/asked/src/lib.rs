@@ -1,8 +1,0 @@
-//! Tests of the records that the application answers. The expected octets were written by hand from the standard's tables.
-#![cfg(test)]
-
-mod answers;
-mod judging;
-mod machine;
-mod names;
-mod samples;
