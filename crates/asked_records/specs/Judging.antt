@@ -34,13 +34,13 @@ asked_read real names request = read_found real request (asked_name real names r
 -- A Write of a record of the application: its place, that it is writable, that its octets are there, and that they are not more
 -- than the greatest length.
 abbrev pub write_found : Real → IodWriteReq → List ℕ → Option RecordName → Result (Option RecordName) CallFault
-write_found real request behind None = Ok None
-write_found real request behind (Some name) = asked_place real request.header >>= λ _. handled
+write_found real request octets None = Ok None
+write_found real request octets (Some name) = asked_place real request.header >>= λ _. handled
     ((not name.is_writable, fault.Access)
-    ∷ (nat_lt (length behind) request.header.record_data_length || nat_lt name.greatest_length request.header.record_data_length, fault.WriteLength)
+    ∷ (nat_lt (length octets) request.header.record_data_length || nat_lt name.greatest_length request.header.record_data_length, fault.WriteLength)
     ∷ [])
     (Ok (Some name))
 
 -- What a Write asks of the application: None if it is of a record of the device.
 unfoldable pub asked_write : Real → List RecordName → IodWriteReq → List ℕ → Result (Option RecordName) CallFault
-asked_write real names request behind = write_found real request behind (asked_name real names request.header)
+asked_write real names request octets = write_found real request octets (asked_name real names request.header)

@@ -44,7 +44,7 @@ pub fn judge_asked_read(
     Ok(Some(name))
 }
 
-/// The record that a Write asks of the application, or why it is refused; `None` if it is a record of the device. `behind` is
+/// The record that a Write asks of the application, or why it is refused; `None` if it is a record of the device. `octets` is
 /// the octets after the header of the request. The first fault in the order of the checks is reported. The Write names its
 /// relation already.
 #[tactic(auto, unfolding(crate::specs::Judging::asked_write))]
@@ -52,12 +52,12 @@ pub fn judge_asked_write(
     named: &NamedRecords,
     real: &Real,
     request: &IodWriteReq,
-    behind: &[u8],
+    octets: &[u8],
 ) -> Result<Option<RecordName>, CallFault>
-    ensures value { result ≡ asked_write real.now named.now request.now behind.now }
+    ensures value { result ≡ asked_write real.now named.now request.now octets.now }
     ensures valid { IfOk result (λ found. IfSome found IsName) }
     // All octets that it counts are there, and the record has room for them.
-    ensures whole { IfOk result (λ found. IfSome found (λ name. (request.now.header.record_data_length ≤ length behind.now)
+    ensures whole { IfOk result (λ found. IfSome found (λ name. (request.now.header.record_data_length ≤ length octets.now)
         × (request.now.header.record_data_length ≤ name.greatest_length))) }
 {
     let header = &request.header;
@@ -69,7 +69,7 @@ pub fn judge_asked_write(
         return Err(CallFault::Access);
     }
     let size = header.record_data_length as usize;
-    if size > behind.len() || size > usize::from(name.greatest_length) {
+    if size > octets.len() || size > usize::from(name.greatest_length) {
         return Err(CallFault::WriteLength);
     }
     Ok(Some(name))

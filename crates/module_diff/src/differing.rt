@@ -63,7 +63,7 @@ fn fill_rows(
 /// Splits off the first `count` submodules, or all if there are fewer. Returns them and the rest.
 pub fn split_own<T>(submodules: &[T], count: u16) -> (&[T], &[T])
     ensures own { result.0.now ≡ take count submodules.now }
-    ensures behind { result.1.now ≡ drop count submodules.now }
+    ensures rest { result.1.now ≡ drop count submodules.now }
     ensures sizes { length result.0.now + length result.1.now ≡ length submodules.now }
 {
     submodules.split_at(submodules.len().min(count as usize))

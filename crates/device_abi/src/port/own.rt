@@ -82,7 +82,7 @@ impl OwnFrames {
         self.count = 0;
     }
 
-    // Keeps these frames in place of what was there. If there are none, a call stays.
+    // Keeps these frames; a call that was kept there is lost. Without frames a call stays.
     fn keep(&mut self, frames: &[Frame])
         requires few { length frames.now ≤ 2 }
         ensures frames { self.new.frames ≡ map (λ frame. frame.items) frames.now }
