@@ -37,14 +37,14 @@ extern "C" {
 #endif
 
 /* Octets of the room of a device; its address is a multiple of 16. */
-#define PN_DEVICE_SIZE 73728u
+#define PN_DEVICE_SIZE 75776u
 /* Octets of each of the two flash sectors. An erased sector is all ones; a program call turns ones to zeros. */
 #define PN_SECTOR_SIZE 4096u
 /* The longest sent frame, without its check sequence. A received frame may be longer; it is refused. */
 #define PN_FRAME_SIZE 1518u
 /* The maximum number of octets of one operation, and the octets of an operation up to and with these: the library uses no others. */
 #define PN_OP_SIZE 1520u
-#define PN_OP_LENGTH 1668u
+#define PN_OP_LENGTH 1672u
 /* A unit of time, in nanoseconds: 32 of them are a millisecond. */
 #define PN_UNIT_NS 31250u
 /* How many units a host may be late and still catch up. After a longer stall, drop the units beyond this; otherwise repeats and error
@@ -55,6 +55,7 @@ extern "C" {
 #define PN_MODULES 16u
 #define PN_SUBMODULES 4u
 #define PN_PARAMETERS 2u
+#define PN_PLACES 64u /* submodules that a Connect expects, at most */
 
 /* The result of an event that was accepted (pn_op.note). None of them is a fault of the host. Only a frame has another one than PN_DONE: what
  * the application says is done, or PN_REFUSED is returned. */
@@ -81,9 +82,15 @@ enum pn_reason {
     PN_WHY_EXISTS = 8,        /* pn_diagnosis, one that appears: it exists already */
     PN_WHY_ABSENT = 9,        /* pn_diagnosis, one that disappears: it does not exist */
     PN_WHY_FULL = 10,         /* pn_diagnosis, one that appears: 32 exist */
-    PN_WHY_CHANGES_WAIT = 11, /* pn_diagnosis: 32 changes wait for their alarms */
-    PN_WHY_TOO_EARLY = 12,    /* pn_ready: PrmEnd was not accepted yet */
-    PN_WHY_TOO_LATE = 13      /* pn_ready: ApplicationReady was sent; so always after PrmEnd without `ready_by_application` */
+    PN_WHY_CHANGES_WAIT = 11, /* pn_diagnosis, pn_pull, pn_pull_module, pn_plug: 32 changes wait for their alarms */
+    PN_WHY_TOO_EARLY = 12,    /* pn_ready: PrmEnd was not accepted yet; pn_ready_at: that of the plug was not */
+    PN_WHY_TOO_LATE = 13,     /* pn_ready, pn_ready_at: ApplicationReady was sent; so always after PrmEnd without `ready_by_application` */
+    PN_WHY_ACCESS_POINT = 14, /* pn_pull, pn_pull_module, pn_plug: slot 0, the access point, stays as it is */
+    PN_WHY_OTHER_MODULE = 15, /* pn_plug: a module with another ident number is plugged in this slot */
+    PN_WHY_PLUGGED = 16,      /* pn_plug: a submodule is plugged there already */
+    PN_WHY_NO_ROOM = 17,      /* pn_plug: four submodules are plugged in this module */
+    PN_WHY_BAD_SUBMODULE = 18, /* pn_plug: a number is not in its range */
+    PN_WHY_NO_PLUG = 19       /* pn_ready_at: the relation knows of no plug there, or its ApplicationReady is answered */
 };
 
 /* The text of a reason, for a message. It is never null, and lasts as long as the program. */
@@ -103,6 +110,14 @@ static inline const char *pn_strreason(uint32_t reason)
     case PN_WHY_CHANGES_WAIT: return "32 changes wait for their alarms";
     case PN_WHY_TOO_EARLY: return "the parameters have not ended";
     case PN_WHY_TOO_LATE: return "ApplicationReady was sent";
+    case PN_WHY_ACCESS_POINT: return "slot 0, the access point, stays as it is";
+    case PN_WHY_OTHER_MODULE: return "another module is plugged in this slot";
+    case PN_WHY_PLUGGED: return "a submodule is plugged there already";
+    case PN_WHY_NO_ROOM: return "four submodules are plugged in this module";
+    case PN_WHY_BAD_SUBMODULE:
+        return "a slot is 1 to 15, a subslot 1 to 36863, an ident number of a module at least 1, data at most 1440 octets, the index of a record at most "
+               "32767 and no other's, and its length 1 to 64";
+    case PN_WHY_NO_PLUG: return "no plug there waits for the application";
     default: return "no reason";
     }
 }
@@ -113,6 +128,17 @@ enum pn_confirmed {
     PN_UNCONFIRMED = 0,  /* nothing: no alarm was open, or it is still open */
     PN_ACKNOWLEDGED = 1, /* the controller acknowledged it (AlarmAck): `status` is 0 if it handled the alarm, and otherwise says why not */
     PN_GIVEN_UP = 2      /* its relation ended first: nobody knows whether the controller handled it */
+};
+
+/* How far a place is: a submodule that the Connect of the relation expects (pn_op.progress). After a pull or a plug there its data is not valid,
+ * in either direction (IOPS and IOCS are bad, pn_output returns zeros), until the controller has confirmed ApplicationReady for the plug. */
+enum pn_progress {
+    PN_PLACE_GOOD = 0,    /* what is expected is plugged, and the relation exchanges its data */
+    PN_PLACE_DIFFERS = 1, /* nothing is plugged there, or something else than is expected */
+    PN_PLACE_PLUGGED = 2, /* what is expected was plugged, and the alarm that reports it waits */
+    PN_PLACE_TOLD = 3,    /* the alarm was sent: the controller writes the parameters */
+    PN_PLACE_ENDED = 4,   /* the controller has ended the parameters: with `ready_by_application`, call pn_ready_at when they are in use */
+    PN_PLACE_REFUSED = 5  /* the controller refused ApplicationReady: only another pull and plug, or another relation, can change this */
 };
 
 /* What the application relation waits for (pn_op.phase). */
@@ -158,7 +184,12 @@ enum pn_what {
     PN_OP_FRAME_AFTER = 24,
     PN_OP_RECEIVED = 25,
     PN_OP_RUN = 26,
-    PN_OP_STOP = 27
+    PN_OP_STOP = 27,
+    PN_OP_PULL = 28,
+    PN_OP_PULL_MODULE = 29,
+    PN_OP_PLUG = 30,
+    PN_OP_READY_AT = 31,
+    PN_OP_EXPECTED = 32
 };
 
 /* A parameter record that a submodule accepts: its index, 0 to 32,767 and no other record's of the submodule, and its exact length, 1 to
@@ -240,6 +271,8 @@ typedef struct pn_station {
  *   pn_diagnosis                  slot, subslot, channel, error, appears  note, work, confirmed (0); with PN_REFUSED only reason
  *   pn_ready                      nothing                                 note, work, confirmed (0); with PN_REFUSED only reason
  *   pn_provider_state             nothing                                 note, work, confirmed (0)
+ *   pn_pull, pn_plug, pn_ready_at  slot, subslot                          note, work, confirmed (0); with PN_REFUSED only reason
+ *   pn_pull_module                slot                                    note, work, confirmed (0); with PN_REFUSED only reason
  *   pn_tell_link                  is_up                                   nothing
  *   pn_next                       nothing                                 work, more, length, data; of a flash call sector and place
  *   pn_carry_out                  work                                    what pn_next sets
@@ -252,6 +285,7 @@ typedef struct pn_station {
  *   pn_left                       nothing                                 commits
  *   pn_conflicts, pn_passed_on    nothing                                 count
  *   pn_taken, pn_passed           number                                  slot, subslot, index, length, octets
+ *   pn_expected                   number                                  slot, subslot, progress
  *   pn_running, pn_stored         nothing                                 length, octets
  *
  * nandutable_controller.h has those of a controller and of a tool. */
@@ -286,6 +320,7 @@ typedef struct pn_op {
     uint32_t structure;      /* UserStructureIdentifier of an alarm; 65,536 if it has none */
     uint32_t sequence;       /* SendSeqNum of an alarm */
     uint32_t confirmed;      /* enum pn_confirmed: what became of the open alarm of a device in an event */
+    uint32_t progress;       /* enum pn_progress: how far a place of the relation is */
     uint32_t port_length;    /* octets of the PortID of a neighbour: at most 255 */
     uint32_t chassis_length; /* octets of the ChassisID of a neighbour: at most 255 */
     uint32_t work;           /* enum pn_work: after an event the next piece of work, after pn_next the one that it handed out */
@@ -419,7 +454,8 @@ static inline uint32_t pn_boot(pn_device *device, pn_op *op, const uint8_t first
  * pn_carry_out, or pn_next while work remains: neither changes `confirmed`. ---
  * They may return PN_NULL, PN_NOT_MADE, PN_NOT_BOOTED, PN_LOST, PN_HAS_WORK, and what each names. After such a number nothing was done:
  * `units` of pn_tick, for one, is still the number that was handed in. A loop must end on it. What the application says (pn_input, pn_alarm,
- * pn_status, pn_diagnosis, pn_ready) may be refused: PN_REFUSED, with `reason`. Then nothing changed, and no work remains. */
+ * pn_status, pn_diagnosis, pn_ready, pn_pull, pn_pull_module, pn_plug, pn_ready_at) may be refused: PN_REFUSED, with `reason`. Then nothing
+ * changed, and no work remains. */
 
 /* Hands in a received frame: its octets from the destination address on, without the check sequence. They are only read during the call.
  * The interface must accept the device's address, the broadcast address, the group address 01-0E-CF-00-00-00, and for LLDP
@@ -454,8 +490,8 @@ static inline uint32_t pn_tick(pn_device *device, pn_op *op, uint32_t units)
 }
 
 /* The application sets the input of a submodule; the cyclic frames contain it from now on. `length` is the length of the submodule's input,
- * 1 to 1,439. After a new Connect inputs are zeros until they are set. May return PN_REFUSED: PN_WHY_NOT_PLUGGED, PN_WHY_BAD_LENGTH,
- * PN_WHY_NO_RELATION, PN_WHY_NO_PLACE. */
+ * 1 to 1,439. After a new Connect inputs are zeros until they are set, and so is that of a submodule after a pull or a plug in its place. May
+ * return PN_REFUSED: PN_WHY_NOT_PLUGGED, PN_WHY_BAD_LENGTH, PN_WHY_NO_RELATION, PN_WHY_NO_PLACE. */
 static inline uint32_t pn_input(pn_device *device, pn_op *op, uint16_t slot, uint16_t subslot, const uint8_t *octets, size_t length)
 {
     if (op == NULL)
@@ -478,8 +514,8 @@ static inline uint32_t pn_alarm(pn_device *device, pn_op *op, uint16_t slot, uin
 }
 
 /* The application says whether the inputs of a submodule are good (for a submodule without inputs: the submodule itself): its IOPS in the cyclic frames.
- * Good at first; kept until it is said again, also over relations, and forgotten at a start. A sensor that fails: its inputs stay as they
- * are, and their status is bad. May return PN_REFUSED: PN_WHY_NOT_PLUGGED. */
+ * Good at first; kept until it is said again, also over relations, and forgotten at a start and as the submodule is pulled. A sensor that fails:
+ * its inputs stay as they are, and their status is bad. May return PN_REFUSED: PN_WHY_NOT_PLUGGED. */
 static inline uint32_t pn_status(pn_device *device, pn_op *op, uint16_t slot, uint16_t subslot, int is_good)
 {
     if (op == NULL)
@@ -493,8 +529,8 @@ static inline uint32_t pn_status(pn_device *device, pn_op *op, uint16_t slot, ui
 /* A diagnosis of a submodule appears or disappears: of a channel, 0 to 0x7FFF, or 0x8000 for the submodule itself, and with this
  * ChannelErrorType, 1 to 0xFFFF (IEC 61158-6-10: 1 is a short circuit, 6 a line break). While data is exchanged the controller gets an alarm
  * of low priority, and while a submodule of the relation has a diagnosis, the problem bit of the cyclic frames tells it. It is kept over
- * relations, and forgotten at a start. At most 32 exist. May return PN_REFUSED: PN_WHY_NOT_PLUGGED, PN_WHY_BAD_NUMBER; if it appears
- * PN_WHY_EXISTS, PN_WHY_FULL; if it disappears PN_WHY_ABSENT; PN_WHY_CHANGES_WAIT. */
+ * relations, and forgotten at a start and as the submodule is pulled. At most 32 exist. May return PN_REFUSED: PN_WHY_NOT_PLUGGED,
+ * PN_WHY_BAD_NUMBER; if it appears PN_WHY_EXISTS, PN_WHY_FULL; if it disappears PN_WHY_ABSENT; PN_WHY_CHANGES_WAIT. */
 static inline uint32_t pn_diagnosis(pn_device *device, pn_op *op, uint16_t slot, uint16_t subslot, uint16_t channel, uint16_t error,
                                     int appears)
 {
@@ -521,6 +557,79 @@ static inline uint32_t pn_ready(pn_device *device, pn_op *op)
 static inline uint32_t pn_provider_state(pn_device *device, pn_op *op, int is_running)
 {
     return pn_ask(device, op, is_running != 0 ? PN_OP_RUN : PN_OP_STOP, NULL, 0);
+}
+
+/* --- Modules that come and go while the device runs. Call these functions at any time, also without a relation. What is plugged then stays
+ * over relations and is not stored: a device that is made and booted again has the modules of its station. In a relation that expects the
+ * submodule, the controller gets an alarm of low priority (Pull, Plug or Plug Wrong Submodule; IEC 61158-6-10), and the data of the place is not
+ * valid until it has parametrized what was plugged (pn_expected). Slot 0, the access point, stays as it is. --- */
+
+/* The submodule in this slot and subslot was pulled. Its module stays, also without submodules. With a submodule go its diagnoses and its
+ * status. May return PN_REFUSED: PN_WHY_ACCESS_POINT, PN_WHY_NOT_PLUGGED, PN_WHY_CHANGES_WAIT. */
+static inline uint32_t pn_pull(pn_device *device, pn_op *op, uint16_t slot, uint16_t subslot)
+{
+    if (op == NULL)
+        return PN_NULL;
+    op->slot = slot;
+    op->subslot = subslot;
+    return pn_ask(device, op, PN_OP_PULL, NULL, 0);
+}
+
+/* The module in this slot was pulled, with all its submodules. May return PN_REFUSED: PN_WHY_ACCESS_POINT, PN_WHY_NOT_PLUGGED,
+ * PN_WHY_CHANGES_WAIT. */
+static inline uint32_t pn_pull_module(pn_device *device, pn_op *op, uint16_t slot)
+{
+    if (op == NULL)
+        return PN_NULL;
+    op->slot = slot;
+    return pn_ask(device, op, PN_OP_PULL_MODULE, NULL, 0);
+}
+
+/* Writes a number of `count` octets, the highest first. */
+static inline void pn_put_number(uint8_t *octets, uint32_t number, size_t count)
+{
+    while (count-- > 0) {
+        octets[count] = (uint8_t)number;
+        number >>= 8;
+    }
+}
+
+/* This submodule was plugged into this slot, 1 to 15. If the slot was empty, a module with this ident number, not 0, was plugged with it; if
+ * not, it is that of the module. A submodule has at most 1,440 octets of input and of output, and the parameter records of a station. Its inputs
+ * are zeros until pn_input, in a relation that expects it.
+ * May return PN_BAD_LENGTH (more than PN_PARAMETERS records); PN_REFUSED: PN_WHY_ACCESS_POINT, PN_WHY_OTHER_MODULE, PN_WHY_PLUGGED,
+ * PN_WHY_NO_ROOM, PN_WHY_BAD_SUBMODULE, PN_WHY_CHANGES_WAIT. */
+static inline uint32_t pn_plug(pn_device *device, pn_op *op, uint16_t slot, uint32_t module_ident, const pn_submodule *submodule)
+{
+    uint8_t octets[12 + 4 * PN_PARAMETERS];
+    size_t length = 12;
+    if (op == NULL || submodule == NULL)
+        return PN_NULL;
+    if (submodule->parameter_count > PN_PARAMETERS)
+        return PN_BAD_LENGTH;
+    pn_put_number(octets, module_ident, 4);
+    pn_put_number(octets + 4, submodule->ident, 4);
+    pn_put_number(octets + 8, submodule->input, 2);
+    pn_put_number(octets + 10, submodule->output, 2);
+    for (uint16_t i = 0; i < submodule->parameter_count; i++, length += 4) {
+        pn_put_number(octets + length, submodule->parameters[i].index, 2);
+        pn_put_number(octets + length + 2, submodule->parameters[i].length, 2);
+    }
+    op->slot = slot;
+    op->subslot = submodule->subslot;
+    return pn_ask(device, op, PN_OP_PLUG, octets, length);
+}
+
+/* The application of a station with `ready_by_application` has applied the parameters of the submodule that was plugged there:
+ * ApplicationReady for the plug is sent, or waits for one before it. Once for each plug, when its place is PN_PLACE_ENDED (pn_expected).
+ * May return PN_REFUSED: PN_WHY_NO_RELATION, PN_WHY_NO_PLUG, PN_WHY_TOO_EARLY, PN_WHY_TOO_LATE. */
+static inline uint32_t pn_ready_at(pn_device *device, pn_op *op, uint16_t slot, uint16_t subslot)
+{
+    if (op == NULL)
+        return PN_NULL;
+    op->slot = slot;
+    op->subslot = subslot;
+    return pn_ask(device, op, PN_OP_READY_AT, NULL, 0);
 }
 
 /* What the host knows of the link, for the LLDP of the device. */
@@ -641,7 +750,8 @@ static inline uint32_t pn_carry_out(pn_device *device, pn_op *op, const pn_host 
  * PN_NULL, PN_NOT_MADE, PN_NOT_BOOTED, PN_LOST, and what each names. --- */
 
 /* The output of a submodule, in `length` and `octets`: its value in the last accepted cyclic frame. Zeros if no frame was accepted yet, if
- * its IOPS is not GOOD, or without a relation. May return PN_NO_SLOT. */
+ * its IOPS is not GOOD, after a pull or a plug in its place until this is PN_PLACE_GOOD again (pn_expected), or without a relation. May return
+ * PN_NO_SLOT. */
 static inline uint32_t pn_output(const pn_device *device, pn_op *op, uint16_t slot, uint16_t subslot)
 {
     if (op == NULL)
@@ -734,13 +844,23 @@ static inline uint32_t pn_parameters_end(const pn_device *device, pn_op *op, int
 }
 
 /* A parameter record that the relation accepted, by its number from 0 on, in the order of arrival: `slot`, `subslot`, `index`, and its
- * octets in `length` and `octets`. May return PN_NO_RECORD. */
+ * octets in `length` and `octets`. Those of a place are forgotten as the alarm of a pull or a plug there is sent. May return PN_NO_RECORD. */
 static inline uint32_t pn_taken(const pn_device *device, pn_op *op, uint32_t number)
 {
     if (op == NULL)
         return PN_NULL;
     op->number = number;
     return pn_read(device, op, PN_OP_RECORD);
+}
+
+/* A place of the relation, by its number from 0 on, in the order of the Connect: `slot`, `subslot`, and how far it is (`progress`, enum
+ * pn_progress). May return PN_NO_PLACE: there is no place of this number, or no relation. */
+static inline uint32_t pn_expected(const pn_device *device, pn_op *op, uint32_t number)
+{
+    if (op == NULL)
+        return PN_NULL;
+    op->number = number;
+    return pn_read(device, op, PN_OP_EXPECTED);
 }
 
 /* With `records_passed_on`: how many parameter records were passed on and not kept in the relation, modulo 2^32 (`*count`; 0 without a
@@ -828,9 +948,9 @@ static inline uint32_t pn_left(const pn_device *device, pn_op *op, uint32_t *lef
 
 /* --- What changed ---
  *
- * How a host learns of a parameter record, of PrmEnd, of a reset, and of another name or address. Only frames that are not cyclic change
- * these, and units of time that end the relation. So keep one pn_watch for each device, all zeros at first, show it each frame
- * (pn_watch_frame) before pn_frame, and call pn_news when the work of such an event is done. */
+ * How a host learns of a parameter record, of PrmEnd, of a reset, of another name or address, and of what a pull or a plug led to. Only frames
+ * that are not cyclic change these, pulls and plugs, and units of time that end the relation. So keep one pn_watch for each device, all zeros at
+ * first, show it each frame (pn_watch_frame) before pn_frame, and call pn_news when the work of each such event is done. */
 enum pn_change {
     PN_NEW_PHASE = 1,      /* the phase of the relation (`phase` of the watch) */
     PN_NEW_RELATION = 2,   /* a Connect was accepted: the records before it are no longer valid */
@@ -840,6 +960,7 @@ enum pn_change {
     PN_NEW_ADDRESS = 32,   /* the running address, mask or gateway */
     PN_NEW_PASSED = 128,   /* parameter records were passed on and not kept: the last `new_passed` ones (pn_passed, the oldest of them first:
                             * from `new_passed` - 1 down to 0) */
+    PN_NEW_PLUGS = 256,    /* how far a place of the relation is (pn_expected). As a relation begins, all places are as its Connect found them */
     PN_RESET = 64          /* a reset was accepted: FactoryReset, or ResetToFactory of any kind (needs pn_watch_frame) */
 };
 
@@ -847,12 +968,13 @@ typedef struct pn_watch {
     pn_settings settings; /* the running settings */
     uint32_t phase;
     uint32_t first_record;
-    uint32_t records;  /* how many the relation has accepted and keeps */
+    uint32_t records;  /* how many the relation has accepted and keeps; a pull or a plug takes those of its place away (PN_NEW_PLUGS) */
     uint32_t passed;   /* how many the relation has passed on, modulo 2^32 */
     uint32_t new_passed; /* how many of the last ones are new: at most 16 */
     uint32_t left;     /* commits that the flash still accepts */
     uint32_t is_begun; /* 0 before the first call */
     uint32_t is_asked; /* 1 if a frame asked for a reset since the call before */
+    uint8_t progress[PN_PLACES]; /* how far each place of the relation is */
 } pn_watch;
 
 /* Whether a frame is a DCP Set with a block FactoryReset (5/5) or ResetToFactory (5/6), with a VLAN tag or without. */
@@ -895,17 +1017,27 @@ static inline int pn_are_factory(const pn_settings *settings)
     return 1;
 }
 
-/* How many records the relation has accepted, if it had accepted `known` of them before. `*is_other` if it is another relation. */
-static inline uint32_t pn_count_taken(const pn_device *device, pn_op *op, uint32_t known, int *is_other)
+/* How many records the relation keeps, if it kept `known` of them before. */
+static inline uint32_t pn_count_taken(const pn_device *device, pn_op *op, uint32_t known)
 {
     uint32_t count = known;
-    if (known != 0 && pn_taken(device, op, known - 1) != PN_OK) {
-        count = 0;
-        *is_other = 1;
-    }
+    while (count != 0 && pn_taken(device, op, count - 1) != PN_OK)
+        count--;
     while (pn_taken(device, op, count) == PN_OK)
         count++;
     return count;
+}
+
+/* Compares how far the places are with what is in `watch`, and puts it there. Returns what changed. */
+static inline uint32_t pn_place_news(const pn_device *device, pn_op *op, int is_other, pn_watch *watch)
+{
+    uint32_t news = 0;
+    for (uint32_t number = 0; number < PN_PLACES && pn_expected(device, op, number) == PN_OK; number++) {
+        if (is_other == 0 && watch->progress[number] != op->progress)
+            news = PN_NEW_PLUGS;
+        watch->progress[number] = (uint8_t)op->progress;
+    }
+    return news;
 }
 
 /* Compares the number of records that were passed on with that in `watch`, and puts it there. Returns what changed. */
@@ -925,17 +1057,21 @@ static inline uint32_t pn_relation_news(const pn_device *device, pn_op *op, pn_w
 {
     uint32_t news = 0, phase = op->phase;
     int is_other = phase == PN_STARTED && watch->phase != PN_STARTED;
-    uint32_t records = pn_count_taken(device, op, is_other ? 0 : watch->records, &is_other);
+    uint32_t records = pn_count_taken(device, op, is_other ? 0 : watch->records), before = watch->records;
+    /* Records of a place are forgotten only while data is exchanged; before that it is another relation. */
+    if (records < before && phase <= PN_STARTED)
+        is_other = 1;
     if (phase != watch->phase)
         news |= PN_NEW_PHASE;
     if (is_other && phase != PN_NONE)
         news |= PN_NEW_RELATION;
-    watch->first_record = is_other ? 0 : watch->records;
+    watch->first_record = is_other ? 0 : records < before ? records : before;
     if (records > watch->first_record)
         news |= PN_NEW_RECORDS;
     if (phase >= PN_AWAITING && (watch->phase < PN_AWAITING || is_other))
         news |= PN_PARAMETERS_END;
     news |= pn_passed_news(device, op, is_other || phase == PN_NONE, watch);
+    news |= pn_place_news(device, op, is_other, watch);
     watch->phase = phase;
     watch->records = records;
     return news;

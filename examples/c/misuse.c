@@ -6,6 +6,7 @@
 static pn_device device, before;
 static pn_op op;
 static pn_station station, bent;
+static pn_submodule plugged;
 static pn_settings settings;
 static pn_watch watch;
 static uint32_t left;
@@ -36,7 +37,7 @@ static void keep(uint32_t answer)
 static void ask_all(const char *when)
 {
     static pn_op asked, told;
-    for (uint32_t what = 0; what < 26; what++) {
+    for (uint32_t what = 0; what < 34; what++) {
         uint32_t answer;
         memset(&asked, 0xA5, sizeof asked);
         asked.what = what, asked.units = 5;
@@ -192,6 +193,46 @@ static void refuse_events(void)
     reasons("a 33rd diagnosis", pn_diagnosis(&device, &op, 1, 1, 32, 1, 1), PN_WHY_FULL);
 }
 
+/* A plug of a submodule that differs in one number from one that is accepted. */
+static void refuse_plug(const char *what, uint16_t slot, uint16_t subslot, uint32_t ident, uint16_t input, uint16_t index, uint32_t wanted)
+{
+    plugged.subslot = subslot, plugged.input = input, plugged.parameter_count = 2;
+    plugged.parameters[0] = (pn_parameter){1, 1}, plugged.parameters[1] = (pn_parameter){index, 64};
+    reasons(what, pn_plug(&device, &op, slot, ident, &plugged), wanted);
+}
+
+/* Why it refuses pulls and plugs. */
+static void refuse_modules(void)
+{
+    keep(pn_make(&device, &bent));
+    keep(pn_boot(&device, &op, erased, erased));
+    reasons("a pull of the access point", pn_pull(&device, &op, 0, 1), PN_WHY_ACCESS_POINT);
+    reasons("a pull of its module", pn_pull_module(&device, &op, 0), PN_WHY_ACCESS_POINT);
+    reasons("a pull of an empty slot", pn_pull(&device, &op, 9, 1), PN_WHY_NOT_PLUGGED);
+    reasons("a pull of an empty subslot", pn_pull(&device, &op, 1, 3), PN_WHY_NOT_PLUGGED);
+    reasons("a pull of no module", pn_pull_module(&device, &op, 9), PN_WHY_NOT_PLUGGED);
+    refuse_plug("a plug into the access point", 0, 3, bent.modules[0].ident, 2, 2, PN_WHY_ACCESS_POINT);
+    refuse_plug("a plug into another module", 1, 3, bent.modules[1].ident + 1, 2, 2, PN_WHY_OTHER_MODULE);
+    refuse_plug("a plug over a submodule", 1, 1, bent.modules[1].ident, 2, 2, PN_WHY_PLUGGED);
+    refuse_plug("a plug into slot 16", 16, 1, 1, 2, 2, PN_WHY_BAD_SUBMODULE);
+    refuse_plug("a plug into subslot 0", 9, 0, 1, 2, 2, PN_WHY_BAD_SUBMODULE);
+    refuse_plug("a plug into subslot 36864", 9, 36864, 1, 2, 2, PN_WHY_BAD_SUBMODULE);
+    refuse_plug("a plug without an ident number", 9, 1, 0, 2, 2, PN_WHY_BAD_SUBMODULE);
+    refuse_plug("a plug with too much data", 9, 1, 1, 1441, 2, PN_WHY_BAD_SUBMODULE);
+    refuse_plug("a plug with an index past the last", 9, 1, 1, 2, 32768, PN_WHY_BAD_SUBMODULE);
+    refuse_plug("a plug with an index twice", 9, 1, 1, 2, 1, PN_WHY_BAD_SUBMODULE);
+    plugged.parameter_count = 3;
+    wants("a plug with three records", pn_plug(&device, &op, 9, 1, &plugged), PN_BAD_LENGTH);
+    reasons("ready at a place without a relation", pn_ready_at(&device, &op, 1, 1), PN_WHY_NO_RELATION);
+    plugged.parameter_count = 0;
+    for (plugged.subslot = 1; plugged.subslot <= 4; plugged.subslot++)
+        keep(pn_plug(&device, &op, 9, 1, &plugged));
+    refuse_plug("a fifth submodule", 9, 5, 1, 2, 2, PN_WHY_NO_ROOM);
+    keep(pn_pull(&device, &op, 9, 4));
+    keep(pn_pull_module(&device, &op, 9));
+    reasons("a pull of what was pulled", pn_pull_module(&device, &op, 9), PN_WHY_NOT_PLUGGED);
+}
+
 int main(void)
 {
     memset(erased, 0xFF, sizeof erased);
@@ -218,6 +259,7 @@ int main(void)
     wants("a long station type", pn_make(&device, &bent), PN_BAD_STATION);
     bend_stations();
     refuse_events();
+    refuse_modules();
     station.without_services = 1; /* else they would have something due below */
     keep(pn_make(&device, &station));
 
@@ -241,6 +283,11 @@ int main(void)
     wants("a status before the start", pn_status(&device, &op, 0, 1, 1), PN_NOT_BOOTED);
     wants("ready before the start", pn_ready(&device, &op), PN_NOT_BOOTED);
     wants("a stop before the start", pn_provider_state(&device, &op, 0), PN_NOT_BOOTED);
+    wants("a pull before the start", pn_pull(&device, &op, 1, 1), PN_NOT_BOOTED);
+    wants("a pull of a module before the start", pn_pull_module(&device, &op, 1), PN_NOT_BOOTED);
+    wants("a plug before the start", pn_plug(&device, &op, 1, 1, &plugged), PN_NOT_BOOTED);
+    wants("ready at a place before the start", pn_ready_at(&device, &op, 1, 1), PN_NOT_BOOTED);
+    wants("a place before the start", pn_expected(&device, &op, 0), PN_NOT_BOOTED);
     wants("a provider before the start", pn_provider(&device, &op, 0, 1, octets, octets + 1), PN_NOT_BOOTED);
     wants("a received output before the start", pn_received(&device, &op, 0, 1, octets, octets + 1), PN_NOT_BOOTED);
     wants("news before the start", pn_news(&device, &op, &watch, &left), PN_NOT_BOOTED);
@@ -260,7 +307,7 @@ int main(void)
         return 1;
     wants("a second start", pn_boot(&device, &op, erased, erased), PN_IS_BOOTED);
     wants("no operation", pn_ask(&device, &op, 0, NULL, 0), PN_UNKNOWN);
-    wants("another operation", pn_ask(&device, &op, 28, NULL, 0), PN_UNKNOWN);
+    wants("another operation", pn_ask(&device, &op, 33, NULL, 0), PN_UNKNOWN);
     wants("no operation's room", pn_frame(&device, NULL, set, sizeof set), PN_NULL);
     wants("no octets", pn_frame(&device, &op, NULL, 1), PN_NULL);
     wants("no operation for a frame after units", pn_frame_after(&device, NULL, 1, set, sizeof set), PN_NULL);
@@ -278,6 +325,8 @@ int main(void)
     wants("no received output", pn_received(&device, &op, 0, 1, octets, octets + 1), PN_NO_FRAME);
     wants("no place for the end of parameters", pn_parameters_end(&device, &op, NULL), PN_NULL);
     wants("a status for no operation", pn_status(&device, NULL, 0, 1, 0), PN_NULL);
+    wants("a plug for no operation", pn_plug(&device, NULL, 9, 1, &plugged), PN_NULL);
+    wants("a plug of nothing", pn_plug(&device, &op, 9, 1, NULL), PN_NULL);
     wants("no watch", pn_news(&device, &op, NULL, &left), PN_NULL);
     wants("no place for news", pn_news(&device, &op, &watch, NULL), PN_NULL);
     wants("no host", pn_carry_out(&device, &op, NULL), PN_NULL);
@@ -305,6 +354,7 @@ int main(void)
     if (settings.name_length != 240)
         return 1;
     wants("a record that was not accepted", pn_taken(&device, &op, 0), PN_NO_RECORD);
+    wants("a place without a relation", pn_expected(&device, &op, 0), PN_NO_PLACE);
     wants("a record that was not passed on", pn_passed(&device, &op, 0), PN_NO_RECORD);
     wants("a record for no operation", pn_passed(&device, NULL, 0), PN_NULL);
     wants("no place for their number", pn_passed_on(&device, &op, NULL), PN_NULL);
@@ -322,6 +372,10 @@ int main(void)
     wants("a status in front of the work", pn_status(&device, &op, 0, 1, 1), PN_HAS_WORK);
     wants("ready in front of the work", pn_ready(&device, &op), PN_HAS_WORK);
     wants("a stop in front of the work", pn_provider_state(&device, &op, 0), PN_HAS_WORK);
+    wants("a pull in front of the work", pn_pull(&device, &op, 1, 1), PN_HAS_WORK);
+    wants("a pull of a module in front of the work", pn_pull_module(&device, &op, 1), PN_HAS_WORK);
+    wants("a plug in front of the work", pn_plug(&device, &op, 1, 1, &plugged), PN_HAS_WORK);
+    wants("ready at a place in front of the work", pn_ready_at(&device, &op, 1, 1), PN_HAS_WORK);
     wants("a frame in front of the work", pn_frame(&device, &op, set, sizeof set), PN_HAS_WORK);
     wants("time in front of the work", pn_tick(&device, &op, 1), PN_HAS_WORK);
     wants("an input in front of the work", pn_input(&device, &op, 0, 1, octets, 1), PN_HAS_WORK);
@@ -367,6 +421,11 @@ int main(void)
     wants("a status after a loss", pn_status(&device, &op, 0, 1, 1), PN_LOST);
     wants("ready after a loss", pn_ready(&device, &op), PN_LOST);
     wants("a stop after a loss", pn_provider_state(&device, &op, 0), PN_LOST);
+    wants("a pull after a loss", pn_pull(&device, &op, 1, 1), PN_LOST);
+    wants("a pull of a module after a loss", pn_pull_module(&device, &op, 1), PN_LOST);
+    wants("a plug after a loss", pn_plug(&device, &op, 1, 1, &plugged), PN_LOST);
+    wants("ready at a place after a loss", pn_ready_at(&device, &op, 1, 1), PN_LOST);
+    wants("a place after a loss", pn_expected(&device, &op, 0), PN_LOST);
     wants("a provider after a loss", pn_provider(&device, &op, 0, 1, octets, octets + 1), PN_LOST);
     wants("a received output after a loss", pn_received(&device, &op, 0, 1, octets, octets + 1), PN_LOST);
     wants("news after a loss", pn_news(&device, &op, &watch, &left), PN_LOST);

@@ -5,6 +5,7 @@
 #include "identity.h"
 #include "link.h"
 #include "loop.h"
+#include "modules.h"
 #include "options.h"
 #include "say.h"
 #include "sets.h"
@@ -13,6 +14,7 @@
 #include "words.h"
 #include <inttypes.h>
 #include <stdio.h>
+#include <stdlib.h>
 #include <string.h>
 #include <time.h>
 
@@ -79,6 +81,7 @@ struct device {
     pn_watch watch;
     uint32_t starts; /* of the device, by this process */
     uint32_t phase;
+    uint32_t progress[PN_PLACES]; /* of each place of the relation */
     int is_lamp_on;
     int is_stopped; /* the controller; -1: it is not known */
     int is_application_stopped;
@@ -100,6 +103,7 @@ struct device {
 
 static const char *const notes[] = {"done", "not-mine", "fault", "filter", "old-call", "no-relation", "stale-cycle", "refused"};
 static const char *const phases[] = {"none", "started", "awaiting", "exchanging"};
+static const char *const progresses[] = {"good", "differs", "plugged", "told", "ended", "refused"};
 
 /* --- The device --- */
 
@@ -262,7 +266,18 @@ static void tell_records(struct device *device, uint32_t news)
     }
 }
 
-/* What a frame changed besides the process data, and at the first time what there is. */
+/* Reports how far the places of the relation are, each whose word changed. As a relation begins none has. */
+static void look_at_places(struct device *device, int is_new)
+{
+    const pn_op *op = &device->op;
+    for (uint32_t number = 0; number < PN_PLACES && pn_expected(&device->room, &device->op, number) == PN_OK; number++) {
+        if (!is_new && op->progress != device->progress[number])
+            lines_tell(&device->loop.lines, "submodule %u %u %s", (unsigned)op->slot, (unsigned)op->subslot, progresses[op->progress]);
+        device->progress[number] = op->progress;
+    }
+}
+
+/* What a frame, a pull or a plug changed besides the process data, and at the first time what there is. */
 static void look_at_news(struct device *device, int is_first)
 {
     uint32_t news = 0;
@@ -271,6 +286,8 @@ static void look_at_news(struct device *device, int is_first)
     tell_records(device, news);
     if ((news & PN_PARAMETERS_END) != 0)
         lines_tell(&device->loop.lines, "parameters end");
+    if ((news & (PN_NEW_PLUGS | PN_NEW_RELATION)) != 0)
+        look_at_places(device, (news & PN_NEW_RELATION) != 0);
 }
 
 /* Whether the controller runs, by the first output that it sends. */
@@ -295,7 +312,10 @@ static void look_at_outputs(struct device *device)
     for (unsigned i = 0; i < device->outputs.count; i++) {
         struct place *place = &device->outputs.list[i];
         char text[STATION_LINE];
-        loop_must(pn_output(&device->room, &device->op, place->slot, place->subslot), "pn_output");
+        uint32_t answer = pn_output(&device->room, &device->op, place->slot, place->subslot);
+        if (answer == PN_NO_SLOT) /* it was pulled right now, and no relation has it */
+            continue;
+        loop_must(answer, "pn_output");
         if (!station_update(place, device->op.octets, device->op.length))
             continue;
         station_line(text, "output", place);
@@ -669,6 +689,138 @@ static void take_ready(void *context, char *words[])
     look_at_state(device);
 }
 
+/* --- Modules that are pulled and plugged --- */
+
+/* The places of data after a pull or a plug: those that remain keep their data. */
+static void place_again(struct places *places, const pn_station *station, enum direction direction)
+{
+    static struct places before;
+    before = *places;
+    station_places(places, station->modules, station->module_count, direction);
+    for (unsigned i = 0; i < places->count; i++) {
+        const struct place *known = station_place(&before, places->list[i].slot, places->list[i].subslot);
+        if (known != NULL && known->length == places->list[i].length)
+            places->list[i] = *known;
+    }
+}
+
+/* After a pull or a plug, as the station is now: what it changed for the relation, and the places of data. */
+static void look_at_modules(struct device *device)
+{
+    look_at_news(device, 0);
+    look_at_outputs(device);
+    place_again(&device->inputs, &device->station, OF_INPUT);
+    place_again(&device->outputs, &device->station, OF_OUTPUT);
+}
+
+/* The status and the diagnoses of a submodule go with it, those of all submodules of a slot with its module (`is_whole`). */
+static void forget(struct device *device, uint16_t slot, uint16_t subslot, int is_whole)
+{
+    unsigned statuses = 0, diagnoses = 0;
+    for (unsigned i = 0; i < device->status_count; i++)
+        if (device->statuses[i].slot != slot || (!is_whole && device->statuses[i].subslot != subslot))
+            device->statuses[statuses++] = device->statuses[i];
+    for (unsigned i = 0; i < device->diagnosis_count; i++)
+        if (device->diagnoses[i].slot != slot || (!is_whole && device->diagnoses[i].subslot != subslot))
+            device->diagnoses[diagnoses++] = device->diagnoses[i];
+    device->status_count = statuses;
+    device->diagnosis_count = diagnoses;
+}
+
+/* Answers a line by which modules come or go. Returns whether the device accepted it. */
+static int is_changed(struct device *device, uint32_t answer, const char *call)
+{
+    int is_done = is_accepted(device, answer, call);
+    if (is_done)
+        lines_answer(&device->loop.lines, "note done");
+    else
+        lines_answer(&device->loop.lines, "note refused: %s", pn_strreason(device->op.reason));
+    return is_done;
+}
+
+static void take_pull(void *context, char *words[])
+{
+    struct device *device = context;
+    uint16_t place[2];
+    if (!words_numbers(words + 1, place, 2)) {
+        lines_answer(&device->loop.lines, "wrong: pull SLOT SUBSLOT");
+    } else if (is_changed(device, pn_pull(&device->room, &device->op, place[0], place[1]), "pn_pull")) {
+        modules_pull(&device->station, place[0], place[1]);
+        forget(device, place[0], place[1], 0);
+        look_at_modules(device);
+    }
+}
+
+static void take_pull_module(void *context, char *words[])
+{
+    struct device *device = context;
+    uint16_t slot;
+    if (!words_numbers(words + 1, &slot, 1)) {
+        lines_answer(&device->loop.lines, "wrong: pull SLOT");
+    } else if (is_changed(device, pn_pull_module(&device->room, &device->op, slot), "pn_pull_module")) {
+        modules_pull_module(&device->station, slot);
+        forget(device, slot, 0, 1);
+        look_at_modules(device);
+    }
+}
+
+static void take_plug(void *context, char *words[])
+{
+    struct device *device = context;
+    struct modules_plug plug;
+    if (!modules_read_plug(words + 1, &plug)) {
+        lines_answer(&device->loop.lines, "wrong: plug SLOT SUBSLOT MODULE SUBMODULE INPUT OUTPUT [INDEX LENGTH]..");
+    } else if (plug.submodule.input == STATION_DATA || plug.submodule.output == STATION_DATA) {
+        /* The device starts again from the station, which cannot have it. */
+        lines_answer(&device->loop.lines, "note refused: a cyclic frame carries at most 1439 octets of a submodule");
+    } else if (is_changed(device, pn_plug(&device->room, &device->op, plug.slot, plug.module, &plug.submodule), "pn_plug")) {
+        modules_plug(&device->station, &plug);
+        look_at_modules(device);
+    }
+}
+
+static void take_ready_at(void *context, char *words[])
+{
+    struct device *device = context;
+    uint16_t place[2];
+    if (!words_numbers(words + 1, place, 2))
+        lines_answer(&device->loop.lines, "wrong: ready SLOT SUBSLOT");
+    else if (is_changed(device, pn_ready_at(&device->room, &device->op, place[0], place[1]), "pn_ready_at"))
+        look_at_news(device, 0);
+}
+
+/* A submodule that the relation expects, and how far it is. */
+struct expected {
+    uint16_t slot;
+    uint16_t subslot;
+    uint32_t progress;
+};
+
+/* Slots and subslots ascending. */
+static int compare_expected(const void *one, const void *other)
+{
+    const struct expected *a = one, *b = other;
+    return a->slot != b->slot ? (a->slot > b->slot) - (a->slot < b->slot) : (a->subslot > b->subslot) - (a->subslot < b->subslot);
+}
+
+static void take_expected(void *context, char *words[])
+{
+    struct device *device = context;
+    const pn_op *op = &device->op;
+    struct expected list[PN_PLACES];
+    uint32_t count = 0;
+    for (; count < PN_PLACES && pn_expected(&device->room, &device->op, count) == PN_OK; count++)
+        list[count] = (struct expected){(uint16_t)op->slot, (uint16_t)op->subslot, op->progress};
+    qsort(list, count, sizeof list[0], compare_expected);
+    for (uint32_t i = 0; i < count; i++)
+        lines_answer(&device->loop.lines, "expected %u %u %s", list[i].slot, list[i].subslot, progresses[list[i].progress]);
+    if (count == 0)
+        lines_answer(&device->loop.lines, "expected -");
+    (void)words;
+}
+
+/* --- The state of the application --- */
+
 /* Hands in whether the application runs, which the device never refuses. */
 static void say_state(struct device *device)
 {
@@ -709,7 +861,14 @@ static const struct command commands[] = {
     {"status", 4, take_status, "status SLOT SUBSLOT good|bad   sets whether a submodule is good: the IOPS of its inputs"},
     {"diagnosis", 6, take_diagnosis, "diagnosis SLOT SUBSLOT CHANNEL ERROR appears|disappears   reports what is wrong at a channel, or no more"},
     {"application", 2, take_application, "application run|stop     the application runs or stops, with all its inputs: bit 4 of DataStatus"},
+    {"pull", 3, take_pull, "pull SLOT SUBSLOT         a submodule was pulled; `pull SLOT`: a module, with all its submodules"},
+    {"pull", 2, take_pull_module, NULL},
+    {"plug", 7, take_plug, "plug SLOT SUBSLOT MODULE SUBMODULE INPUT OUTPUT [INDEX LENGTH]..   a submodule was plugged: ident numbers, octets of data, records"},
+    {"plug", 9, take_plug, NULL},
+    {"plug", 11, take_plug, NULL},
     {"ready", 1, take_ready, "ready                    the parameters are in use (--ready-by-application)"},
+    {"ready", 3, take_ready_at, "ready SLOT SUBSLOT        those of the submodule that was plugged there are"},
+    {"expected", 1, take_expected, "expected                 the submodules that the relation expects, and how far each is after a pull or a plug"},
     {"show", 1, show, "show                     name, address, remaining commits, phase, lamp, inputs and outputs"},
     {"statistics", 1, NULL, "statistics               counts since the start"},
     {"quit", 1, NULL, "quit                     ends the program"},
@@ -761,7 +920,8 @@ static void usage(void)
          "  nandutable-device eth1 --flash pump.flash --station pump.json --identity pump.identity --socket /run/pump --realtime 50\n"
          "\n"
          "Lines that it accepts: `input SLOT SUBSLOT HEX`, `alarm SLOT SUBSLOT HEX`, `status SLOT SUBSLOT good|bad`,\n"
-         "`diagnosis SLOT SUBSLOT CHANNEL ERROR appears|disappears`, `application run|stop`, `ready`, `show`, `statistics`, `help`, `quit`.\n"
+         "`diagnosis SLOT SUBSLOT CHANNEL ERROR appears|disappears`, `application run|stop`, `pull SLOT [SUBSLOT]`,\n"
+         "`plug SLOT SUBSLOT MODULE SUBMODULE INPUT OUTPUT [INDEX LENGTH]..`, `ready [SLOT SUBSLOT]`, `expected`, `show`, `statistics`, `help`, `quit`.\n"
          "On SIGUSR1 it prints its statistics; SIGTERM ends it.");
 }
 

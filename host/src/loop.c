@@ -7,6 +7,7 @@
 #include <string.h>
 
 #define FRAMES_AT_ONCE 64
+#define MOST_WORDS 12 /* of a line: the name of a station, and at most eleven others */
 #define IDLE_PERIOD 10000000u /* nanoseconds */
 
 void loop_must(uint32_t answer, const char *call)
@@ -115,7 +116,8 @@ static int may_have_frames(struct loop *loop)
 static void help(struct loop *loop)
 {
     for (const struct command *command = loop->events->commands; command->word != NULL; command++)
-        lines_answer(&loop->lines, "%s", command->help);
+        if (command->help != NULL)
+            lines_answer(&loop->lines, "%s", command->help);
     for (const char *const *more = loop->events->more_help; more != NULL && *more != NULL; more++)
         lines_answer(&loop->lines, "%s", *more);
 }
@@ -130,17 +132,19 @@ static void carry_out(struct loop *loop, const struct command *command, char *wo
         loop->wake.is_ended = 1;
 }
 
-static const struct command *find_command(const struct loop *loop, const char *word)
+/* The line with this word and this number of words; otherwise the first one with this word. */
+static const struct command *find_command(const struct loop *loop, const char *word, int count)
 {
+    const struct command *found = NULL;
     for (const struct command *command = loop->events->commands; command->word != NULL; command++)
-        if (strcmp(command->word, word) == 0)
-            return command;
-    return NULL;
+        if (strcmp(command->word, word) == 0 && (found == NULL || command->count == count))
+            found = command;
+    return found;
 }
 
 static void take_words(struct loop *loop, char *words[], int count)
 {
-    const struct command *command = find_command(loop, words[0]);
+    const struct command *command = find_command(loop, words[0], count);
     if (command != NULL && command->count == count)
         carry_out(loop, command, words);
     else if (command != NULL)
@@ -155,13 +159,14 @@ static void take_line(void *context, char *line)
 {
     struct loop *loop = context;
     const struct events *events = loop->events;
-    char *words[6]; /* the name of a station, and at most five others */
+    char *words[MOST_WORDS + 1];
     int count, named = 0;
     if (events->take_line != NULL && events->take_line(loop->context, line))
         return;
-    count = words_part(line, words, 6);
+    count = words_part(line, words, MOST_WORDS);
     if (count == 0)
         return;
+    words[count < 0 ? MOST_WORDS : count] = NULL;
     if (count > 1 && events->choose != NULL)
         named = events->choose(loop->context, words[0]);
     take_words(loop, words + named, count - named);

@@ -10,13 +10,14 @@
 #include "wake.h"
 #include "wire.h"
 
-/* A line that a program accepts, by its first word and the number of its words. The name of a station is not one of them. */
+/* A line that a program accepts, by its first word and the number of its words. The name of a station is not one of them. A word may have
+ * several lines, with different numbers of words. */
 struct command {
     const char *word;
     int count;
     /* NULL for the lines of the loop itself: `statistics`, and the one that ends the program if it is for the program alone. */
-    void (*take)(void *context, char *words[]);
-    const char *help; /* its form and its effect */
+    void (*take)(void *context, char *words[]); /* NULL follows the last word */
+    const char *help; /* its form and its effect; NULL if the line before it, with the same word, tells both */
 };
 
 /* What a program does at each event. Each function gets the context of the loop. */

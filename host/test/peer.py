@@ -10,6 +10,7 @@ from wire import DEVICE, TOP, block, drain
 
 ZEROS = bytes(4)
 CONNECT, WRITE, READ, PRM_END, RELEASE, READY = 0x0101, 0x0008, 0x0009, 0x0110, 0x0114, 0x0112
+PLUG_PRM_END, PLUG_READY = 0x0111, 0x0113
 FAULT, REJECT = 3, 6  # packet types of DCE/RPC
 RPC_AT, BLOCKS_AT = 42, 142  # after Ethernet, IPv4 and UDP; and after the header of DCE/RPC and the sizes of the arguments
 
@@ -374,12 +375,15 @@ class Opener:
                 return came[RPC_AT + 80:RPC_AT + 84], came[BLOCKS_AT:]
         return None
 
-    def connect(self, pieces=1):
+    def blocks_of_connect(self):
         blocks = bytearray(scapys_connect())
         blocks[self.AR_AT:self.AR_AT + 16] = self.ar
         blocks[self.INITIATOR_AT:self.INITIATOR_AT + 6] = self.initiator
         blocks[self.TIMEOUT_AT:self.TIMEOUT_AT + 2] = struct.pack(">H", self.seconds * 10)
-        return self.call(0, arguments(bytes(blocks), 4096), pieces)
+        return blocks
+
+    def connect(self, pieces=1):
+        return self.call(0, arguments(bytes(self.blocks_of_connect()), 4096), pieces)
 
     def header(self, slot, subslot, index, length, api=0):
         return block_of(8, struct.pack(">H16sIHHHHI24s", self.sequence, self.ar, api, slot, subslot, 0, index, length, bytes(24)))
@@ -400,3 +404,105 @@ class Opener:
 
     def release(self):
         return self.call(1, arguments(block_of(RELEASE, bytes(2) + self.ar + struct.pack(">4H", 1, 0, 4, 0))))
+
+
+class Parametrizer(Opener, threading.Thread):
+    """A controller that exchanges data with the demo station, each 8 ms, and acknowledges its alarms of low priority. For each plug that is reported
+    it writes `records` of its place, ends its parameters, and answers ApplicationReady with `status`."""
+
+    OUTPUT_FRAME, COUNTER_STEP = 40, 256
+    # In an IOCRBlockReq: ReductionRatio, WatchdogFactor and DataHoldFactor.
+    RATIO_AT, FACTORS_AT = 22, 32
+
+    def __init__(self, wire, mac):
+        Opener.__init__(self, wire, mac)
+        threading.Thread.__init__(self, daemon=True)
+        self.records, self.status, self.value = {}, ZEROS, bytes(2)
+        self.alarms, self.inputs, self.answers = [], b"", []
+        self.sent, self.counter, self.is_over = 0xFFFE, 0, False
+
+    def blocks_of_connect(self):
+        blocks = bytearray(super().blocks_of_connect())
+        for at in range(len(blocks) - 4):
+            if blocks[at:at + 6] == b"\1\2\0\x50\1\0":
+                struct.pack_into(">H", blocks, at + self.RATIO_AT, 8)
+                struct.pack_into(">HH", blocks, at + self.FACTORS_AT, 240, 240)
+        return blocks
+
+    def starts(self, ready):
+        """Opens the relation, and exchanges data once the device is ready: `ready` is called when its parameters have ended."""
+        status, blocks = self.connect()
+        self.frame_id, self.endpoint = chosen_in(blocks)
+        assert status == ZEROS, status
+        assert self.call(4, arguments(block_of(PRM_END, bytes(2) + self.ar + struct.pack(">4H", 1, 0, 1, 0))))[0] == ZEROS
+        ready()
+        self.start()
+
+    def stops(self):
+        self.is_over = True
+        self.join()
+        self.link.close()
+
+    def run(self):
+        next_at = time.monotonic()
+        while not self.is_over:
+            try:
+                if time.monotonic() >= next_at:
+                    next_at += 0.008
+                    self.give()
+                self.link.settimeout(max(0.0005, next_at - time.monotonic()))
+                self.hear(self.link.recv(2048))
+            except OSError:  # nothing came, or the link is down
+                continue
+
+    def give(self):
+        self.counter = (self.counter + self.COUNTER_STEP) % 65536
+        data = (self.value + 5 * b"\x80").ljust(self.OUTPUT_FRAME, b"\0")
+        self.real_time(0xC000, self.frame_id, data + struct.pack(">HBB", self.counter, 0x35, 0))
+
+    def real_time(self, tag, frame_id, octets):
+        self.link.send((DEVICE + self.mac + struct.pack(">HHHH", 0x8100, tag, 0x8892, frame_id) + octets).ljust(60, b"\0"))
+
+    def hear(self, came):
+        if came[:6] != self.mac:
+            return
+        if came[12:16] == b"\x88\x92\xc0\1":  # the kernel took the tag out
+            self.inputs = came[16:23]
+        elif came[12:16] == b"\x88\x92\xfe\1" and came[20] & 15 == 1:
+            self.hear_alarm(came[16:])
+        elif came[12:14] == b"\x08\0" and came[RPC_AT + 1] == 0:
+            self.hear_ready(came)
+        elif came[12:14] == b"\x08\0" and came[RPC_AT + 1] == 2:
+            self.answers.append(came[RPC_AT + 80:RPC_AT + 84])
+
+    def pdu(self, kind, accepted, body=b""):
+        head = struct.pack(">HHBBHHH", self.endpoint, 1, 0x10 | kind, 0x11 if kind == 1 else 1, self.sent, accepted, len(body))
+        self.real_time(0xA000, 0xFE01, head + body)
+
+    def hear_alarm(self, octets):
+        """An alarm: AlarmType, slot, subslot, AlarmSpecifier."""
+        number = struct.unpack_from(">H", octets, 6)[0]
+        alarm_type, slot, subslot, specifier = struct.unpack_from(">H4xHH8xH", octets, 18)
+        self.pdu(3, number)
+        if self.alarms and self.alarms[-1][0] == number:
+            return
+        self.alarms.append((number, alarm_type, slot, subslot, specifier))
+        self.sent = 0xFFFF if self.sent == 0xFFFE else (self.sent + 1) % 32768
+        self.pdu(1, number, block_of(0x8002, struct.pack(">HIHHHI", alarm_type, 0, slot, subslot, specifier, 0)))
+        if alarm_type == 4:
+            self.parametrizes(slot, subslot, specifier % 2048)
+
+    def parametrizes(self, slot, subslot, number):
+        for index, octets in self.records.get((slot, subslot), ()):
+            self.send(3, arguments(self.header(slot, subslot, index, len(octets)) + octets))
+        self.send(4, arguments(block_of(PLUG_PRM_END, bytes(2) + self.ar + struct.pack(">4H", 1, number, 1, 0))))
+
+    def hear_ready(self, came):
+        """ApplicationReady, of the start-up or of a plug."""
+        block, fields = struct.unpack_from(">H", came, BLOCKS_AT)[0], came[BLOCKS_AT + 6:BLOCKS_AT + 28]
+        status = ZEROS if block == READY else self.status
+        blocks = block_of(block | 0x8000, fields + struct.pack(">HH", 8, 0)) if status == ZEROS else b""
+        head, order = bytearray(came[RPC_AT:RPC_AT + 80]), "<" if came[RPC_AT + 4] >> 4 == 1 else ">"
+        body = struct.pack(order + "5I", int.from_bytes(status, "big"), len(blocks), len(blocks), 0, len(blocks)) + blocks
+        head[1:3], head[74:76] = bytes((2, 0x0A)), struct.pack(order + "H", len(body))
+        self.link.send((DEVICE + self.mac + b"\x08\0" + internet(self.address, address_of("192.168.0.2"), bytes(head) + body)).ljust(60, b"\0"))

@@ -24,7 +24,7 @@ use Rattle.both_ends.specs.exchange.Given.{AreOfOneFrame, zero_for}
 use Rattle.both_ends.specs.exchange.Shown.{has_accepted}
 use Rattle.both_ends.specs.exchange.Sized.{AreSizedModules}
 use Rattle.both_ends.specs.exchange.Over.{IsOneOfTheLastTwo, raised_over, reported_over, taken_over}
-use Rattle.both_ends.specs.exchange.Told.{AreKnown, AreSizedMoves, IsSizedMove, IsTold, known_at}
+use Rattle.both_ends.specs.exchange.Told.{AreKnown, AreNoPulls, AreSizedMoves, IsSizedMove, IsTold, known_at}
 use Rattle.both_ends.specs.exchange.Together.{IsBegunAndCut, IsBegunAndPlayed}
 
 -- what follows from the case of success follows for any result
@@ -51,29 +51,29 @@ pub record Laws {F : Type 0} {S : ℕ} (as_flash : Flash F S) (setup : Setup) (i
   pub values : CanMeet setup identity → (first : World F) (run : List (Move × World F)) → Begins setup identity first → AreMade as_flash first run
       → (link : RelationState) → (last_world first run).device.live.rest.link ≡ Some link → has_accepted link ≡ true → AreOfOneFrame setup identity first run link
   pub front : CanMeet setup identity → (first : World F) (run : List (Move × World F)) → Begins setup identity first → AreMade as_flash first run
-      → AreSizedModules first.device.station.real.modules.items → length (raised_over first run) ≤ 32768 → IsPrefixOf (taken_over High first run) (raised_over first run)
+      → AreSizedModules first.device.live.rest.real.modules.items → AreSizedMoves run → length (raised_over first run) ≤ 32768 → IsPrefixOf (taken_over High first run) (raised_over first run)
   pub lacks : CanMeet setup identity → (first : World F) (run : List (Move × World F)) → Begins setup identity first → AreMade as_flash first run
-      → AreSizedModules first.device.station.real.modules.items → length (raised_over first run) ≤ 32768 → length (raised_over first run) ≤ length (taken_over High first run) + 1
+      → AreSizedModules first.device.live.rest.real.modules.items → AreSizedMoves run → length (raised_over first run) ≤ 32768 → length (raised_over first run) ≤ length (taken_over High first run) + 1
   pub shown : CanMeet setup identity → (first : World F) (run : List (Move × World F)) → Begins setup identity first → AreMade as_flash first run
-      → AreSizedModules first.device.station.real.modules.items → (last_world first run).controller.live.alarm ≡ last_of (taken_over High first run)
+      → AreSizedModules first.device.live.rest.real.modules.items → AreSizedMoves run → (last_world first run).controller.live.alarm ≡ last_of (taken_over High first run)
   pub alarm : CanMeet setup identity → (first : World F) (run : List (Move × World F)) → Begins setup identity first → AreMade as_flash first run
-      → AreSizedModules first.device.station.real.modules.items → length (raised_over first run) ≤ 32768
+      → AreSizedModules first.device.live.rest.real.modules.items → AreSizedMoves run → length (raised_over first run) ≤ 32768
       → IsOneOfTheLastTwo (raised_over first run) (last_world first run).controller.live.alarm
   pub reports : CanMeet setup identity → (first : World F) (run : List (Move × World F)) → Begins setup identity first → AreMade as_flash first run
-      → AreSizedModules first.device.station.real.modules.items → length (reported_over first run) ≤ 32768 → IsPrefixOf (taken_over Low first run) (reported_over first run)
+      → AreSizedModules first.device.live.rest.real.modules.items → AreSizedMoves run → length (reported_over first run) ≤ 32768 → IsPrefixOf (taken_over Low first run) (reported_over first run)
   pub reported_last : CanMeet setup identity → (first : World F) (run : List (Move × World F)) → Begins setup identity first → AreMade as_flash first run
-      → AreSizedModules first.device.station.real.modules.items → length (reported_over first run) ≤ 32768 → length (reported_over first run) ≤ length (taken_over Low first run) + 1
+      → AreSizedModules first.device.live.rest.real.modules.items → AreSizedMoves run → length (reported_over first run) ≤ 32768 → length (reported_over first run) ≤ length (taken_over Low first run) + 1
   pub told : CanMeet setup identity → (first : World F) (run : List (Move × World F)) → Begins setup identity first → AreMade as_flash first run
-      → AreSizedModules first.device.station.real.modules.items → AreKnown first.device.live.rest.diagnoses → AreSizedMoves run
+      → AreSizedModules first.device.live.rest.real.modules.items → AreSizedMoves run → AreKnown first.device.live.rest.diagnoses
       → (link : RelationState) → (last_world first run).device.live.rest.link ≡ Some link → is_exchanging link.phase ≡ true
       → IsTold link.flow.low (last_world first run).device.live.rest.diagnoses (reported_over first run)
   pub list : CanMeet setup identity → (first : World F) (run : List (Move × World F)) → Begins setup identity first → AreMade as_flash first run
-      → AreSizedModules first.device.station.real.modules.items → AreKnown first.device.live.rest.diagnoses → AreSizedMoves run
-      → length (reported_over first run) ≤ 32768 → (link : RelationState) → (last_world first run).device.live.rest.link ≡ Some link → is_exchanging link.phase ≡ true
+      → AreSizedModules first.device.live.rest.real.modules.items → AreSizedMoves run → AreKnown first.device.live.rest.diagnoses
+      → length (reported_over first run) ≤ 32768 → AreNoPulls (reported_over first run) → (link : RelationState) → (last_world first run).device.live.rest.link ≡ Some link → is_exchanging link.phase ≡ true
       → link.flow.low.alarms.sender.standing ≡ None → link.flow.low.waiting ≡ [] → (last_world first run).controller.live.stands ≡ true
       → (last_world first run).controller.live.diagnosis ≡ known_at link.flow.low (last_world first run).device.live.rest.diagnoses
   pub known : CanMeet setup identity → (first : World F) (run : List (Move × World F)) → Begins setup identity first → AreMade as_flash first run
-      → AreSizedModules first.device.station.real.modules.items → AreKnown first.device.live.rest.diagnoses → AreSizedMoves run
+      → AreSizedModules first.device.live.rest.real.modules.items → AreSizedMoves run → AreKnown first.device.live.rest.diagnoses
       → AreKnown (last_world first run).device.live.rest.diagnoses
   pub station : CanMeet setup identity → (first : World F) (run : List (Move × World F)) → Begins setup identity first → AreMade as_flash first run
       → (last_world first run).device.station ≡ first.device.station
@@ -92,13 +92,13 @@ sized_take (suc count) [] all = tt
 sized_take (suc count) (one ∷ moves) all = (all.0, sized_take count moves all.1)
 
 module _ {F : Type 0} {S : ℕ} (as_flash : Flash F S) (setup : Setup) (identity : Identity) (laws : Laws as_flash setup identity) (meets : CanMeet setup identity)
-    (device : State F) (known : device.station.identity ≡ identity) (sized : AreSizedModules device.station.real.modules.items)
+    (device : State F) (known : device.station.identity ≡ identity) (sized : AreSizedModules device.live.rest.real.modules.items)
     (first : World F) (begins : Begins setup device.station.identity first) (of_device : first.device ≡ device) where
   begun : Begins setup identity first
   begun = subst (λ (i : Identity). Begins setup i first) known begins
 
-  real : AreSizedModules first.device.station.real.modules.items
-  real = subst (λ (d : State F). AreSizedModules d.station.real.modules.items) (sym of_device) sized
+  real : AreSizedModules first.device.live.rest.real.modules.items
+  real = subst (λ (d : State F). AreSizedModules d.live.rest.real.modules.items) (sym of_device) sized
 
   known_first : AreKnown device.live.rest.diagnoses → AreKnown first.device.live.rest.diagnoses
   known_first are = subst (λ (d : State F). AreKnown d.live.rest.diagnoses) (sym of_device) are
@@ -122,17 +122,17 @@ module _ {F : Type 0} {S : ℕ} (as_flash : Flash F S) (setup : Setup) (identity
         relation = laws.relation meets first run begun made;
         zeros = laws.zeros meets first run begun made;
         values = λ link is some. subst (λ (i : Identity). AreOfOneFrame setup i first run link) (sym known) (laws.values meets first run begun made link is some);
-        front = laws.front meets first run begun made real;
-        lacks = laws.lacks meets first run begun made real;
-        shown = laws.shown meets first run begun made real;
-        alarm = laws.alarm meets first run begun made real;
-        reports = laws.reports meets first run begun made real;
-        reported_last = laws.reported_last meets first run begun made real;
-        told = λ are. laws.told meets first run begun made real (known_first are) moves_sized;
-        list = λ are. laws.list meets first run begun made real (known_first are) moves_sized;
+        front = laws.front meets first run begun made real moves_sized;
+        lacks = laws.lacks meets first run begun made real moves_sized;
+        shown = laws.shown meets first run begun made real moves_sized;
+        alarm = laws.alarm meets first run begun made real moves_sized;
+        reports = laws.reports meets first run begun made real moves_sized;
+        reported_last = laws.reported_last meets first run begun made real moves_sized;
+        told = λ are. laws.told meets first run begun made real moves_sized (known_first are);
+        list = λ are. laws.list meets first run begun made real moves_sized (known_first are);
         station = laws.station meets first run begun made ∙ ap (λ (d : State F). d.station) of_device;
         others = λ activity other none. laws.others meets first run begun made activity other (ap (λ (d : State F). kept_of activity d.live.rest.calls) of_device ∙ none);
-        known = λ are. laws.known meets first run begun made real (known_first are) moves_sized;
+        known = λ are. laws.known meets first run begun made real moves_sized (known_first are);
       })
 
   pub cut_so : (moves : List Move) (last : World F) → AllByRecursion IsSizedMove moves → ((count : ℕ) × (count < length moves) × Played as_flash first (take count moves) last) → IsBegunAndCut as_flash setup device moves last

@@ -54,7 +54,8 @@ use Rattle.controller_core.specs.stored.State.{Live as ControllerLive}
 use Rattle.end_laws.specs.turns.Alarms.{IsQuiet, Relation, Move, AlarmComes, Hears, PassesAtController, Gives, GivesStatus, Reads, Stops, Writes, alarm_comes, behind, behind_one, is_looked_at, is_priority, report_as, start, turns}
 use Rattle.end_laws.specs.both.Small as small
 use Rattle.end_laws.specs.both.Small.{Rules, ToDevice}
-use Rattle.end_laws.specs.both.Steps.{DeviceSteps}
+use Rattle.end_laws.specs.both.Steps.{DeviceSteps, Forgets, GoesBy}
+use Rattle.end_laws.specs.device.Orderly.{IsOrderlyIn}
 use Rattle.end_laws.specs.device.Owed.{IsOfKept, IsOwed}
 use Rattle.end_laws.specs.device.Small.{IsHeardAs, IsPlanned, IsPlannedAs, IsPlannedCall, heard_as, kept_in, link_of, small_of}
 use Rattle.end_laws.specs.device.Small as ends
@@ -140,8 +141,10 @@ pub record Follows (priority : Priority) (setup : Setup) (station : Station) (li
   -- the addresses differ, and the numbers have their sizes
   pub good : IsSetup setup
   pub apart : station.identity.mac ≡ setup.plan.controller.mac → ⊥
-  pub real : AreSizedModules station.real.modules.items
-  pub sized : AreSizedIn (request_for setup.plan setup.ar) live.rest.link
+  pub real : AreSizedModules live.rest.real.modules.items
+  pub sized : AreSizedIn live.rest.real.modules.items (request_for setup.plan setup.ar) live.rest.link
+  -- the relation of the device is in order
+  pub orderly : IsOrderlyIn live.rest.link
   pub lives : IsLive controlling
   pub placed : IsPlaced station.identity.mac controlling
 
@@ -163,7 +166,7 @@ module _ (rules : Rules TakenRecord Request) where
   kept_is P (small.Call sequence ask) before after frames (inr (inl repeats)) was all answer is = was answer (ap (λ (d : Small). d.kept) (sym repeats.unchanged) ∙ is)
   kept_is P (small.Call sequence ask) before after frames (inr (inr rests)) was all answer is = was answer (ap (λ (d : Small). d.kept) (sym rests.0) ∙ is)
   kept_is P small.Confirms before after frames (inl confirms) was all answer is = was answer (ap (λ (d : Small). d.kept) (sym confirms.becomes) ∙ is)
-  kept_is P small.Confirms before after frames (inr rests) was all answer is = was answer (ap (λ (d : Small). d.kept) (sym rests.0) ∙ is)
+  kept_is P small.Confirms before after frames (inr goes) was all answer is = was answer (sym goes.keeps ∙ is)
   kept_is P small.Idle before after frames goes was all answer is = was answer (sym goes.keeps ∙ is)
 
   -- if no response is stored after a step, none was before
@@ -172,8 +175,18 @@ module _ (rules : Rules TakenRecord Request) where
   none_kept (small.Call sequence ask) before after frames (inr (inl repeats)) none = ap (λ (d : Small). d.kept) (sym repeats.unchanged) ∙ none
   none_kept (small.Call sequence ask) before after frames (inr (inr rests)) none = ap (λ (d : Small). d.kept) (sym rests.0) ∙ none
   none_kept small.Confirms before after frames (inl confirms) none = ap (λ (d : Small). d.kept) (sym confirms.becomes) ∙ none
-  none_kept small.Confirms before after frames (inr rests) none = ap (λ (d : Small). d.kept) (sym rests.0) ∙ none
+  none_kept small.Confirms before after frames (inr goes) none = sym goes.keeps ∙ none
   none_kept small.Idle before after frames goes none = sym goes.keeps ∙ none
+
+  -- something goes by
+  linked_by : (before after : Small) (frames : List (List ℕ)) → GoesBy rules before after frames
+      → ((link : small.RelationState TakenRecord Request) → before.link ≡ Some link → before.kept ≡ None → ⊥) → (link : small.RelationState TakenRecord Request) → after.link ≡ Some link → after.kept ≡ None → ⊥
+  linked_by before after frames goes was link is none = by_link goes.link
+    where
+      by_link : (after.link ≡ before.link) ⊎ ((after.link ≡ None) ⊎ Forgets before.link after.link) → ⊥
+      by_link (inl same) = was link (sym same ∙ is) (sym goes.keeps ∙ none)
+      by_link (inr (inl gone)) = none_some link after.link gone is
+      by_link (inr (inr forgets)) = was forgets.link forgets.was (sym goes.keeps ∙ none)
 
   -- if there is a relation, a response is stored
   linked_on : (heard : ToDevice) (before after : Small) (frames : List (List ℕ)) → DeviceSteps rules heard before after frames
@@ -184,12 +197,8 @@ module _ (rules : Rules TakenRecord Request) where
   linked_on (small.Call sequence ask) before after frames (inr (inr rests)) was link is none =
       was link (ap (λ (d : Small). d.link) (sym rests.0) ∙ is) (ap (λ (d : Small). d.kept) (sym rests.0) ∙ none)
   linked_on small.Confirms before after frames (inl confirms) was link is none = was confirms.link confirms.was (ap (λ (d : Small). d.kept) (sym confirms.becomes) ∙ none)
-  linked_on small.Confirms before after frames (inr rests) was link is none = was link (ap (λ (d : Small). d.link) (sym rests.0) ∙ is) (ap (λ (d : Small). d.kept) (sym rests.0) ∙ none)
-  linked_on small.Idle before after frames goes was link is none = by_link goes.link
-    where
-      by_link : (after.link ≡ before.link) ⊎ (after.link ≡ None) → ⊥
-      by_link (inl same) = was link (sym same ∙ is) (sym goes.keeps ∙ none)
-      by_link (inr gone) = none_some link after.link gone is
+  linked_on small.Confirms before after frames (inr goes) was link is none = linked_by before after frames goes was link is none
+  linked_on small.Idle before after frames goes was link is none = linked_by before after frames goes was link is none
 
 -- ---- the device
 
@@ -233,7 +242,7 @@ module _ (priority : Priority) (setup : Setup) (station : Station) (live : Live)
   abbrev rules : Rules TakenRecord Request
   rules = rules_of setup station
 
-  module _ (heard : Heard) (planned : IsPlanned rules setup.activity station.real heard)
+  module _ (heard : Heard) (planned : IsPlanned rules setup.activity live.rest.real heard)
       (first : (sequence : ℕ) → heard_as (is_planned setup) heard ≡ small.Call sequence small.Connects → sequence ≡ 0)
       (late : (sequence : ℕ) → heard_as (is_planned setup) heard ≡ small.Call sequence small.Accesses → kept_at setup live ≡ None → ⊥) where
     pub unlinked : (link : Option RelationState) → live.rest.link ≡ link → kept_at setup live ≡ None → live.rest.link ≡ None
@@ -245,7 +254,7 @@ module _ (priority : Priority) (setup : Setup) (station : Station) (live : Live)
         → looked call.header.activity call.header.sequence live.rest.calls ≡ new
         → (live.rest.link ≡ None) × (heard_as (is_planned setup) heard ≡ small.Call call.header.sequence small.Accesses → ⊥)
     unlinked_new caller address call is zero_is fresh =
-        let plan : IsPlannedCall rules setup.activity station.real call = subst (λ (h : Heard). IsPlanned rules setup.activity station.real h) is planned in
+        let plan : IsPlannedCall rules setup.activity live.rest.real call = subst (λ (h : Heard). IsPlanned rules setup.activity live.rest.real h) is planned in
         let reported : reported_by 0 (kept_of setup.activity live.rest.calls) ≡ new =
         ap (λ (n : ℕ). reported_by n (kept_of setup.activity live.rest.calls)) (sym zero_is)
         ∙ (ap (λ (a : List ℕ). reported_by call.header.sequence (kept_of a live.rest.calls)) (sym plan.own) ∙ fresh) in
@@ -255,14 +264,14 @@ module _ (priority : Priority) (setup : Setup) (station : Station) (live : Live)
     -- a relation that is made now is the first one, and that of the plan
     pub makes_planned : (after : Option RelationState) (messages : List Sent) (makes : Makes live.rest.calls live.rest.link heard after messages) → (kept_at setup live ≡ None) × (makes.request ≡ rules.request)
     makes_planned after messages makes =
-        let plan : IsPlannedCall rules setup.activity station.real makes.call = subst (λ (h : Heard). IsPlanned rules setup.activity station.real h) makes.is planned in
+        let plan : IsPlannedCall rules setup.activity live.rest.real makes.call = subst (λ (h : Heard). IsPlanned rules setup.activity live.rest.real h) makes.is planned in
         let zero_is : makes.call.header.sequence ≡ 0 = first makes.call.header.sequence (ap (heard_as (is_planned setup)) makes.is ∙ ap (λ (o : Option Operation). ends.asked_by (is_planned setup) makes.call.header.sequence (unwrap_or makes.call.blocks []) o) makes.connects) in
         let fresh : reported_by 0 (kept_of setup.activity live.rest.calls) ≡ new =
         ap (λ (n : ℕ). reported_by n (kept_of setup.activity live.rest.calls)) (sym zero_is)
         ∙ (ap (λ (a : List ℕ). reported_by makes.call.header.sequence (kept_of a live.rest.calls)) (sym plan.own) ∙ makes.fresh) in
         let unkept : kept_at setup live ≡ None = ap (λ (k : Option Answer). option_map kept_in k) (new_none (kept_of setup.activity live.rest.calls) fresh) in
-        let asks : IsPlannedAs rules station.real makes.call.header.sequence plan.blocks (Some operation.Connect) =
-        subst (λ (o : Option Operation). IsPlannedAs rules station.real makes.call.header.sequence plan.blocks o) makes.connects plan.asks in
+        let asks : IsPlannedAs rules live.rest.real makes.call.header.sequence plan.blocks (Some operation.Connect) =
+        subst (λ (o : Option Operation). IsPlannedAs rules live.rest.real makes.call.header.sequence plan.blocks o) makes.connects plan.asks in
         let same : plan.blocks ≡ makes.blocks = some_is plan.blocks makes.blocks (sym plan.counted ∙ makes.counted) in
         let reads : connect_of live.rest.link makes.blocks ≡ Ok rules.request =
         ap (λ (l : Option RelationState). connect_of l makes.blocks) (unlinked live.rest.link refl unkept) ∙ (ap (λ (b : List ℕ). connect_of None b) (sym same) ∙ asks) in
@@ -280,7 +289,9 @@ module _ (priority : Priority) (setup : Setup) (station : Station) (live : Live)
         (noted : AllByRecursion (IsNotedAs setup station.identity) (heard_step outcomes station live heard).sent)
         (well : AllByRecursion (IsWellSent setup station.identity) (heard_step outcomes station live heard).sent)
         (goes : Goes priority setup follows.relation live.rest.link (heard_step outcomes station live heard).live.rest.link (heard_step outcomes station live heard).sent now)
-        (sized : AreSizedIn (request_for setup.plan setup.ar) (heard_step outcomes station live heard).live.rest.link) where
+        (real : AreSizedModules (heard_step outcomes station live heard).live.rest.real.modules.items)
+        (sized : AreSizedIn (heard_step outcomes station live heard).live.rest.real.modules.items (request_for setup.plan setup.ar) (heard_step outcomes station live heard).live.rest.link)
+        (orderly : IsOrderlyIn (heard_step outcomes station live heard).live.rest.link) where
       abbrev r : Relation
       r = follows.relation
 
@@ -293,7 +304,7 @@ module _ (priority : Priority) (setup : Setup) (station : Station) (live : Live)
       -- the frame of a repeated response
       again_in : (frame : List ℕ) → IsOfKept heard live frame → IsIn priority setup station.identity next frame
       again_in frame owed_so =
-          let plan : IsPlannedCall rules setup.activity station.real owed_so.call = subst (λ (h : Heard). IsPlanned rules setup.activity station.real h) owed_so.is planned in
+          let plan : IsPlannedCall rules setup.activity live.rest.real owed_so.call = subst (λ (h : Heard). IsPlanned rules setup.activity live.rest.real h) owed_so.is planned in
           let kept : kept_of setup.activity live.rest.calls ≡ Some owed_so.kept = ap (λ (a : List ℕ). kept_of a live.rest.calls) (sym plan.own) ∙ owed_so.there in
           subst (λ (f : List ℕ). IsIn priority setup station.identity next f) owed_so.same
           (stays owed_so.kept.frame (follows.again (kept_in owed_so.kept) (ap (λ (k : Option Answer). option_map kept_in k) kept)))
@@ -332,7 +343,7 @@ module _ (priority : Priority) (setup : Setup) (station : Station) (live : Live)
       -- while no response is stored, the frames of the device are early ones
       message_early : kept_at setup live ≡ None → (message : Sent) → IsOwed heard live message → IsHeardAs rules station.identity message → IsEarlyFrame setup station (bytes_of station.identity message)
       message_early none (Again frame) owed_so heard_so =
-          let plan : IsPlannedCall rules setup.activity station.real owed_so.call = subst (λ (h : Heard). IsPlanned rules setup.activity station.real h) owed_so.is planned in
+          let plan : IsPlannedCall rules setup.activity live.rest.real owed_so.call = subst (λ (h : Heard). IsPlanned rules setup.activity live.rest.real h) owed_so.is planned in
           let kept : kept_of setup.activity live.rest.calls ≡ Some owed_so.kept = ap (λ (a : List ℕ). kept_of a live.rest.calls) (sym plan.own) ∙ owed_so.there in
           absurd (none_some (kept_in owed_so.kept) (kept_at setup live) none (ap (λ (k : Option Answer). option_map kept_in k) kept))
       message_early none (ReadyCall address ready) owed_so heard_so =
@@ -382,8 +393,9 @@ module _ (priority : Priority) (setup : Setup) (station : Station) (live : Live)
                 (until.0, each_behind (IsEarlyFrame setup station) sent step.frames until.1 (frames_early was));
             good = follows.good;
             apart = follows.apart;
-            real = follows.real;
+            real = real;
             sized = sized;
+            orderly = orderly;
             lives = follows.lives;
             placed = follows.placed;
           }
@@ -659,6 +671,7 @@ module _ (priority : Priority) (setup : Setup) (station : Station) (live : Live)
         apart = follows.apart;
         real = follows.real;
         sized = follows.sized;
+        orderly = follows.orderly;
         lives = lives;
         placed = placed_so;
       }

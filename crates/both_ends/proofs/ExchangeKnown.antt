@@ -3,14 +3,24 @@ use Rattle.std.proofs.Common.{◌≡◌, ◌==◌, ◌&&◌, ◌||◌, ◌++◌,
 use Rattle.std.specs.Prelude.{nat_le, nat_lt}
 use Rattle.std.specs.List.{filter, list_any}
 use Rattle.std.proofs.lemmas.Bool.{and_parts, eqb-true, false≢true, leb-true, lt-ltb, ltb-true, not-true}
+use Rattle.std.proofs.lemmas.List.{length-append}
 use Rattle.std.proofs.lemmas.List.Elements.{filter-append}
 use Rattle.std.proofs.lemmas.List.Filters.{length-filter_both}
-use Rattle.diagnosis.specs.Existing.{changed, exists, is_at, is_same, is_valid, others, with_one, without}
+use Rattle.diagnosis.specs.Existing.{changed, exists, is_at, is_same, is_valid, others, remaining, with_one, without}
 use Rattle.diagnosis.specs.Notices.{first_notice}
 use Rattle.diagnosis.specs.declared.diagnosis.Change.{Change}
 use Rattle.diagnosis.specs.declared.diagnosis.Diagnosis.{Diagnosis}
 use Rattle.diagnosis.specs.reported.Followed.{at_places}
-use Rattle.both_ends.specs.exchange.Told.{AreKnown, AreNew, IsNew, IsStep, Leads, change_in}
+use Rattle.both_ends.specs.exchange.Told.{AreKnown, AreNew, AreOwn, IsNew, IsOwnChange, IsStep, Leads, change_in, reaches_at}
+use Rattle.pn_values.specs.declared.real.RealModule.{RealModule}
+use Rattle.module_diff.specs.declared.changes.Affected.{Affected}
+use Rattle.module_diff.specs.Changes.{covers}
+use Rattle.diagnosis.specs.Queue.{diagnosis_queued, reach_of}
+use Rattle.diagnosis.specs.declared.module_change.ModuleChange.{ModuleChange}
+use Rattle.diagnosis.specs.declared.queue.LowChange.{LowChange}
+use Rattle.diagnosis.specs.declared.queue.LowChange.TheVariants as change_is
+use Rattle.diagnosis.specs.declared.queue.QueuedAlarm.{QueuedAlarm}
+use Rattle.both_ends.proofs.ExchangeOwn.{any_append}
 
 -- a change elsewhere changes nothing at these submodules: a law of the crate below
 abbrev pub ElsewhereSo : Type 0
@@ -131,23 +141,28 @@ changed_channel change before after e all = by_test change.appears e
 
 -- ---- what exists, as changes
 
+-- what waits for these diagnoses as data exchange begins
+abbrev pub first_queued : List RealModule → List Diagnosis → List QueuedAlarm
+first_queued real diagnoses = map (diagnosis_queued real) (map first_notice diagnoses)
+
 -- the diagnoses at these submodules appeared there one after the other
-pub rebuilt : ElsewhereSo → (has : ℕ → ℕ → Bool) (before diagnoses : List Diagnosis) → AreNew before diagnoses
-    → Leads has (map change_in (map first_notice (at_places has diagnoses))) (at_places has before) (at_places has (before ++ diagnoses))
-rebuilt elsewhere has before [] new = ap (at_places has) (sym (append-nil before))
-rebuilt elsewhere has before (one ∷ diagnoses) new = by_place (has one.slot one.subslot) refl (later (rebuilt elsewhere has (before ++ one ∷ []) diagnoses new.1))
+pub rebuilt : ElsewhereSo → (real : List RealModule) (has : ℕ → ℕ → Bool) (before diagnoses : List Diagnosis) → AreNew before diagnoses
+    → Leads (map change_in (first_queued real (at_places has diagnoses))) (at_places has before) (at_places has (before ++ diagnoses))
+rebuilt elsewhere real has before [] new = ap (at_places has) (sym (append-nil before))
+rebuilt elsewhere real has before (one ∷ diagnoses) new = by_place (has one.slot one.subslot) refl (later (rebuilt elsewhere real has (before ++ one ∷ []) diagnoses new.1))
   where
-    later : Leads has (map change_in (map first_notice (at_places has diagnoses))) (at_places has (before ++ one ∷ [])) (at_places has ((before ++ one ∷ []) ++ diagnoses))
-        → Leads has (map change_in (map first_notice (at_places has diagnoses))) (at_places has (before ++ one ∷ [])) (at_places has (before ++ one ∷ diagnoses))
+    later : Leads (map change_in (first_queued real (at_places has diagnoses))) (at_places has (before ++ one ∷ [])) (at_places has ((before ++ one ∷ []) ++ diagnoses))
+        → Leads (map change_in (first_queued real (at_places has diagnoses))) (at_places has (before ++ one ∷ [])) (at_places has (before ++ one ∷ diagnoses))
     later rest =
-        subst (λ (xs : List Diagnosis). Leads has (map change_in (map first_notice (at_places has diagnoses))) (at_places has (before ++ one ∷ [])) (at_places has xs)) (append_assoc before (one ∷ []) diagnoses) rest
+        subst (λ (xs : List Diagnosis). Leads (map change_in (first_queued real (at_places has diagnoses))) (at_places has (before ++ one ∷ [])) (at_places has xs)) (append_assoc before (one ∷ []) diagnoses) rest
 
     by_place : (b : Bool) → has one.slot one.subslot ≡ b
-        → Leads has (map change_in (map first_notice (at_places has diagnoses))) (at_places has (before ++ one ∷ [])) (at_places has (before ++ one ∷ diagnoses))
-        → Leads has (map change_in (map first_notice (cond b (one ∷ at_places has diagnoses) (at_places has diagnoses)))) (at_places has before) (at_places has (before ++ one ∷ diagnoses))
+        → Leads (map change_in (first_queued real (at_places has diagnoses))) (at_places has (before ++ one ∷ [])) (at_places has (before ++ one ∷ diagnoses))
+        → Leads (map change_in (first_queued real (cond b (one ∷ at_places has diagnoses) (at_places has diagnoses)))) (at_places has before) (at_places has (before ++ one ∷ diagnoses))
     by_place true e rest = (
       at_places has (before ++ one ∷ []),
       record {
+        has = has;
         before = before;
         after = before ++ one ∷ [];
         own = e;
@@ -160,11 +175,76 @@ rebuilt elsewhere has before (one ∷ diagnoses) new = by_place (has one.slot on
       rest,
     )
     by_place false e rest =
-        subst (λ (xs : List Diagnosis). Leads has (map change_in (map first_notice (at_places has diagnoses))) xs (at_places has (before ++ one ∷ diagnoses)))
+        subst (λ (xs : List Diagnosis). Leads (map change_in (first_queued real (at_places has diagnoses))) xs (at_places has (before ++ one ∷ diagnoses)))
         (elsewhere has (record { diagnosis = one; appears = true }) before (before ++ one ∷ []) e (changed_new before one new.0)) rest
 
 -- ---- changes one after the other
 
-pub one_more : (has : ℕ → ℕ → Bool) (changes : List Change) (change : Change) (from middle last : List Diagnosis) → Leads has changes from middle → IsStep has change middle last → Leads has (changes ++ change ∷ []) from last
-one_more has [] change from middle last leads step = (last, subst (λ (xs : List Diagnosis). IsStep has change xs last) (sym leads) step, refl)
-one_more has (first ∷ changes) change from middle last leads step = (leads.0, leads.1, one_more has changes change leads.0 middle last leads.2 step)
+pub one_more : (changes : List LowChange) (change : LowChange) (from middle last : List Diagnosis) → Leads changes from middle → IsStep change middle last → Leads (changes ++ change ∷ []) from last
+one_more [] change from middle last leads step = (last, subst (λ (xs : List Diagnosis). IsStep change xs last) (sym leads) step, refl)
+one_more (first ∷ changes) change from middle last leads step = (leads.0, leads.1, one_more changes change leads.0 middle last leads.2 step)
+
+pub all_more : (changes more : List LowChange) (from middle last : List Diagnosis) → Leads changes from middle → Leads more middle last → Leads (changes ++ more) from last
+all_more [] more from middle last leads later = subst (λ (xs : List Diagnosis). Leads more xs last) (sym leads) later
+all_more (first ∷ changes) more from middle last leads later = (leads.0, leads.1, all_more changes more leads.0 middle last leads.2 later)
+
+-- ---- the submodules of the changes
+
+any_parts : {A : Type 0} (test : A → Bool) (xs ys : List A) → list_any test (xs ++ ys) ≡ false → (list_any test xs ≡ false) × (list_any test ys ≡ false)
+any_parts test xs ys e = or_false (list_any test xs) (list_any test ys) (sym (any_append test xs ys) ∙ e)
+
+-- more changes at these submodules
+pub own_append : (has : ℕ → ℕ → Bool) (changes more : List LowChange) → AreOwn has changes → AreOwn has more → AreOwn has (changes ++ more)
+own_append has [] more all others = others
+own_append has (first ∷ changes) more all others = (one first all.0, own_append has changes more all.1 others)
+  where
+    one : (change : LowChange) → IsOwnChange has changes change → IsOwnChange has (changes ++ more) change
+    one (change_is.Diagnosis change) own = λ none. own (any_parts (reaches_at change.diagnosis.slot change.diagnosis.subslot) changes more none).0
+    one (change_is.Module made) own = tt
+
+-- the submodules are the same but for those that a pull or a plug reaches
+pub own_changed : (has now : ℕ → ℕ → Bool) (made : ModuleChange) → ((slot subslot : ℕ) → covers (reach_of made) slot subslot ≡ false → now slot subslot ≡ has slot subslot)
+    → (changes : List LowChange) → AreOwn has changes → AreOwn now (changes ++ change_is.Module made ∷ [])
+own_changed has now made same [] all = (tt, tt)
+own_changed has now made same (first ∷ changes) all = (one first all.0, own_changed has now made same changes all.1)
+  where
+    one : (change : LowChange) → IsOwnChange has changes change → IsOwnChange now (changes ++ change_is.Module made ∷ []) change
+    one (change_is.Diagnosis change) own = λ none.
+        let parts = any_parts (reaches_at change.diagnosis.slot change.diagnosis.subslot) changes (change_is.Module made ∷ []) none in
+        same change.diagnosis.slot change.diagnosis.subslot (or_false (covers (reach_of made) change.diagnosis.slot change.diagnosis.subslot) false parts.1).0 ∙ own parts.0
+    one (change_is.Module other) own = tt
+
+-- all submodules are the same
+pub own_same : (has now : ℕ → ℕ → Bool) → ((slot subslot : ℕ) → now slot subslot ≡ has slot subslot) → (changes : List LowChange) → AreOwn has changes → AreOwn now changes
+own_same has now same [] all = tt
+own_same has now same (first ∷ changes) all = (one first all.0, own_same has now same changes all.1)
+  where
+    one : (change : LowChange) → IsOwnChange has changes change → IsOwnChange now changes change
+    one (change_is.Diagnosis change) own = λ none. same change.diagnosis.slot change.diagnosis.subslot ∙ own none
+    one (change_is.Module made) own = tt
+
+-- what waits for the diagnoses at these submodules
+pub first_own : (real : List RealModule) (has : ℕ → ℕ → Bool) (diagnoses : List Diagnosis) → AreOwn has (map change_in (first_queued real (at_places has diagnoses)))
+first_own real has [] = tt
+first_own real has (one ∷ diagnoses) = by_has (has one.slot one.subslot) refl (first_own real has diagnoses)
+  where
+    by_has : (b : Bool) → has one.slot one.subslot ≡ b → AreOwn has (map change_in (first_queued real (at_places has diagnoses)))
+        → AreOwn has (map change_in (first_queued real (cond b (one ∷ at_places has diagnoses) (at_places has diagnoses))))
+    by_has true e rest = (λ none. e, rest)
+    by_has false e rest = rest
+
+-- ---- what was pulled
+
+-- the diagnoses elsewhere appeared one after the other
+pub remaining_known : (affected : Affected) (diagnoses : List Diagnosis) → AreKnown diagnoses → AreKnown (remaining affected diagnoses)
+remaining_known affected diagnoses all = all_less (λ diagnosis. not (covers affected diagnosis.slot diagnosis.subslot)) [] diagnoses all
+
+-- there are at most 32: with each fewer than 32 were there before it
+pub known_few : (start diagnoses : List Diagnosis) → length start ≤ 32 → AreNew start diagnoses → length (start ++ diagnoses) ≤ 32
+known_few start [] few all = subst (λ (xs : List Diagnosis). length xs ≤ 32) (sym (append-nil start)) few
+known_few start (one ∷ diagnoses) few all =
+    subst (λ (xs : List Diagnosis). length xs ≤ 32) (append_assoc start (one ∷ []) diagnoses)
+    (known_few (start ++ one ∷ []) diagnoses (one_longer start one all.0.few) all.1)
+  where
+    one_longer : (xs : List Diagnosis) (x : Diagnosis) → length xs < 32 → length (xs ++ x ∷ []) ≤ 32
+    one_longer xs x less = let long = length-append xs (x ∷ []) in omega (arith, less, long)

@@ -1,114 +1,186 @@
--- The changes of diagnosis that a device reported, and those that wait, lead to the diagnoses that it has.
-use Rattle.std.proofs.Common.{◌≡◌, ◌⊎◌, inl, inr, ◌&&◌, ◌++◌, ◌<◌, ℕ, Bool, true, false, cond, List, [], ◌∷◌, length, map, Option, Some, None, option_map, refl, sym, ap, subst, ◌∙◌, append-nil, append_assoc}
-use Rattle.std.specs.Prelude.{nat_le, nat_lt, unwrap_or}
-use Rattle.std.proofs.lemmas.Bool.{and_parts, false≢true, leb-false, lt-ltb, true≢false}
-use Rattle.std.proofs.lemmas.List.{map-append}
+-- The changes that a device reported by alarms of low priority, and those that wait, lead to the diagnoses that it has.
+use Rattle.std.proofs.Common.{◌≡◌, ◌⊎◌, inl, inr, ◌&&◌, ◌||◌, ◌==◌, ◌++◌, ◌-◌, ◌<◌, ◌≤◌, ℕ, Bool, true, false, cond, List, [], ◌∷◌, length, map, Option, Some, None, option_map, refl, sym, ap, subst, ◌∙◌, not, append-nil, append_assoc, arith}
+use Rattle.std.specs.Prelude.{is_some, nat_le, nat_lt, unwrap_or}
+use Rattle.std.specs.List.{list_any}
+use Rattle.std.proofs.lemmas.Bool.{and_parts, false≢true, leb-false, lt-ltb, or_parts, true≢false}
+use Rattle.std.proofs.lemmas.List.{length-append, length-map, map-append, take_all}
+use Rattle.std.proofs.lemmas.List.Filters.{length-filter_both}
 use Rattle.pn_values.specs.declared.real.RealModule.{RealModule}
 use Rattle.record_blocks.specs.declared.alarm_notification.AlarmNotification.{AlarmNotification}
 use Rattle.rpc_core.specs.Cache.{Kept as Answer}
-use Rattle.diagnosis.specs.Existing.{changed}
-use Rattle.diagnosis.specs.Notices.{notice_of}
+use Rattle.diagnosis.specs.Existing.{changed, remaining}
+use Rattle.diagnosis.specs.Notices.{first_notice, notice_of}
 use Rattle.diagnosis.specs.declared.diagnosis.Change.{Change}
 use Rattle.diagnosis.specs.declared.diagnosis.Diagnosis.{Diagnosis}
-use Rattle.diagnosis.specs.declared.notice.Notice.{Notice}
-use Rattle.diagnosis.specs.alarms.Alarms.{Low, after_next, alarm_of, begun, is_full as is_low_full, is_reported, noted, waits_with}
+use Rattle.diagnosis.specs.declared.module_change.ModuleChange.{ModuleChange}
+use Rattle.diagnosis.specs.declared.module_change.ModuleChangeKind.{ModuleChangeKind}
+use Rattle.diagnosis.specs.declared.module_change.ModuleChangeKind.TheVariants as kind_is
+use Rattle.diagnosis.specs.declared.queue.LowChange.{LowChange}
+use Rattle.diagnosis.specs.declared.queue.LowChange.TheVariants as change_is
+use Rattle.diagnosis.specs.declared.queue.QueuedAlarm.{QueuedAlarm}
+use Rattle.diagnosis.specs.alarms.Alarms.{Low, is_full as is_low_full, noted}
+use Rattle.diagnosis.specs.Queue.{after_next, alarm_of, begun, diagnosis_queued, is_reported, kind_type, module_queued, module_waits, queued, reach_of, waits_with}
 use Rattle.diagnosis.specs.alarms.Own.{is_own}
 use Rattle.diagnosis.specs.declared.alarms.own.Place.{Place}
+use Rattle.module_diff.specs.Changes.{affected_by, covers}
+use Rattle.module_diff.specs.Diff.{is_listed}
+use Rattle.module_diff.specs.Plugged.{module_ident, submodule_ident}
 use Rattle.pn_alarms.specs.declared.message.Notice.TheVariants as notice
 use Rattle.pn_alarms.specs.Device.{end_with}
+use Rattle.pn_alarms.specs.Ends.{DeviceEnd}
 use Rattle.diagnosis.specs.declared.reports.report.Report.{Report}
-use Rattle.relations.specs.exchange.Diagnosis.{behind_low, diagnosed, diagnoses_begun, next_reported, with_low}
+use Rattle.expected_places.specs.Machine.{is_hit}
+use Rattle.relations.specs.exchange.Diagnosis.{diagnosed}
 use Rattle.relations.specs.exchange.Flow.{Flow}
-use Rattle.relations.specs.Diagnosed.{diagnosing, is_full_in}
+use Rattle.relations.specs.exchange.Modules.{modules_restated}
+use Rattle.relations.specs.Diagnosed.{diagnosing, has_sent_low, is_full_in}
+use Rattle.relations.specs.Plugging.{asks, flow_then, is_crowded, low_changed, modules_changing, places_then, reported_as, rows_now, sent_then}
 use Rattle.relations.specs.RelationState.{RelationState, is_exchanging}
 use Rattle.relations.specs.Phases.{exchanging_from, made_of, updated, with_flow}
 use Rattle.relations.specs.Timers.{unit_later}
 use Rattle.device_frames.specs.Heard.{Heard}
 use Rattle.device_frames.specs.Sent.{Sent}
+use Rattle.diagnosis.specs.declared.reported.channel.ChannelReport.{ChannelReport}
+use Rattle.diagnosis.specs.reported.Channel.{channel, channel_by, channel_report, is_channel_structure, report_by}
 use Rattle.diagnosis.specs.reported.Followed.{Reports, at_places}
-use Rattle.diagnosis.specs.reported.Reported.{Reported, after_report}
+use Rattle.diagnosis.specs.reported.Reported.{Reported, after_found, after_report}
 use Rattle.end_laws.specs.turns.Alarms.{after_reports, report_as}
 use Rattle.diagnosis.specs.declared.reports.priority.Priority.TheVariants.{Low as low_priority}
-use Rattle.end_laws.specs.device.Turn.{Begins, Diagnoses, HearsLowData, Makes, change_heard}
+use Rattle.end_laws.specs.device.Orderly.{keys_of}
+use Rattle.end_laws.specs.device.Turn.{Begins, Changes, Diagnoses, HearsLowData, Makes, Standing, change_heard, heard_low_in}
+use Rattle.end_laws.proofs.DeviceOrderly.{after_keys, changed_keys, changed_standing}
 use Rattle.both_ends.specs.exchange.Over.{number_in, reported_by}
-use Rattle.both_ends.specs.exchange.Told.{AreKnown, AreReports, IsStep, IsTold, Leads, change_in}
-use Rattle.both_ends.proofs.ExchangeKnown.{ElsewhereSo, changed_channel, changed_known, one_more, rebuilt}
+use Rattle.both_ends.specs.exchange.Told.{AreKnown, AreOwn, AreReports, IsModuleStep, IsReport, IsStep, IsTold, Leads, ReportsModule, change_in, is_pull}
+use Rattle.both_ends.proofs.ExchangeKnown.{ElsewhereSo, all_more, changed_channel, changed_known, first_own, first_queued, known_few, one_more, own_append, own_changed, own_same, rebuilt, remaining_known}
 use Rattle.both_ends.proofs.ExchangeLists.{none_some, some_is}
 use Rattle.both_ends.proofs.ExchangeLowTied.{ack_last, data_last, reported_next, reported_same}
-use Rattle.both_ends.proofs.ExchangeNextTold.{IsNextTold, NextIs, next_is}
-use Rattle.both_ends.proofs.ExchangeTied.{may_be, way_before}
+use Rattle.both_ends.proofs.ExchangeNextTold.{IsNextTold, NextIs, after_places, next_is}
+use Rattle.both_ends.proofs.ExchangeOwn.{empty_own, hit_by_keys, is_expected, missed, not_own, own_places, same_own}
+use Rattle.both_ends.proofs.ExchangeStated.{IsModules, IsStated, all_remain, later_keys, modules_so, places_remain, same_stated}
+use Rattle.both_ends.proofs.ExchangeTied.{begun_keys, begun_link, changed_link, diagnosed_keys, diagnosed_link, may_be, next_keys, next_link, way_before}
 use Rattle.both_ends.proofs.ExchangeTurns.{IsSameOr, IsTurn, Way, way_of}
-use Rattle.module_diff.specs.Plugged.{module_ident, submodule_ident}
 
 -- ---- what was reported
 
 abbrev own_of : Low → ℕ → ℕ → Bool
 own_of low = is_own low.places
 
--- that is so while data is exchanged; before that, nothing was reported, and nothing waits
-pub record Knows (link : Option RelationState) (diagnoses : List Diagnosis) (raised : List AlarmNotification) : Type 0 where
+-- before data is exchanged, nothing was reported, and only pulls and plugs wait
+pub record IsWaiting (low : Low) (raised : List AlarmNotification) : Type 0 where
+  pub none : raised ≡ []
+  pub unsent : low.alarms.sender.sending.last ≡ None
+  pub few : length low.waiting ≤ 32
+  pub leads : Leads (map change_in low.waiting) [] []
+  pub own : (has : ℕ → ℕ → Bool) → AreOwn has (map change_in low.waiting)
+
+-- while it is, what was reported, and what waits, lead to the diagnoses
+pub record Knows (real : List RealModule) (link : Option RelationState) (diagnoses : List Diagnosis) (raised : List AlarmNotification) : Type 0 where
   pub known : AreKnown diagnoses
   pub begins : (l : RelationState) → link ≡ Some l → l.flow.cyclic.begun ≡ is_exchanging l.phase
-  pub before : (l : RelationState) → link ≡ Some l → is_exchanging l.phase ≡ false → (raised ≡ []) × (l.flow.low.waiting ≡ [])
+  pub stated : (l : RelationState) → link ≡ Some l → IsStated real l
+  pub before : (l : RelationState) → link ≡ Some l → is_exchanging l.phase ≡ false → IsWaiting l.flow.low raised
   pub told : (l : RelationState) → link ≡ Some l → is_exchanging l.phase ≡ true → IsTold l.flow.low diagnoses raised
 
-more_reports : (changes : List Change) (alarms : List AlarmNotification) (change : Change) (alarm : AlarmNotification) → AreReports changes alarms → Reports change (report_as low_priority alarm)
+pub over_knows : (real : List RealModule) (link : Option RelationState) (diagnoses : List Diagnosis) (raised : List AlarmNotification) → AreKnown diagnoses → link ≡ None → Knows real link diagnoses raised
+over_knows real link diagnoses raised known none = record {
+  known = known;
+  begins = λ l is. absurd (none_some l link none is);
+  stated = λ l is. absurd (none_some l link none is);
+  before = λ l is off. absurd (none_some l link none is);
+  told = λ l is on. absurd (none_some l link none is);
+}
+
+more_reports : (changes : List LowChange) (alarms : List AlarmNotification) (change : LowChange) (alarm : AlarmNotification) → AreReports changes alarms → IsReport change alarm
     → AreReports (changes ++ change ∷ []) (alarms ++ alarm ∷ [])
 more_reports [] [] change alarm all one = (one, tt)
 more_reports [] (other ∷ alarms) change alarm all one = absurd all
 more_reports (first ∷ changes) [] change alarm all one = absurd all
 more_reports (first ∷ changes) (other ∷ alarms) change alarm all one = (all.0, more_reports changes alarms change alarm all.1 one)
 
+-- the alarm of a change reports it
+alarm_reports : (sequence : ℕ) (alarm : QueuedAlarm) (change : LowChange) → alarm.change ≡ change → IsReport change (alarm_of sequence alarm)
+alarm_reports sequence alarm (change_is.Diagnosis made) e =
+    subst (λ (c : LowChange). Reports made (report_as low_priority (alarm_of sequence (record alarm { change = c })))) (sym e)
+    (record { kind = refl; slot = refl; subslot = refl; structure = refl; octets = refl })
+alarm_reports sequence alarm (change_is.Module made) e =
+    subst (λ (c : LowChange). ReportsModule made (alarm_of sequence (record alarm { change = c }))) (sym e) (record { type_is = refl; slot = refl; subslot = refl; octets = refl })
+
 -- ---- the next change
 
 -- it is reported, if it can be
-next_told : (real : List RealModule) (low : Low) (diagnoses : List Diagnosis) (raised now : List AlarmNotification)
-    → ((rests : after_next real low ≡ low) → now ≡ []) → ((told : IsNextTold real low) → now ≡ alarm_of low.alarms.sender.specifier told.ident told.part told.notice ∷ [])
-    → IsTold low diagnoses raised → IsTold (after_next real low) diagnoses (raised ++ now)
-next_told real low diagnoses raised now silent tells is = by_next (next_is real low)
+next_told : (low : Low) (diagnoses : List Diagnosis) (raised now : List AlarmNotification)
+    → ((rests : after_next low ≡ low) → now ≡ []) → ((told : IsNextTold low) → now ≡ alarm_of low.alarms.sender.specifier told.alarm ∷ [])
+    → IsTold low diagnoses raised → IsTold (after_next low) diagnoses (raised ++ now)
+next_told low diagnoses raised now silent tells is = by_next (next_is low)
   where
-    by_next : NextIs real low → IsTold (after_next real low) diagnoses (raised ++ now)
+    by_next : NextIs low → IsTold (after_next low) diagnoses (raised ++ now)
     by_next (inl rests) =
         subst (λ (l : Low). IsTold l diagnoses (raised ++ now)) (sym rests.0)
         (subst (λ (xs : List AlarmNotification). IsTold low diagnoses xs) (sym (ap (λ (xs : List AlarmNotification). raised ++ xs) (silent rests.0) ∙ append-nil raised)) is)
     by_next (inr told) =
-        let change = told.notice.change in
-        let alarm = alarm_of low.alarms.sender.specifier told.ident told.part told.notice in
+        let change = told.alarm.change in
+        let alarm = alarm_of low.alarms.sender.specifier told.alarm in
+        let later : Low = record low {
+          alarms = end_with low.alarms (alarm_of low.alarms.sender.specifier told.alarm);
+          waiting = told.rest;
+          sent = Some (record { change = told.alarm.change; number = low.alarms.sender.specifier });
+        } in
         subst (λ (l : Low). IsTold l diagnoses (raised ++ now)) (sym told.is)
-        (subst (λ (xs : List AlarmNotification). IsTold (record low { alarms = end_with low.alarms alarm; waiting = told.rest }) diagnoses (raised ++ xs)) (sym (tells told)) (record {
+        (subst (λ (xs : List AlarmNotification). IsTold later diagnoses (raised ++ xs)) (sym (tells told)) (record {
           changes = is.changes ++ change ∷ [];
-          reports = more_reports is.changes raised change alarm is.reports (record { kind = refl; slot = refl; subslot = refl; structure = refl; octets = refl });
-          leads = subst (λ (xs : List Change). Leads (own_of low) xs [] (at_places (own_of low) diagnoses)) (sym (append_assoc is.changes (change ∷ []) (map change_in told.rest)))
-              (subst (λ (xs : List Notice). Leads (own_of low) (is.changes ++ map change_in xs) [] (at_places (own_of low) diagnoses)) told.waits is.leads);
+          reports = more_reports is.changes raised change alarm is.reports (alarm_reports low.alarms.sender.specifier told.alarm told.alarm.change refl);
+          leads = subst (λ (xs : List LowChange). Leads xs [] (at_places (own_of low) diagnoses)) (sym (append_assoc is.changes (change ∷ []) (map change_in told.rest)))
+              (subst (λ (xs : List QueuedAlarm). Leads (is.changes ++ map change_in xs) [] (at_places (own_of low) diagnoses)) told.waits is.leads);
+          own = subst (λ (xs : List LowChange). AreOwn (own_of low) xs) (sym (append_assoc is.changes (change ∷ []) (map change_in told.rest)))
+              (subst (λ (xs : List QueuedAlarm). AreOwn (own_of low) (is.changes ++ map change_in xs)) told.waits is.own);
         }))
 
 -- which change is reported with that
-next_now : (real : List RealModule) (before after : Option RelationState) (link middle : RelationState) → before ≡ Some link → middle.flow.low.alarms.sender.sending.last ≡ link.flow.low.alarms.sender.sending.last
-    → after ≡ Some (with_flow (next_reported real middle.flow) middle) → (rests : after_next real middle.flow.low ≡ middle.flow.low) → reported_by before after ≡ []
-next_now real before after link middle was same becomes rests =
+next_now : (before after : Option RelationState) (link next : RelationState) (middle : Low) → before ≡ Some link → middle.alarms.sender.sending.last ≡ link.flow.low.alarms.sender.sending.last
+    → after ≡ Some next → next.flow.low ≡ after_next middle → (rests : after_next middle ≡ middle) → reported_by before after ≡ []
+next_now before after link next middle was same becomes low_is rests =
     reported_same before after
-    (ap (λ (l : Option RelationState). number_in l) becomes ∙ (ap (λ (low : Low). low.alarms.sender.sending.last) rests ∙ (same ∙ sym (ap (λ (l : Option RelationState). number_in l) was))))
+    (ap (λ (l : Option RelationState). number_in l) becomes ∙ (ap (λ (low : Low). low.alarms.sender.sending.last) (low_is ∙ rests) ∙ (same ∙ sym (ap (λ (l : Option RelationState). number_in l) was))))
 
-told_now : (real : List RealModule) (before after : Option RelationState) (link middle : RelationState) → before ≡ Some link → middle.flow.low.alarms.sender.sending.last ≡ link.flow.low.alarms.sender.sending.last
-    → after ≡ Some (with_flow (next_reported real middle.flow) middle) → (told : IsNextTold real middle.flow.low)
-    → reported_by before after ≡ alarm_of middle.flow.low.alarms.sender.specifier told.ident told.part told.notice ∷ []
-told_now real before after link middle was same becomes told =
-    reported_next before after link (with_flow (next_reported real middle.flow) middle) (alarm_of middle.flow.low.alarms.sender.specifier told.ident told.part told.notice) middle.flow.low.alarms was becomes same
-    (ap (λ (low : Low). low.alarms) told.is)
+told_now : (before after : Option RelationState) (link next : RelationState) (middle : Low) → before ≡ Some link → middle.alarms.sender.sending.last ≡ link.flow.low.alarms.sender.sending.last
+    → after ≡ Some next → next.flow.low ≡ after_next middle → (told : IsNextTold middle) → reported_by before after ≡ alarm_of middle.alarms.sender.specifier told.alarm ∷ []
+told_now before after link next middle was same becomes low_is told =
+    reported_next before after link next (alarm_of middle.alarms.sender.specifier told.alarm) middle.alarms was becomes same (ap (λ (low : Low). low.alarms) (low_is ∙ told.is))
+
+-- ---- the queue
+
+-- one more change waits, as there is room
+queued_more : (alarm : QueuedAlarm) (low : Low) → is_low_full low ≡ false → (length low.waiting < 32) × ((queued alarm low).waiting ≡ low.waiting ++ alarm ∷ [])
+queued_more alarm low open_room = by_full (nat_le 32 (length low.waiting)) refl open_room
+  where
+    by_room : length low.waiting < 32 → (b : Bool) → nat_lt (length low.waiting) 64 ≡ b → unwrap_or (cond b (Some (low.waiting ++ alarm ∷ [])) None) low.waiting ≡ low.waiting ++ alarm ∷ []
+    by_room few true e = refl
+    by_room few false e = absurd (true≢false (sym (lt-ltb (length low.waiting) 64 (omega (arith, few))) ∙ e))
+
+    by_full : (b : Bool) → nat_le 32 (length low.waiting) ≡ b → b ≡ false → (length low.waiting < 32) × ((queued alarm low).waiting ≡ low.waiting ++ alarm ∷ [])
+    by_full true f g = absurd (true≢false g)
+    by_full false f g = let few = leb-false 32 (length low.waiting) f in (few, by_room few (nat_lt (length low.waiting) 64) refl)
+
+waited : (changes : List LowChange) (ws : List QueuedAlarm) (one : QueuedAlarm) → changes ++ map change_in (ws ++ one ∷ []) ≡ (changes ++ map change_in ws) ++ one.change ∷ []
+waited changes ws one = ap (λ (xs : List LowChange). changes ++ xs) (map-append change_in ws (one ∷ [])) ∙ sym (append_assoc changes (map change_in ws) (one.change ∷ []))
+
+one_longer : (ws : List QueuedAlarm) (one : QueuedAlarm) → length ws < 32 → length (ws ++ one ∷ []) ≤ 32
+one_longer ws one few = let long = length-append ws (one ∷ []) in omega (arith, few, long)
 
 -- ---- a turn
 
-module _ (elsewhere : ElsewhereSo) (real : List RealModule) (before : Option RelationState) (diagnoses : List Diagnosis) (raised : List AlarmNotification) (knows : Knows before diagnoses raised) where
+module _ (elsewhere : ElsewhereSo) (real : List RealModule) (before : Option RelationState) (diagnoses : List Diagnosis) (raised : List AlarmNotification) (knows : Knows real before diagnoses raised) where
   -- the relation became this one, in which as much was reported
-  becomes_so : (after : Option RelationState) (link next : RelationState) (later : List Diagnosis) (now : List AlarmNotification) → AreKnown later → before ≡ Some link → after ≡ Some next
-      → next.flow.cyclic.begun ≡ link.flow.cyclic.begun → next.phase ≡ link.phase → now ≡ reported_by before after
-      → (is_exchanging link.phase ≡ false → link.flow.low.waiting ≡ [] → (now ≡ []) × (next.flow.low.waiting ≡ []))
-      → (is_exchanging link.phase ≡ true → IsTold link.flow.low diagnoses raised → IsTold next.flow.low later (raised ++ now))
-      → Knows after later (raised ++ reported_by before after)
-  becomes_so after link next later now known was becomes begun_same phase_same now_is silent told =
-      subst (λ (xs : List AlarmNotification). Knows after later (raised ++ xs)) now_is (record {
+  becomes_so : (now : List RealModule) (after : Option RelationState) (link next : RelationState) (later : List Diagnosis) (told : List AlarmNotification) → AreKnown later → before ≡ Some link → after ≡ Some next
+      → next.flow.cyclic.begun ≡ link.flow.cyclic.begun → next.phase ≡ link.phase → IsStated now next → told ≡ reported_by before after
+      → (is_exchanging link.phase ≡ false → IsWaiting link.flow.low raised → IsWaiting next.flow.low (raised ++ told))
+      → (is_exchanging link.phase ≡ true → IsTold link.flow.low diagnoses raised → IsTold next.flow.low later (raised ++ told))
+      → Knows now after later (raised ++ reported_by before after)
+  becomes_so now after link next later told known was becomes begun_same phase_same stated_so now_is silent on_so =
+      subst (λ (xs : List AlarmNotification). Knows now after later (raised ++ xs)) now_is (record {
         known = known;
         begins = λ l is. by_link l (some_is next l (sym becomes ∙ is));
+        stated = λ l is. subst (λ (k : RelationState). IsStated now k) (some_is next l (sym becomes ∙ is)) stated_so;
         before = λ l is quiet. by_quiet l (some_is next l (sym becomes ∙ is)) quiet;
         told = λ l is up. by_told l (some_is next l (sym becomes ∙ is)) up;
       })
@@ -119,41 +191,58 @@ module _ (elsewhere : ElsewhereSo) (real : List RealModule) (before : Option Rel
       by_link : (l : RelationState) → next ≡ l → l.flow.cyclic.begun ≡ is_exchanging l.phase
       by_link l e = ap (λ (k : RelationState). k.flow.cyclic.begun) (sym e) ∙ (begun_same ∙ (knows.begins link was ∙ sym (phase_is l e)))
 
-      by_quiet : (l : RelationState) → next ≡ l → is_exchanging l.phase ≡ false → (raised ++ now ≡ []) × (l.flow.low.waiting ≡ [])
+      by_quiet : (l : RelationState) → next ≡ l → is_exchanging l.phase ≡ false → IsWaiting l.flow.low (raised ++ told)
       by_quiet l e quiet =
           let off = sym (phase_is l e) ∙ quiet in
-          let so = knows.before link was off in
-          let now_so = silent off so.1 in (
-            ap (λ (xs : List AlarmNotification). raised ++ xs) now_so.0 ∙ (append-nil raised ∙ so.0),
-            ap (λ (k : RelationState). k.flow.low.waiting) (sym e) ∙ now_so.1,
-          )
+          subst (λ (k : RelationState). IsWaiting k.flow.low (raised ++ told)) e (silent off (knows.before link was off))
 
-      by_told : (l : RelationState) → next ≡ l → is_exchanging l.phase ≡ true → IsTold l.flow.low later (raised ++ now)
+      by_told : (l : RelationState) → next ≡ l → is_exchanging l.phase ≡ true → IsTold l.flow.low later (raised ++ told)
       by_told l e up =
           let on = sym (phase_is l e) ∙ up in
-          subst (λ (k : RelationState). IsTold k.flow.low later (raised ++ now)) e (told on (knows.told link was on))
+          subst (λ (k : RelationState). IsTold k.flow.low later (raised ++ told)) e (on_so on (knows.told link was on))
+
+  -- nothing is reported, and the same waits
+  waits_so : (low next : Low) → next.waiting ≡ low.waiting → next.alarms.sender.sending.last ≡ low.alarms.sender.sending.last → IsWaiting low raised → IsWaiting next (raised ++ [])
+  waits_so low next waiting last waits = record {
+    none = append-nil raised ∙ waits.none;
+    unsent = last ∙ waits.unsent;
+    few = subst (λ (ws : List QueuedAlarm). length ws ≤ 32) (sym waiting) waits.few;
+    leads = subst (λ (ws : List QueuedAlarm). Leads (map change_in ws) [] []) (sym waiting) waits.leads;
+    own = λ has. subst (λ (ws : List QueuedAlarm). AreOwn has (map change_in ws)) (sym waiting) (waits.own has);
+  }
+
+  -- the same was reported of these diagnoses
+  told_so : (low next : Low) (later : List Diagnosis) → next.waiting ≡ low.waiting → ((slot subslot : ℕ) → own_of next slot subslot ≡ own_of low slot subslot) → at_places (own_of next) later ≡ at_places (own_of low) diagnoses → IsTold low diagnoses raised → IsTold next later (raised ++ [])
+  told_so low next later waiting places same told = record {
+    changes = told.changes;
+    reports = subst (λ (xs : List AlarmNotification). AreReports told.changes xs) (sym (append-nil raised)) told.reports;
+    leads = subst (λ (xs : List Diagnosis). Leads (told.changes ++ map change_in next.waiting) [] xs) (sym same)
+        (subst (λ (ws : List QueuedAlarm). Leads (told.changes ++ map change_in ws) [] (at_places (own_of low) diagnoses)) (sym waiting) told.leads);
+    own = own_same (own_of low) (own_of next) places (told.changes ++ map change_in next.waiting)
+        (subst (λ (ws : List QueuedAlarm). AreOwn (own_of low) (told.changes ++ map change_in ws)) (sym waiting) told.own);
+  }
 
   -- nothing of low priority is said, and the same changes wait
   same_so : (after : Option RelationState) (link next : RelationState) → before ≡ Some link → after ≡ Some next → next.flow.cyclic.begun ≡ link.flow.cyclic.begun → next.phase ≡ link.phase
+      → next.request ≡ link.request → keys_of next.plugs.places ≡ keys_of link.plugs.places
       → next.flow.low.waiting ≡ link.flow.low.waiting → next.flow.low.places ≡ link.flow.low.places → next.flow.low.alarms.sender.sending.last ≡ link.flow.low.alarms.sender.sending.last
-      → Knows after diagnoses (raised ++ reported_by before after)
-  same_so after link next was becomes begun_same phase_same waiting places last =
-      becomes_so after link next diagnoses [] knows.known was becomes begun_same phase_same
+      → Knows real after diagnoses (raised ++ reported_by before after)
+  same_so after link next was becomes begun_same phase_same request keys waiting places last =
+      becomes_so real after link next diagnoses [] knows.known was becomes begun_same phase_same
+      (same_stated real link next request places keys (knows.stated link was))
       (sym (reported_same before after (ap (λ (l : Option RelationState). number_in l) becomes ∙ (last ∙ sym (ap (λ (l : Option RelationState). number_in l) was)))))
-      (λ off none. (refl, waiting ∙ none)) (λ on told. record {
-        changes = told.changes;
-        reports = subst (λ (xs : List AlarmNotification). AreReports told.changes xs) (sym (append-nil raised)) told.reports;
-        leads = subst (λ (w : List Notice). Leads (own_of next.flow.low) (told.changes ++ map change_in w) [] (at_places (own_of next.flow.low) diagnoses)) (sym waiting)
-            (subst (λ (p : List Place). Leads (is_own p) (told.changes ++ map change_in link.flow.low.waiting) [] (at_places (is_own p) diagnoses)) (sym places) told.leads);
-      })
+      (λ off waits. waits_so link.flow.low next.flow.low waiting last waits)
+      (λ on told. told_so link.flow.low next.flow.low diagnoses waiting (λ slot subslot. ap (λ (p : List Place). is_own p slot subslot) places) (ap (λ (p : List Place). at_places (is_own p) diagnoses) places) told)
 
-  stays_so : (after : Option RelationState) → IsSameOr before after → Knows after diagnoses (raised ++ reported_by before after)
+  stays_so : (after : Option RelationState) → IsSameOr before after → Knows real after diagnoses (raised ++ reported_by before after)
   stays_so after (inl same) = record {
     known = knows.known;
     begins = λ l is. let there = found l is in ap (λ (way : Way). way.begun) there.2 ∙ (knows.begins there.0 there.1 ∙ ap (λ (way : Way). way.exchanges) (sym there.2));
+    stated = λ l is. let there = found l is in
+        same_stated real there.0 l (ap (λ (way : Way). way.request) there.2) (ap (λ (way : Way). way.low.places) there.2) (ap (λ (way : Way). way.keys) there.2) (knows.stated there.0 there.1);
     before = λ l is off. let there = found l is in
-        let so = knows.before there.0 there.1 (ap (λ (way : Way). way.exchanges) (sym there.2) ∙ off) in
-        (silent ∙ so.0, ap (λ (way : Way). way.low.waiting) there.2 ∙ so.1);
+        subst (λ (low : Low). IsWaiting low (raised ++ reported_by before after)) (ap (λ (way : Way). way.low) (sym there.2))
+        (subst (λ (xs : List AlarmNotification). IsWaiting there.0.flow.low xs) (sym silent) (knows.before there.0 there.1 (ap (λ (way : Way). way.exchanges) (sym there.2) ∙ off)));
     told = λ l is on. let there = found l is in
         subst (λ (low : Low). IsTold low diagnoses (raised ++ reported_by before after)) (ap (λ (way : Way). way.low) (sym there.2))
         (subst (λ (xs : List AlarmNotification). IsTold there.0.flow.low diagnoses xs) (sym silent) (knows.told there.0 there.1 (ap (λ (way : Way). way.exchanges) (sym there.2) ∙ on)));
@@ -170,22 +259,17 @@ module _ (elsewhere : ElsewhereSo) (real : List RealModule) (before : Option Rel
 
       silent : raised ++ reported_by before after ≡ raised
       silent = ap (λ (xs : List AlarmNotification). raised ++ xs) (reported_same before after (numbers before after same)) ∙ append-nil raised
-  stays_so after (inr gone) = over_so after diagnoses knows.known gone
-    where
-      over_so : (link : Option RelationState) (later : List Diagnosis) → AreKnown later → link ≡ None → Knows link later (raised ++ reported_by before link)
-      over_so link later known none = record {
-        known = known;
-        begins = λ l is. absurd (none_some l link none is);
-        before = λ l is off. absurd (none_some l link none is);
-        told = λ l is on. absurd (none_some l link none is);
-      }
+  stays_so after (inr gone) = over_knows real after diagnoses (raised ++ reported_by before after) knows.known gone
 
   -- a relation is made
-  makes_so : (calls : List Answer) (heard : Heard) (after : Option RelationState) (sent : List Sent) → before ≡ None → raised ≡ [] → Makes calls before heard after sent → Knows after diagnoses (raised ++ reported_by before after)
-  makes_so calls heard after sent none empty makes = record {
+  makes_so : (calls : List Answer) (heard : Heard) (after : Option RelationState) (sent : List Sent) → before ≡ None → raised ≡ [] → ((l : RelationState) → after ≡ Some l → IsStated real l)
+      → Makes calls before heard after sent → Knows real after diagnoses (raised ++ reported_by before after)
+  makes_so calls heard after sent none empty stated_so makes = record {
     known = knows.known;
     begins = λ l is. subst (λ (k : RelationState). k.flow.cyclic.begun ≡ is_exchanging k.phase) (made l is) refl;
-    before = λ l is off. (silent ∙ empty, ap (λ (k : RelationState). k.flow.low.waiting) (sym (made l is)));
+    stated = stated_so;
+    before = λ l is off. subst (λ (k : RelationState). IsWaiting k.flow.low (raised ++ reported_by before after)) (made l is)
+        (record { none = silent ∙ empty; unsent = refl; few = omega arith; leads = refl; own = λ has. tt });
     told = λ l is on. absurd (false≢true (ap (λ (k : RelationState). is_exchanging k.phase) (made l is) ∙ on));
   }
     where
@@ -196,96 +280,108 @@ module _ (elsewhere : ElsewhereSo) (real : List RealModule) (before : Option Rel
       silent = ap (λ (xs : List AlarmNotification). raised ++ xs)
           (reported_same before after (ap (λ (l : Option RelationState). number_in l) makes.made ∙ sym (ap (λ (l : Option RelationState). number_in l) none))) ∙ append-nil raised
 
-  -- where nothing waits, nothing is reported
-  nothing_next : (low : Low) → low.waiting ≡ [] → after_next real low ≡ low
-  nothing_next low none = by_next (next_is real low)
-    where
-      no_item : (item : Notice) (rest : List Notice) → ◌≡◌ {A = List Notice} [] (item ∷ rest) → ⊥
-      no_item item rest e = absurd cc
-
-      by_next : NextIs real low → after_next real low ≡ low
-      by_next (inl rests) = rests.0
-      by_next (inr told) = absurd (no_item told.notice told.rest (sym none ∙ told.waits))
-
   -- the next change is reported, if it can be, after this
-  next_so : (after : Option RelationState) (link middle : RelationState) (later : List Diagnosis) → AreKnown later → before ≡ Some link → middle.flow.low.alarms.sender.sending.last ≡ link.flow.low.alarms.sender.sending.last
-      → after ≡ Some (with_flow (next_reported real middle.flow) middle) → middle.flow.cyclic.begun ≡ link.flow.cyclic.begun → middle.phase ≡ link.phase
-      → (is_exchanging link.phase ≡ false → link.flow.low.waiting ≡ [] → middle.flow.low.waiting ≡ [])
-      → (is_exchanging link.phase ≡ true → IsTold link.flow.low diagnoses raised → IsTold middle.flow.low later raised)
-      → Knows after later (raised ++ reported_by before after)
-  next_so after link middle later known was last becomes begun_same phase_same silent told =
-      becomes_so after link (with_flow (next_reported real middle.flow) middle) later (reported_by before after) known was becomes begun_same phase_same refl
-      (λ off none.
-      let rests = nothing_next middle.flow.low (silent off none) in
-      (next_now real before after link middle was last becomes rests, ap (λ (low : Low). low.waiting) rests ∙ silent off none))
-      (λ on so. next_told real middle.flow.low later raised (reported_by before after)
-      (λ rests. next_now real before after link middle was last becomes rests)
-      (λ tells. told_now real before after link middle was last becomes tells) (told on so))
+  next_so : (now : List RealModule) (after : Option RelationState) (link next : RelationState) (middle : Low) (later : List Diagnosis) → AreKnown later → before ≡ Some link
+      → middle.alarms.sender.sending.last ≡ link.flow.low.alarms.sender.sending.last → after ≡ Some next → next.flow.low ≡ after_next middle
+      → next.flow.cyclic.begun ≡ link.flow.cyclic.begun → next.phase ≡ link.phase → IsStated now next → is_exchanging link.phase ≡ true
+      → (IsTold link.flow.low diagnoses raised → IsTold middle later raised)
+      → Knows now after later (raised ++ reported_by before after)
+  next_so now after link next middle later known was last becomes low_is begun_same phase_same stated_so up told =
+      becomes_so now after link next later (reported_by before after) known was becomes begun_same phase_same stated_so refl
+      (λ off waits. absurd (false≢true (sym off ∙ up)))
+      (λ on so. subst (λ (low : Low). IsTold low later (raised ++ reported_by before after)) (sym low_is)
+      (next_told middle later raised (reported_by before after)
+      (λ rests. next_now before after link next middle was last becomes low_is rests)
+      (λ tells. told_now before after link next middle was last becomes low_is tells) (told so)))
+
+  -- whether data is exchanged
+  exchanges_if : (phase_on : Bool) → (phase_on ≡ false → ⊥) → phase_on ≡ true
+  exchanges_if true never = refl
+  exchanges_if false never = absurd (never refl)
 
   -- an AlarmAck of low priority, and then the next change
-  low_data_so : (heard : Heard) (after : Option RelationState) (sent : List Sent) → HearsLowData real before heard after sent → Knows after diagnoses (raised ++ reported_by before after)
+  low_data_so : (heard : Heard) (after : Option RelationState) (sent : List Sent) → HearsLowData before heard after sent → Knows real after diagnoses (raised ++ reported_by before after)
   low_data_so heard after sent came =
       let link = came.link in
-      let flow = behind_low link.flow (notice.Data came.number came.ack) in
-      next_so after link (with_flow flow link) diagnoses knows.known came.was (data_last link.flow.low.alarms came.number came.ack) came.becomes refl refl (λ off none. none)
-      (λ on told. record { changes = told.changes; reports = told.reports; leads = told.leads })
+      let middle = heard_low_in link (notice.Data came.number came.ack) in
+      next_so real after link (next_link middle) middle.flow.low diagnoses knows.known came.was (data_last link.flow.low.alarms came.number came.ack) came.becomes refl refl refl
+      (same_stated real link (next_link middle) refl (after_places middle.flow.low) (next_keys middle) (knows.stated link came.was))
+      (exchanges_if (is_exchanging link.phase) never)
+      (λ told. record { changes = told.changes; reports = told.reports; leads = told.leads; own = told.own })
+    where
+      none_is : (o : Option ℕ) → o ≡ None → is_some o ≡ true → ⊥
+      none_is None e f = absurd cc
+      none_is (Some n) e f = absurd cc
+
+      never : is_exchanging came.link.phase ≡ false → ⊥
+      never off = none_is came.link.flow.low.alarms.sender.sending.last (knows.before came.link came.was off).unsent
+          (ap (λ (l : Option RelationState). has_sent_low l) (sym came.was) ∙ came.has_sent)
 
   -- data is exchanged from now on
-  begins_so : (after : Option RelationState) (sent : List Sent) → Begins real diagnoses before after sent → Knows after diagnoses (raised ++ reported_by before after)
+  begins_so : (after : Option RelationState) (sent : List Sent) → Begins real diagnoses before after sent → Knows real after diagnoses (raised ++ reported_by before after)
   begins_so after sent begins = record {
     known = knows.known;
     begins = λ l is. subst (λ (k : RelationState). k.flow.cyclic.begun ≡ is_exchanging k.phase) (made l is) refl;
+    stated = λ l is. subst (λ (k : RelationState). IsStated real k) (made l is)
+        (same_stated real begins.link (begun_link real diagnoses (exchanging_from begins.link)) refl (after_places first) (begun_keys real diagnoses (exchanging_from begins.link)) (knows.stated begins.link begins.was));
     before = λ l is off. absurd (true≢false (ap (λ (k : RelationState). is_exchanging k.phase) (made l is) ∙ off));
-    told = λ l is on. subst (λ (k : RelationState). IsTold k.flow.low diagnoses (raised ++ reported_by before after)) (made l is) told_so;
+    told = λ l is on. subst (λ (k : RelationState). IsTold k.flow.low diagnoses (raised ++ reported_by before after)) (made l is) all_told;
   }
     where
-      link : RelationState
-      link = begins.link
+      first : Low
+      first = begun real diagnoses begins.link.flow.low
 
-      now : RelationState
-      now = exchanging_from begins.link
+      made : (l : RelationState) → after ≡ Some l → begun_link real diagnoses (exchanging_from begins.link) ≡ l
+      made l is = some_is (begun_link real diagnoses (exchanging_from begins.link)) l (sym begins.becomes ∙ is)
 
-      middle : RelationState
-      middle = with_flow (with_low (exchanging_from begins.link).flow (begun diagnoses (exchanging_from begins.link).flow.low)) (exchanging_from begins.link)
+      waits : IsWaiting begins.link.flow.low raised
+      waits = knows.before begins.link begins.was (ap is_exchanging begins.awaits)
 
-      made : (l : RelationState) → after ≡ Some l → with_flow (diagnoses_begun real diagnoses (exchanging_from begins.link).flow) (exchanging_from begins.link) ≡ l
-      made l is = some_is (with_flow (diagnoses_begun real diagnoses (exchanging_from begins.link).flow) (exchanging_from begins.link)) l (sym begins.becomes ∙ is)
+      own : List Diagnosis
+      own = at_places (own_of begins.link.flow.low) diagnoses
 
-      empty : raised ≡ []
-      empty = (knows.before begins.link begins.was (ap is_exchanging begins.awaits)).0
+      few : length (first_queued real (at_places (own_of begins.link.flow.low) diagnoses)) ≤ 32
+      few =
+          let own_few = length-filter_both (λ (diagnosis : Diagnosis). own_of begins.link.flow.low diagnosis.slot diagnosis.subslot) (λ (diagnosis : Diagnosis). not (own_of begins.link.flow.low diagnosis.slot diagnosis.subslot)) (λ _. refl) diagnoses in
+          let all_few = known_few [] diagnoses (omega arith) knows.known in
+          let one = length-map (map first_notice (at_places (own_of begins.link.flow.low) diagnoses)) (diagnosis_queued real) in
+          let two = length-map (at_places (own_of begins.link.flow.low) diagnoses) first_notice in
+          omega (arith, own_few, all_few, one, two)
 
-      first_told : IsTold (begun diagnoses (exchanging_from begins.link).flow.low) diagnoses raised
+      all_wait : (begun real diagnoses begins.link.flow.low).waiting ≡ begins.link.flow.low.waiting ++ first_queued real (at_places (own_of begins.link.flow.low) diagnoses)
+      all_wait =
+          ap (λ (ws : List QueuedAlarm). begins.link.flow.low.waiting ++ ws)
+          (take_all (64 - length begins.link.flow.low.waiting) (first_queued real (at_places (own_of begins.link.flow.low) diagnoses)) (let some = waits.few in omega (arith, few, some)))
+
+      leads : Leads (map change_in (begun real diagnoses begins.link.flow.low).waiting) [] (at_places (own_of begins.link.flow.low) diagnoses)
+      leads =
+          subst (λ (ws : List QueuedAlarm). Leads (map change_in ws) [] (at_places (own_of begins.link.flow.low) diagnoses)) (sym all_wait)
+          (subst (λ (xs : List LowChange). Leads xs [] (at_places (own_of begins.link.flow.low) diagnoses)) (sym (map-append change_in begins.link.flow.low.waiting (first_queued real (at_places (own_of begins.link.flow.low) diagnoses))))
+          (all_more (map change_in begins.link.flow.low.waiting) (map change_in (first_queued real (at_places (own_of begins.link.flow.low) diagnoses))) [] [] (at_places (own_of begins.link.flow.low) diagnoses) waits.leads
+          (rebuilt elsewhere real (own_of begins.link.flow.low) [] diagnoses knows.known)))
+
+      own_now : AreOwn (own_of begins.link.flow.low) (map change_in (begun real diagnoses begins.link.flow.low).waiting)
+      own_now =
+          subst (λ (ws : List QueuedAlarm). AreOwn (own_of begins.link.flow.low) (map change_in ws)) (sym all_wait)
+          (subst (λ (xs : List LowChange). AreOwn (own_of begins.link.flow.low) xs) (sym (map-append change_in begins.link.flow.low.waiting (first_queued real (at_places (own_of begins.link.flow.low) diagnoses))))
+          (own_append (own_of begins.link.flow.low) (map change_in begins.link.flow.low.waiting) (map change_in (first_queued real (at_places (own_of begins.link.flow.low) diagnoses)))
+          (waits.own (own_of begins.link.flow.low)) (first_own real (own_of begins.link.flow.low) diagnoses)))
+
+      first_told : IsTold (begun real diagnoses begins.link.flow.low) diagnoses raised
       first_told = record {
         changes = [];
-        reports = subst (λ (xs : List AlarmNotification). AreReports [] xs) (sym empty) tt;
-        leads = rebuilt elsewhere (own_of begins.link.flow.low) [] diagnoses knows.known;
+        reports = subst (λ (xs : List AlarmNotification). AreReports [] xs) (sym waits.none) tt;
+        leads = leads;
+        own = own_now;
       }
 
-      told_so : IsTold (after_next real (begun diagnoses (exchanging_from begins.link).flow.low)) diagnoses (raised ++ reported_by before after)
-      told_so =
-          next_told real (begun diagnoses (exchanging_from begins.link).flow.low) diagnoses raised (reported_by before after)
-          (λ rests. next_now real before after begins.link middle begins.was refl begins.becomes rests)
-          (λ tells. told_now real before after begins.link middle begins.was refl begins.becomes tells) first_told
+      all_told : IsTold (begun_link real diagnoses (exchanging_from begins.link)).flow.low diagnoses (raised ++ reported_by before after)
+      all_told =
+          next_told (begun real diagnoses begins.link.flow.low) diagnoses raised (reported_by before after)
+          (λ rests. next_now before after begins.link (begun_link real diagnoses (exchanging_from begins.link)) first begins.was refl begins.becomes refl rests)
+          (λ tells. told_now before after begins.link (begun_link real diagnoses (exchanging_from begins.link)) first begins.was refl begins.becomes refl tells) first_told
 
   -- ---- a change of diagnosis
-
-  -- one more change waits, as there is room
-  waits_more : (low : Low) (change : Change) (later : List Diagnosis) → is_low_full low ≡ false → (waits_with change later low).waiting ≡ low.waiting ++ notice_of (is_own low.places) change later ∷ []
-  waits_more low change later open_room = by_test (nat_lt (length low.waiting) 32) refl
-    where
-      by_test : (b : Bool) → nat_lt (length low.waiting) 32 ≡ b
-          → unwrap_or (cond b (Some (low.waiting ++ notice_of (is_own low.places) change later ∷ [])) None) low.waiting ≡ low.waiting ++ notice_of (is_own low.places) change later ∷ []
-      by_test true e = refl
-      by_test false e = absurd (full_or_not (nat_le 32 (length low.waiting)) refl open_room e)
-        where
-          full_or_not : (b : Bool) → nat_le 32 (length low.waiting) ≡ b → b ≡ false → nat_lt (length low.waiting) 32 ≡ false → ⊥
-          full_or_not true f g h = absurd (true≢false g)
-          full_or_not false f g h =
-              let few = leb-false 32 (length low.waiting) f in
-              absurd (true≢false (sym (lt-ltb (length low.waiting) 32 few) ∙ h))
-
-  waited : (changes : List Change) (ws : List Notice) (one : Notice) → changes ++ map change_in (ws ++ one ∷ []) ≡ (changes ++ map change_in ws) ++ one.change ∷ []
-  waited changes ws one = ap (λ (xs : List Change). changes ++ xs) (map-append change_in ws (one ∷ [])) ∙ sym (append_assoc changes (map change_in ws) (one.change ∷ []))
 
   module _ (heard : Heard) (after : Option RelationState) (later : List Diagnosis) (sent : List Sent) (changes : Diagnoses real diagnoses later before heard after sent)
       (small : (change : Change) → heard ≡ change_heard change → change.diagnosis.error < 65536) where
@@ -294,8 +390,9 @@ module _ (elsewhere : ElsewhereSo) (real : List RealModule) (before : Option Rel
 
     -- the change is a step at the submodules of the relation
     step_so : (low : Low) → own_of low changes.change.diagnosis.slot changes.change.diagnosis.subslot ≡ true
-        → IsStep (own_of low) changes.change (at_places (own_of low) diagnoses) (at_places (own_of low) later)
+        → IsStep (change_is.Diagnosis changes.change) (at_places (own_of low) diagnoses) (at_places (own_of low) later)
     step_so low own = record {
+      has = own_of low;
       before = diagnoses;
       after = later;
       own = own;
@@ -306,100 +403,285 @@ module _ (elsewhere : ElsewhereSo) (real : List RealModule) (before : Option Rel
       next_is = refl;
     }
 
-    by_link : (link : RelationState) → before ≡ Some link → Knows after later (raised ++ reported_by before after)
+    by_link : (link : RelationState) → before ≡ Some link → Knows real after later (raised ++ reported_by before after)
     by_link link was = by_test (is_reported link.flow.cyclic.begun changes.change link.flow.low) refl
       where
-        becomes_it : after ≡ Some (with_flow (diagnosed real changes.change later link.flow) link)
+        next : RelationState
+        next = diagnosed_link real changes.change later link
+
+        waits : Low
+        waits = waits_with real changes.change later link.flow.low
+
+        becomes_it : after ≡ Some (diagnosed_link real changes.change later link)
         becomes_it = changes.becomes ∙ ap (λ (l : Option RelationState). updated (diagnosing real changes.change later l) l) was
 
+        stated_by : (low : Low) → (diagnosed_link real changes.change later link).flow.low ≡ low → low.places ≡ link.flow.low.places → IsStated real (diagnosed_link real changes.change later link)
+        stated_by low is places =
+            same_stated real link (diagnosed_link real changes.change later link) refl (ap (λ (l : Low). l.places) is ∙ places) (diagnosed_keys real changes.change later link) (knows.stated link was)
+
         -- it concerns no submodule of the relation, or data is not exchanged
-        elsewhere_so : (low : Low) → is_exchanging link.phase ≡ true → is_reported link.flow.cyclic.begun changes.change link.flow.low ≡ false
+        elsewhere_so : is_exchanging link.phase ≡ true → is_reported link.flow.cyclic.begun changes.change link.flow.low ≡ false
             → at_places (own_of link.flow.low) later ≡ at_places (own_of link.flow.low) diagnoses
-        elsewhere_so low on quiet =
+        elsewhere_so on quiet =
             elsewhere (own_of link.flow.low) changes.change diagnoses later
             (sym (ap (λ (b : Bool). b && own_of link.flow.low changes.change.diagnosis.slot changes.change.diagnosis.subslot) (knows.begins link was ∙ on)) ∙ quiet) changes.changes
 
-        by_test : (b : Bool) → is_reported link.flow.cyclic.begun changes.change link.flow.low ≡ b → Knows after later (raised ++ reported_by before after)
+        by_test : (b : Bool) → is_reported link.flow.cyclic.begun changes.change link.flow.low ≡ b → Knows real after later (raised ++ reported_by before after)
         by_test false e =
             let same : (diagnosed real changes.change later link.flow).low ≡ noted later link.flow.low =
-            ap (λ (b : Bool). cond b (after_next real (waits_with changes.change later (noted later link.flow.low))) (noted later link.flow.low)) e in
-            let silent : reported_by before after ≡ [] =
-            reported_same before after (ap (λ (l : Option RelationState). number_in l) becomes_it
-            ∙ (ap (λ (low : Low). low.alarms.sender.sending.last) same ∙ sym (ap (λ (l : Option RelationState). number_in l) was))) in
-            becomes_so after link (with_flow (diagnosed real changes.change later link.flow) link) later (reported_by before after) known_so was becomes_it refl refl refl
-            (λ off none. (silent, ap (λ (low : Low). low.waiting) same ∙ none))
-            (λ on told. subst (λ (low : Low). IsTold low later (raised ++ reported_by before after)) (sym same)
-            (subst (λ (xs : List AlarmNotification). IsTold (noted later link.flow.low) later xs) (sym (ap (λ (xs : List AlarmNotification). raised ++ xs) silent ∙ append-nil raised)) (record {
-              changes = told.changes;
-              reports = told.reports;
-              leads = subst (λ (xs : List Diagnosis). Leads (own_of link.flow.low) (told.changes ++ map change_in link.flow.low.waiting) [] xs) (sym (elsewhere_so link.flow.low on e)) told.leads;
-            })))
+            ap (λ (b : Bool). cond b (after_next (waits_with real changes.change later link.flow.low)) (noted later link.flow.low)) e in
+            becomes_so real after link next later [] known_so was becomes_it refl refl (stated_by (noted later link.flow.low) same refl)
+            (sym (reported_same before after (ap (λ (l : Option RelationState). number_in l) becomes_it
+            ∙ (ap (λ (low : Low). low.alarms.sender.sending.last) same ∙ sym (ap (λ (l : Option RelationState). number_in l) was)))))
+            (λ off waiting. waits_so link.flow.low next.flow.low (ap (λ (low : Low). low.waiting) same) (ap (λ (low : Low). low.alarms.sender.sending.last) same) waiting)
+            (λ on told. told_so link.flow.low next.flow.low later (ap (λ (low : Low). low.waiting) same) (λ slot subslot. ap (λ (low : Low). own_of low slot subslot) same)
+            (ap (λ (low : Low). at_places (own_of low) later) same ∙ elsewhere_so on e) told)
         by_test true e =
-            let waits = waits_with changes.change later (noted later link.flow.low) in
-            let middle = with_flow (with_low link.flow waits) link in
-            let same : (diagnosed real changes.change later link.flow).low ≡ after_next real waits =
-            ap (λ (b : Bool). cond b (after_next real (waits_with changes.change later (noted later link.flow.low))) (noted later link.flow.low)) e in
-            let becomes_so_it : after ≡ Some (with_flow (next_reported real middle.flow) middle) =
-            becomes_it ∙ ap (λ (low : Low). let o : Option RelationState = Some (with_flow (with_low link.flow low) link) in o) same in
+            let same : (diagnosed real changes.change later link.flow).low ≡ after_next waits =
+            ap (λ (b : Bool). cond b (after_next (waits_with real changes.change later link.flow.low)) (noted later link.flow.low)) e in
             let parts = and_parts link.flow.cyclic.begun (own_of link.flow.low changes.change.diagnosis.slot changes.change.diagnosis.subslot) e in
             let up : is_exchanging link.phase ≡ true = sym (knows.begins link was) ∙ parts.0 in
             let room : is_low_full link.flow.low ≡ false =
             ap (λ (b : Bool). b && is_low_full link.flow.low) (sym parts.0) ∙ (ap (λ (l : Option RelationState). is_full_in l) (sym was) ∙ changes.open_room) in
-            let more = waits_more (noted later link.flow.low) changes.change later room in
-            next_so after link middle later known_so was refl becomes_so_it refl refl (λ off none. absurd (false≢true (sym off ∙ up)))
-            (λ on told. record {
+            let one = diagnosis_queued real (notice_of (is_own link.flow.low.places) changes.change later) in
+            let more = (queued_more one (noted later link.flow.low) room).1 in
+            next_so real after link next waits later known_so was refl becomes_it same refl refl (stated_by (after_next waits) same (after_places waits)) up
+            (λ told. record {
               changes = told.changes;
               reports = told.reports;
-              leads = subst (λ (ws : List Notice). Leads (own_of link.flow.low) (told.changes ++ map change_in ws) [] (at_places (own_of link.flow.low) later)) (sym more)
-                  (subst (λ (xs : List Change). Leads (own_of link.flow.low) xs [] (at_places (own_of link.flow.low) later))
-                  (sym (waited told.changes link.flow.low.waiting (notice_of (is_own link.flow.low.places) changes.change later)))
-                  (one_more (own_of link.flow.low) (told.changes ++ map change_in link.flow.low.waiting) changes.change [] (at_places (own_of link.flow.low) diagnoses) (at_places (own_of link.flow.low) later)
+              leads = subst (λ (ws : List QueuedAlarm). Leads (told.changes ++ map change_in ws) [] (at_places (own_of link.flow.low) later)) (sym more)
+                  (subst (λ (xs : List LowChange). Leads xs [] (at_places (own_of link.flow.low) later)) (sym (waited told.changes link.flow.low.waiting one))
+                  (one_more (told.changes ++ map change_in link.flow.low.waiting) (change_is.Diagnosis changes.change) [] (at_places (own_of link.flow.low) diagnoses) (at_places (own_of link.flow.low) later)
                   told.leads (step_so link.flow.low parts.1)));
+              own = subst (λ (ws : List QueuedAlarm). AreOwn (own_of link.flow.low) (told.changes ++ map change_in ws)) (sym more)
+                  (subst (λ (xs : List LowChange). AreOwn (own_of link.flow.low) xs) (sym (waited told.changes link.flow.low.waiting one))
+                  (own_append (own_of link.flow.low) (told.changes ++ map change_in link.flow.low.waiting) (change_is.Diagnosis changes.change ∷ []) told.own ((λ none. parts.1), tt)));
             })
 
-    changes_so : Knows after later (raised ++ reported_by before after)
+    changes_so : Knows real after later (raised ++ reported_by before after)
     changes_so = by_before before refl
       where
-        by_before : (link : Option RelationState) → before ≡ link → Knows after later (raised ++ reported_by before after)
+        by_before : (link : Option RelationState) → before ≡ link → Knows real after later (raised ++ reported_by before after)
         by_before (Some link) was = by_link link was
         by_before None was =
-            let gone : after ≡ None = changes.becomes ∙ ap (λ (l : Option RelationState). updated (diagnosing real changes.change later l) l) was in
-            record {
-              known = known_so;
-              begins = λ l is. absurd (none_some l after gone is);
-              before = λ l is off. absurd (none_some l after gone is);
-              told = λ l is on. absurd (none_some l after gone is);
-            }
+            over_knows real after later (raised ++ reported_by before after) known_so
+            (changes.becomes ∙ ap (λ (l : Option RelationState). updated (diagnosing real changes.change later l) l) was)
 
-  -- any turn that leaves the diagnoses as they are
+  -- ---- a pull or a plug
+
+  module _ (now : List RealModule) (heard : Heard) (after : Option RelationState) (later : List Diagnosis) (sent : List Sent) (changes : Changes real now diagnoses later before heard after sent) where
+    is_modules : IsModules real now changes.made
+    is_modules = modules_so real now heard changes.made changes.is changes.modules
+
+    remaining_so : AreKnown later
+    remaining_so = subst (λ (xs : List Diagnosis). AreKnown xs) (sym changes.remains) (remaining_known (affected_by changes.made) diagnoses knows.known)
+
+    by_relation : (link : RelationState) → before ≡ Some link → Knows now after later (raised ++ reported_by before after)
+    by_relation link was = by_hit (is_hit (affected_by changes.made) (places_then (rows_now now link) changes.made link)) refl (is_exchanging link.phase) refl
+      where
+        next : RelationState
+        next = changed_link now changes.made later link
+
+        stated : Low
+        stated = (modules_restated link.request.expected (rows_now now link) later link.flow).low
+
+        told_as : ModuleChange
+        told_as = reported_as link.request (rows_now now link) changes.made
+
+        waits : Low
+        waits = module_waits (reported_as link.request (rows_now now link) changes.made) changes.made later (modules_restated link.request.expected (rows_now now link) later link.flow).low
+
+        becomes_it : after ≡ Some (changed_link now changes.made later link)
+        becomes_it = changes.becomes ∙ ap (λ (l : Option RelationState). modules_changing now changes.made later l) was
+
+        places_is : link.flow.low.places ≡ own_places link.request.expected real
+        places_is = (knows.stated link was).0
+
+        keys_are : keys_of (changed_link now changes.made later link).plugs.places ≡ keys_of link.plugs.places
+        keys_are =
+            after_keys (sent_then (rows_now now link) changes.made later link) (flow_then (rows_now now link) changes.made later link).low.waiting (places_then (rows_now now link) changes.made link)
+            ∙ changed_keys (rows_now now link) changes.made link.plugs
+
+        stated_by : (low : Low) → (changed_link now changes.made later link).flow.low ≡ low → low.places ≡ own_places link.request.expected now → IsStated now (changed_link now changes.made later link)
+        stated_by low is places = (
+          ap (λ (l : Low). l.places) is ∙ places,
+          λ slot subslot e. ap (λ (ks : List (ℕ × ℕ)). list_any (λ key. key.0 == slot && key.1 == subslot) ks) keys_are ∙ (knows.stated link was).1 slot subslot e,
+        )
+
+        begun_same : (changed_link now changes.made later link).flow.cyclic.begun ≡ link.flow.cyclic.begun
+        begun_same = ap (λ (s : Standing). s.begun) (changed_standing (rows_now now link) changes.made later link)
+
+        -- the diagnoses at the submodules of the relation that remain
+        remain_so : at_places (is_own (own_places link.request.expected now)) later ≡ remaining (affected_by changes.made) (at_places (own_of link.flow.low) diagnoses)
+        remain_so =
+            ap (at_places (is_own (own_places link.request.expected now))) changes.remains
+            ∙ places_remain (own_of link.flow.low) (is_own (own_places link.request.expected now)) (affected_by changes.made) (λ slot subslot apart.
+            same_own link.request.expected real now slot subslot (is_modules.same slot subslot apart) ∙ ap (λ (p : List Place). is_own p slot subslot) (sym places_is)) diagnoses
+
+        -- the submodules of the relation that no pull or plug reaches
+        own_apart : (slot subslot : ℕ) → covers (reach_of (reported_as link.request (rows_now now link) changes.made)) slot subslot ≡ false
+            → is_own (own_places link.request.expected now) slot subslot ≡ own_of link.flow.low slot subslot
+        own_apart slot subslot apart =
+            same_own link.request.expected real now slot subslot
+            (is_modules.same slot subslot (is_modules.reach (asks link.request) (is_listed changes.made.slot changes.made.subslot (rows_now now link)) slot subslot apart))
+            ∙ ap (λ (p : List Place). is_own p slot subslot) (sym places_is)
+
+        -- none is expected at a change that affects no place
+        unexpected : is_hit (affected_by changes.made) (places_then (rows_now now link) changes.made link) ≡ false → (slot subslot : ℕ) → covers (affected_by changes.made) slot subslot ≡ true
+            → is_expected link.request.expected slot subslot ≡ false
+        unexpected e slot subslot covered =
+            missed link.request.expected (places_then (rows_now now link) changes.made link)
+            (λ s ss there. ap (λ (ks : List (ℕ × ℕ)). list_any (λ key. key.0 == s && key.1 == ss) ks) (changed_keys (rows_now now link) changes.made link.plugs) ∙ (knows.stated link was).1 s ss there)
+            (affected_by changes.made) e slot subslot covered
+
+        own_still : is_hit (affected_by changes.made) (places_then (rows_now now link) changes.made link) ≡ false
+            → (slot subslot : ℕ) → is_own (own_places link.request.expected now) slot subslot ≡ own_of link.flow.low slot subslot
+        own_still e slot subslot = by_cover (covers (affected_by changes.made) slot subslot) refl
+          where
+            by_cover : (b : Bool) → covers (affected_by changes.made) slot subslot ≡ b → is_own (own_places link.request.expected now) slot subslot ≡ own_of link.flow.low slot subslot
+            by_cover true f =
+                not_own link.request.expected now slot subslot (unexpected e slot subslot f)
+                ∙ (sym (not_own link.request.expected real slot subslot (unexpected e slot subslot f)) ∙ ap (λ (p : List Place). is_own p slot subslot) (sym places_is))
+            by_cover false f = same_own link.request.expected real now slot subslot (is_modules.same slot subslot f) ∙ ap (λ (p : List Place). is_own p slot subslot) (sym places_is)
+
+        -- all remain, if none was affected
+        none_gone : ((slot subslot : ℕ) → covers (affected_by changes.made) slot subslot ≡ true → is_own (own_places link.request.expected real) slot subslot ≡ false)
+            → at_places (is_own (own_places link.request.expected now)) later ≡ at_places (own_of link.flow.low) diagnoses
+        none_gone none =
+            remain_so ∙ all_remain (own_of link.flow.low) (affected_by changes.made) (λ slot subslot covered. ap (λ (p : List Place). is_own p slot subslot) places_is ∙ none slot subslot covered) diagnoses
+
+        -- the change is a step
+        step_so : IsStep (change_is.Module (reported_as link.request (rows_now now link) changes.made)) (at_places (own_of link.flow.low) diagnoses) (at_places (is_own (own_places link.request.expected now)) later)
+        step_so =
+            is_modules.pulls (asks link.request) (is_listed changes.made.slot changes.made.subslot (rows_now now link)) (at_places (own_of link.flow.low) diagnoses)
+            (at_places (is_own (own_places link.request.expected now)) later) remain_so
+            (λ kind. none_gone (λ slot subslot covered. empty_own link.request.expected real slot subslot (is_modules.empty kind slot subslot covered)))
+
+        nothing_step : IsStep (change_is.Module (reported_as link.request (rows_now now link) changes.made)) [] []
+        nothing_step = is_modules.pulls (asks link.request) (is_listed changes.made.slot changes.made.subslot (rows_now now link)) [] [] refl (λ kind. refl)
+
+        low_by : (b c : Bool) → is_hit (affected_by changes.made) (places_then (rows_now now link) changes.made link) ≡ b → link.flow.cyclic.begun ≡ c
+            → (changed_link now changes.made later link).flow.low
+            ≡ low_changed b c (reported_as link.request (rows_now now link) changes.made) changes.made later (modules_restated link.request.expected (rows_now now link) later link.flow).low
+        low_by b c e f =
+            ap (λ (d : Bool). low_changed d link.flow.cyclic.begun (reported_as link.request (rows_now now link) changes.made) changes.made later (modules_restated link.request.expected (rows_now now link) later link.flow).low) e
+            ∙ ap (λ (d : Bool). low_changed b d (reported_as link.request (rows_now now link) changes.made) changes.made later (modules_restated link.request.expected (rows_now now link) later link.flow).low) f
+
+        -- an alarm that waits has room
+        more : is_hit (affected_by changes.made) (places_then (rows_now now link) changes.made link) ≡ true
+            → (length link.flow.low.waiting < 32)
+            × ((module_waits (reported_as link.request (rows_now now link) changes.made) changes.made later (modules_restated link.request.expected (rows_now now link) later link.flow).low).waiting
+            ≡ link.flow.low.waiting ++ module_queued (is_own (own_places link.request.expected now)) (reported_as link.request (rows_now now link) changes.made) changes.made later ∷ [])
+        more e =
+            queued_more (module_queued (is_own (own_places link.request.expected now)) (reported_as link.request (rows_now now link) changes.made) changes.made later)
+            (modules_restated link.request.expected (rows_now now link) later link.flow).low
+            (sym (ap (λ (b : Bool). b && is_low_full link.flow.low) was_hit) ∙ (ap (λ (l : Option RelationState). is_crowded (affected_by changes.made) l) (sym was) ∙ changes.open_room))
+          where
+            was_hit : is_hit (affected_by changes.made) link.plugs ≡ true
+            was_hit =
+                hit_by_keys (affected_by changes.made) link.plugs (places_then (rows_now now link) changes.made link) (changed_keys (rows_now now link) changes.made link.plugs) ∙ e
+
+        unreported : (low : Low) → (changed_link now changes.made later link).flow.low ≡ low → low.alarms ≡ link.flow.low.alarms → [] ≡ reported_by before after
+        unreported low is same =
+            sym (reported_same before after (ap (λ (l : Option RelationState). number_in l) becomes_it
+            ∙ (ap (λ (l : Low). l.alarms.sender.sending.last) is ∙ (ap (λ (d : DeviceEnd). d.sender.sending.last) same ∙ sym (ap (λ (l : Option RelationState). number_in l) was)))))
+
+        by_hit : (b : Bool) → is_hit (affected_by changes.made) (places_then (rows_now now link) changes.made link) ≡ b → (c : Bool) → is_exchanging link.phase ≡ c
+            → Knows now after later (raised ++ reported_by before after)
+        by_hit false e c f =
+            let same = low_by false link.flow.cyclic.begun e refl in
+            becomes_so now after link next later [] remaining_so was becomes_it begun_same refl (stated_by stated same refl) (unreported stated same refl)
+            (λ off waiting. waits_so link.flow.low next.flow.low (ap (λ (l : Low). l.waiting) same) (ap (λ (l : Low). l.alarms.sender.sending.last) same) waiting)
+            (λ on told. told_so link.flow.low next.flow.low later (ap (λ (l : Low). l.waiting) same) (λ slot subslot. ap (λ (l : Low). own_of l slot subslot) same ∙ own_still e slot subslot)
+            (ap (λ (l : Low). at_places (own_of l) later) same
+            ∙ none_gone (λ slot subslot covered. not_own link.request.expected real slot subslot (unexpected e slot subslot covered))) told)
+        by_hit true e false f =
+            let same = low_by true false e (knows.begins link was ∙ f) in
+            let room = more e in
+            becomes_so now after link next later [] remaining_so was becomes_it begun_same refl (stated_by waits same refl) (unreported waits same refl)
+            (λ off waiting. record {
+              none = append-nil raised ∙ waiting.none;
+              unsent = ap (λ (l : Low). l.alarms.sender.sending.last) same ∙ waiting.unsent;
+              few = subst (λ (ws : List QueuedAlarm). length ws ≤ 32) (sym (ap (λ (l : Low). l.waiting) same ∙ room.1))
+                  (one_longer link.flow.low.waiting (module_queued (is_own (own_places link.request.expected now)) told_as changes.made later) room.0);
+              leads = subst (λ (ws : List QueuedAlarm). Leads (map change_in ws) [] []) (sym (ap (λ (l : Low). l.waiting) same ∙ room.1))
+                  (subst (λ (xs : List LowChange). Leads xs [] []) (sym (waited [] link.flow.low.waiting (module_queued (is_own (own_places link.request.expected now)) told_as changes.made later)))
+                  (one_more (map change_in link.flow.low.waiting) (change_is.Module told_as) [] [] [] waiting.leads nothing_step));
+              own = λ has. subst (λ (ws : List QueuedAlarm). AreOwn has (map change_in ws)) (sym (ap (λ (l : Low). l.waiting) same ∙ room.1))
+                  (subst (λ (xs : List LowChange). AreOwn has xs) (sym (waited [] link.flow.low.waiting (module_queued (is_own (own_places link.request.expected now)) told_as changes.made later)))
+                  (own_append has (map change_in link.flow.low.waiting) (change_is.Module told_as ∷ []) (waiting.own has) (tt, tt)));
+            })
+            (λ on told. absurd (false≢true (sym f ∙ on)))
+        by_hit true e true f =
+            let same = low_by true true e (knows.begins link was ∙ f) in
+            let room = more e in
+            next_so now after link next waits later remaining_so was refl becomes_it same begun_same refl (stated_by (after_next waits) same (after_places waits)) f
+            (λ told. record {
+              changes = told.changes;
+              reports = told.reports;
+              leads = subst (λ (ws : List QueuedAlarm). Leads (told.changes ++ map change_in ws) [] (at_places (own_of waits) later)) (sym room.1)
+                  (subst (λ (xs : List LowChange). Leads xs [] (at_places (own_of waits) later))
+                  (sym (waited told.changes link.flow.low.waiting (module_queued (is_own (own_places link.request.expected now)) told_as changes.made later)))
+                  (one_more (told.changes ++ map change_in link.flow.low.waiting) (change_is.Module told_as) [] (at_places (own_of link.flow.low) diagnoses) (at_places (own_of waits) later)
+                  told.leads step_so));
+              own = subst (λ (ws : List QueuedAlarm). AreOwn (own_of waits) (told.changes ++ map change_in ws)) (sym room.1)
+                  (subst (λ (xs : List LowChange). AreOwn (own_of waits) xs)
+                  (sym (waited told.changes link.flow.low.waiting (module_queued (is_own (own_places link.request.expected now)) told_as changes.made later)))
+                  (own_changed (own_of link.flow.low) (is_own (own_places link.request.expected now)) told_as own_apart (told.changes ++ map change_in link.flow.low.waiting) told.own));
+            })
+
+    pulled_so : Knows now after later (raised ++ reported_by before after)
+    pulled_so = by_before before refl
+      where
+        by_before : (link : Option RelationState) → before ≡ link → Knows now after later (raised ++ reported_by before after)
+        by_before (Some link) was = by_relation link was
+        by_before None was =
+            over_knows now after later (raised ++ reported_by before after) remaining_so
+            (changes.becomes ∙ ap (λ (l : Option RelationState). modules_changing now changes.made later l) was)
+
+  -- any turn that leaves the modules and the diagnoses as they are
   turn_so : (calls : List Answer) (heard : Heard) (after : Option RelationState) (later : List Diagnosis) (sent : List Sent) → later ≡ diagnoses
-      → ((change : Change) → heard ≡ change_heard change → change.diagnosis.error < 65536) → (Makes calls before heard after sent → (before ≡ None) × (raised ≡ []))
-      → IsTurn real calls diagnoses later before heard after sent → Knows after later (raised ++ reported_by before after)
-  turn_so calls heard after later sent same small alone turn = subst (λ (xs : List Diagnosis). Knows after xs (raised ++ reported_by before after)) (sym same) (by_turn turn)
+      → ((change : Change) → heard ≡ change_heard change → change.diagnosis.error < 65536)
+      → (Makes calls before heard after sent → (before ≡ None) × (raised ≡ []) × ((l : RelationState) → after ≡ Some l → IsStated real l))
+      → IsTurn real real calls diagnoses later before heard after sent → Knows real after later (raised ++ reported_by before after)
+  turn_so calls heard after later sent same small alone turn = by_turn turn
     where
-      by_turn : IsTurn real calls diagnoses later before heard after sent → Knows after diagnoses (raised ++ reported_by before after)
-      by_turn (inl stays) = stays_so after stays.link
-      by_turn (inr (inl makes)) = let so = alone makes in makes_so calls heard after sent so.0 so.1 makes
+      as_before : Knows real after diagnoses (raised ++ reported_by before after) → Knows real after later (raised ++ reported_by before after)
+      as_before so = subst (λ (xs : List Diagnosis). Knows real after xs (raised ++ reported_by before after)) (sym same) so
+
+      by_turn : IsTurn real real calls diagnoses later before heard after sent → Knows real after later (raised ++ reported_by before after)
+      by_turn (inl stays) = as_before (stays_so after stays.link)
+      by_turn (inr (inl makes)) = let so = alone makes in as_before (makes_so calls heard after sent so.0 so.1 so.2 makes)
       by_turn (inr (inr (inl raises))) =
           let may = may_be raises.link.flow raises.slot raises.subslot raises.octets (module_ident real raises.slot) (submodule_ident real raises.slot raises.subslot) raises.flow raises.raised in
-          same_so after raises.link (with_flow raises.flow raises.link) raises.was raises.becomes (ap (λ (f : Flow). f.cyclic.begun) may.is) refl
-          (ap (λ (f : Flow). f.low.waiting) may.is) (ap (λ (f : Flow). f.low.places) may.is) (ap (λ (f : Flow). f.low.alarms.sender.sending.last) may.is)
-      by_turn (inr (inr (inr (inl acked)))) = same_so after acked.link _ acked.was acked.becomes refl refl refl refl refl
-      by_turn (inr (inr (inr (inr (inl came))))) = same_so after came.link _ came.was came.becomes refl refl refl refl refl
-      by_turn (inr (inr (inr (inr (inr (inl passes)))))) = same_so after passes.link (unit_later passes.link) passes.was passes.becomes refl refl refl refl refl
+          as_before (same_so after raises.link (with_flow raises.flow raises.link) raises.was raises.becomes (ap (λ (f : Flow). f.cyclic.begun) may.is) refl refl refl
+          (ap (λ (f : Flow). f.low.waiting) may.is) (ap (λ (f : Flow). f.low.places) may.is) (ap (λ (f : Flow). f.low.alarms.sender.sending.last) may.is))
+      by_turn (inr (inr (inr (inl acked)))) = as_before (same_so after acked.link _ acked.was acked.becomes refl refl refl refl refl refl refl)
+      by_turn (inr (inr (inr (inr (inl came))))) = as_before (same_so after came.link _ came.was came.becomes refl refl refl refl refl refl refl)
+      by_turn (inr (inr (inr (inr (inr (inl passes)))))) =
+          as_before (same_so after passes.link (unit_later passes.link) passes.was passes.becomes refl refl refl (later_keys passes.link) refl refl refl)
       by_turn (inr (inr (inr (inr (inr (inr (inl acked))))))) =
-          same_so after acked.link _ acked.was acked.becomes refl refl refl refl (ack_last acked.link.flow.low.alarms acked.number)
-      by_turn (inr (inr (inr (inr (inr (inr (inr (inl came)))))))) = low_data_so heard after sent came
-      by_turn (inr (inr (inr (inr (inr (inr (inr (inr (inl begins))))))))) = begins_so after sent begins
-      by_turn (inr (inr (inr (inr (inr (inr (inr (inr (inr changes))))))))) =
-          subst (λ (xs : List Diagnosis). Knows after xs (raised ++ reported_by before after)) same (changes_so heard after later sent changes small)
+          as_before (same_so after acked.link _ acked.was acked.becomes refl refl refl refl refl refl (ack_last acked.link.flow.low.alarms acked.number))
+      by_turn (inr (inr (inr (inr (inr (inr (inr (inl came)))))))) = as_before (low_data_so heard after sent came)
+      by_turn (inr (inr (inr (inr (inr (inr (inr (inr (inl begins))))))))) = as_before (begins_so after sent begins)
+      by_turn (inr (inr (inr (inr (inr (inr (inr (inr (inr (inl changes)))))))))) = changes_so heard after later sent changes small
+      by_turn (inr (inr (inr (inr (inr (inr (inr (inr (inr (inr changes)))))))))) = pulled_so real heard after later sent changes
 
-  pub knows_on : (calls : List Answer) (heard : Heard) (after : Option RelationState) (later : List Diagnosis) (sent : List Sent)
-      → ((change : Change) → heard ≡ change_heard change → change.diagnosis.error < 65536) → (Makes calls before heard after sent → (before ≡ None) × (raised ≡ []))
-      → IsTurn real calls diagnoses later before heard after sent → (later ≡ diagnoses) ⊎ Diagnoses real diagnoses later before heard after sent
-      → Knows after later (raised ++ reported_by before after)
-  knows_on calls heard after later sent small alone turn (inl same) = turn_so calls heard after later sent same small alone turn
-  knows_on calls heard after later sent small alone turn (inr changes) = changes_so heard after later sent changes small
+  pub knows_on : (calls : List Answer) (heard : Heard) (after : Option RelationState) (now : List RealModule) (later : List Diagnosis) (sent : List Sent)
+      → ((change : Change) → heard ≡ change_heard change → change.diagnosis.error < 65536)
+      → (Makes calls before heard after sent → (before ≡ None) × (raised ≡ []) × ((l : RelationState) → after ≡ Some l → IsStated real l))
+      → IsTurn real now calls diagnoses later before heard after sent
+      → (now ≡ real) ⊎ Changes real now diagnoses later before heard after sent
+      → (later ≡ diagnoses) ⊎ (Diagnoses real diagnoses later before heard after sent ⊎ Changes real now diagnoses later before heard after sent)
+      → Knows now after later (raised ++ reported_by before after)
+  knows_on calls heard after now later sent small alone turn (inr changes) which = pulled_so now heard after later sent changes
+  knows_on calls heard after now later sent small alone turn (inl still) (inr (inr changes)) = pulled_so now heard after later sent changes
+  knows_on calls heard after now later sent small alone turn (inl still) (inr (inl changes)) =
+      subst (λ (modules : List RealModule). Knows modules after later (raised ++ reported_by before after)) (sym still) (changes_so heard after later sent changes small)
+  knows_on calls heard after now later sent small alone turn (inl still) (inl same) =
+      subst (λ (modules : List RealModule). Knows modules after later (raised ++ reported_by before after)) (sym still)
+      (turn_so calls heard after later sent same small alone
+      (subst (λ (modules : List RealModule). IsTurn real modules calls diagnoses later before heard after sent) still turn))
 
 -- ---- the list of a controller that accepted them all
 
@@ -413,14 +695,44 @@ FollowsSo = (has : ℕ → ℕ → Bool) (change : Change) (report : Report) (be
 abbrev listed : List Diagnosis → Reported
 listed diagnoses = record { existing = diagnoses; left_out = 0 }
 
-pub all_listed : FollowsSo → (has : ℕ → ℕ → Bool) (changes : List Change) (alarms : List AlarmNotification) (from last : List Diagnosis) → AreReports changes alarms → Leads has changes from last
-    → after_reports alarms (listed from) ≡ listed last
-all_listed law has [] [] from last reports leads = ap listed leads
-all_listed law has [] (alarm ∷ alarms) from last reports leads = absurd reports
-all_listed law has (change ∷ changes) [] from last reports leads = absurd reports
-all_listed law has (change ∷ changes) (alarm ∷ alarms) from last reports leads =
-    let step = leads.1 in
-    let next : after_report (report_as low_priority alarm) (listed from) ≡ listed leads.0 =
+-- a pull or a plug reports nothing of a channel
+module_quiet : (report : Report) (kind : ModuleChangeKind) → report.notification.alarm_type ≡ kind_type kind → channel_report report ≡ None
+module_quiet report kind e = by_kind kind e
+  where
+    no_type : (n : ℕ) → report.notification.alarm_type ≡ n → (n == 1 || n == 0x000C) ≡ false → channel_report report ≡ None
+    no_type n f none =
+        ap (λ (b : Bool). cond (b && is_channel_structure report.user_structure) (report_by report.notification (channel_by (channel.read report.notification.alarm_data))) None)
+        (ap (λ (m : ℕ). m == 1 || m == 0x000C) f ∙ none)
+
+    by_kind : (k : ModuleChangeKind) → report.notification.alarm_type ≡ kind_type k → channel_report report ≡ None
+    by_kind kind_is.Pull f = no_type 0x0003 f refl
+    by_kind kind_is.PullModule f = no_type 0x001F f refl
+    by_kind kind_is.Plug f = no_type 0x0004 f refl
+    by_kind kind_is.PlugWrong f = no_type 0x000A f refl
+
+-- one that is no pull leaves the diagnoses
+module_stays : (made : ModuleChange) (alarm : AlarmNotification) (from next : List Diagnosis) (kind : ModuleChangeKind) → is_pull alarm ≡ false → alarm.alarm_type ≡ kind_type kind
+    → IsModuleStep kind made from next → next ≡ from
+module_stays made alarm from next kind_is.Pull none type step = absurd (true≢false (sym (ap (λ (n : ℕ). n == 0x0003 || n == 0x001F) type) ∙ none))
+module_stays made alarm from next kind_is.PullModule none type step = absurd (true≢false (sym (ap (λ (n : ℕ). n == 0x0003 || n == 0x001F) type) ∙ none))
+module_stays made alarm from next kind_is.Plug none type step = step
+module_stays made alarm from next kind_is.PlugWrong none type step = step
+
+one_listed : FollowsSo → (change : LowChange) (alarm : AlarmNotification) (from next : List Diagnosis) → IsReport change alarm → IsStep change from next → is_pull alarm ≡ false
+    → after_report (report_as low_priority alarm) (listed from) ≡ listed next
+one_listed law (change_is.Diagnosis made) alarm from next reports step none =
     ap (λ (xs : List Diagnosis). after_report (report_as low_priority alarm) (listed xs)) step.from_is
-    ∙ (law has change (report_as low_priority alarm) step.before step.after 0 reports.0 step.channel step.error step.own step.is ∙ ap listed (sym step.next_is)) in
-    ap (λ (r : Reported). after_reports alarms r) next ∙ all_listed law has changes alarms leads.0 last reports.1 leads.2
+    ∙ (law step.has made (report_as low_priority alarm) step.before step.after 0 reports step.channel step.error step.own step.is ∙ ap listed (sym step.next_is))
+one_listed law (change_is.Module made) alarm from next reports step none =
+    ap (λ (found : Option ChannelReport). after_found found (listed from)) (module_quiet (report_as low_priority alarm) made.kind reports.type_is)
+    ∙ ap listed (sym (module_stays made alarm from next made.kind none reports.type_is step))
+
+pub all_listed : FollowsSo → (changes : List LowChange) (alarms : List AlarmNotification) (from last : List Diagnosis) → AreReports changes alarms → Leads changes from last → list_any is_pull alarms ≡ false
+    → after_reports alarms (listed from) ≡ listed last
+all_listed law [] [] from last reports leads none = ap listed leads
+all_listed law [] (alarm ∷ alarms) from last reports leads none = absurd reports
+all_listed law (change ∷ changes) [] from last reports leads none = absurd reports
+all_listed law (change ∷ changes) (alarm ∷ alarms) from last reports leads none =
+    let parts = or_parts (is_pull alarm) (list_any is_pull alarms) none in
+    ap (λ (r : Reported). after_reports alarms r) (one_listed law change alarm from leads.0 reports.0 leads.1 parts.0)
+    ∙ all_listed law changes alarms leads.0 last reports.1 leads.2 parts.1

@@ -26,6 +26,7 @@ use Rattle.records.specs.declared.writes.taken.TakenRecord.{TakenRecord}
 use Rattle.relations.specs.RelationState.{RelationState}
 use Rattle.relations.specs.Exchanged.{raised_to}
 use Rattle.device_frames.specs.declared.event.Event.TheVariants.{Frame}
+use Rattle.pn_values.specs.declared.real.Real.{Real}
 use Rattle.pn_values.specs.declared.real.RealModule.{RealModule}
 use Rattle.diagnosis.specs.declared.reports.priority.Priority.{Priority}
 use Rattle.diagnosis.specs.declared.reports.priority.Priority.TheVariants.{High, Low}
@@ -39,7 +40,7 @@ use Rattle.both_ends.specs.startup.request.Request.{request_for}
 use Rattle.device_frames.specs.Sent.{Sent as DeviceSent}
 use Rattle.device_frames.specs.declared.local.Local.TheVariants as local
 use Rattle.device_frames.specs.Heard.{Heard, Ticks, Elsewhere, Asks, Resolves, Reported, Calls, Cyclic, Applied, Met, broadcast, heard_alarm, heard_content, heard_frame, heard_of, heard_request, is_own, is_taken}
-use Rattle.device_core.specs.State.{State, Station, Live}
+use Rattle.device_core.specs.State.{State, Station, Live, Rest}
 use Rattle.device_core.specs.Machine.{heard_step}
 use Rattle.controller_messages.specs.declared.request.Request.TheVariants as asks
 use Rattle.controller_messages.specs.declared.setup.Setup.{Setup}
@@ -62,7 +63,8 @@ use Rattle.network_world.specs.World.{AreMade, at_controller, AtDevice, Comes, D
 use Rattle.end_laws.specs.both.Small as small
 use Rattle.end_laws.specs.both.Small.{Rules}
 use Rattle.end_laws.specs.both.Steps.{DeviceSteps}
-use Rattle.end_laws.specs.device.Turn.{IsRaise, Makes, Turn, alarm_heard}
+use Rattle.end_laws.specs.device.Orderly.{IsOrderlyIn}
+use Rattle.end_laws.specs.device.Turn.{Changes, IsRaise, Makes, Turn, alarm_heard}
 use Rattle.end_laws.specs.device.Small.{IsHeardAs, IsPlanned, Planned, heard_as, kept_in, link_of, small_of}
 use Rattle.both_ends.specs.startup.Played.{AreMeant, Begins, CanMeet}
 use Rattle.end_laws.specs.controller.Small.{said_to}
@@ -72,8 +74,11 @@ use Rattle.both_ends.proofs.ExchangeOutputsTurns.{KindsSo}
 use Rattle.end_laws.specs.sending.Messages.{CanBeSent as CanBeSaid}
 use Rattle.end_laws.specs.sending.Sized.{IsLive, IsSized, IsSizedEvent}
 use Rattle.both_ends.specs.exchange.Sized.{AreSizedModules}
+use Rattle.both_ends.specs.exchange.Told.{AreSizedMoves, IsSizedMove}
 use Rattle.both_ends.proofs.ExchangeRelated.{IsRight, responded_right}
+use Rattle.both_ends.proofs.ExchangeMade.{stated_made}
 use Rattle.both_ends.proofs.ExchangeServed.{all_served}
+use Rattle.both_ends.proofs.ExchangeStated.{IsSizedHeard, change_sized}
 use Rattle.both_ends.proofs.ExchangeWell.{all_called, all_well}
 use Rattle.both_ends.proofs.ExchangePlaced.{IsEventOf, IsOf, IsPlaced, event_placed, first_placed}
 use Rattle.both_ends.proofs.ExchangeReported.{IsCallIn, IsGood, IsWell, ack_in, alarm_in, noted_at, reported_at}
@@ -145,6 +150,10 @@ pub of_frame : (identity : Identity) (octets : List ℕ) → IsOfFrame (heard_of
 unfolding heard_of
 of_frame identity octets = framed_read identity (frame_of octets)
 
+pub framed_sized : (heard : Heard) → IsOfFrame heard → IsSizedHeard heard
+framed_sized (Applied local) is = absurd is
+framed_sized other is = tt
+
 unraised : (heard : Heard) → IsOfFrame heard → IsUnraised heard
 unraised (Applied local) is = absurd is
 unraised other is = tt
@@ -156,15 +165,15 @@ pub record DeviceSo : Type 0 where
   pub goes_sized : (setup : Setup) (controlling : ControllerLive) (one : Event) → IsSetup setup → IsLive controlling → IsSizedEvent setup one
       → IsLive (turn_of setup controlling one).live × AllByRecursion (CanBeSaid setup) (turn_of setup controlling one).sent
   pub goes_on : (rules : Rules TakenRecord Request) (activity : List ℕ) (outcomes : List Outcome) (station : Station) (live : Live) (heard : Heard)
-      → IsPlanned rules activity station.real heard
+      → IsOrderlyIn live.rest.link → IsPlanned rules activity live.rest.real heard
       → AllByRecursion (IsHeardAs rules station.identity) (heard_step outcomes station live heard).sent
       → DeviceSteps rules (heard_as rules.is_planned heard) (small_of activity live) (small_of activity (heard_step outcomes station live heard).live) (heard_step outcomes station live heard).frames
   pub kinds : KindsSo
   pub turns : (rules : Rules TakenRecord Request) (activity : List ℕ) (outcomes : List Outcome) (station : Station) (live : Live) (heard : Heard)
-      → IsPlanned rules activity station.real heard
+      → IsPlanned rules activity live.rest.real heard
       → Turn station live heard (heard_step outcomes station live heard).live.rest (heard_step outcomes station live heard).sent
   pub raises : (outcomes : List Outcome) (station : Station) (live : Live) (slot subslot : ℕ) (octets : List ℕ)
-      → IsRaise station.real.modules.items live.rest.link slot subslot octets (heard_step outcomes station live (alarm_heard slot subslot octets)).live.rest.link
+      → IsRaise live.rest.real.modules.items live.rest.link slot subslot octets (heard_step outcomes station live (alarm_heard slot subslot octets)).live.rest.link
       (heard_step outcomes station live (alarm_heard slot subslot octets)).sent
 
 -- a step of the controller
@@ -177,6 +186,26 @@ unfolding step_of
 frames_are old one = refl
 
 -- ---- a turn of the device
+
+-- the modules after it
+module _ (station : Station) (live : Live) (heard : Heard) (after : Rest) (sent : List DeviceSent) (turn : Turn station live heard after sent) where
+  pub modules_in : (after.real.modules.items ≡ live.rest.real.modules.items)
+      ⊎ Changes live.rest.real.modules.items after.real.modules.items live.rest.diagnoses after.diagnoses live.rest.link heard after.link sent
+  modules_in = by_modules turn.modules
+    where
+      by_modules : (after.real ≡ live.rest.real) ⊎ Changes live.rest.real.modules.items after.real.modules.items live.rest.diagnoses after.diagnoses live.rest.link heard after.link sent
+          → (after.real.modules.items ≡ live.rest.real.modules.items)
+          ⊎ Changes live.rest.real.modules.items after.real.modules.items live.rest.diagnoses after.diagnoses live.rest.link heard after.link sent
+      by_modules (inl same) = inl (ap (λ (r : Real). r.modules.items) same)
+      by_modules (inr changes) = inr changes
+
+  pub modules_sized : IsSizedHeard heard → AreSizedModules live.rest.real.modules.items → AreSizedModules after.real.modules.items
+  modules_sized fits real = by_modules modules_in
+    where
+      by_modules : (after.real.modules.items ≡ live.rest.real.modules.items)
+          ⊎ Changes live.rest.real.modules.items after.real.modules.items live.rest.diagnoses after.diagnoses live.rest.link heard after.link sent → AreSizedModules after.real.modules.items
+      by_modules (inl same) = subst (λ (modules : List RealModule). AreSizedModules modules) (sym same) real
+      by_modules (inr changes) = (change_sized live.rest.real.modules.items after.real.modules.items heard changes.made real fits changes.is changes.modules).modules
 
 -- which alarms are raised with a turn, apart from those that the application raises
 abbrev told_in : Priority → Option RelationState → Option RelationState → List AlarmNotification
@@ -192,24 +221,24 @@ calm_for : (priority : Priority) (heard : Heard) → IsUnraised heard → IsCalm
 calm_for High heard is = is
 calm_for Low heard is = tt
 
-goes_in : (priority : Priority) (setup : Setup) (r : Relation) (real : List RealModule) (calls : List Answer) (diagnoses later : List Diagnosis) (before : Option RelationState) (heard : Heard) (after : Option RelationState) (messages : List DeviceSent)
+goes_in : (priority : Priority) (setup : Setup) (r : Relation) (real now : List RealModule) (calls : List Answer) (diagnoses later : List Diagnosis) (before : Option RelationState) (heard : Heard) (after : Option RelationState) (messages : List DeviceSent)
     → IsTied priority r before → IsHeard priority r.reported (ack_in priority (reported_at heard)) → IsCalmFor priority heard → IsFresh priority setup r calls before heard after messages
-    → (Makes calls before heard after messages → before ≡ None) → IsTurn real calls diagnoses later before heard after messages → Goes priority setup r before after messages (told_in priority before after)
-goes_in High setup r real calls diagnoses later before heard after messages tied is calm fresh alone turn = turn_on setup r real before tied calls diagnoses later heard after messages is calm fresh turn
-goes_in Low setup r real calls diagnoses later before heard after messages tied is calm fresh alone turn = low_turn_on setup r real before tied calls diagnoses later heard after messages is fresh alone turn
+    → (Makes calls before heard after messages → before ≡ None) → IsTurn real now calls diagnoses later before heard after messages → Goes priority setup r before after messages (told_in priority before after)
+goes_in High setup r real now calls diagnoses later before heard after messages tied is calm fresh alone turn = turn_on setup r real before tied now calls diagnoses later heard after messages is calm fresh turn
+goes_in Low setup r real now calls diagnoses later before heard after messages tied is calm fresh alone turn = low_turn_on setup r real before tied now calls diagnoses later heard after messages is fresh alone turn
 
 -- an alarm that the application raises
 abbrev alarm_told : Priority → List RealModule → ℕ → ℕ → List ℕ → Option RelationState → Option RelationState → List AlarmNotification
 alarm_told High real slot subslot octets before after = raised_in (raised_to real slot subslot octets before)
 alarm_told Low real slot subslot octets before after = reported_by before after
 
-alarm_goes : (priority : Priority) (setup : Setup) (r : Relation) (real : List RealModule) (calls : List Answer) (diagnoses later : List Diagnosis) (before : Option RelationState) (slot subslot : ℕ) (octets : List ℕ) (after : Option RelationState) (messages : List DeviceSent)
+alarm_goes : (priority : Priority) (setup : Setup) (r : Relation) (real now : List RealModule) (calls : List Answer) (diagnoses later : List Diagnosis) (before : Option RelationState) (slot subslot : ℕ) (octets : List ℕ) (after : Option RelationState) (messages : List DeviceSent)
     → IsTied priority r before → IsFresh priority setup r calls before (alarm_heard slot subslot octets) after messages → (Makes calls before (alarm_heard slot subslot octets) after messages → before ≡ None)
-    → IsTurn real calls diagnoses later before (alarm_heard slot subslot octets) after messages → IsRaise real before slot subslot octets after messages
+    → IsTurn real now calls diagnoses later before (alarm_heard slot subslot octets) after messages → IsRaise real before slot subslot octets after messages
     → Goes priority setup r before after messages (alarm_told priority real slot subslot octets before after)
-alarm_goes High setup r real calls diagnoses later before slot subslot octets after messages tied fresh alone turn raise = raise_on setup r real before tied slot subslot octets after messages raise
-alarm_goes Low setup r real calls diagnoses later before slot subslot octets after messages tied fresh alone turn raise =
-    low_turn_on setup r real before tied calls diagnoses later (alarm_heard slot subslot octets) after messages tt fresh alone turn
+alarm_goes High setup r real now calls diagnoses later before slot subslot octets after messages tied fresh alone turn raise = raise_on setup r real before tied slot subslot octets after messages raise
+alarm_goes Low setup r real now calls diagnoses later before slot subslot octets after messages tied fresh alone turn raise =
+    low_turn_on setup r real before tied now calls diagnoses later (alarm_heard slot subslot octets) after messages tt fresh alone turn
 
 module _ {F : Type 0} where
   -- the alarms of a priority that are raised with a move
@@ -241,8 +270,8 @@ module _ {F : Type 0} where
       reported_same before.device.live.rest.link after.device.live.rest.link (ap (λ (d : State F). number_in d.live.rest.link) same)
 
   alarm_is : (priority : Priority) (before : World F) (one : Move) (slot subslot : ℕ) (octets : List ℕ) (after : World F)
-      → raised_with before one ≡ raised_in (raised_to before.device.station.real.modules.items slot subslot octets before.device.live.rest.link)
-      → alarm_told priority before.device.station.real.modules.items slot subslot octets before.device.live.rest.link after.device.live.rest.link ≡ now_at priority before one after
+      → raised_with before one ≡ raised_in (raised_to before.device.live.rest.real.modules.items slot subslot octets before.device.live.rest.link)
+      → alarm_told priority before.device.live.rest.real.modules.items slot subslot octets before.device.live.rest.link after.device.live.rest.link ≡ now_at priority before one after
   alarm_is High before one slot subslot octets after e = sym e
   alarm_is Low before one slot subslot octets after e = refl
 
@@ -273,9 +302,9 @@ module _ {F : Type 0} where
     -- ---- the device
 
     pub turn_at : (heard : Heard) (outcomes : List Outcome) → IsMeantAtDevice before heard
-        → IsTurn station.real.modules.items live.rest.calls live.rest.diagnoses (heard_step outcomes station live heard).live.rest.diagnoses live.rest.link heard (heard_step outcomes station live heard).live.rest.link (heard_step outcomes station live heard).sent
+        → IsTurn live.rest.real.modules.items (heard_step outcomes station live heard).live.rest.real.modules.items live.rest.calls live.rest.diagnoses (heard_step outcomes station live heard).live.rest.diagnoses live.rest.link heard (heard_step outcomes station live heard).live.rest.link (heard_step outcomes station live heard).sent
     turn_at heard outcomes meant =
-        as_alarms station.real.modules.items live.rest.calls live.rest.diagnoses (heard_step outcomes station live heard).live.rest.diagnoses live.rest.link heard _ _ (so.turns (rules_of setup station) setup.activity outcomes station live heard meant.planned).is
+        as_alarms live.rest.real.modules.items (heard_step outcomes station live heard).live.rest.real.modules.items live.rest.calls live.rest.diagnoses (heard_step outcomes station live heard).live.rest.diagnoses live.rest.link heard _ _ (so.turns (rules_of setup station) setup.activity outcomes station live heard meant.planned).is
 
     module _ (heard : Heard) (first : (sequence : ℕ) → heard_as (is_planned setup) heard ≡ small.Call sequence small.Connects → sequence ≡ 0)
         (late : (sequence : ℕ) → heard_as (is_planned setup) heard ≡ small.Call sequence small.Accesses → kept_at setup live ≡ None → ⊥) (called : IsCallIn setup heard)
@@ -290,30 +319,34 @@ module _ {F : Type 0} where
       fresh_so : (link : Option RelationState) (messages : List DeviceSent) → IsFresh priority setup follows.relation live.rest.calls live.rest.link heard link messages
       fresh_so link messages = makes_fresh priority setup station live before.controller.live before.sent raised taken follows heard meant.planned first late link messages
 
-      device_on : (now : List AlarmNotification)
+      device_on : IsSizedHeard heard → (now : List AlarmNotification)
           → ((outcomes : List Outcome) → after.device.live ≡ (heard_step outcomes station live heard).live
           → Goes priority setup follows.relation live.rest.link (heard_step outcomes station live heard).live.rest.link (heard_step outcomes station live heard).sent now)
           → FollowsAt priority after (raised ++ now) taken
-      device_on now goes =
+      device_on fits now goes =
           let heard_it = made.hears in
           let outcomes = heard_it.steps.outcomes in
           let step = heard_step outcomes station live heard in
           let rules = rules_of setup station in
-          let turn = turn_sized station.identity setup.plan setup.ar follows.apart station.real.modules.items live.rest.calls live.rest.diagnoses step.live.rest.diagnoses live.rest.link heard step.live.rest.link step.sent follows.real follows.sized
-          (λ makes. (makes_so step.live.rest.link step.sent makes).1)
-          (turn_at heard outcomes meant) in
-          let heard_so = meant.sent outcomes heard_it.steps.sendable in
           let acts = so.turns rules setup.activity outcomes station live heard meant.planned in
+          let turn = turn_sized station.identity setup.plan setup.ar follows.apart live.rest.real.modules.items step.live.rest.real.modules.items live.rest.calls live.rest.diagnoses step.live.rest.diagnoses live.rest.link heard step.live.rest.link step.sent
+          fits follows.real follows.sized
+          (λ makes. (
+            (makes_so step.live.rest.link step.sent makes).1,
+            stated_made station live heard step.live.rest step.sent (alone_so step.live.rest.link step.sent makes) acts.does,
+          ))
+          (modules_in station live heard step.live.rest step.sent acts) (turn_at heard outcomes meant) in
+          let heard_so = meant.sent outcomes heard_it.steps.sendable in
           let owes = acts.owed in
           let serves = all_served setup station live heard step.live.rest step.sent meant.planned
           (unlinked_new priority setup station live before.controller.live before.sent raised taken follows heard meant.planned first late) acts.does in
           let all : Follows priority setup station step.live before.controller.live (before.sent ++ step.frames) (raised ++ now) taken =
           device_follows priority setup station live before.controller.live before.sent raised taken follows heard meant.planned first late outcomes now
-          (so.goes_on rules setup.activity outcomes station live heard meant.planned heard_so) owes
+          (so.goes_on rules setup.activity outcomes station live heard follows.orderly meant.planned heard_so) owes
           heard_so (all_noted hears setup station.identity step.sent heard_it.steps.sendable turn.messages
-          (all_ready hears setup station.identity follows.good heard live step.sent follows.sized owes))
+          (all_ready hears setup station.identity follows.good heard live step.sent follows.sized follows.orderly owes))
           (all_well hears setup station follows.good live heard meant.planned called step.sent heard_it.steps.sendable owes heard_so serves)
-          (goes outcomes heard_it.steps.live) turn.link in
+          (goes outcomes heard_it.steps.live) (modules_sized station live heard step.live.rest step.sent acts fits follows.real) turn.link (acts.orderly follows.orderly) in
           subst (λ (c : Controlling). Follows priority c.setup after.device.station after.device.live c.live after.sent (raised ++ now) taken) (sym made.controller)
           (subst (λ (s : Station). Follows priority setup s after.device.live before.controller.live after.sent (raised ++ now) taken) (sym heard_it.steps.same)
           (subst (λ (l : Live). Follows priority setup station l before.controller.live after.sent (raised ++ now) taken) (sym heard_it.steps.live)
@@ -321,15 +354,15 @@ module _ {F : Type 0} where
           (sym (heard_it.behind ∙ ap (λ (frames : List (List ℕ)). before.sent ++ frames) heard_it.steps.frames)) all)))
 
     -- anything but an alarm that the application raises
-    device_hears : (one : Move) → raised_with before one ≡ [] → (heard : Heard) → IsUnraised heard → IsHeard priority follows.relation.reported (ack_in priority (reported_at heard))
+    device_hears : (one : Move) → raised_with before one ≡ [] → (heard : Heard) → IsSizedHeard heard → IsUnraised heard → IsHeard priority follows.relation.reported (ack_in priority (reported_at heard))
         → ((sequence : ℕ) → heard_as (is_planned setup) heard ≡ small.Call sequence small.Connects → sequence ≡ 0)
         → ((sequence : ℕ) → heard_as (is_planned setup) heard ≡ small.Call sequence small.Accesses → kept_at setup live ≡ None → ⊥) → IsCallIn setup heard
         → AtDevice as_flash before heard after → IsMeantAtDevice before heard → FollowsAt priority after (raised ++ now_at priority before one after) taken
-    device_hears one none heard unraised is first late called made meant =
+    device_hears one none heard fits unraised is first late called made meant =
         subst (λ (now : List AlarmNotification). FollowsAt priority after (raised ++ now) taken) (told_is priority before one after none)
-        (device_on heard first late called made meant (told_in priority live.rest.link after.device.live.rest.link) (λ outcomes same.
+        (device_on heard first late called made meant fits (told_in priority live.rest.link after.device.live.rest.link) (λ outcomes same.
         subst (λ (l : Live). Goes priority setup follows.relation live.rest.link (heard_step outcomes station live heard).live.rest.link (heard_step outcomes station live heard).sent (told_in priority live.rest.link l.rest.link)) (sym same)
-        (goes_in priority setup follows.relation station.real.modules.items live.rest.calls live.rest.diagnoses (heard_step outcomes station live heard).live.rest.diagnoses live.rest.link heard (heard_step outcomes station live heard).live.rest.link (heard_step outcomes station live heard).sent
+        (goes_in priority setup follows.relation live.rest.real.modules.items (heard_step outcomes station live heard).live.rest.real.modules.items live.rest.calls live.rest.diagnoses (heard_step outcomes station live heard).live.rest.diagnoses live.rest.link heard (heard_step outcomes station live heard).live.rest.link (heard_step outcomes station live heard).sent
         follows.tied is (calm_for priority heard unraised) (fresh_so heard first late called made meant _ _) (alone_so heard first late called made meant _ _) (turn_at heard outcomes meant))))
 
     pub never_first : (sequence : ℕ) → small.Idle ≡ small.Call sequence small.Connects → sequence ≡ 0
@@ -338,18 +371,18 @@ module _ {F : Type 0} where
     pub never_late : (sequence : ℕ) → small.Idle ≡ small.Call sequence small.Accesses → kept_at setup live ≡ None → ⊥
     never_late sequence e none = absurd cc
 
-    device_raises : (one : Move) (slot subslot : ℕ) (octets : List ℕ) → raised_with before one ≡ raised_in (raised_to station.real.modules.items slot subslot octets live.rest.link)
+    device_raises : (one : Move) (slot subslot : ℕ) (octets : List ℕ) → raised_with before one ≡ raised_in (raised_to live.rest.real.modules.items slot subslot octets live.rest.link)
         → AtDevice as_flash before (alarm_heard slot subslot octets) after → IsMeantAtDevice before (alarm_heard slot subslot octets)
         → FollowsAt priority after (raised ++ now_at priority before one after) taken
     device_raises one slot subslot octets raises made meant =
         let heard = alarm_heard slot subslot octets in
-        let real = station.real.modules.items in
+        let real = live.rest.real.modules.items in
         subst (λ (now : List AlarmNotification). FollowsAt priority after (raised ++ now) taken) (alarm_is priority before one slot subslot octets after raises)
-        (device_on heard never_first never_late (λ caller address call e other. absurd (other refl)) made meant
+        (device_on heard never_first never_late (λ caller address call e other. absurd (other refl)) made meant tt
         (alarm_told priority real slot subslot octets live.rest.link after.device.live.rest.link) (λ outcomes same.
         subst (λ (l : Live). Goes priority setup follows.relation live.rest.link (heard_step outcomes station live heard).live.rest.link (heard_step outcomes station live heard).sent
         (alarm_told priority real slot subslot octets live.rest.link l.rest.link)) (sym same)
-        (alarm_goes priority setup follows.relation real live.rest.calls live.rest.diagnoses (heard_step outcomes station live heard).live.rest.diagnoses live.rest.link slot subslot octets (heard_step outcomes station live heard).live.rest.link
+        (alarm_goes priority setup follows.relation real (heard_step outcomes station live heard).live.rest.real.modules.items live.rest.calls live.rest.diagnoses (heard_step outcomes station live heard).live.rest.diagnoses live.rest.link slot subslot octets (heard_step outcomes station live heard).live.rest.link
         (heard_step outcomes station live heard).sent follows.tied (fresh_so heard never_first never_late (λ caller address call e other. absurd (other refl)) made meant _ _)
         (alone_so heard never_first never_late (λ caller address call e other. absurd (other refl)) made meant _ _) (turn_at heard outcomes meant) (so.raises outcomes station live slot subslot octets))))
 
@@ -372,7 +405,7 @@ module _ {F : Type 0} where
         → FollowsAt priority after (raised ++ now_at priority before one after) taken
     comes_to_device one none octets true is early meant comes = rests_at one none (same_device comes) (same_follows comes)
     comes_to_device one none octets false is early meant comes =
-        device_hears one none (heard_of station.identity (Frame (record { items = octets }))) (unraised _ (of_frame station.identity octets)) is.reported is.first (λ sequence e unkept. (early unkept).0 sequence e) is.called comes meant
+        device_hears one none (heard_of station.identity (Frame (record { items = octets }))) (framed_sized _ (of_frame station.identity octets)) (unraised _ (of_frame station.identity octets)) is.reported is.first (λ sequence e unkept. (early unkept).0 sequence e) is.called comes meant
 
     delivered_to_device : (one : Move) → raised_with before one ≡ [] → (octets : Option (List ℕ))
         → ((frame : List ℕ) → octets ≡ Some frame → IsIn priority setup station.identity follows.relation frame)
@@ -434,13 +467,13 @@ module _ {F : Type 0} where
     -- ---- any move
 
     -- an event at the device, of its application or of time
-    device_event : (one : Move) → raised_with before one ≡ [] → taken_with priority before one ≡ [] → (heard : Heard) → IsUnraised heard → ack_in priority (reported_at heard) ≡ None
+    device_event : (one : Move) → raised_with before one ≡ [] → taken_with priority before one ≡ [] → (heard : Heard) → IsSizedHeard heard → IsUnraised heard → ack_in priority (reported_at heard) ≡ None
         → ((planned : Planned) → heard_as planned heard ≡ small.Idle) → ((caller : Caller) (address : List ℕ) (call : Call) → heard ≡ Reported caller address (Calls call) → ⊥)
         → AtDevice as_flash before heard after → IsMeantAtDevice before heard → FollowsAt priority after (raised ++ now_at priority before one after) (taken ++ taken_with priority before one)
-    device_event one none takes heard unraised unsaid idle no_call happens meant =
+    device_event one none takes heard fits unraised unsaid idle no_call happens meant =
         subst (λ (xs : List AlarmNotification). FollowsAt priority after (raised ++ now_at priority before one after) (taken ++ xs)) (sym takes)
         (taken_none priority after (raised ++ now_at priority before one after) taken
-        (device_hears one none heard unraised (subst (λ (o : Option (ℕ × AlarmAck)). IsHeard priority follows.relation.reported o) (sym unsaid) tt)
+        (device_hears one none heard fits unraised (subst (λ (o : Option (ℕ × AlarmAck)). IsHeard priority follows.relation.reported o) (sym unsaid) tt)
         (λ sequence e. absurd (idle_connect sequence (sym (idle (is_planned setup)) ∙ e))) (λ sequence e unkept. absurd (idle_access sequence (sym (idle (is_planned setup)) ∙ e)))
         (λ caller address call e other. absurd (no_call caller address call e)) happens meant))
       where
@@ -460,57 +493,59 @@ module _ {F : Type 0} where
         (subst (λ (now : List AlarmNotification). FollowsAt priority after (raised ++ now) (taken ++ [])) (sym (still_none priority before one after none (ap (λ (w : World F). w.device) happens)))
         (raised_none priority after raised (taken ++ []) (controller_on which [] is none_taken meant fit happens)))
 
-    pub one_follows : (one : Move) → Happens as_flash before one after → IsMeant before one
+    pub one_follows : (one : Move) → Happens as_flash before one after → IsMeant before one → IsSizedMove one
         → FollowsAt priority after (raised ++ now_at priority before one after) (taken ++ taken_with priority before one)
-    one_follows (move.Deliver Device number) happens meant =
+    one_follows (move.Deliver Device number) happens meant sized =
         taken_none priority after (raised ++ now_at priority before (move.Deliver Device number) after) taken
         (delivered_to_device (move.Deliver Device number) refl (slice_get before.sent number) (λ frame there. in_at number frame there) (λ frame there. early_at number frame there) meant happens)
-    one_follows (move.Deliver Controller number) happens meant =
+    one_follows (move.Deliver Controller number) happens meant sized =
         subst (λ (now : List AlarmNotification). FollowsAt priority after (raised ++ now) (taken ++ taken_from priority before (slice_get before.sent number)))
         (sym (still_none priority before (move.Deliver Controller number) after refl (delivered_device (slice_get before.sent number) happens)))
         (raised_none priority after raised (taken ++ taken_from priority before (slice_get before.sent number))
         (delivered_to_controller (slice_get before.sent number) (λ frame there. in_at number frame there) (λ frame there. early_at number frame there) meant happens))
-    one_follows (move.Tick Device) happens meant = device_event (move.Tick Device) refl refl Ticks tt refl (λ planned. refl) (λ caller address call e. absurd cc) happens meant
-    one_follows (move.Tick Controller) happens meant =
+    one_follows (move.Tick Device) happens meant sized = device_event (move.Tick Device) refl refl Ticks tt tt refl (λ planned. refl) (λ caller address call e. absurd cc) happens meant
+    one_follows (move.Tick Controller) happens meant sized =
         controller_event (move.Tick Controller) event.Tick refl refl tt refl meant (so.goes_sized setup before.controller.live event.Tick follows.good follows.lives tt, tt) happens
-    one_follows (move.Application (local.Alarm slot subslot octets)) happens meant =
+    one_follows (move.Application (local.Alarm slot subslot octets)) happens meant sized =
         taken_none priority after _ taken (device_raises (move.Application (local.Alarm slot subslot octets)) slot subslot octets.items refl happens meant)
-    one_follows (move.Application other) happens meant =
-        device_event (move.Application other) refl refl (Applied other) tt refl (λ planned. refl) (λ caller address call e. absurd cc) happens meant
-    one_follows (move.Neighbour neighbour) happens meant =
-        device_event (move.Neighbour neighbour) refl refl (Met (option_map peer_as neighbour)) tt refl (λ planned. refl) (λ caller address call e. absurd cc) happens meant
-    one_follows (move.Give slot subslot value) happens meant =
+    one_follows (move.Application (local.Plug slot ident part)) happens meant sized =
+        device_event (move.Application (local.Plug slot ident part)) refl refl (Applied (local.Plug slot ident part)) sized tt refl (λ planned. refl) (λ caller address call e. absurd cc) happens meant
+    one_follows (move.Application other) happens meant sized =
+        device_event (move.Application other) refl refl (Applied other) tt tt refl (λ planned. refl) (λ caller address call e. absurd cc) happens meant
+    one_follows (move.Neighbour neighbour) happens meant sized =
+        device_event (move.Neighbour neighbour) refl refl (Met (option_map peer_as neighbour)) tt tt refl (λ planned. refl) (λ caller address call e. absurd cc) happens meant
+    one_follows (move.Give slot subslot value) happens meant sized =
         controller_event (move.Give slot subslot value) (event.Give slot subslot value) refl refl tt refl meant
         (so.goes_sized setup before.controller.live (event.Give slot subslot value) follows.good follows.lives tt, tt) happens
-    one_follows (move.OutputStatus slot subslot is_good) happens meant =
+    one_follows (move.OutputStatus slot subslot is_good) happens meant sized =
         controller_event (move.OutputStatus slot subslot is_good) (event.Status slot subslot is_good) refl refl tt refl meant
         (so.goes_sized setup before.controller.live (event.Status slot subslot is_good) follows.good follows.lives tt, tt) happens
-    one_follows (move.Read slot subslot index) happens meant =
+    one_follows (move.Read slot subslot index) happens meant sized =
         controller_event (move.Read slot subslot index) (event.Read slot subslot index) refl refl tt refl meant
         (so.goes_sized setup before.controller.live (event.Read slot subslot index) follows.good follows.lives tt, tt) happens
-    one_follows (move.Write slot subslot index octets) happens meant =
+    one_follows (move.Write slot subslot index octets) happens meant sized =
         controller_event (move.Write slot subslot index octets) (event.Write slot subslot index octets) refl refl tt refl meant
         (so.goes_sized setup before.controller.live (event.Write slot subslot index octets) follows.good follows.lives tt, tt) happens
-    one_follows move.Stop happens meant =
+    one_follows move.Stop happens meant sized =
         controller_event move.Stop event.Stop refl refl tt refl meant (so.goes_sized setup before.controller.live event.Stop follows.good follows.lives tt, tt) happens
 
   -- ---- any run
 
   pub run_follows : (priority : Priority) → DeviceSo → HearsSo → {S : ℕ} (as_flash : Flash F S) (w : World F) (raised taken : List AlarmNotification) → FollowsAt priority w raised taken
-      → (run : List (Move × World F)) → AreMade as_flash w run → AreMeant w run
+      → (run : List (Move × World F)) → AreMade as_flash w run → AreSizedMoves run → AreMeant w run
       → FollowsAt priority (last_world w run) (raised ++ raised_all priority w run) (taken ++ taken_over priority w run)
-  run_follows priority so hears as_flash w raised taken follows [] made meant = taken_none priority w (raised ++ []) taken (raised_none priority w raised taken follows)
-  run_follows priority so hears as_flash w raised taken follows (one ∷ run) made meant =
-      let next = one_follows priority so hears as_flash w one.1 raised taken follows one.0 made.0 meant.0 in
+  run_follows priority so hears as_flash w raised taken follows [] made sized meant = taken_none priority w (raised ++ []) taken (raised_none priority w raised taken follows)
+  run_follows priority so hears as_flash w raised taken follows (one ∷ run) made sized meant =
+      let next = one_follows priority so hears as_flash w one.1 raised taken follows one.0 made.0 meant.0 sized.0 in
       let now = now_at priority w one.0 one.1 in
-      let all = run_follows priority so hears as_flash one.1 (raised ++ now) (taken ++ taken_with priority w one.0) next run made.1 meant.1 in
+      let all = run_follows priority so hears as_flash one.1 (raised ++ now) (taken ++ taken_with priority w one.0) next run made.1 sized.1 meant.1 in
       subst (λ (xs : List AlarmNotification). FollowsAt priority (last_world one.1 run) xs (taken ++ (taken_with priority w one.0 ++ taken_over priority one.1 run))) (append_assoc raised now (raised_all priority one.1 run))
       (subst (λ (xs : List AlarmNotification). FollowsAt priority (last_world one.1 run) ((raised ++ now) ++ raised_all priority one.1 run) xs) (append_assoc taken (taken_with priority w one.0) (taken_over priority one.1 run)) all)
 
   -- ---- the start
 
   pub begins_so : (priority : Priority) → DeviceSo → (setup : Setup) (identity : Identity) (first : World F) → Begins setup identity first → IsSetup first.controller.setup
-      → (first.device.station.identity.mac ≡ first.controller.setup.plan.controller.mac → ⊥) → AreSizedModules first.device.station.real.modules.items
+      → (first.device.station.identity.mac ≡ first.controller.setup.plan.controller.mac → ⊥) → AreSizedModules first.device.live.rest.real.modules.items
       → (source : Mac) (request : Asked) → heard_of first.device.station.identity (Frame (record { items = opening_of first.controller })) ≡ Asks source request
       → FollowsAt priority first [] []
   begins_so priority so setup identity first begins good apart real source request asks_it = record {
@@ -520,6 +555,7 @@ module _ {F : Type 0} where
     apart = apart;
     real = real;
     sized = λ l is. absurd (none_some l first.device.live.rest.link begins.unrelated is);
+    orderly = subst (λ (l : Option RelationState). IsOrderlyIn l) (sym begins.unrelated) tt;
     relation = start first.controller.setup;
     moves = [];
     made = refl;
@@ -623,7 +659,7 @@ opening_asks law identity controlling good =
 
 module _ {F : Type 0} where
   pub first_follows : (priority : Priority) → DeviceSo → HearsSo → (setup : Setup) (identity : Identity) → IsSetup setup → CanMeet setup identity
-      → (first : World F) → Begins setup identity first → AreSizedModules first.device.station.real.modules.items → FollowsAt priority first [] []
+      → (first : World F) → Begins setup identity first → AreSizedModules first.device.live.rest.real.modules.items → FollowsAt priority first [] []
   first_follows priority so hears setup identity good can first begins real =
       let own : IsSetup first.controller.setup = subst (λ (s : Setup). IsSetup s) (sym begins.of_setup) good in
       let apart : first.device.station.identity.mac ≡ first.controller.setup.plan.controller.mac → ⊥ =
@@ -633,19 +669,19 @@ module _ {F : Type 0} where
       (opening_asks hears.identify first.device.station.identity first.controller own)
 
   pub follows_so : (priority : Priority) → DeviceSo → HearsSo → (setup : Setup) (identity : Identity) → IsSetup setup → CanMeet setup identity → {S : ℕ} (as_flash : Flash F S)
-      → (first : World F) (run : List (Move × World F)) → Begins setup identity first → AreSizedModules first.device.station.real.modules.items
-      → AreMade as_flash first run → AreMeant first run
+      → (first : World F) (run : List (Move × World F)) → Begins setup identity first → AreSizedModules first.device.live.rest.real.modules.items
+      → AreMade as_flash first run → AreSizedMoves run → AreMeant first run
       → FollowsAt priority (last_world first run) (raised_all priority first run) (taken_over priority first run)
-  follows_so priority so hears setup identity good can as_flash first run begins real made meant =
-      run_follows priority so hears as_flash first [] [] (first_follows priority so hears setup identity good can first begins real) run made meant
+  follows_so priority so hears setup identity good can as_flash first run begins real made sized meant =
+      run_follows priority so hears as_flash first [] [] (first_follows priority so hears setup identity good can first begins real) run made sized meant
 
   pub high_so : DeviceSo → HearsSo → (setup : Setup) (identity : Identity) → IsSetup setup → CanMeet setup identity → {S : ℕ} (as_flash : Flash F S)
-      → (first : World F) (run : List (Move × World F)) → Begins setup identity first → AreSizedModules first.device.station.real.modules.items
-      → AreMade as_flash first run → AreMeant first run
+      → (first : World F) (run : List (Move × World F)) → Begins setup identity first → AreSizedModules first.device.live.rest.real.modules.items
+      → AreMade as_flash first run → AreSizedMoves run → AreMeant first run
       → FollowsAt High (last_world first run) (raised_over first run) (taken_over High first run)
-  high_so so hears setup identity good can as_flash first run begins real made meant =
+  high_so so hears setup identity good can as_flash first run begins real made sized meant =
       subst (λ (xs : List AlarmNotification). FollowsAt High (last_world first run) xs (taken_over High first run)) (high_all first run)
-      (follows_so High so hears setup identity good can as_flash first run begins real made meant)
+      (follows_so High so hears setup identity good can as_flash first run begins real made sized meant)
 
 -- ---- the last of the raised alarms
 

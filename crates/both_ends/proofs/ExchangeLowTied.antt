@@ -8,7 +8,13 @@ use Rattle.record_blocks.specs.declared.alarm_notification.AlarmNotification.{Al
 use Rattle.rpc_core.specs.Cache.{Kept as Answer}
 use Rattle.diagnosis.specs.declared.diagnosis.Change.{Change}
 use Rattle.diagnosis.specs.declared.diagnosis.Diagnosis.{Diagnosis}
-use Rattle.diagnosis.specs.alarms.Alarms.{Low, after_next, alarm_of, begun, is_next, is_reported, noted, waits_with}
+use Rattle.diagnosis.specs.alarms.Alarms.{Low, noted}
+use Rattle.diagnosis.specs.Queue.{after_next, alarm_of, begun, is_next, is_reported, module_waits, waits_with}
+use Rattle.module_diff.specs.declared.changes.RealChange.{RealChange}
+use Rattle.module_diff.specs.Changes.{affected_by}
+use Rattle.expected_places.specs.Machine.{is_hit}
+use Rattle.relations.specs.exchange.Modules.{modules_restated}
+use Rattle.relations.specs.Plugging.{is_alarmed_by, is_low_sent, is_sent_then, low_changed, modules_changing, places_then, reported_as, rows_now}
 use Rattle.pn_alarms.specs.declared.message.Notice.TheVariants as notice
 use Rattle.pn_alarms.specs.declared.receiver.Taken.{Taken}
 use Rattle.diagnosis.specs.declared.reports.priority.Priority.TheVariants.{Low as low_priority}
@@ -19,7 +25,7 @@ use Rattle.pn_alarms.specs.Numbers.{is_last, next_number}
 use Rattle.pn_alarms.specs.Receiver.{answer_to, taken_as}
 use Rattle.pn_alarms.specs.Sender.{is_end}
 use Rattle.pn_alarms.specs.Sending.{Sending, due, rested}
-use Rattle.relations.specs.exchange.Diagnosis.{behind_low, diagnosed, is_diagnosed, low_header_of, next_reported, with_low}
+use Rattle.relations.specs.exchange.Diagnosis.{behind_low, diagnosed, is_diagnosed, low_header_of, next_reported}
 use Rattle.relations.specs.exchange.Flow.{Flow}
 use Rattle.relations.specs.exchange.Notices.{behind_message, header_of}
 use Rattle.relations.specs.exchange.Units.{flow_later, repeated_of, tick_of}
@@ -32,13 +38,13 @@ use Rattle.device_frames.specs.Relation.{alarms_of, low_alarms_of, low_replies_o
 use Rattle.device_frames.specs.Sent.{Sent}
 use Rattle.controller_messages.specs.declared.setup.Setup.{Setup}
 use Rattle.end_laws.specs.turns.Alarms.{Relation, acked_at_device, passed_at_device, raised_by}
-use Rattle.end_laws.specs.device.Turn.{Begins, Diagnoses, HearsAck, HearsData, HearsLowAck, HearsLowData, IsLow, Makes, Passes, Raises}
+use Rattle.end_laws.specs.device.Turn.{Begins, Changes, Diagnoses, HearsAck, HearsData, HearsLowAck, HearsLowData, IsLow, Makes, Passes, Raises, heard_low_in}
 use Rattle.both_ends.specs.exchange.Over.{active_in, is_same_number, number_in, one_in, reported_by}
 use Rattle.both_ends.proofs.ExchangeLists.{each_behind, none_some, some_is}
 use Rattle.both_ends.proofs.ExchangeNextTold.{NextIs, next_is}
 use Rattle.both_ends.proofs.ExchangeReported.{ack_in, data_in, reported_at}
 use Rattle.both_ends.proofs.ExchangeTurns.{IsSameOr, IsTurn, Way, way_of}
-use Rattle.both_ends.proofs.ExchangeTied.{Goes, IsActive, IsConfirmed, IsFresh, IsHeard, IsNone, IsSaid, IsTied, acked_goes, again_due, all_calm_none, all_none_said, answer_none, confirmed_then, due_holds, due_said, highs_none, is_some_link, low_answer_none, lows_active, made_end, may_be, passed_goes, raised_goes, rests, same_tied, tied_by}
+use Rattle.both_ends.proofs.ExchangeTied.{Goes, begun_link, changed_link, diagnosed_link, next_link, IsActive, IsConfirmed, IsFresh, IsHeard, IsNone, IsSaid, IsTied, acked_goes, again_due, all_calm_none, all_none_said, answer_none, confirmed_then, due_holds, due_said, highs_none, is_some_link, low_answer_none, lows_active, made_end, may_be, passed_goes, raised_goes, rests, same_tied, tied_by}
 use Rattle.module_diff.specs.Plugged.{module_ident, submodule_ident}
 
 -- ---- which change is reported
@@ -116,37 +122,47 @@ module _ (setup : Setup) where
       subst (λ (now : List AlarmNotification). Goes low_priority setup r before after sent now) (sym (reported_same before after same)) (rests low_priority setup r before after sent tied none)
 
   -- the next change is reported, if one can be: before, the relation had this end with this number
-  next_on : (r : Relation) (real : List RealModule) (before after : Option RelationState) (link middle : RelationState) → before ≡ Some link
-      → middle.flow.low.alarms.sender.sending.last ≡ link.flow.low.alarms.sender.sending.last → middle.flow.low.alarms ≡ r.device
-      → after ≡ Some (with_flow (next_reported real middle.flow) middle)
-      → Goes low_priority setup r before after (where_due (is_next real middle.flow.low) (low_alarms_of (Some (next_reported real middle.flow)))) (reported_by before after)
-  next_on r real before after link middle was same tied becomes = by_next (next_is real middle.flow.low)
+  next_on : (r : Relation) (before after : Option RelationState) (link next : RelationState) (middle : Low) → before ≡ Some link
+      → middle.alarms.sender.sending.last ≡ link.flow.low.alarms.sender.sending.last → middle.alarms ≡ r.device
+      → after ≡ Some next → next.flow.low ≡ after_next middle
+      → Goes low_priority setup r before after (where_due (is_next middle) (low_alarms_of (Some next.flow))) (reported_by before after)
+  next_on r before after link next middle was same tied becomes low_is = by_next (next_is middle)
     where
-      later : RelationState
-      later = with_flow (next_reported real middle.flow) middle
-
-      sent : List Sent
-      sent = where_due (is_next real middle.flow.low) (low_alarms_of (Some (next_reported real middle.flow)))
-
-      by_next : NextIs real middle.flow.low
-          → Goes low_priority setup r before after (where_due (is_next real middle.flow.low) (low_alarms_of (Some (next_reported real middle.flow)))) (reported_by before after)
+      by_next : NextIs middle → Goes low_priority setup r before after (where_due (is_next middle) (low_alarms_of (Some next.flow))) (reported_by before after)
       by_next (inl rests_so) =
-          nothing_on r before after (where_due (is_next real middle.flow.low) (low_alarms_of (Some (next_reported real middle.flow))))
-          (tied_by low_priority setup r after (with_flow (next_reported real middle.flow) middle) becomes (ap (λ (low : Low). low.alarms) rests_so.0 ∙ tied))
+          nothing_on r before after (where_due (is_next middle) (low_alarms_of (Some next.flow)))
+          (tied_by low_priority setup r after next becomes (ap (λ (low : Low). low.alarms) (low_is ∙ rests_so.0) ∙ tied))
           (ap (λ (l : Option RelationState). number_in l) becomes
-          ∙ (ap (λ (low : Low). low.alarms.sender.sending.last) rests_so.0 ∙ (same ∙ sym (number_is before link was))))
-          (subst (λ (b : Bool). AllByRecursion (IsNone low_priority) (where_due b (low_alarms_of (Some (next_reported real middle.flow))))) (sym rests_so.1) tt)
+          ∙ (ap (λ (low : Low). low.alarms.sender.sending.last) (low_is ∙ rests_so.0) ∙ (same ∙ sym (number_is before link was))))
+          (subst (λ (b : Bool). AllByRecursion (IsNone low_priority) (where_due b (low_alarms_of (Some next.flow)))) (sym rests_so.1) tt)
       by_next (inr told) =
-          let alarm = alarm_of middle.flow.low.alarms.sender.specifier told.ident told.part told.notice in
-          let end : (next_reported real middle.flow).low.alarms ≡ end_with middle.flow.low.alarms alarm = ap (λ (low : Low). low.alarms) told.is in
-          let now : (next_reported real middle.flow).low.alarms ≡ (raised_by r alarm None).device = end ∙ ap (λ (d : DeviceEnd). end_with d alarm) tied in
-          subst (λ (list : List AlarmNotification).
-          Goes low_priority setup r before after (where_due (is_next real middle.flow.low) (low_alarms_of (Some (next_reported real middle.flow)))) list)
-          (sym (reported_next before after link (with_flow (next_reported real middle.flow) middle) alarm middle.flow.low.alarms was becomes same end))
+          let alarm = alarm_of middle.alarms.sender.specifier told.alarm in
+          let end : next.flow.low.alarms ≡ end_with middle.alarms alarm = ap (λ (low : Low). low.alarms) (low_is ∙ told.is) in
+          let now : next.flow.low.alarms ≡ (raised_by r alarm None).device = end ∙ ap (λ (d : DeviceEnd). end_with d alarm) tied in
+          subst (λ (list : List AlarmNotification). Goes low_priority setup r before after (where_due (is_next middle) (low_alarms_of (Some next.flow))) list)
+          (sym (reported_next before after link next alarm middle.alarms was becomes same end))
           (raised_goes low_priority setup r before after _ alarm (ap (λ (d : DeviceEnd). d.sender.standing) (sym tied) ∙ told.none) (is_some_link before link was)
-          (tied_by low_priority setup (raised_by r alarm None) after (with_flow (next_reported real middle.flow) middle) becomes now)
-          (due_holds (IsActive low_priority (raised_by r alarm None).device) (is_next real middle.flow.low) (low_alarms_of (Some (next_reported real middle.flow)))
-          (subst (λ (d : DeviceEnd). AllByRecursion (IsActive low_priority d) (low_alarms_of (Some (next_reported real middle.flow)))) now (lows_active (next_reported real middle.flow)))))
+          (tied_by low_priority setup (raised_by r alarm None) after next becomes now)
+          (due_holds (IsActive low_priority (raised_by r alarm None).device) (is_next middle) (low_alarms_of (Some next.flow))
+          (subst (λ (d : DeviceEnd). AllByRecursion (IsActive low_priority d) (low_alarms_of (Some next.flow))) now (lows_active next.flow))))
+
+  -- so it is, and then messages are sent that are no alarms
+  then_calm : (r : Relation) (before after : Option RelationState) (first others : List Sent) (now : List AlarmNotification) → Goes low_priority setup r before after first now
+      → AllByRecursion (IsNone low_priority) others → Goes low_priority setup r before after (first ++ others) now
+  then_calm r before after first others now goes none = record {
+    next = goes.next;
+    moves = goes.moves;
+    made = goes.made;
+    quiet = goes.quiet;
+    live = goes.live;
+    reported = goes.reported;
+    pdus = goes.pdus;
+    raised = goes.raised;
+    taken = goes.taken;
+    tied = goes.tied;
+    still = goes.still;
+    said = each_behind (λ message. IsSaid goes.next.alarms.pdus (data_in low_priority message)) first others goes.said (all_none_said low_priority setup goes.next.alarms.pdus others none);
+  }
 
 module _ (setup : Setup) (r : Relation) (real : List RealModule) (before : Option RelationState) (tied : IsTied low_priority r before) where
   stays_on : (after : Option RelationState) (sent : List Sent) → IsSameOr before after → AllByRecursion (IsNone low_priority) sent → Told setup r before after sent
@@ -227,18 +243,18 @@ module _ (setup : Setup) (r : Relation) (real : List RealModule) (before : Optio
       (subst (λ (messages : List Sent). AllByRecursion (IsNone low_priority) messages) (sym acked.silent) tt))
 
   -- an AlarmAck, and then the next change
-  low_data_on : (heard : Heard) (after : Option RelationState) (sent : List Sent) → IsHeard low_priority r.reported (ack_in low_priority (reported_at heard)) → HearsLowData real before heard after sent → Told setup r before after sent
+  low_data_on : (heard : Heard) (after : Option RelationState) (sent : List Sent) → IsHeard low_priority r.reported (ack_in low_priority (reported_at heard)) → HearsLowData before heard after sent → Told setup r before after sent
   low_data_on heard after sent is came =
       let link = came.link in
       let flow = behind_low link.flow (notice.Data came.number came.ack) in
-      let middle = with_flow flow link in
+      let middle = heard_low_in link (notice.Data came.number came.ack) in
       let some = is_some_link before link came.was in
       let replies = low_replies_of (taken_as link.flow.low.alarms.seen came.number) (Some flow) in
       let end : flow.low.alarms ≡ end_behind r.device (notice.Data came.number came.ack) = ap (λ (d : DeviceEnd). end_behind d (notice.Data came.number came.ack)) (tied link came.was) in
-      let second = next_on setup (record r { device = end_behind r.device (notice.Data came.number came.ack) }) real before after link middle came.was
-      (data_last link.flow.low.alarms came.number came.ack) end came.becomes in
+      let second = next_on setup (record r { device = end_behind r.device (notice.Data came.number came.ack) }) before after link (next_link middle) flow.low came.was
+      (data_last link.flow.low.alarms came.number came.ack) end came.becomes refl in
       subst (λ (messages : List Sent). Told setup r before after messages) (sym came.sends)
-      (confirmed_then low_priority setup r before (Some middle) after replies (where_due (is_next real flow.low) (low_alarms_of (Some (next_reported real flow)))) (reported_by before after) came.number came.ack some
+      (confirmed_then low_priority setup r before (Some middle) after replies (where_due (is_next flow.low) (low_alarms_of (Some (next_reported flow)))) (reported_by before after) came.number came.ack some
       (there came.is) (tied_by low_priority setup (record r { device = end_behind r.device (notice.Data came.number came.ack) }) (Some middle) middle refl end)
       (low_answer_none low_priority flow.cyclic.route flow.low.tag (low_header_of flow (answer_to (taken_as came.link.flow.low.alarms.seen came.number))) _ refl, tt) second)
     where
@@ -250,9 +266,8 @@ module _ (setup : Setup) (r : Relation) (real : List RealModule) (before : Optio
   begins_on diagnoses after sent begins =
       let link = begins.link in
       let now = exchanging_from link in
-      let middle = with_flow (with_low now.flow (begun diagnoses now.flow.low)) now in
       subst (λ (messages : List Sent). Told setup r before after messages) (sym begins.sends)
-      (next_on setup r real before after link middle begins.was refl (tied link begins.was) begins.becomes)
+      (next_on setup r before after link (begun_link real diagnoses now) (begun real diagnoses now.flow.low) begins.was refl (tied link begins.was) begins.becomes refl)
 
   -- a change of diagnosis
   changes_on : (diagnoses later : List Diagnosis) (heard : Heard) (after : Option RelationState) (sent : List Sent) → Diagnoses real diagnoses later before heard after sent → Told setup r before after sent
@@ -270,49 +285,113 @@ module _ (setup : Setup) (r : Relation) (real : List RealModule) (before : Optio
           (sym (sends ∙ ap (λ (l : Option RelationState). where_due (diagnose_one real changes.change later l) (low_alarms_of (flow_of after))) was)) tt)
       by_link (Some link) was becomes sends = by_test (is_reported link.flow.cyclic.begun changes.change link.flow.low) refl
         where
-          quiet_low : Low
-          quiet_low = noted later link.flow.low
+          waits : Low
+          waits = waits_with real changes.change later link.flow.low
+
+          sends_by : (one : Bool) → is_diagnosed real changes.change later link.flow ≡ one → sent ≡ where_due one (low_alarms_of (flow_of after))
+          sends_by one e =
+              sends ∙ (ap (λ (l : Option RelationState). where_due (diagnose_one real changes.change later l) (low_alarms_of (flow_of after))) was
+              ∙ ap (λ (b : Bool). where_due b (low_alarms_of (flow_of after))) e)
 
           by_test : (b : Bool) → is_reported link.flow.cyclic.begun changes.change link.flow.low ≡ b → Told setup r before after sent
           by_test false e =
-              same_alarms (ap (λ (b : Bool). cond b (after_next real (waits_with changes.change later (noted later link.flow.low))) (noted later link.flow.low)) e)
-              (ap (λ (b : Bool). b && is_next real (waits_with changes.change later (noted later link.flow.low))) e)
+              same_alarms (ap (λ (b : Bool). cond b (after_next (waits_with real changes.change later link.flow.low)) (noted later link.flow.low)) e)
+              (ap (λ (b : Bool). b && is_next (waits_with real changes.change later link.flow.low)) e)
             where
               same_alarms : (diagnosed real changes.change later link.flow).low ≡ noted later link.flow.low → is_diagnosed real changes.change later link.flow ≡ false → Told setup r before after sent
               same_alarms same silent =
                   nothing_on setup r before after sent
-                  (tied_by low_priority setup r after (with_flow (diagnosed real changes.change later link.flow) link) becomes (ap (λ (low : Low). low.alarms) same ∙ tied link was))
+                  (tied_by low_priority setup r after (diagnosed_link real changes.change later link) becomes (ap (λ (low : Low). low.alarms) same ∙ tied link was))
                   (ap (λ (l : Option RelationState). number_in l) becomes ∙ (ap (λ (low : Low). low.alarms.sender.sending.last) same ∙ sym (number_is before link was)))
-                  (subst (λ (messages : List Sent). AllByRecursion (IsNone low_priority) messages)
-                  (sym (sends ∙ (ap (λ (l : Option RelationState). where_due (diagnose_one real changes.change later l) (low_alarms_of (flow_of after))) was
-                  ∙ ap (λ (b : Bool). where_due b (low_alarms_of (flow_of after))) silent))) tt)
+                  (subst (λ (messages : List Sent). AllByRecursion (IsNone low_priority) messages) (sym (sends_by false silent)) tt)
           by_test true e =
-              let waits = waits_with changes.change later (noted later link.flow.low) in
-              let middle = with_flow (with_low link.flow waits) link in
-              let same : (diagnosed real changes.change later link.flow).low ≡ after_next real waits =
-              ap (λ (b : Bool). cond b (after_next real (waits_with changes.change later (noted later link.flow.low))) (noted later link.flow.low)) e in
-              let becomes_so : after ≡ Some (with_flow (next_reported real middle.flow) middle) =
-              becomes ∙ ap (λ (low : Low). let o : Option RelationState = Some (with_flow (with_low link.flow low) link) in o) same in
-              let one : is_diagnosed real changes.change later link.flow ≡ is_next real waits =
-              ap (λ (b : Bool). b && is_next real (waits_with changes.change later (noted later link.flow.low))) e in
-              let sends_so : sent ≡ where_due (is_next real middle.flow.low) (low_alarms_of (Some (next_reported real middle.flow))) =
-              sends ∙ (ap (λ (l : Option RelationState). where_due (diagnose_one real changes.change later l) (low_alarms_of (flow_of after))) was
-              ∙ (ap (λ (b : Bool). where_due b (low_alarms_of (flow_of after))) one
-              ∙ ap (λ (l : Option RelationState). where_due (is_next real middle.flow.low) (low_alarms_of (flow_of l))) becomes_so)) in
-              subst (λ (messages : List Sent). Told setup r before after messages) (sym sends_so)
-              (next_on setup r real before after link middle was refl (tied link was) becomes_so)
+              let same : (diagnosed real changes.change later link.flow).low ≡ after_next waits =
+              ap (λ (b : Bool). cond b (after_next (waits_with real changes.change later link.flow.low)) (noted later link.flow.low)) e in
+              let one : is_diagnosed real changes.change later link.flow ≡ is_next waits =
+              ap (λ (b : Bool). b && is_next (waits_with real changes.change later link.flow.low)) e in
+              subst (λ (messages : List Sent). Told setup r before after messages)
+              (sym (sends_by (is_next waits) one ∙ ap (λ (l : Option RelationState). where_due (is_next waits) (low_alarms_of (flow_of l))) becomes))
+              (next_on setup r before after link (diagnosed_link real changes.change later link) waits was refl (tied link was) becomes same)
 
-  pub low_turn_on : (calls : List Answer) (diagnoses later : List Diagnosis) (heard : Heard) (after : Option RelationState) (sent : List Sent)
+  -- a pull or a plug
+  modules_on : (now : List RealModule) (diagnoses later : List Diagnosis) (heard : Heard) (after : Option RelationState) (sent : List Sent) → Changes real now diagnoses later before heard after sent
+      → Told setup r before after sent
+  modules_on now diagnoses later heard after sent changes = by_link before refl changes.becomes changes.sends
+    where
+      made : RealChange
+      made = changes.made
+
+      none : AllByRecursion (IsNone low_priority) changes.others
+      none = all_calm_none low_priority before changes.others changes.calm
+
+      by_link : (link : Option RelationState) → before ≡ link → after ≡ modules_changing now changes.made later link
+          → sent ≡ where_due (is_alarmed_by now changes.made later before) (low_alarms_of (flow_of after)) ++ changes.others → Told setup r before after sent
+      by_link None was becomes sends =
+          nothing_on setup r before after sent (λ l is. absurd (none_some l after becomes is))
+          (ap (λ (l : Option RelationState). number_in l) becomes ∙ sym (ap (λ (l : Option RelationState). number_in l) was))
+          (subst (λ (messages : List Sent). AllByRecursion (IsNone low_priority) messages)
+          (sym (sends ∙ ap (λ (l : Option RelationState). where_due (is_alarmed_by now changes.made later l) (low_alarms_of (flow_of after)) ++ changes.others) was)) none)
+      by_link (Some link) was becomes sends =
+          by_hit (is_hit (affected_by changes.made) (places_then (rows_now now link) changes.made link)) refl link.flow.cyclic.begun refl
+        where
+          next : RelationState
+          next = changed_link now changes.made later link
+
+          stated : Low
+          stated = (modules_restated link.request.expected (rows_now now link) later link.flow).low
+
+          waits : Low
+          waits = module_waits (reported_as link.request (rows_now now link) changes.made) changes.made later
+              (modules_restated link.request.expected (rows_now now link) later link.flow).low
+
+          sends_by : (one : Bool) → is_sent_then (rows_now now link) changes.made later link ≡ one → sent ≡ where_due one (low_alarms_of (flow_of after)) ++ changes.others
+          sends_by one e =
+              sends ∙ (ap (λ (l : Option RelationState). where_due (is_alarmed_by now changes.made later l) (low_alarms_of (flow_of after)) ++ changes.others) was
+              ∙ ap (λ (b : Bool). where_due b (low_alarms_of (flow_of after)) ++ changes.others) e)
+
+          same_alarms : (low : Low) → low.alarms ≡ link.flow.low.alarms → next.flow.low ≡ low → is_sent_then (rows_now now link) changes.made later link ≡ false → Told setup r before after sent
+          same_alarms low same is silent =
+              nothing_on setup r before after sent
+              (tied_by low_priority setup r after next becomes (ap (λ (l : Low). l.alarms) is ∙ (same ∙ tied link was)))
+              (ap (λ (l : Option RelationState). number_in l) becomes
+              ∙ (ap (λ (l : Low). l.alarms.sender.sending.last) is ∙ (ap (λ (d : DeviceEnd). d.sender.sending.last) same ∙ sym (number_is before link was))))
+              (subst (λ (messages : List Sent). AllByRecursion (IsNone low_priority) messages) (sym (sends_by false silent)) none)
+
+          by_hit : (b : Bool) → is_hit (affected_by changes.made) (places_then (rows_now now link) changes.made link) ≡ b → (c : Bool) → link.flow.cyclic.begun ≡ c → Told setup r before after sent
+          by_hit false e c f =
+              same_alarms stated refl
+              (ap (λ (b : Bool). low_changed b link.flow.cyclic.begun (reported_as link.request (rows_now now link) changes.made) changes.made later stated) e)
+              (ap (λ (b : Bool). is_low_sent b link.flow.cyclic.begun (reported_as link.request (rows_now now link) changes.made) changes.made later stated) e)
+          by_hit true e false f =
+              same_alarms waits refl
+              (ap (λ (b : Bool). low_changed b link.flow.cyclic.begun (reported_as link.request (rows_now now link) changes.made) changes.made later stated) e
+              ∙ ap (λ (c : Bool). low_changed true c (reported_as link.request (rows_now now link) changes.made) changes.made later stated) f)
+              (ap (λ (b : Bool). is_low_sent b link.flow.cyclic.begun (reported_as link.request (rows_now now link) changes.made) changes.made later stated) e
+              ∙ ap (λ (c : Bool). is_low_sent true c (reported_as link.request (rows_now now link) changes.made) changes.made later stated) f)
+          by_hit true e true f =
+              let same : next.flow.low ≡ after_next waits =
+              ap (λ (b : Bool). low_changed b link.flow.cyclic.begun (reported_as link.request (rows_now now link) changes.made) changes.made later stated) e
+              ∙ ap (λ (c : Bool). low_changed true c (reported_as link.request (rows_now now link) changes.made) changes.made later stated) f in
+              let one : is_sent_then (rows_now now link) changes.made later link ≡ is_next waits =
+              ap (λ (b : Bool). is_low_sent b link.flow.cyclic.begun (reported_as link.request (rows_now now link) changes.made) changes.made later stated) e
+              ∙ ap (λ (c : Bool). is_low_sent true c (reported_as link.request (rows_now now link) changes.made) changes.made later stated) f in
+              subst (λ (messages : List Sent). Told setup r before after messages)
+              (sym (sends_by (is_next waits) one ∙ ap (λ (l : Option RelationState). where_due (is_next waits) (low_alarms_of (flow_of l)) ++ changes.others) becomes))
+              (then_calm setup r before after (where_due (is_next waits) (low_alarms_of (Some next.flow))) changes.others (reported_by before after)
+              (next_on setup r before after link next waits was refl (tied link was) becomes same) none)
+
+  pub low_turn_on : (now : List RealModule) (calls : List Answer) (diagnoses later : List Diagnosis) (heard : Heard) (after : Option RelationState) (sent : List Sent)
       → IsHeard low_priority r.reported (ack_in low_priority (reported_at heard)) → IsFresh low_priority setup r calls before heard after sent
       → (Makes calls before heard after sent → before ≡ None)
-      → IsTurn real calls diagnoses later before heard after sent → Told setup r before after sent
-  low_turn_on calls diagnoses later heard after sent is fresh alone (inl stays) = stays_on after sent stays.link (all_calm_none low_priority before sent stays.calm)
-  low_turn_on calls diagnoses later heard after sent is fresh alone (inr (inl makes)) = makes_on calls heard after sent (alone makes) makes fresh
-  low_turn_on calls diagnoses later heard after sent is fresh alone (inr (inr (inl raises))) = raises_on heard after sent raises
-  low_turn_on calls diagnoses later heard after sent is fresh alone (inr (inr (inr (inl acked)))) = acks_on heard after sent acked
-  low_turn_on calls diagnoses later heard after sent is fresh alone (inr (inr (inr (inr (inl came))))) = data_on heard after sent came
-  low_turn_on calls diagnoses later heard after sent is fresh alone (inr (inr (inr (inr (inr (inl passes)))))) = passes_on heard after sent passes
-  low_turn_on calls diagnoses later heard after sent is fresh alone (inr (inr (inr (inr (inr (inr (inl acked))))))) = low_acks_on heard after sent acked
-  low_turn_on calls diagnoses later heard after sent is fresh alone (inr (inr (inr (inr (inr (inr (inr (inl came)))))))) = low_data_on heard after sent is came
-  low_turn_on calls diagnoses later heard after sent is fresh alone (inr (inr (inr (inr (inr (inr (inr (inr (inl begins))))))))) = begins_on diagnoses after sent begins
-  low_turn_on calls diagnoses later heard after sent is fresh alone (inr (inr (inr (inr (inr (inr (inr (inr (inr changes))))))))) = changes_on diagnoses later heard after sent changes
+      → IsTurn real now calls diagnoses later before heard after sent → Told setup r before after sent
+  low_turn_on now calls diagnoses later heard after sent is fresh alone (inl stays) = stays_on after sent stays.link (all_calm_none low_priority before sent stays.calm)
+  low_turn_on now calls diagnoses later heard after sent is fresh alone (inr (inl makes)) = makes_on calls heard after sent (alone makes) makes fresh
+  low_turn_on now calls diagnoses later heard after sent is fresh alone (inr (inr (inl raises))) = raises_on heard after sent raises
+  low_turn_on now calls diagnoses later heard after sent is fresh alone (inr (inr (inr (inl acked)))) = acks_on heard after sent acked
+  low_turn_on now calls diagnoses later heard after sent is fresh alone (inr (inr (inr (inr (inl came))))) = data_on heard after sent came
+  low_turn_on now calls diagnoses later heard after sent is fresh alone (inr (inr (inr (inr (inr (inl passes)))))) = passes_on heard after sent passes
+  low_turn_on now calls diagnoses later heard after sent is fresh alone (inr (inr (inr (inr (inr (inr (inl acked))))))) = low_acks_on heard after sent acked
+  low_turn_on now calls diagnoses later heard after sent is fresh alone (inr (inr (inr (inr (inr (inr (inr (inl came)))))))) = low_data_on heard after sent is came
+  low_turn_on now calls diagnoses later heard after sent is fresh alone (inr (inr (inr (inr (inr (inr (inr (inr (inl begins))))))))) = begins_on diagnoses after sent begins
+  low_turn_on now calls diagnoses later heard after sent is fresh alone (inr (inr (inr (inr (inr (inr (inr (inr (inr (inl changes)))))))))) = changes_on diagnoses later heard after sent changes
+  low_turn_on now calls diagnoses later heard after sent is fresh alone (inr (inr (inr (inr (inr (inr (inr (inr (inr (inr changes)))))))))) = modules_on now diagnoses later heard after sent changes

@@ -35,13 +35,15 @@ use Rattle.diagnosis.specs.declared.reports.priority.Priority.{Priority}
 use Rattle.diagnosis.specs.declared.reports.priority.Priority.TheVariants.{High, Low}
 use Rattle.pn_alarms.specs.Format.{frame_id_of}
 use Rattle.diagnosis.specs.declared.reports.report.Report.{Report}
-use Rattle.diagnosis.specs.reports.Report.{diagnosed, ours}
+use Rattle.diagnosis.specs.reports.Report.{low_report, ours}
 use Rattle.pn_alarms.specs.declared.message.Notice.{Notice}
 use Rattle.cyclic_data.specs.declared.exchange.route.Route.{Route}
 use Rattle.cyclic_data.specs.exchange.Frames.{body_at, cyclic_body}
 use Rattle.relations.specs.exchange.Frames.{Frame, Inputs, Notifies, Replies as Answers, Reports, RepliesLow, body_of}
 use Rattle.plans.specs.declared.parts.Controller.{Controller}
 use Rattle.both_ends.specs.startup.request.Request.{request_for}
+use Rattle.connect_blocks.specs.declared.plug_control.PlugControlBlock.{PlugControlBlock}
+use Rattle.relations.specs.declared.plugging.PlugReady.{PlugReady}
 use Rattle.relations.specs.declared.ready.Ready.{Ready}
 use Rattle.relations.specs.declared.farewell.Farewell.{Farewell}
 use Rattle.relations.specs.Connect.{connect_blocks, differing_of}
@@ -50,7 +52,7 @@ use Rattle.device_frames.specs.Heard as device
 use Rattle.device_frames.specs.Heard.{Heard, heard_of, heard_reply, is_own}
 use Rattle.device_frames.specs.Sendable.{IsSendable}
 use Rattle.device_frames.specs.Sent as sent
-use Rattle.device_frames.specs.Sent.{bytes_of, ready_frame, response_frame}
+use Rattle.device_frames.specs.Sent.{bytes_of, plug_ready_frame, ready_frame, response_frame}
 use Rattle.device_core.specs.State.{Live}
 use Rattle.controller_messages.specs.declared.record_request.RecordRequest.{RecordRequest}
 use Rattle.controller_messages.specs.declared.request.Request.{Request}
@@ -65,14 +67,15 @@ use Rattle.controller_messages.specs.Sent.{answer_frame, call_frame, calls_at, e
 use Rattle.block_codec.specs.Writable.{IsAck, IsAlarm}
 use Rattle.diagnosis.specs.Sendable.{IsHeader}
 use Rattle.end_laws.specs.hearing.Hearing.{comes, mine_hears, mine_reported, own_hears, own_reported}
-use Rattle.end_laws.specs.hearing.Stations.{IsAddress, IsCalled, IsCaller, IsDevice, IsNumbered, IsRecordCall, IsRoute, IsSetup, ready_call}
+use Rattle.end_laws.specs.hearing.Stations.{IsAddress, IsCalled, IsCaller, IsDevice, IsNumbered, IsRecordCall, IsRoute, IsSetup, plug_ready_call, ready_call}
 use Rattle.end_laws.specs.sending.Messages.{CanBeSent as CanBeSaid}
 use Rattle.end_laws.specs.sending.Sized.{IsNoted}
+use Rattle.end_laws.specs.device.Orderly.{IsOrderlyIn}
 use Rattle.end_laws.specs.device.Owed.{IsOwed}
 use Rattle.both_ends.specs.exchange.Sized.{IsChosenWell}
 use Rattle.both_ends.proofs.ExchangeLists.{holds_if}
 use Rattle.both_ends.proofs.ExchangeSizes.{AreSizedIn, IsSizedFrame, IsSizedSent}
-use Rattle.both_ends.proofs.ExchangeReported.{IsGood, IsNotedAs, IsNotedBy, IsReportedAs, IsReportedBy, noted_at, noted_by, noted_of, reply_of, reported_at, reported_of, reported_reply}
+use Rattle.both_ends.proofs.ExchangeReported.{IsGood, IsNotedAs, IsNotedBy, IsReportedAs, IsReportedBy, low_is, noted_at, noted_by, noted_of, reply_of, reported_at, reported_of, reported_reply}
 use Rattle.both_ends.proofs.ExchangeHearing.{data_good, data_unheard, data_unnoted, data_unreported, datagram_good, packet_good, packet_unnoted, packet_unreported}
 use Rattle.both_ends.proofs.ExchangeOpening.{IsAlarming, alarms_unheard, asks_unheard}
 
@@ -116,7 +119,7 @@ pub record HearsSo : Type 0 where
       → heard_by mine (bytes_of identity (sent.Exchanges route (Answers header))) ≡ mine_hears mine route.partner (controller.Alarms identity.mac High header notice.Nack)
   pub low_alarm : (mine : Controller) (identity : Identity) (route : Route) (tag : ℕ) (header : Header) (one : AlarmNotification)
       → IsDevice identity → IsRoute route → tag < 65536 → header.kind ≡ pdu.Data → IsHeader header → IsAlarm one
-      → heard_by mine (bytes_of identity (sent.Exchanges route (Reports tag header one))) ≡ mine_hears mine route.partner (controller.Alarms identity.mac Low header (notice.Data header.send_number (diagnosed one)))
+      → heard_by mine (bytes_of identity (sent.Exchanges route (Reports tag header one))) ≡ mine_hears mine route.partner (controller.Alarms identity.mac Low header (notice.Data header.send_number (low_report one)))
   pub low_ack : (mine : Controller) (identity : Identity) (route : Route) (tag : ℕ) (header : Header) → IsDevice identity → IsRoute route → tag < 65536 → header.kind ≡ pdu.Ack → IsHeader header
       → heard_by mine (bytes_of identity (sent.Exchanges route (RepliesLow tag header))) ≡ mine_hears mine route.partner (controller.Alarms identity.mac Low header (notice.Ack header.ack_number))
   pub low_nack : (mine : Controller) (identity : Identity) (route : Route) (tag : ℕ) (header : Header) → IsDevice identity → IsRoute route → tag < 65536 → header.kind ≡ pdu.Nack → IsHeader header
@@ -159,6 +162,11 @@ pub record HearsSo : Type 0 where
       → IsDevice identity → IsMac ready.partner.mac → IsAddress ready.partner.address → IsAddress address → CanBeCalled controllers (ready_call ready)
       → heard_by mine (ready_frame identity address ready)
       ≡ mine_reported mine ready.partner.mac (calls_at ready.partner.address) (controller.Calls (record { mac = identity.mac; endpoint = calls_at address }) (ready_call ready))
+  pub plug_can : (ready : PlugReady) → IsCallHeader ready.header → ready.header.interface ≡ interface_uuid controllers → IsUuid ready.block.ar_uuid → CanBeCalled controllers (plug_ready_call ready)
+  pub plug_at_controller : (mine : Controller) (identity : Identity) (address : List ℕ) (ready : PlugReady)
+      → IsDevice identity → IsMac ready.partner.mac → IsAddress ready.partner.address → IsAddress address → CanBeCalled controllers (plug_ready_call ready)
+      → heard_by mine (plug_ready_frame identity address ready)
+      ≡ mine_reported mine ready.partner.mac (calls_at ready.partner.address) (controller.Calls (record { mac = identity.mac; endpoint = calls_at address }) (plug_ready_call ready))
   pub response_at_controller : (mine : Controller) (identity : Identity) (caller : Caller) (address : List ℕ) (answer : Response)
       → IsDevice identity → IsCaller caller → IsAddress address → CanBeAnswered answer
       → heard_by mine (response_frame identity caller address answer) ≡ mine_reported mine caller.mac caller.endpoint (controller.Responds answer)
@@ -261,6 +269,7 @@ module _ (so : HearsSo) (setup : Setup) (identity : Identity) where
   -- ApplicationReady is of the relation of the plan
   abbrev pub IsReady : sent.Sent → Type 0
   IsReady (sent.ReadyCall address ready) = CanBeCalled controllers (ready_call ready)
+  IsReady (sent.PlugReadyCall address ready) = CanBeCalled controllers (plug_ready_call ready)
   IsReady other = Unit {0}
 
   ready_can_be : IsSetup setup → (ready : Ready) → IsUuid ready.header.activity → IsUuid ready.header.object → ready.header.interface ≡ interface_uuid controllers
@@ -276,20 +285,32 @@ module _ (so : HearsSo) (setup : Setup) (identity : Identity) where
       })
       interface named
 
-  owed_ready : IsSetup setup → (heard : Heard) (live : Live) (message : sent.Sent) → AreSizedIn (request_for setup.plan setup.ar) live.rest.link → IsOwed heard live message → IsReady message
-  owed_ready good heard live (sent.ReadyCall address ready) sized owed =
+  owed_ready : IsSetup setup → (heard : Heard) (live : Live) (message : sent.Sent) → AreSizedIn live.rest.real.modules.items (request_for setup.plan setup.ar) live.rest.link → IsOrderlyIn live.rest.link → IsOwed heard live message → IsReady message
+  owed_ready good heard live (sent.ReadyCall address ready) sized orderly owed =
       let made : owed.link.request ≡ request_for setup.plan setup.ar = (sized owed.link owed.is).same in
       let own : IsUuid owed.link.request.ar.uuid = ap (λ (r : Asked_for). length r.ar.uuid) made ∙ good.ar in
       ready_can_be good ready (ap (λ (h : CallHeader). length h.activity) owed.header ∙ own)
       (ap (λ (h : CallHeader). length h.object) owed.header ∙ ap (λ (r : Asked_for). length r.ar.object) made)
       (ap (λ (h : CallHeader). h.interface) owed.header) (ap (λ (h : CallHeader). h.sequence) owed.header) (ap (λ (h : CallHeader). h.operation) owed.header)
       (ap (λ (b : ControlBlock). length b.ar_uuid) owed.block ∙ own)
-  owed_ready good heard live other sized owed = tt
+  owed_ready good heard live (sent.PlugReadyCall address ready) sized orderly owed =
+      let made : owed.link.request ≡ request_for setup.plan setup.ar = (sized owed.link owed.is).same in
+      let own : IsUuid owed.link.request.ar.uuid = ap (λ (r : Asked_for). length r.ar.uuid) made ∙ good.ar in
+      so.plug_can ready
+      (record {
+        object = ap (λ (h : CallHeader). length h.object) owed.header ∙ ap (λ (r : Asked_for). length r.ar.object) made;
+        interface = ap (λ (h : CallHeader). length h.interface) owed.header;
+        activity = ap (λ (h : CallHeader). length h.activity) owed.header ∙ own;
+        sequence = subst (λ (h : CallHeader). h.sequence < 4294967296) (sym owed.header) (owed.sequence orderly);
+        operation = subst (λ (h : CallHeader). h.operation < 65536) (sym owed.header) (omega arith);
+      })
+      (ap (λ (h : CallHeader). h.interface) owed.header) (ap (λ (b : PlugControlBlock). length b.ar_uuid) owed.block ∙ own)
+  owed_ready good heard live other sized orderly owed = tt
 
-  pub all_ready : IsSetup setup → (heard : Heard) (live : Live) (messages : List sent.Sent) → AreSizedIn (request_for setup.plan setup.ar) live.rest.link
-      → AllByRecursion (IsOwed heard live) messages → AllByRecursion IsReady messages
-  all_ready good heard live [] sized owed = tt
-  all_ready good heard live (message ∷ messages) sized owed = (owed_ready good heard live message sized owed.0, all_ready good heard live messages sized owed.1)
+  pub all_ready : IsSetup setup → (heard : Heard) (live : Live) (messages : List sent.Sent) → AreSizedIn live.rest.real.modules.items (request_for setup.plan setup.ar) live.rest.link
+      → IsOrderlyIn live.rest.link → AllByRecursion (IsOwed heard live) messages → AllByRecursion IsReady messages
+  all_ready good heard live [] sized orderly owed = tt
+  all_ready good heard live (message ∷ messages) sized orderly owed = (owed_ready good heard live message sized orderly owed.0, all_ready good heard live messages sized orderly owed.1)
 
   -- data that is not of alarms
   plain_noted : (destination : Mac) (tag : Option ℕ) (frame_id : ℕ) (body : List ℕ) → is_alarm frame_id ≡ false → CanBeSent (carrying destination identity.mac tag (RealTime frame_id body))
@@ -341,10 +362,12 @@ module _ (so : HearsSo) (setup : Setup) (identity : Identity) where
   )
   frame_noted route (Reports tag header one) can sized =
       let law = so.low_alarm mine identity (way_to route) tag header one can.source (way_is route can.destination) can.tag sized.1 sized.2 sized.3 in
-      let heard = controller.Alarms identity.mac Low header (notice.Data header.send_number (diagnosed one)) in (
+      let heard = controller.Alarms identity.mac Low header (notice.Data header.send_number (low_report one)) in (
         noted_by_law (bytes_of identity (sent.Exchanges route (Reports tag header one))) route.partner heard law,
         alarm_unreported route.partner (Some tag) _ (body_of (Reports tag header one)) sized.0 can,
-        good_by_law (bytes_of identity (sent.Exchanges route (Reports tag header one))) route.partner heard law ((sized.2.send_number, noted_alarm one sized.3), refl),
+        good_by_law (bytes_of identity (sent.Exchanges route (Reports tag header one))) route.partner heard law
+            (subst (λ (r : Report). IsGood identity.mac (controller.Alarms identity.mac Low header (notice.Data header.send_number r))) (sym (low_is one))
+            ((sized.2.send_number, noted_alarm one sized.3), refl)),
       )
   frame_noted route (Answers header) can sized =
       replied_as route (Answers header) header.ack_number header.kind (alarm_unreported route.partner (Some route.alarm_tag) (frame_id_of header.kind) (body_of (Answers header)) sized.0 can)
@@ -385,6 +408,17 @@ module _ (so : HearsSo) (setup : Setup) (identity : Identity) where
         good_by_law (bytes_of identity (sent.ReadyCall address ready)) ready.partner.mac (cond (is_to mine.address to) (controller.Calls caller (ready_call ready)) controller.Nothing)
             (so.ready_at_controller mine identity address ready can.source can.destination can.content.1.0 can.content.0.0 ready_so)
             (holds_if (IsGood identity.mac) (is_to mine.address to) (controller.Calls caller (ready_call ready)) controller.Nothing (refl, calls, ready_so.header, ready_so.maximum) tt),
+      )
+  message_noted (sent.PlugReadyCall address ready) can sized ready_so =
+      let reads = so.datagram_read ready.partner.mac identity.mac None _ _ _ can in
+      let caller : Caller = record { mac = identity.mac; endpoint = calls_at address } in
+      let to = calls_at ready.partner.address in
+      let calls : IsCaller caller = record { mac = can.source; endpoint = (can.content.0.0, omega arith) } in (
+        inl (packet_unnoted mine _ _ reads tt),
+        packet_unreported identity _ _ reads tt,
+        good_by_law (bytes_of identity (sent.PlugReadyCall address ready)) ready.partner.mac (cond (is_to mine.address to) (controller.Calls caller (plug_ready_call ready)) controller.Nothing)
+            (so.plug_at_controller mine identity address ready can.source can.destination can.content.1.0 can.content.0.0 ready_so)
+            (holds_if (IsGood identity.mac) (is_to mine.address to) (controller.Calls caller (plug_ready_call ready)) controller.Nothing (refl, calls, ready_so.header, ready_so.maximum) tt),
       )
   message_noted (sent.Again frame) can sized ready_so = tt
 

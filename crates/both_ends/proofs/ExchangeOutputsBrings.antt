@@ -43,7 +43,7 @@ use Rattle.relations.specs.declared.options.DeviceOptions.{DeviceOptions}
 use Rattle.relations.specs.Numbers.{is_id_from, is_own_id}
 use Rattle.relations.specs.exchange.Frames.{tag_of}
 use Rattle.plans.specs.Connect.{alarm_block}
-use Rattle.device_frames.specs.Sent.{Sent, IdentifyAnswer, GetAnswer, SetAnswer, ArpReply, CallAnswer, Again, ReadyCall, Ends, Exchanges, bytes_of, exchange_content, farewell_content, ready_content, reply_content, response_content}
+use Rattle.device_frames.specs.Sent.{Sent, IdentifyAnswer, GetAnswer, SetAnswer, ArpReply, CallAnswer, Again, ReadyCall, PlugReadyCall, Ends, Exchanges, bytes_of, exchange_content, farewell_content, plug_ready_content, ready_content, reply_content, response_content}
 use Rattle.device_frames.specs.Sendable.{IsSendable}
 use Rattle.controller_messages.specs.declared.request.Request.{Request}
 use Rattle.controller_messages.specs.declared.request.Request.TheVariants as asks
@@ -302,6 +302,7 @@ module _ (options : DeviceOptions) (setup : Setup) (identity : Identity) where
     message_silent (CallAnswer caller address answer) can known = own_silent caller.mac None (response_content caller address answer) can.0
     message_silent (Again frame) can known = known
     message_silent (ReadyCall address ready) can known = own_silent ready.partner.mac None (ready_content address ready) can
+    message_silent (PlugReadyCall address ready) can known = own_silent ready.partner.mac None (plug_ready_content address ready) can
     message_silent (Ends farewell) can known = own_silent farewell.initiator (Some farewell.tag) (farewell_content farewell) can
     message_silent (Exchanges route frame) can known = own_silent route.partner (Some (tag_of route frame)) (exchange_content route frame) can
 

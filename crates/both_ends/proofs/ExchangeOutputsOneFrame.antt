@@ -9,8 +9,9 @@ use Rattle.pn_values.specs.declared.mac.Mac.{Mac}
 use Rattle.frame_codec.specs.Frame.{ethernet, layers}
 use Rattle.frame_codec.specs.Sendable.{IsMac}
 use Rattle.cyclic_data.specs.declared.place.PlaceKind.TheVariants.{Data}
-use Rattle.cyclic_data.specs.Image.{Shown as Image, cell_at, octets_of, output_of, with_frame}
-use Rattle.relations.specs.Exchanged.{output_in}
+use Rattle.expected_places.specs.Machine.{is_touched_at}
+use Rattle.cyclic_data.specs.Image.{Shown as Image, cell_at, octets_of, output_of, place_at, with_frame}
+use Rattle.relations.specs.Exchanged.{output_in, shown_as}
 use Rattle.relations.specs.RelationState.{RelationState}
 use Rattle.controller_messages.specs.declared.setup.Setup.{Setup}
 use Rattle.network_world.specs.declared.moves.End.TheVariants.{Device, Controller}
@@ -24,7 +25,7 @@ use Rattle.both_ends.specs.startup.View.{move_of}
 use Rattle.both_ends.specs.exchange.Shown.{accepted_in, has_accepted, image_in, outputs_of, shown_of, shown_run, taken_in, zeros_for}
 use Rattle.both_ends.specs.exchange.Given.{AreOfOneFrame, image_given, places_for, zero_for}
 use Rattle.both_ends.proofs.ExchangeOutputsMoves.{ArePlaced, all_long, image_shown, values_of}
-use Rattle.both_ends.proofs.ExchangeOutputsValues.{outputs_shown, zeros_are_shown}
+use Rattle.both_ends.proofs.ExchangeOutputsValues.{outputs_shown, touched_zeros, zeros_are_shown}
 use Rattle.both_ends.proofs.ExchangeOutputsTurns.{KindsSo}
 use Rattle.both_ends.proofs.ExchangeOutputsWorlds.{NumbersSo, TurnsSo, first_same, given_in_run, last_shown, rest_same, shown_runs, shows_none}
 
@@ -131,8 +132,9 @@ module _ (turns : TurnsSo) (numbers : NumbersSo) (kinds : KindsSo) (sound : IsSo
         sent = came.sent;
         brings = came.brings ∙ ap (λ (i : Image). Some (octets_of i)) given_is;
         taken = taken;
-        shown = λ slot subslot. ap (λ (i : Image). option_map output_of (cell_at Data slot subslot i.cells)) taken
-            ∙ outputs_shown slot subslot (values_of moves) (places_for setup) (all_long moves (places_for setup));
+        shown = λ slot subslot. ap (λ (value : Option (List ℕ)). option_map (shown_as (is_touched_at slot subslot link.plugs)) value)
+            (ap (λ (i : Image). option_map output_of (cell_at Data slot subslot i.cells)) taken
+            ∙ outputs_shown slot subslot (values_of moves) (places_for setup) (all_long moves (places_for setup)));
       }
 
   pub as_given : ((rules : Outputs Image Image) (start : Shown Image Image) (steps : List (small.Move × Shown Image Image)) → ShowsNone rules start → IsShownRun rules start steps
@@ -164,7 +166,9 @@ module _ (turns : TurnsSo) (numbers : NumbersSo) (kinds : KindsSo) (sound : IsSo
     pub shows_zeros : has_accepted link ≡ false → (slot subslot : ℕ) → output_in slot subslot (Some link) ≡ zero_for setup slot subslot
     shows_zeros none slot subslot =
         let zeros = zeros_if (shown_of (last_world first run)).accepted (shown_of (last_world first run)).outputs so (accepted_is false none) in
-        ap (λ (i : Image). option_map output_of (cell_at Data slot subslot i.cells)) (sym outputs_are ∙ zeros) ∙ zeros_are_shown slot subslot (places_for setup)
+        ap (λ (value : Option (List ℕ)). option_map (shown_as (is_touched_at slot subslot link.plugs)) value)
+        (ap (λ (i : Image). option_map output_of (cell_at Data slot subslot i.cells)) (sym outputs_are ∙ zeros) ∙ zeros_are_shown slot subslot (places_for setup))
+        ∙ touched_zeros (is_touched_at slot subslot link.plugs) (place_at Data slot subslot (places_for setup))
 
     pub shows_one_frame : has_accepted link ≡ true → AreOfOneFrame setup identity first run link
     shows_one_frame some =

@@ -7,9 +7,11 @@ use Rattle.std.specs.Cmp.Lexicographic.{pointwise}
 use Rattle.wire.specs.Codec.{IsSound}
 use Rattle.frame_codec.specs.Frame.{ethernet}
 use Rattle.pn_values.specs.declared.mac.Mac.{Mac}
+use Rattle.pn_values.specs.declared.real.RealModule.{RealModule}
 use Rattle.rpc_core.specs.Cache.{Kept as Answer}
 use Rattle.module_diff.specs.Plugged.{module_ident, submodule_ident}
 use Rattle.connects.specs.requests.Request.{Request}
+use Rattle.pn_alarms.specs.declared.message.Notice.TheVariants as notice
 use Rattle.pn_alarms.specs.Device.{end_with}
 use Rattle.pn_alarms.specs.Sender.{notice_of}
 use Rattle.cyclic_data.specs.declared.tail.CyclicTail.{CyclicTail}
@@ -39,9 +41,11 @@ use Rattle.end_laws.specs.both.Outputs.{BringsNone, Outputs}
 use Rattle.end_laws.specs.device.Small.{IsPlanned}
 use Rattle.controller_messages.specs.declared.setup.Setup.{Setup}
 use Rattle.both_ends.specs.startup.View.{rules_of}
-use Rattle.end_laws.specs.device.Turn.{Answers, BeginsNumbered, IsNumbered, IsSameOr, IsTurn, Makes, Standing, Takes, Turn, standing_of}
+use Rattle.end_laws.specs.device.Turn.{Answers, BeginsNumbered, IsNumbered, IsSameOr, IsTurn, Makes, Standing, Takes, Turn, heard_low_in, standing_of}
+use Rattle.end_laws.proofs.DeviceOrderly.{changed_standing}
 use Rattle.end_laws.specs.device.Owed.{IsOwed}
 use Rattle.both_ends.proofs.ExchangeOutputsBrings.{IsKnown, message_silent}
+use Rattle.both_ends.proofs.ExchangeTied.{begun_link, changed_link, diagnosed_link, next_link}
 use Rattle.both_ends.specs.exchange.Shown.{accepted_in, brought_in, image_in, is_output, octets_in, outputs_of, route_for, zeros_for}
 use Rattle.rpc_core.specs.Cache.{is_of, kept_of, without, kept_more}
 use Rattle.wire.specs.Codec.{◌>>=◌}
@@ -53,7 +57,8 @@ use Rattle.records.specs.declared.status.operation.Operation.TheVariants as oper
 use Rattle.relations.specs.Connect.{connect_of}
 use Rattle.relations.specs.Numbers.{IsNumber, is_id_from, is_own_id}
 use Rattle.relations.specs.declared.options.DeviceOptions.{DeviceOptions}
-use Rattle.relations.specs.Phases.{made_of, with_flow, updated}
+use Rattle.relations.specs.Phases.{exchanging_from, made_of, with_flow, updated}
+use Rattle.relations.specs.Plugging.{modules_changing, rows_now}
 use Rattle.relations.specs.Timers.{unit_later}
 use Rattle.end_laws.specs.device.Small.{IsPlannedAs, IsPlannedCall}
 use Rattle.std.proofs.Common.{zero, suc, take}
@@ -334,7 +339,7 @@ module _ (setup : Setup) (station : Station) where
     -- ---- a turn
 
     module _ (live : Live) (heard : Heard) (ours : IsOursIn live.rest.link) (silent : AreKeptSilent live.rest.calls)
-        (planned : IsPlanned (rules_of setup station) setup.activity station.real heard) where
+        (planned : IsPlanned (rules_of setup station) setup.activity live.rest.real heard) where
       -- what is shown after a turn, and that it is of the plan
       abbrev ShowsSo : Option RelationState → Type 0
       ShowsSo after = ShowsIn (brought_in station.options setup heard) live.rest.link after × IsOursIn after
@@ -345,10 +350,10 @@ module _ (setup : Setup) (station : Station) where
       -- a relation that is made is that of the plan
       makes_so : (after : Option RelationState) (sent : List Sent) → BeginsNumbered station.options live.rest.link after → Makes live.rest.calls live.rest.link heard after sent → ShowsSo after
       makes_so after sent numbers makes =
-          let plan : IsPlannedCall (rules_of setup station) setup.activity station.real makes.call =
-          subst (λ (h : Heard). IsPlanned (rules_of setup station) setup.activity station.real h) makes.is planned in
-          let asks : IsPlannedAs (rules_of setup station) station.real makes.call.header.sequence plan.blocks (Some operation.Connect) =
-          subst (λ (o : Option Operation). IsPlannedAs (rules_of setup station) station.real makes.call.header.sequence plan.blocks o) makes.connects plan.asks in
+          let plan : IsPlannedCall (rules_of setup station) setup.activity live.rest.real makes.call =
+          subst (λ (h : Heard). IsPlanned (rules_of setup station) setup.activity live.rest.real h) makes.is planned in
+          let asks : IsPlannedAs (rules_of setup station) live.rest.real makes.call.header.sequence plan.blocks (Some operation.Connect) =
+          subst (λ (o : Option Operation). IsPlannedAs (rules_of setup station) live.rest.real makes.call.header.sequence plan.blocks o) makes.connects plan.asks in
           let same : plan.blocks ≡ makes.blocks = some_is plan.blocks makes.blocks (sym plan.counted ∙ makes.counted) in
           let request : makes.request ≡ request_for setup.plan setup.ar =
           made_from live.rest.link makes.blocks makes.request (request_for setup.plan setup.ar) makes.read (ap (λ (b : List ℕ). request_of None b) (sym same) ∙ asks) in
@@ -367,32 +372,41 @@ module _ (setup : Setup) (station : Station) where
           (subst (λ (l : Option RelationState). Shows_by takes.source takes.frame_id takes.body link l) (sym takes.becomes)
           (partner_as takes.source takes.frame_id takes.body link here (is_of_partner link.flow.cyclic.route takes.source takes.frame_id) refl takes.taken)))
 
-      link_shows : (later : List Diagnosis) (after : Option RelationState) (sent : List Sent) → (Makes live.rest.calls live.rest.link heard after sent → ShowsSo after)
-          → IsTurn station.real.modules.items live.rest.calls live.rest.diagnoses later live.rest.link heard after sent → ShowsSo after
-      link_shows later after sent made (inl stays) = stays_so after (stays_by live.rest.link after stays.link)
-      link_shows later after sent made (inr (inl makes)) = made makes
-      link_shows later after sent made (inr (inr (inl raises))) =
+      link_shows : (now : List RealModule) (later : List Diagnosis) (after : Option RelationState) (sent : List Sent) → (Makes live.rest.calls live.rest.link heard after sent → ShowsSo after)
+          → IsTurn live.rest.real.modules.items now live.rest.calls live.rest.diagnoses later live.rest.link heard after sent → ShowsSo after
+      link_shows now later after sent made (inl stays) = stays_so after (stays_by live.rest.link after stays.link)
+      link_shows now later after sent made (inr (inl makes)) = made makes
+      link_shows now later after sent made (inr (inr (inl raises))) =
           let link = raises.link in
-          let ident = module_ident station.real.modules.items raises.slot in
-          let part = submodule_ident station.real.modules.items raises.slot raises.subslot in
+          let ident = module_ident live.rest.real.modules.items raises.slot in
+          let part = submodule_ident live.rest.real.modules.items raises.slot raises.subslot in
           stays_so after (becomes_so live.rest.link after link (with_flow raises.flow link) raises.was raises.becomes
           (subst (λ (flow : Option Flow). IsSameFlow link flow) raises.raised (raised_same link raises.slot raises.subslot raises.octets ident part)))
-      link_shows later after sent made (inr (inr (inr (inl acked)))) = stays_so after (becomes_so live.rest.link after acked.link _ acked.was acked.becomes (same acked.link.flow.cyclic))
-      link_shows later after sent made (inr (inr (inr (inr (inl came))))) = stays_so after (becomes_so live.rest.link after came.link _ came.was came.becomes (same came.link.flow.cyclic))
-      link_shows later after sent made (inr (inr (inr (inr (inr (inl passes)))))) =
+      link_shows now later after sent made (inr (inr (inr (inl acked)))) = stays_so after (becomes_so live.rest.link after acked.link _ acked.was acked.becomes (same acked.link.flow.cyclic))
+      link_shows now later after sent made (inr (inr (inr (inr (inl came))))) = stays_so after (becomes_so live.rest.link after came.link _ came.was came.becomes (same came.link.flow.cyclic))
+      link_shows now later after sent made (inr (inr (inr (inr (inr (inl passes)))))) =
           let cyclic = passes.link.flow.cyclic in
           stays_so after (becomes_so live.rest.link after passes.link (unit_later passes.link) passes.was passes.becomes
           (record { route = refl; last = held_last cyclic.begun cyclic.hearing; taken = refl }))
-      link_shows later after sent made (inr (inr (inr (inr (inr (inr (inl takes))))))) = takes_so after sent takes
-      link_shows later after sent made (inr (inr (inr (inr (inr (inr (inr (inl acked)))))))) = stays_so after (becomes_so live.rest.link after acked.link _ acked.was acked.becomes (same acked.link.flow.cyclic))
-      link_shows later after sent made (inr (inr (inr (inr (inr (inr (inr (inr (inl came))))))))) = stays_so after (becomes_so live.rest.link after came.link _ came.was came.becomes (same came.link.flow.cyclic))
-      link_shows later after sent made (inr (inr (inr (inr (inr (inr (inr (inr (inr (inl begins)))))))))) =
-          stays_so after (becomes_so live.rest.link after begins.link _ begins.was begins.becomes (record { route = refl; last = refl; taken = refl }))
-      link_shows later after sent made (inr (inr (inr (inr (inr (inr (inr (inr (inr (inr changes)))))))))) = stays_so after (by_link live.rest.link changes.becomes)
+      link_shows now later after sent made (inr (inr (inr (inr (inr (inr (inl takes))))))) = takes_so after sent takes
+      link_shows now later after sent made (inr (inr (inr (inr (inr (inr (inr (inl acked)))))))) = stays_so after (becomes_so live.rest.link after acked.link _ acked.was acked.becomes (same acked.link.flow.cyclic))
+      link_shows now later after sent made (inr (inr (inr (inr (inr (inr (inr (inr (inl came))))))))) =
+          stays_so after (becomes_so live.rest.link after came.link (next_link (heard_low_in came.link (notice.Data came.number came.ack))) came.was came.becomes (same came.link.flow.cyclic))
+      link_shows now later after sent made (inr (inr (inr (inr (inr (inr (inr (inr (inr (inl begins)))))))))) =
+          stays_so after (becomes_so live.rest.link after begins.link (begun_link live.rest.real.modules.items live.rest.diagnoses (exchanging_from begins.link)) begins.was begins.becomes (record { route = refl; last = refl; taken = refl }))
+      link_shows now later after sent made (inr (inr (inr (inr (inr (inr (inr (inr (inr (inr (inl changes))))))))))) = stays_so after (by_link live.rest.link changes.becomes)
         where
-          by_link : (link : Option RelationState) → after ≡ updated (diagnosing station.real.modules.items changes.change later link) link → Stays link after
+          by_link : (link : Option RelationState) → after ≡ updated (diagnosing live.rest.real.modules.items changes.change later link) link → Stays link after
           by_link None becomes = subst (λ (l : Option RelationState). Stays None l) (sym becomes) tt
-          by_link (Some link) becomes = becomes_so (Some link) after link _ refl becomes (same link.flow.cyclic)
+          by_link (Some link) becomes = becomes_so (Some link) after link (diagnosed_link live.rest.real.modules.items changes.change later link) refl becomes (same link.flow.cyclic)
+      link_shows now later after sent made (inr (inr (inr (inr (inr (inr (inr (inr (inr (inr (inr changes))))))))))) = stays_so after (by_link live.rest.link changes.becomes)
+        where
+          by_link : (link : Option RelationState) → after ≡ modules_changing now changes.made later link → Stays link after
+          by_link None becomes = subst (λ (l : Option RelationState). Stays None l) (sym becomes) tt
+          by_link (Some link) becomes =
+              let same = changed_standing (rows_now now link) changes.made later link in
+              becomes_so (Some link) after link (changed_link now changes.made later link) refl becomes
+              (record { route = ap (λ (s : Standing). s.route) same; last = ap (λ (s : Standing). s.last) same; taken = ap (λ (s : Standing). s.outputs) same })
 
       calls_silent : (after : List Answer) (sent : List Sent) → (after ≡ live.rest.calls) ⊎ Answers station.identity live.rest.calls after sent → AreSendable station.identity sent → AreKeptSilent after
       calls_silent after sent (inl same) can = subst (λ (c : List Answer). AreKeptSilent c) (sym same) silent
@@ -404,8 +418,8 @@ module _ (setup : Setup) (station : Station) where
 
       owed_known : (message : Sent) → IsOwed heard live message → IsKnown rules message
       owed_known (Again frame) owed =
-          let plan : IsPlannedCall (rules_of setup station) setup.activity station.real owed.call =
-          subst (λ (h : Heard). IsPlanned (rules_of setup station) setup.activity station.real h) owed.is planned in
+          let plan : IsPlannedCall (rules_of setup station) setup.activity live.rest.real owed.call =
+          subst (λ (h : Heard). IsPlanned (rules_of setup station) setup.activity live.rest.real h) owed.is planned in
           subst (λ (f : List ℕ). BringsNone rules f) owed.same
           (kept_at (BringsNone rules) setup.activity live.rest.calls silent owed.kept (ap (λ (a : List ℕ). kept_of a live.rest.calls) (sym plan.own) ∙ owed.there))
       owed_known other owed = tt
@@ -417,7 +431,7 @@ module _ (setup : Setup) (station : Station) where
       pub turn_shows : (after : Rest) (sent : List Sent) → Turn station live heard after sent → BeginsNumbered station.options live.rest.link after.link
           → Goes (brought_in station.options setup heard) live.rest after sent
       turn_shows after sent turn numbers =
-          let shows = link_shows after.diagnoses after.link sent (makes_so after.link sent numbers) turn.is in
+          let shows = link_shows after.real.modules.items after.diagnoses after.link sent (makes_so after.link sent numbers) turn.is in
           record { shows = shows.0; ours = shows.1; calls = calls_silent after.calls sent turn.answers; known = all_known sent turn.owed }
 
     pub frames_silent : (outcomes : List Outcome) (live : Live) (heard : Heard) → AreSendable station.identity (heard_step outcomes station live heard).sent

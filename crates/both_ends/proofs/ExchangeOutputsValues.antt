@@ -10,6 +10,7 @@ use Rattle.cyclic_data.specs.declared.place.PlaceKind.TheVariants.{Data, Iocs}
 use Rattle.cyclic_data.specs.Layout.{is_of, is_same_kind, times_listed}
 use Rattle.cyclic_data.specs.Image.{Cell, cell_at, output_of, place_at, zero_cell}
 use Rattle.cyclic_data.specs.exchange.Opening.{first_cell}
+use Rattle.relations.specs.Exchanged.{shown_as}
 use Rattle.controller_core.specs.declared.stored.outputs.OutputMark.{OutputMark}
 use Rattle.controller_core.specs.stored.Opening.{first_status}
 use Rattle.controller_core.specs.stored.Outputs.{change_by, first_mark, mark_at, marked}
@@ -68,6 +69,13 @@ places_are values (place ∷ places) =
 
 zeros_shown : (place : Place) → replicate (length (zeros_at place)) 0 ≡ zeros_at place
 zeros_shown place = ap (λ (n : ℕ). replicate n 0) (length-replicate {A = ℕ} (place.size - 1) 0)
+
+-- zeros are zeros of a touched place too
+pub touched_zeros : (is_touched : Bool) (found : Option Place) → option_map (shown_as is_touched) (option_map zeros_at found) ≡ option_map zeros_at found
+touched_zeros true (Some place) = ap (λ (v : List ℕ). Some v) (zeros_shown place)
+touched_zeros true None = refl
+touched_zeros false (Some place) = refl
+touched_zeros false None = refl
 
 -- the zeros of a value that is bad are as many as its octets
 abbrev pub IsLong : Place → Option (List ℕ) → Type 0

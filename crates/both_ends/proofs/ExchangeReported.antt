@@ -1,5 +1,6 @@
 -- What either end of a network says of alarms, and what the other hears of it.
-use Rattle.std.specs.Prelude.{◌≡◌, ◌⊎◌, ◌<◌, Bool, true, if◌then◌else◌, ℕ, List, Option, Some, None, option_map}
+use Rattle.std.proofs.Common.{◌≡◌, ◌⊎◌, ◌<◌, ◌==◌, Bool, true, false, cond, ℕ, List, length, Option, Some, None, option_map, refl}
+use Rattle.std.specs.Prelude.{if◌then◌else◌}
 use Rattle.pn_values.specs.declared.identity.Identity.{Identity}
 use Rattle.pn_values.specs.declared.mac.Mac.{Mac}
 use Rattle.record_blocks.specs.declared.alarm_ack.AlarmAck.{AlarmAck}
@@ -12,7 +13,7 @@ use Rattle.diagnosis.specs.declared.reports.priority.Priority.{Priority}
 use Rattle.diagnosis.specs.declared.reports.priority.Priority.TheVariants.{High, Low}
 use Rattle.diagnosis.specs.declared.reports.report.Report.{Report}
 use Rattle.diagnosis.specs.reports.Message.{ToController}
-use Rattle.diagnosis.specs.reports.Report.{diagnosed, ours}
+use Rattle.diagnosis.specs.reports.Report.{bare, diagnosed, low_report, ours}
 use Rattle.pn_alarms.specs.declared.pdu.PduType.TheVariants as pdu
 use Rattle.relations.specs.exchange.Frames.{Frame, Inputs, Notifies, Replies as Answers, Reports, RepliesLow}
 use Rattle.device_frames.specs.declared.event.Event.TheVariants.{Frame as comes_in}
@@ -69,7 +70,7 @@ abbrev pub noted_by : Frame → Option (Notice Report)
 noted_by (Inputs state inputs counter) = None
 noted_by (Notifies header alarm) = Some (notice.Data header.send_number (ours alarm))
 noted_by (Answers header) = reply_of header.ack_number header.kind
-noted_by (Reports tag header alarm) = Some (notice.Data header.send_number (diagnosed alarm))
+noted_by (Reports tag header alarm) = Some (notice.Data header.send_number (low_report alarm))
 noted_by (RepliesLow tag header) = reply_of header.ack_number header.kind
 
 abbrev pub noted_in : sent.Sent → Option (Notice Report)
@@ -84,6 +85,22 @@ alarm_in priority other = None
 
 abbrev pub data_in : Priority → sent.Sent → Option (ℕ × AlarmNotification)
 data_in priority message = alarm_in priority (noted_in message)
+
+-- an alarm of low priority, as the controller reads it
+pub low_is : (alarm : AlarmNotification) → low_report alarm ≡ report_as Low alarm
+low_is alarm = by_test (length alarm.alarm_data == 0)
+  where
+    by_test : (b : Bool) → cond b (bare alarm) (diagnosed alarm) ≡ record { priority = Low; notification = alarm; user_structure = cond b None (Some 0x8000) }
+    by_test true = refl
+    by_test false = refl
+
+-- it is one, whether it has a UserStructureIdentifier or not
+pub low_data : (priority : Priority) (number : ℕ) (alarm : AlarmNotification) → alarm_in priority (Some (notice.Data number (low_report alarm))) ≡ alarm_in priority (Some (notice.Data number (diagnosed alarm)))
+low_data priority number alarm = by_test (length alarm.alarm_data == 0)
+  where
+    by_test : (b : Bool) → alarm_in priority (Some (notice.Data number (cond b (bare alarm) (diagnosed alarm)))) ≡ alarm_in priority (Some (notice.Data number (diagnosed alarm)))
+    by_test true = refl
+    by_test false = refl
 
 -- ---- at the controller
 
@@ -160,6 +177,7 @@ IsNotedAs setup identity (sent.SetAnswer asker request answers) = IsNotedBy setu
 IsNotedAs setup identity (sent.ArpReply asker address target) = IsNotedBy setup identity (bytes_of identity (sent.ArpReply asker address target)) None
 IsNotedAs setup identity (sent.CallAnswer caller address answer) = IsNotedBy setup identity (bytes_of identity (sent.CallAnswer caller address answer)) None
 IsNotedAs setup identity (sent.ReadyCall address ready) = IsNotedBy setup identity (bytes_of identity (sent.ReadyCall address ready)) None
+IsNotedAs setup identity (sent.PlugReadyCall address ready) = IsNotedBy setup identity (bytes_of identity (sent.PlugReadyCall address ready)) None
 
 -- octets of the controller: the device hears this of alarms in them, or nothing, and the controller hears nothing at
 -- all
@@ -184,6 +202,7 @@ IsWellSent setup identity (sent.SetAnswer asker request answers) = IsWellBy setu
 IsWellSent setup identity (sent.ArpReply asker address target) = IsWellBy setup (bytes_of identity (sent.ArpReply asker address target))
 IsWellSent setup identity (sent.CallAnswer caller address answer) = IsWellBy setup (bytes_of identity (sent.CallAnswer caller address answer))
 IsWellSent setup identity (sent.ReadyCall address ready) = IsWellBy setup (bytes_of identity (sent.ReadyCall address ready))
+IsWellSent setup identity (sent.PlugReadyCall address ready) = IsWellBy setup (bytes_of identity (sent.PlugReadyCall address ready))
 
 -- a message of the controller, in which a call has its sizes
 abbrev pub IsCalledAs : Setup → Identity → said.Sent → Type 0

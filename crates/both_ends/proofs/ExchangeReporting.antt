@@ -8,7 +8,8 @@ use Rattle.frame_codec.specs.declared.udp.Caller.{Caller}
 use Rattle.rpc_core.specs.Call.{Asked as Call}
 use Rattle.record_blocks.specs.declared.alarm_notification.AlarmNotification.{AlarmNotification}
 use Rattle.diagnosis.specs.declared.diagnosis.Change.{Change}
-use Rattle.diagnosis.specs.declared.notice.Notice.{Notice}
+use Rattle.diagnosis.specs.declared.queue.LowChange.{LowChange}
+use Rattle.diagnosis.specs.declared.queue.QueuedAlarm.{QueuedAlarm}
 use Rattle.diagnosis.specs.alarms.Own.{is_own}
 use Rattle.diagnosis.specs.reported.Followed.{at_places}
 use Rattle.diagnosis.specs.reported.Reported.{nothing_reported}
@@ -33,14 +34,15 @@ use Rattle.both_ends.specs.startup.Played.{AreMeant, Begins, CanMeet}
 use Rattle.both_ends.specs.startup.View.{IsMeant, IsMeantAtDevice, is_planned, rules_of}
 use Rattle.both_ends.specs.exchange.Sized.{AreSizedModules}
 use Rattle.both_ends.specs.exchange.Over.{reported_by, reported_over, reported_with, taken_over, taken_with}
-use Rattle.both_ends.specs.exchange.Told.{AreKnown, AreSizedMoves, IsSizedMove, IsTold, Leads, change_in, known_at}
+use Rattle.both_ends.specs.exchange.Told.{AreKnown, AreNoPulls, AreSizedMoves, IsSizedMove, IsTold, Leads, change_in, known_at}
 use Rattle.both_ends.proofs.ExchangeEarly.{IsEarlyFrame}
 use Rattle.both_ends.proofs.ExchangeFollows.{IsIn, kept_at}
 use Rattle.both_ends.proofs.ExchangeKnown.{ElsewhereSo}
 use Rattle.both_ends.proofs.ExchangeKnows.{FollowsSo, Knows, all_listed, knows_on}
-use Rattle.both_ends.proofs.ExchangeLaw.{DeviceSo, FollowsAt, IsOfFrame, alone_so, delivered_device, early_at, first_follows, follows_so, in_at, lacks_none, lists, low_all, makes_so, of_frame, one_follows, turn_at}
+use Rattle.both_ends.proofs.ExchangeLaw.{DeviceSo, FollowsAt, IsOfFrame, alone_so, delivered_device, early_at, first_follows, follows_so, in_at, lacks_none, lists, low_all, makes_so, modules_in, of_frame, one_follows, turn_at}
 use Rattle.both_ends.proofs.ExchangeLists.{none_some}
 use Rattle.both_ends.proofs.ExchangeLowTied.{reported_same}
+use Rattle.both_ends.proofs.ExchangeMade.{stated_made}
 use Rattle.both_ends.proofs.ExchangeMessages.{HearsSo}
 use Rattle.both_ends.proofs.ExchangeReported.{IsCallIn}
 
@@ -58,14 +60,14 @@ framed_small heard is change e = absurd (subst (λ (h : Heard). IsOfFrame h) e i
 
 module _ {F : Type 0} where
   abbrev pub KnowsAt : World F → List AlarmNotification → Type 0
-  KnowsAt w raised = Knows w.device.live.rest.link w.device.live.rest.diagnoses raised
+  KnowsAt w raised = Knows w.device.live.rest.real.modules.items w.device.live.rest.link w.device.live.rest.diagnoses raised
 
   module _ (so : DeviceSo) (hears : HearsSo) (elsewhere : ElsewhereSo) {S : ℕ} (as_flash : Flash F S) (before after : World F) (raised taken : List AlarmNotification)
       (follows : FollowsAt low_priority before raised taken) (knows : KnowsAt before raised) where
     -- nothing happens at the device
     rests_knows : after.device ≡ before.device → KnowsAt after (raised ++ reported_with before after)
     rests_knows same =
-        subst (λ (d : State F). Knows d.live.rest.link d.live.rest.diagnoses (raised ++ reported_by before.device.live.rest.link d.live.rest.link)) (sym same)
+        subst (λ (d : State F). Knows d.live.rest.real.modules.items d.live.rest.link d.live.rest.diagnoses (raised ++ reported_by before.device.live.rest.link d.live.rest.link)) (sym same)
         (subst (λ (xs : List AlarmNotification). KnowsAt before xs) (sym (ap (λ (xs : List AlarmNotification). raised ++ xs) (reported_same before.device.live.rest.link before.device.live.rest.link refl) ∙ append-nil raised)) knows)
 
     -- the device hears something
@@ -80,12 +82,13 @@ module _ {F : Type 0} where
         let link = step.live.rest.link in
         let turn = turn_at low_priority so hears as_flash before after raised taken follows heard outcomes meant in
         let acts = so.turns (rules_of before.controller.setup station) before.controller.setup.activity outcomes station live heard meant.planned in
-        subst (λ (l : Live). Knows l.rest.link l.rest.diagnoses (raised ++ reported_by live.rest.link l.rest.link)) (sym made.hears.steps.live)
-        (knows_on elsewhere station.real.modules.items live.rest.link live.rest.diagnoses raised knows live.rest.calls heard link step.live.rest.diagnoses step.sent is_small
+        subst (λ (l : Live). Knows l.rest.real.modules.items l.rest.link l.rest.diagnoses (raised ++ reported_by live.rest.link l.rest.link)) (sym made.hears.steps.live)
+        (knows_on elsewhere live.rest.real.modules.items live.rest.link live.rest.diagnoses raised knows live.rest.calls heard link step.live.rest.real.modules.items step.live.rest.diagnoses step.sent is_small
         (λ makes. (
           alone_so low_priority so hears as_flash before after raised taken follows heard first late called made meant link step.sent makes,
           follows.unraised (makes_so low_priority so hears as_flash before after raised taken follows heard first late called made meant link step.sent makes).0,
-        )) turn acts.diagnoses)
+          stated_made station live heard step.live.rest step.sent (alone_so low_priority so hears as_flash before after raised taken follows heard first late called made meant link step.sent makes) acts.does,
+        )) turn (modules_in station live heard step.live.rest step.sent acts) acts.diagnoses)
 
     idle_knows : (heard : Heard) → IsSmall heard → heard_as (is_planned before.controller.setup) heard ≡ small.Idle → ((caller : Caller) (address : List ℕ) (call : Call) → heard ≡ Reported caller address (Calls call) → ⊥)
         → AtDevice as_flash before heard after → IsMeantAtDevice before heard → KnowsAt after (raised ++ reported_with before after)
@@ -146,7 +149,7 @@ module _ {F : Type 0} where
   run_reports so hears elsewhere as_flash w raised taken is (one ∷ run) made meant sized =
       let now = reported_with w one.1 in
       let next : Reporting one.1 (raised ++ now) (taken ++ taken_with low_priority w one.0) = record {
-        follows = one_follows low_priority so hears as_flash w one.1 raised taken is.follows one.0 made.0 meant.0;
+        follows = one_follows low_priority so hears as_flash w one.1 raised taken is.follows one.0 made.0 meant.0 sized.0;
         knows = one_knows so hears elsewhere as_flash w one.1 raised taken is.follows is.knows one.0 made.0 meant.0 sized.0;
       } in
       let all = run_reports so hears elsewhere as_flash one.1 (raised ++ now) (taken ++ taken_with low_priority w one.0) next run made.1 meant.1 sized.1 in
@@ -159,47 +162,48 @@ module _ {F : Type 0} where
   first_knows setup identity first begins known = record {
     known = known;
     begins = λ l is. absurd (none_some l first.device.live.rest.link begins.unrelated is);
+    stated = λ l is. absurd (none_some l first.device.live.rest.link begins.unrelated is);
     before = λ l is off. absurd (none_some l first.device.live.rest.link begins.unrelated is);
     told = λ l is on. absurd (none_some l first.device.live.rest.link begins.unrelated is);
   }
 
   module _ (so : DeviceSo) (hears : HearsSo) (setup : Setup) (identity : Identity) (good : IsSetup setup) (can : CanMeet setup identity) {S : ℕ} (as_flash : Flash F S)
-      (first : World F) (run : List (Move × World F)) (begins : Begins setup identity first) (real : AreSizedModules first.device.station.real.modules.items)
-      (made : AreMade as_flash first run) (meant : AreMeant first run) where
+      (first : World F) (run : List (Move × World F)) (begins : Begins setup identity first) (real : AreSizedModules first.device.live.rest.real.modules.items)
+      (made : AreMade as_flash first run) (sized : AreSizedMoves run) (meant : AreMeant first run) where
     pub low_so : FollowsAt low_priority (last_world first run) (reported_over first run) (taken_over low_priority first run)
     low_so =
         subst (λ (xs : List AlarmNotification). FollowsAt low_priority (last_world first run) xs (taken_over low_priority first run)) (low_all first run)
-        (follows_so low_priority so hears setup identity good can as_flash first run begins real made meant)
+        (follows_so low_priority so hears setup identity good can as_flash first run begins real made sized meant)
 
-    reporting_so : ElsewhereSo → AreKnown first.device.live.rest.diagnoses → AreSizedMoves run → Reporting (last_world first run) (reported_over first run) (taken_over low_priority first run)
-    reporting_so elsewhere known sized =
+    reporting_so : ElsewhereSo → AreKnown first.device.live.rest.diagnoses → Reporting (last_world first run) (reported_over first run) (taken_over low_priority first run)
+    reporting_so elsewhere known =
         run_reports so hears elsewhere as_flash first [] [] (record {
           follows = first_follows low_priority so hears setup identity good can first begins real;
           knows = first_knows setup identity first begins known;
         }) run made meant sized
 
     -- the diagnoses appeared one after the other
-    pub known_so : ElsewhereSo → AreKnown first.device.live.rest.diagnoses → AreSizedMoves run → AreKnown (last_world first run).device.live.rest.diagnoses
-    known_so elsewhere known sized = (reporting_so elsewhere known sized).knows.known
+    pub known_so : ElsewhereSo → AreKnown first.device.live.rest.diagnoses → AreKnown (last_world first run).device.live.rest.diagnoses
+    known_so elsewhere known = (reporting_so elsewhere known).knows.known
 
     -- where data is exchanged, what was reported and what waits lead to the diagnoses
-    pub told_so : ElsewhereSo → AreKnown first.device.live.rest.diagnoses → AreSizedMoves run → (link : RelationState) → (last_world first run).device.live.rest.link ≡ Some link → is_exchanging link.phase ≡ true
+    pub told_so : ElsewhereSo → AreKnown first.device.live.rest.diagnoses → (link : RelationState) → (last_world first run).device.live.rest.link ≡ Some link → is_exchanging link.phase ≡ true
         → IsTold link.flow.low (last_world first run).device.live.rest.diagnoses (reported_over first run)
-    told_so elsewhere known sized link is on = (reporting_so elsewhere known sized).knows.told link is on
+    told_so elsewhere known link is on = (reporting_so elsewhere known).knows.told link is on
 
     -- where none is unacknowledged and none waits, the list of the controller is that of the device
-    pub list_so : ElsewhereSo → FollowsSo → AreAllTaken → ListsWhatIsReported → AreKnown first.device.live.rest.diagnoses → AreSizedMoves run → length (reported_over first run) ≤ 32768
-        → (link : RelationState) → (last_world first run).device.live.rest.link ≡ Some link → is_exchanging link.phase ≡ true → link.flow.low.alarms.sender.standing ≡ None → link.flow.low.waiting ≡ []
+    pub list_so : ElsewhereSo → FollowsSo → AreAllTaken → ListsWhatIsReported → AreKnown first.device.live.rest.diagnoses → length (reported_over first run) ≤ 32768
+        → AreNoPulls (reported_over first run) → (link : RelationState) → (last_world first run).device.live.rest.link ≡ Some link → is_exchanging link.phase ≡ true → link.flow.low.alarms.sender.standing ≡ None → link.flow.low.waiting ≡ []
         → (last_world first run).controller.live.stands ≡ true
         → (last_world first run).controller.live.diagnosis ≡ known_at link.flow.low (last_world first run).device.live.rest.diagnoses
-    list_so elsewhere follows_law all_law lists_law known sized few link is on none empty up =
+    list_so elsewhere follows_law all_law lists_law known few pulls link is on none empty up =
         let last = last_world first run in
         let reported = reported_over first run in
         let taken = taken_over low_priority first run in
-        let told = told_so elsewhere known sized link is on in
-        let leads : Leads (is_own link.flow.low.places) told.changes [] (at_places (is_own link.flow.low.places) last.device.live.rest.diagnoses) =
-        subst (λ (xs : List Change). Leads (is_own link.flow.low.places) xs [] (at_places (is_own link.flow.low.places) last.device.live.rest.diagnoses)) (append-nil told.changes)
-        (subst (λ (ws : List Notice). Leads (is_own link.flow.low.places) (told.changes ++ map change_in ws) [] (at_places (is_own link.flow.low.places) last.device.live.rest.diagnoses)) empty told.leads) in
+        let told = told_so elsewhere known link is on in
+        let leads : Leads told.changes [] (at_places (is_own link.flow.low.places) last.device.live.rest.diagnoses) =
+        subst (λ (xs : List LowChange). Leads xs [] (at_places (is_own link.flow.low.places) last.device.live.rest.diagnoses)) (append-nil told.changes)
+        (subst (λ (ws : List QueuedAlarm). Leads (told.changes ++ map change_in ws) [] (at_places (is_own link.flow.low.places) last.device.live.rest.diagnoses)) empty told.leads) in
         lists lists_law last reported taken low_so up
         ∙ (ap (λ (xs : List AlarmNotification). after_reports xs nothing_reported) (lacks_none low_priority last reported taken low_so all_law few link is none)
-        ∙ all_listed follows_law (is_own link.flow.low.places) told.changes reported [] (at_places (is_own link.flow.low.places) last.device.live.rest.diagnoses) told.reports leads)
+        ∙ all_listed follows_law told.changes reported [] (at_places (is_own link.flow.low.places) last.device.live.rest.diagnoses) told.reports leads pulls)

@@ -14,7 +14,6 @@ use Rattle.records.specs.declared.status.operation.Operation.TheVariants as oper
 use Rattle.records.specs.status.Operation.{operation_of}
 use Rattle.connects.specs.requests.Request.{Request}
 use Rattle.both_ends.specs.startup.request.Request.{request_for}
-use Rattle.relations.specs.declared.ready.Ready.{Ready}
 use Rattle.relations.specs.RelationState.{RelationState}
 use Rattle.relations.specs.Connect.{connect_blocks, connect_of, differing_of}
 use Rattle.relations.specs.Numbers.{IsNumber}
@@ -25,7 +24,7 @@ use Rattle.device_core.specs.Handled.{answer_from, outcome_of}
 use Rattle.controller_messages.specs.declared.setup.Setup.{Setup}
 use Rattle.connects.specs.answers.Connect.{found_in, is_whole, nothing}
 use Rattle.end_laws.specs.sending.Sized.{Found}
-use Rattle.end_laws.specs.device.Does.{Does, IsEffect, IsExchange, IsOther, Serves, readied_from}
+use Rattle.end_laws.specs.device.Does.{Does, Following, Plugging, Readying, IsEffect, IsExchange, IsOther, Serves, readied_from}
 use Rattle.end_laws.specs.both.Small as small
 use Rattle.end_laws.specs.device.Small.{IsPlanned, IsPlannedAs, IsPlannedCall, asked_by, heard_as, written_by}
 use Rattle.both_ends.specs.startup.View.{is_planned, rules_of}
@@ -54,7 +53,7 @@ module _ (setup : Setup) (station : Station) (live : Live) where
   -- the blocks of the response to the Connect of the plan choose a suitable FrameID for outputs, in a relation of any number that
   -- the device may give
   abbrev pub Chooses : Type 0
-  Chooses = (number : ℕ) → IsNumber station.options number → IsChosenWell (connect_blocks station.identity number asked (differing_of asked station.real))
+  Chooses = (number : ℕ) → IsNumber station.options number → IsChosenWell (connect_blocks station.identity number asked (differing_of asked live.rest.real))
 
   -- a positive response to a call of number 0 chooses a suitable FrameID for outputs
   abbrev pub IsServed : Sent → Type 0
@@ -64,9 +63,10 @@ module _ (setup : Setup) (station : Station) (live : Live) where
   abbrev pub AreServed : List Sent → Type 0
   AreServed sent = AllByRecursion IsServed sent
 
-  readied_served : (address : List ℕ) (ready : Option Ready) → AreServed (readied_from address ready)
+  readied_served : (address : List ℕ) (ready : Option Following) → AreServed (readied_from address ready)
   readied_served address None = tt
-  readied_served address (Some ready) = (tt, tt)
+  readied_served address (Some (Readying ready)) = (tt, tt)
+  readied_served address (Some (Plugging ready)) = (tt, tt)
 
   -- a message that is no response to a call
   others_served : (after : Option RelationState) (messages : List Sent) → AllByRecursion (IsOther live after) messages → AreServed messages
@@ -88,21 +88,23 @@ module _ (setup : Setup) (station : Station) (live : Live) where
 
   outcome_well : (caller : Caller) (sequence : ℕ) (blocks : List ℕ) (outcome : Result (List ℕ) CallFault) (which : Operation) (after : Option RelationState) → sequence ≡ 0 → live.rest.link ≡ None
       → (asked_by (is_planned setup) sequence blocks (Some which) ≡ small.Call sequence small.Accesses → ⊥)
-      → IsPlannedAs (rules_of setup station) station.real sequence blocks (Some which) → IsEffect station caller blocks outcome which live.rest.link after → Chooses → IsChosenWell (outcome_of which outcome).1
+      → IsPlannedAs (rules_of setup station) live.rest.real sequence blocks (Some which) → IsEffect station live.rest.real caller blocks outcome which live.rest.link after → Chooses → IsChosenWell (outcome_of which outcome).1
   outcome_well caller sequence blocks (Err why) which after zero_is none early plan effect chooses = empty_well
   outcome_well caller sequence blocks (Ok octets) operation.Connect after zero_is none early plan effect chooses =
       let is : effect.request ≡ asked = ok_is effect.request asked (sym effect.read ∙ (ap (λ (l : Option RelationState). connect_of l blocks) none ∙ plan)) in
       subst (λ (answer : List ℕ). IsChosenWell answer) (sym effect.answer)
-      (subst (λ (request : Request). IsChosenWell (connect_blocks station.identity effect.starting.number request (differing_of request station.real))) (sym is)
+      (subst (λ (request : Request). IsChosenWell (connect_blocks station.identity effect.starting.number request (differing_of request live.rest.real))) (sym is)
       (chooses effect.starting.number effect.numbered))
   outcome_well caller sequence blocks (Ok octets) operation.Read after zero_is none early plan effect chooses = absurd (early refl)
   outcome_well caller sequence blocks (Ok octets) operation.Write after zero_is none early plan effect chooses = absurd (early (written_zero sequence blocks zero_is))
   outcome_well caller sequence blocks (Ok octets) operation.ReadImplicit after zero_is none early plan effect chooses = absurd plan
-  outcome_well caller sequence blocks (Ok octets) which after zero_is none early plan effect chooses = absurd (none_some effect.link live.rest.link none effect.was)
+  outcome_well caller sequence blocks (Ok octets) operation.Control after zero_is none early plan (inl effect) chooses = absurd (none_some effect.link live.rest.link none effect.was)
+  outcome_well caller sequence blocks (Ok octets) operation.Control after zero_is none early plan (inr effect) chooses = absurd (none_some effect.link live.rest.link none effect.was)
+  outcome_well caller sequence blocks (Ok octets) operation.Release after zero_is none early plan effect chooses = absurd (none_some effect.link live.rest.link none effect.was)
 
   -- ---- a turn
 
-  module _ (heard : Heard) (after : Rest) (sent : List Sent) (planned : IsPlanned (rules_of setup station) setup.activity station.real heard)
+  module _ (heard : Heard) (after : Rest) (sent : List Sent) (planned : IsPlanned (rules_of setup station) setup.activity live.rest.real heard)
       (none : (caller : Caller) (address : List ℕ) (call : Call) → heard ≡ Reported caller address (Calls call) → call.header.sequence ≡ 0
       → looked call.header.activity call.header.sequence live.rest.calls ≡ new
       → (live.rest.link ≡ None) × (heard_as (is_planned setup) heard ≡ small.Call call.header.sequence small.Accesses → ⊥)) where
@@ -112,12 +114,12 @@ module _ (setup : Setup) (station : Station) (live : Live) where
     call_served : Serves station live heard after sent → AreServed sent
     call_served it = silent_served _ it.sends (well, readied_served live.values.running.suite.address it.ready)
       where
-        plan : IsPlannedCall (rules_of setup station) setup.activity station.real it.call
-        plan = subst (λ (h : Heard). IsPlanned (rules_of setup station) setup.activity station.real h) it.is planned
+        plan : IsPlannedCall (rules_of setup station) setup.activity live.rest.real it.call
+        plan = subst (λ (h : Heard). IsPlanned (rules_of setup station) setup.activity live.rest.real h) it.is planned
 
-        asks : IsPlannedAs (rules_of setup station) station.real it.call.header.sequence it.blocks (Some it.which)
-        asks = subst (λ (o : Option Operation). IsPlannedAs (rules_of setup station) station.real it.call.header.sequence it.blocks o) it.asks
-            (subst (λ (b : List ℕ). IsPlannedAs (rules_of setup station) station.real it.call.header.sequence b (operation_of it.call.header.operation))
+        asks : IsPlannedAs (rules_of setup station) live.rest.real it.call.header.sequence it.blocks (Some it.which)
+        asks = subst (λ (o : Option Operation). IsPlannedAs (rules_of setup station) live.rest.real it.call.header.sequence it.blocks o) it.asks
+            (subst (λ (b : List ℕ). IsPlannedAs (rules_of setup station) live.rest.real it.call.header.sequence b (operation_of it.call.header.operation))
             (some_is plan.blocks it.blocks (sym plan.counted ∙ it.counted)) plan.asks)
 
         well : IsServed (answer_from live.values.running.suite.address it.caller it.call it.which it.outcome)

@@ -23,7 +23,10 @@ use Rattle.pn_alarms.specs.Receiver.{answer_to, taken_as}
 use Rattle.pn_alarms.specs.Sender.{notice_of}
 use Rattle.pn_alarms.specs.Sending.{due, is_again}
 use Rattle.cyclic_data.specs.declared.exchange.route.Route.{Route}
-use Rattle.relations.specs.exchange.Diagnosis.{behind_low, diagnosed, diagnoses_begun, low_header_of, next_reported}
+use Rattle.diagnosis.specs.declared.diagnosis.Change.{Change}
+use Rattle.diagnosis.specs.Queue.{is_next}
+use Rattle.module_diff.specs.declared.changes.RealChange.{RealChange}
+use Rattle.relations.specs.exchange.Diagnosis.{begins_with_one, behind_low, diagnosed, diagnoses_begun, is_diagnosed, low_header_of, next_reported}
 use Rattle.relations.specs.exchange.Flow.{Flow}
 use Rattle.relations.specs.exchange.Frames.{Notifies, Replies as Answers, Reports, RepliesLow}
 use Rattle.relations.specs.exchange.Notices.{behind_message, header_of, may_raise, raised_at, raised_by as raised_from}
@@ -31,7 +34,8 @@ use Rattle.relations.specs.exchange.Units.{flow_later, repeated_of, tick_of}
 use Rattle.relations.specs.Diagnosed.{diagnosing}
 use Rattle.relations.specs.Exchanged.{raised_to}
 use Rattle.relations.specs.RelationState.{RelationState, flow_of}
-use Rattle.relations.specs.Phases.{exchanging_from, made_of, updated, with_flow}
+use Rattle.relations.specs.Phases.{exchanging_from, made_of, updated, with_flow, with_reported}
+use Rattle.relations.specs.Plugging.{changed_by, first_sent, modules_changing, plugs_after, rows_now, taken_after}
 use Rattle.relations.specs.Timers.{unit_later}
 use Rattle.diagnosis.specs.Line.{Line}
 use Rattle.diagnosis.specs.World.{line_after}
@@ -42,10 +46,12 @@ use Rattle.device_frames.specs.Sent.{Sent, Exchanges}
 use Rattle.controller_messages.specs.declared.setup.Setup.{Setup}
 use Rattle.controller_messages.specs.Sent as said
 use Rattle.end_laws.specs.turns.Alarms.{IsQuiet, Relation, Move, Raises as raising, PassesAtDevice, ComesToDevice, AckComesToDevice, acked_at_device, behind, behind_one, comes_to_device, is_priority, passed_at_device, raised_by}
-use Rattle.both_ends.proofs.ExchangeReported.{ack_in, data_in, reported_at}
+use Rattle.end_laws.proofs.DeviceOrderly.{after_keys}
+use Rattle.both_ends.proofs.ExchangeReported.{ack_in, data_in, low_data, reported_at}
 use Rattle.both_ends.specs.exchange.Over.{one_in, raised_in}
 use Rattle.both_ends.proofs.ExchangeLists.{Extends, at_end, each_behind, each_on, more_extends, none_some, some_is, unchanged}
-use Rattle.end_laws.specs.device.Turn.{AreCalm, Begins, Diagnoses, HearsAck, HearsData, HearsLowAck, HearsLowData, IsCalm, IsHigh, IsRaise, Makes, Passes, Raises, Refused, alarm_heard}
+use Rattle.end_laws.specs.device.Orderly.{keys_of}
+use Rattle.end_laws.specs.device.Turn.{AreCalm, Begins, Changes, Diagnoses, HearsAck, HearsData, HearsLowAck, HearsLowData, IsCalm, IsHigh, IsRaise, Makes, Passes, Raises, Refused, alarm_heard, heard_low_in}
 use Rattle.both_ends.proofs.ExchangeTurns.{IsSameOr, IsTurn, Way, end_at, end_in, way_of}
 
 -- ---- what is said is among what was sent
@@ -119,7 +125,7 @@ lows_none flow = by_standing flow.low.alarms.sender.standing
   where
     by_standing : (standing : Option AlarmNotification) → AllByRecursion (IsNone High) (frames_in flow.cyclic.route (option_map (Reports flow.low.tag (low_header_of flow pdu.Data)) standing))
     by_standing None = tt
-    by_standing (Some alarm) = (refl, tt)
+    by_standing (Some alarm) = (low_data High (low_header_of flow pdu.Data).send_number alarm, tt)
 
 link_lows_none : (link : Option RelationState) → AllByRecursion (IsNone High) (low_alarms_of (flow_of link))
 link_lows_none None = tt
@@ -144,7 +150,7 @@ lows_active flow = by_standing flow.low.alarms.sender.standing refl
     by_standing : (standing : Option AlarmNotification) → flow.low.alarms.sender.standing ≡ standing
         → AllByRecursion (IsActive low_priority flow.low.alarms) (frames_in flow.cyclic.route (option_map (Reports flow.low.tag (low_header_of flow pdu.Data)) standing))
     by_standing None e = tt
-    by_standing (Some alarm) e = (inr (alarm, e, refl), tt)
+    by_standing (Some alarm) e = (inr (alarm, e, low_data low_priority (low_header_of flow pdu.Data).send_number alarm), tt)
 
 -- ---- a turn of the device
 
@@ -440,6 +446,43 @@ pub made_end : (priority : Priority) (r : Relation) (calls : List Answer) (befor
 made_end High r calls before heard after sent makes e = e
 made_end low_priority r calls before heard after sent makes e = e
 
+-- ---- an alarm of low priority is first sent
+
+-- The relation after that: its exchange became this, and what follows from the alarm follows.
+abbrev pub sent_link : Bool → Flow → RelationState → RelationState
+sent_link is_sent flow link =
+    let sent = first_sent is_sent flow.low in
+    with_reported flow (taken_after sent link.plugs.places link.taken) (plugs_after sent flow.low.waiting link.plugs) link
+
+-- The relation after the next change that waits was reported, if one can be.
+abbrev pub next_link : RelationState → RelationState
+next_link link = sent_link (is_next link.flow.low) (next_reported link.flow) link
+
+-- The relation after a change of diagnosis.
+abbrev pub diagnosed_link : List RealModule → Change → List Diagnosis → RelationState → RelationState
+diagnosed_link real change later link = sent_link (is_diagnosed real change later link.flow) (diagnosed real change later link.flow) link
+
+-- The relation as data exchange begins.
+abbrev pub begun_link : List RealModule → List Diagnosis → RelationState → RelationState
+begun_link real diagnoses link = sent_link (begins_with_one real diagnoses link.flow) (diagnoses_begun real diagnoses link.flow) link
+
+-- The slots and subslots of its places are those of the relation before.
+sent_keys : (is_sent : Bool) (flow : Flow) (link : RelationState) → keys_of (sent_link is_sent flow link).plugs.places ≡ keys_of link.plugs.places
+sent_keys is_sent flow link = after_keys (first_sent is_sent flow.low) flow.low.waiting link.plugs
+
+pub next_keys : (link : RelationState) → keys_of (next_link link).plugs.places ≡ keys_of link.plugs.places
+next_keys link = sent_keys (is_next link.flow.low) (next_reported link.flow) link
+
+pub diagnosed_keys : (real : List RealModule) (change : Change) (later : List Diagnosis) (link : RelationState) → keys_of (diagnosed_link real change later link).plugs.places ≡ keys_of link.plugs.places
+diagnosed_keys real change later link = sent_keys (is_diagnosed real change later link.flow) (diagnosed real change later link.flow) link
+
+pub begun_keys : (real : List RealModule) (diagnoses : List Diagnosis) (link : RelationState) → keys_of (begun_link real diagnoses link).plugs.places ≡ keys_of link.plugs.places
+begun_keys real diagnoses link = sent_keys (begins_with_one real diagnoses link.flow) (diagnoses_begun real diagnoses link.flow) link
+
+-- The relation after a pull or a plug, after which these modules are plugged.
+abbrev pub changed_link : List RealModule → RealChange → List Diagnosis → RelationState → RelationState
+changed_link now made later link = changed_by (rows_now now link) made later link
+
 -- ---- of high priority
 
 module _ (setup : Setup) (r : Relation) (real : List RealModule) (before : Option RelationState) (tied : IsTied High r before) where
@@ -517,7 +560,7 @@ module _ (setup : Setup) (r : Relation) (real : List RealModule) (before : Optio
   begins_on : (diagnoses : List Diagnosis) (after : Option RelationState) (sent : List Sent) → Begins real diagnoses before after sent → Goes High setup r before after sent []
   begins_on diagnoses after sent begins =
       rests High setup r before after sent
-      (tied_by High setup r after (with_flow (diagnoses_begun real diagnoses (exchanging_from begins.link).flow) (exchanging_from begins.link)) begins.becomes (tied begins.link begins.was))
+      (tied_by High setup r after (begun_link real diagnoses (exchanging_from begins.link)) begins.becomes (tied begins.link begins.was))
       (subst (λ (messages : List Sent). AllByRecursion (IsNone High) messages) (sym begins.sends) (due_holds (IsNone High) _ _ (lows_none (diagnoses_begun real diagnoses (exchanging_from begins.link).flow))))
 
   changes_on : (diagnoses later : List Diagnosis) (heard : Heard) (after : Option RelationState) (sent : List Sent) → Diagnoses real diagnoses later before heard after sent → Goes High setup r before after sent []
@@ -528,7 +571,7 @@ module _ (setup : Setup) (r : Relation) (real : List RealModule) (before : Optio
       by_link : (link : Option RelationState) → IsTied High r link → (l : RelationState) → updated (diagnosing real changes.change later link) link ≡ Some l → end_at High l ≡ r.device
       by_link None tied_so l is = absurd cc
       by_link (Some link) tied_so l is =
-          ap (λ (k : RelationState). end_at High k) (sym (some_is (with_flow (diagnosed real changes.change later link.flow) link) l is)) ∙ tied_so link refl
+          ap (λ (k : RelationState). end_at High k) (sym (some_is (diagnosed_link real changes.change later link) l is)) ∙ tied_so link refl
 
   low_acks_on : (heard : Heard) (after : Option RelationState) (sent : List Sent) → HearsLowAck before heard after sent → Goes High setup r before after sent []
   low_acks_on heard after sent acked =
@@ -536,27 +579,40 @@ module _ (setup : Setup) (r : Relation) (real : List RealModule) (before : Optio
       (tied_by High setup r after (with_flow (behind_low acked.link.flow (notice.Ack acked.number)) acked.link) acked.becomes (tied acked.link acked.was))
       (subst (λ (messages : List Sent). AllByRecursion (IsNone High) messages) (sym acked.silent) tt)
 
-  low_data_on : (heard : Heard) (after : Option RelationState) (sent : List Sent) → HearsLowData real before heard after sent → Goes High setup r before after sent []
+  low_data_on : (heard : Heard) (after : Option RelationState) (sent : List Sent) → HearsLowData before heard after sent → Goes High setup r before after sent []
   low_data_on heard after sent came =
       let flow = behind_low came.link.flow (notice.Data came.number came.ack) in
-      let next = next_reported real flow in
-      rests High setup r before after sent (tied_by High setup r after (with_flow next came.link) came.becomes (tied came.link came.was))
+      let next = next_reported flow in
+      rests High setup r before after sent (tied_by High setup r after (next_link (heard_low_in came.link (notice.Data came.number came.ack))) came.becomes (tied came.link came.was))
       (subst (λ (messages : List Sent). AllByRecursion (IsNone High) messages) (sym came.sends)
       (low_answer_none High flow.cyclic.route flow.low.tag (low_header_of flow (answer_to (taken_as came.link.flow.low.alarms.seen came.number))) _ refl, due_holds (IsNone High) _ _ (lows_none next)))
 
-  pub turn_on : (calls : List Answer) (diagnoses later : List Diagnosis) (heard : Heard) (after : Option RelationState) (sent : List Sent)
+  -- so does a pull or a plug
+  modules_on : (now : List RealModule) (diagnoses later : List Diagnosis) (heard : Heard) (after : Option RelationState) (sent : List Sent) → Changes real now diagnoses later before heard after sent
+      → Goes High setup r before after sent []
+  modules_on now diagnoses later heard after sent changes =
+      rests High setup r before after sent (λ l is. by_link before tied l (sym changes.becomes ∙ is))
+      (subst (λ (messages : List Sent). AllByRecursion (IsNone High) messages) (sym changes.sends)
+      (each_behind (IsNone High) _ changes.others (due_holds (IsNone High) _ _ (link_lows_none after)) (all_calm_none High before changes.others changes.calm)))
+    where
+      by_link : (link : Option RelationState) → IsTied High r link → (l : RelationState) → modules_changing now changes.made later link ≡ Some l → end_at High l ≡ r.device
+      by_link None tied_so l is = absurd cc
+      by_link (Some link) tied_so l is = ap (λ (k : RelationState). end_at High k) (sym (some_is (changed_link now changes.made later link) l is)) ∙ tied_so link refl
+
+  pub turn_on : (now : List RealModule) (calls : List Answer) (diagnoses later : List Diagnosis) (heard : Heard) (after : Option RelationState) (sent : List Sent)
       → IsHeard High r.reported (ack_in High (reported_at heard)) → IsUnraised heard → IsFresh High setup r calls before heard after sent
-      → IsTurn real calls diagnoses later before heard after sent → Goes High setup r before after sent []
-  turn_on calls diagnoses later heard after sent is unraised fresh (inl stays) = rests High setup r before after sent (same_tied High setup r before after stays.link tied) (all_calm_none High before sent stays.calm)
-  turn_on calls diagnoses later heard after sent is unraised fresh (inr (inl makes)) =
+      → IsTurn real now calls diagnoses later before heard after sent → Goes High setup r before after sent []
+  turn_on now calls diagnoses later heard after sent is unraised fresh (inl stays) = rests High setup r before after sent (same_tied High setup r before after stays.link tied) (all_calm_none High before sent stays.calm)
+  turn_on now calls diagnoses later heard after sent is unraised fresh (inr (inl makes)) =
       rests High setup r before after sent
       (tied_by High setup r after (made_of makes.request makes.partner makes.rows makes.options makes.starting) makes.made (made_end High r calls before heard after sent makes (fresh makes)))
       (all_calm_none High before sent makes.calm)
-  turn_on calls diagnoses later heard after sent is unraised fresh (inr (inr (inl raises))) = absurd (subst (λ (h : Heard). IsUnraised h) raises.is unraised)
-  turn_on calls diagnoses later heard after sent is unraised fresh (inr (inr (inr (inl acked)))) = acks_on heard after sent acked
-  turn_on calls diagnoses later heard after sent is unraised fresh (inr (inr (inr (inr (inl came))))) = data_on heard after sent is came
-  turn_on calls diagnoses later heard after sent is unraised fresh (inr (inr (inr (inr (inr (inl passes)))))) = passes_on heard after sent passes
-  turn_on calls diagnoses later heard after sent is unraised fresh (inr (inr (inr (inr (inr (inr (inl acked))))))) = low_acks_on heard after sent acked
-  turn_on calls diagnoses later heard after sent is unraised fresh (inr (inr (inr (inr (inr (inr (inr (inl came)))))))) = low_data_on heard after sent came
-  turn_on calls diagnoses later heard after sent is unraised fresh (inr (inr (inr (inr (inr (inr (inr (inr (inl begins))))))))) = begins_on diagnoses after sent begins
-  turn_on calls diagnoses later heard after sent is unraised fresh (inr (inr (inr (inr (inr (inr (inr (inr (inr changes))))))))) = changes_on diagnoses later heard after sent changes
+  turn_on now calls diagnoses later heard after sent is unraised fresh (inr (inr (inl raises))) = absurd (subst (λ (h : Heard). IsUnraised h) raises.is unraised)
+  turn_on now calls diagnoses later heard after sent is unraised fresh (inr (inr (inr (inl acked)))) = acks_on heard after sent acked
+  turn_on now calls diagnoses later heard after sent is unraised fresh (inr (inr (inr (inr (inl came))))) = data_on heard after sent is came
+  turn_on now calls diagnoses later heard after sent is unraised fresh (inr (inr (inr (inr (inr (inl passes)))))) = passes_on heard after sent passes
+  turn_on now calls diagnoses later heard after sent is unraised fresh (inr (inr (inr (inr (inr (inr (inl acked))))))) = low_acks_on heard after sent acked
+  turn_on now calls diagnoses later heard after sent is unraised fresh (inr (inr (inr (inr (inr (inr (inr (inl came)))))))) = low_data_on heard after sent came
+  turn_on now calls diagnoses later heard after sent is unraised fresh (inr (inr (inr (inr (inr (inr (inr (inr (inl begins))))))))) = begins_on diagnoses after sent begins
+  turn_on now calls diagnoses later heard after sent is unraised fresh (inr (inr (inr (inr (inr (inr (inr (inr (inr (inl changes)))))))))) = changes_on diagnoses later heard after sent changes
+  turn_on now calls diagnoses later heard after sent is unraised fresh (inr (inr (inr (inr (inr (inr (inr (inr (inr (inr changes)))))))))) = modules_on now diagnoses later heard after sent changes

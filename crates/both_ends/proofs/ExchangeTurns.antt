@@ -18,13 +18,14 @@ use Rattle.cyclic_data.specs.exchange.Received.{behind_frame as cyclic_behind, b
 use Rattle.relations.specs.RelationState.{RelationState, is_exchanging}
 use Rattle.device_frames.specs.Heard.{Heard}
 use Rattle.device_frames.specs.Sent.{Sent}
-use Rattle.end_laws.specs.device.Turn.{AreCalm, Begins, Diagnoses, HearsAck, HearsData, HearsLowAck, HearsLowData, IsCalm, Makes, Passes, Raises, Standing, standing_of}
+use Rattle.end_laws.specs.device.Orderly.{keys_of}
+use Rattle.end_laws.specs.device.Turn.{AreCalm, Begins, Changes, Diagnoses, HearsAck, HearsData, HearsLowAck, HearsLowData, IsCalm, Makes, Passes, Raises, Standing, standing_of}
 use Rattle.end_laws.specs.device.Turn as device
 
 -- ---- the alarm part of a relation
 
 -- the device's ends of alarms, of either priority, whether data is exchanged, by the exchange and by the phase, the stations
--- between which its frames go, the endpoint of its alarms, and the request of the Connect
+-- between which its frames go, the endpoint of its alarms, the request of the Connect, and the slots and subslots of its places
 pub record Way : Type 0 where
   pub alarms : DeviceEnd
   pub low : Low
@@ -33,6 +34,7 @@ pub record Way : Type 0 where
   pub route : Route
   pub endpoint : ℕ
   pub request : Request
+  pub keys : List (ℕ × ℕ)
 
 abbrev pub way_of : RelationState → Way
 way_of link = record {
@@ -43,6 +45,7 @@ way_of link = record {
   route = link.flow.cyclic.route;
   endpoint = link.flow.endpoint;
   request = link.request;
+  keys = keys_of link.plugs.places;
 }
 
 -- the device's end of alarms of a priority
@@ -63,18 +66,18 @@ pub record Stays (before after : Option RelationState) (sent : List Sent) : Type
   pub link : IsSameOr before after
   pub calm : AreCalm before sent
 
-abbrev pub IsTurn : List RealModule → List Answer → List Diagnosis → List Diagnosis → Option RelationState → Heard → Option RelationState → List Sent → Type 0
-IsTurn real calls diagnoses later before heard after sent =
+abbrev pub IsTurn : List RealModule → List RealModule → List Answer → List Diagnosis → List Diagnosis → Option RelationState → Heard → Option RelationState → List Sent → Type 0
+IsTurn real now calls diagnoses later before heard after sent =
     Stays before after sent ⊎ (Makes calls before heard after sent ⊎ (Raises real before heard after sent
     ⊎ (HearsAck before heard after sent ⊎ (HearsData before heard after sent ⊎ (Passes before heard after sent
-    ⊎ (HearsLowAck before heard after sent ⊎ (HearsLowData real before heard after sent ⊎ (Begins real diagnoses before after sent
-    ⊎ Diagnoses real diagnoses later before heard after sent))))))))
+    ⊎ (HearsLowAck before heard after sent ⊎ (HearsLowData before heard after sent ⊎ (Begins real diagnoses before after sent
+    ⊎ (Diagnoses real diagnoses later before heard after sent ⊎ Changes real now diagnoses later before heard after sent)))))))))
 
 -- ---- what stays the same
 
 abbrev way_from : Standing → Way
 way_from standing =
-    record { alarms = standing.alarms; low = standing.low; begun = standing.begun; exchanges = standing.exchanges; route = standing.route; endpoint = standing.endpoint; request = standing.request }
+    record { alarms = standing.alarms; low = standing.low; begun = standing.begun; exchanges = standing.exchanges; route = standing.route; endpoint = standing.endpoint; request = standing.request; keys = standing.keys }
 
 ways_are : (link : Option RelationState) → option_map way_of link ≡ option_map way_from (option_map standing_of link)
 ways_are None = refl
@@ -108,15 +111,15 @@ frame_begun : (cyclic : Cyclic) (source : Mac) (frame_id : ℕ) (body : List ℕ
 frame_begun cyclic source frame_id body = frame_same (λ (c : Cyclic). c.begun) (λ c octets tail. refl) cyclic source frame_id body
 
 -- a turn of the device in which an accepted cyclic frame changes nothing of alarms
-pub as_alarms : (real : List RealModule) (calls : List Answer) (diagnoses later : List Diagnosis) (before : Option RelationState) (heard : Heard) (after : Option RelationState) (sent : List Sent)
-    → device.IsTurn real calls diagnoses later before heard after sent → IsTurn real calls diagnoses later before heard after sent
-as_alarms real calls diagnoses later before heard after sent (inl stays) = inl (record { link = way_same before after stays.link; calm = stays.calm })
-as_alarms real calls diagnoses later before heard after sent (inr (inl makes)) = inr (inl makes)
-as_alarms real calls diagnoses later before heard after sent (inr (inr (inl raises))) = inr (inr (inl raises))
-as_alarms real calls diagnoses later before heard after sent (inr (inr (inr (inl acked)))) = inr (inr (inr (inl acked)))
-as_alarms real calls diagnoses later before heard after sent (inr (inr (inr (inr (inl came))))) = inr (inr (inr (inr (inl came))))
-as_alarms real calls diagnoses later before heard after sent (inr (inr (inr (inr (inr (inl passes)))))) = inr (inr (inr (inr (inr (inl passes)))))
-as_alarms real calls diagnoses later before heard after sent (inr (inr (inr (inr (inr (inr (inl takes))))))) =
+pub as_alarms : (real now : List RealModule) (calls : List Answer) (diagnoses later : List Diagnosis) (before : Option RelationState) (heard : Heard) (after : Option RelationState) (sent : List Sent)
+    → device.IsTurn real now calls diagnoses later before heard after sent → IsTurn real now calls diagnoses later before heard after sent
+as_alarms real now calls diagnoses later before heard after sent (inl stays) = inl (record { link = way_same before after stays.link; calm = stays.calm })
+as_alarms real now calls diagnoses later before heard after sent (inr (inl makes)) = inr (inl makes)
+as_alarms real now calls diagnoses later before heard after sent (inr (inr (inl raises))) = inr (inr (inl raises))
+as_alarms real now calls diagnoses later before heard after sent (inr (inr (inr (inl acked)))) = inr (inr (inr (inl acked)))
+as_alarms real now calls diagnoses later before heard after sent (inr (inr (inr (inr (inl came))))) = inr (inr (inr (inr (inl came))))
+as_alarms real now calls diagnoses later before heard after sent (inr (inr (inr (inr (inr (inl passes)))))) = inr (inr (inr (inr (inr (inl passes)))))
+as_alarms real now calls diagnoses later before heard after sent (inr (inr (inr (inr (inr (inr (inl takes))))))) =
     let cyclic = takes.link.flow.cyclic in
     inl (record {
       link = inl (ap (λ (l : Option RelationState). option_map way_of l) takes.becomes
@@ -125,7 +128,7 @@ as_alarms real calls diagnoses later before heard after sent (inr (inr (inr (inr
           ∙ ap (λ (l : Option RelationState). option_map way_of l) (sym takes.was))));
       calm = subst (λ (messages : List Sent). AreCalm before messages) (sym takes.silent) tt;
     })
-as_alarms real calls diagnoses later before heard after sent (inr (inr (inr (inr (inr (inr (inr (inl acked)))))))) = inr (inr (inr (inr (inr (inr (inl acked))))))
-as_alarms real calls diagnoses later before heard after sent (inr (inr (inr (inr (inr (inr (inr (inr (inl came))))))))) = inr (inr (inr (inr (inr (inr (inr (inl came)))))))
-as_alarms real calls diagnoses later before heard after sent (inr (inr (inr (inr (inr (inr (inr (inr (inr (inl begins)))))))))) = inr (inr (inr (inr (inr (inr (inr (inr (inl begins))))))))
-as_alarms real calls diagnoses later before heard after sent (inr (inr (inr (inr (inr (inr (inr (inr (inr (inr changes)))))))))) = inr (inr (inr (inr (inr (inr (inr (inr (inr changes))))))))
+as_alarms real now calls diagnoses later before heard after sent (inr (inr (inr (inr (inr (inr (inr (inl acked)))))))) = inr (inr (inr (inr (inr (inr (inl acked))))))
+as_alarms real now calls diagnoses later before heard after sent (inr (inr (inr (inr (inr (inr (inr (inr (inl came))))))))) = inr (inr (inr (inr (inr (inr (inr (inl came)))))))
+as_alarms real now calls diagnoses later before heard after sent (inr (inr (inr (inr (inr (inr (inr (inr (inr (inl begins)))))))))) = inr (inr (inr (inr (inr (inr (inr (inr (inl begins))))))))
+as_alarms real now calls diagnoses later before heard after sent (inr (inr (inr (inr (inr (inr (inr (inr (inr (inr changes)))))))))) = inr (inr (inr (inr (inr (inr (inr (inr (inr changes))))))))

@@ -89,9 +89,9 @@ module _ (setup : Setup) where
 -- ---- what the device sends
 
 module _ (so : HearsSo) (setup : Setup) (station : Station) (good : IsSetup setup) (live : Live) (heard : Heard)
-    (planned : IsPlanned (rules_of setup station) setup.activity station.real heard) (called : IsCallIn setup heard) where
+    (planned : IsPlanned (rules_of setup station) setup.activity live.rest.real heard) (called : IsCallIn setup heard) where
   -- a call that is planned is one of the start-up
-  planned_call : (which : Option Operation) (sequence : ℕ) (blocks : List ℕ) → IsPlannedAs (rules_of setup station) station.real sequence blocks which
+  planned_call : (which : Option Operation) (sequence : ℕ) (blocks : List ℕ) → IsPlannedAs (rules_of setup station) live.rest.real sequence blocks which
       → asked_by (is_planned setup) sequence blocks which ≡ small.Idle → ⊥
   planned_call (Some operation.Write) sequence blocks plan e = by_write (is_planned setup sequence blocks) e
     where
@@ -104,8 +104,8 @@ module _ (so : HearsSo) (setup : Setup) (station : Station) (good : IsSetup setu
 
   sized_call : (caller : Caller) (address : List ℕ) (call : Call) → heard ≡ device.Reported caller address (device.Calls call) → IsSizedCall call
   sized_call caller address call is =
-      let plan : IsPlannedCall (rules_of setup station) setup.activity station.real call =
-      subst (λ (h : Heard). IsPlanned (rules_of setup station) setup.activity station.real h) is planned in
+      let plan : IsPlannedCall (rules_of setup station) setup.activity live.rest.real call =
+      subst (λ (h : Heard). IsPlanned (rules_of setup station) setup.activity live.rest.real h) is planned in
       called caller address call is
       (λ idle. planned_call (operation_of call.header.operation) call.header.sequence plan.blocks plan.asks
       (sym (ap (heard_as (is_planned setup)) is ∙ ap (λ (b : Option (List ℕ)). asked_by (is_planned setup) call.header.sequence (unwrap_or b []) (operation_of call.header.operation)) plan.counted) ∙ idle))
@@ -130,7 +130,7 @@ module _ (so : HearsSo) (setup : Setup) (station : Station) (good : IsSetup setu
             few = leb-true (length answer.blocks) 1372 e;
           } in
           let well : IsWell setup (controller.Responds answer) = λ is done.
-          served (λ number numbered. so.chosen setup station.identity station.real number good can.0.source numbered.few) (zero_is setup answer is) done in
+          served (λ number numbered. so.chosen setup station.identity live.rest.real number good can.0.source numbered.few) (zero_is setup answer is) done in
           subst (λ (h : controller.Heard). IsWell setup h)
           (sym (so.response_at_controller setup.plan.controller station.identity caller address answer can.0.source calls can.0.content.0.0 answers))
           (holds_if (IsWell setup) (pointwise nat_eq caller.mac.octets setup.plan.controller.mac.octets) (cond (is_to setup.plan.controller.address caller.endpoint) (controller.Responds answer) controller.Nothing)

@@ -27,6 +27,10 @@ pub mod ExchangeOutputsWorlds
 pub mod ExchangeOutputsOneFrame
 pub mod ExchangeOutputsPlaced
 pub mod ExchangeLists
+pub mod ExchangeReal
+pub mod ExchangeSmall
+pub mod ExchangeOwn
+pub mod ExchangeStated
 pub mod ExchangeReported
 pub mod ExchangeHeardAlarm
 pub mod ExchangeTurns
@@ -44,6 +48,7 @@ pub mod ExchangePlaced
 pub mod ExchangeEarly
 pub mod ExchangeFollows
 pub mod ExchangeDiffers
+pub mod ExchangeMade
 pub mod ExchangeServed
 pub mod ExchangeWell
 pub mod ExchangeLaw

@@ -3,6 +3,7 @@ use Rattle.std.proofs.Common.{◌≡◌, ◌==◌, ◌&&◌, ◌+◌, ◌++◌, 
 use Rattle.std.specs.Prelude.{if◌then◌else◌}
 use Rattle.std.proofs.lemmas.Cmp.{nat_list_eq_equiv}
 use Rattle.pn_values.specs.declared.identity.Identity.{Identity}
+use Rattle.pn_values.specs.declared.real.Real.{Real}
 use Rattle.connect_blocks.specs.declared.ar_block.ArBlockRes.{ArBlockRes}
 use Rattle.connect_blocks.specs.declared.iocr.IocrBlockRes.{IocrBlockRes}
 use Rattle.block_codec.specs.declared.block.Block.TheVariants as is
@@ -44,19 +45,22 @@ use Rattle.both_ends.specs.startup.answer.Answer.{AnswersSo, IsAllThere, answer_
 -- ---- at the device
 
 pub answers_so : (setup : Setup) (identity : Identity) → AnswersSo setup identity
-answers_so setup identity options device none =
-    let station : Station = station_with identity setup.plan.real options in
+answers_so setup identity given options device none plugged =
+    let station : Station = station_with identity given options in
     let call = call_for setup asks.Connect in
     let caller = caller_of setup.plan.controller in
     let blocks = blocks_of setup asks.Connect in
     let address = device.values.running.suite.address in
     let link = device.rest.link in
     let number = number_now station device in
-    let answer = connect_answer identity setup.plan.real options number caller.mac link blocks in
+    let answer = connect_answer identity device.rest.real options number caller.mac link blocks in
     let logged = counted_by answer (with_log (connect_log blocks answer) device.rest) in
     let rest = kept_behind identity logged call (answer_from address caller call Connect answer)
-    (updated (making setup.plan.real (partner_of caller) options (starting_of station device) (connect_within options caller.mac link blocks)) link) in
-    (rest, ap (λ (l : Option RelationState). Moves rest (answer_from address caller call Connect (connect_answer identity setup.plan.real options number caller.mac l blocks) ∷ [])) none)
+    (updated (making device.rest.real (partner_of caller) options (starting_of station device) (connect_within options caller.mac link blocks)) link) in (
+      rest,
+      ap (λ (l : Option RelationState). Moves rest (answer_from address caller call Connect (connect_answer identity device.rest.real options number caller.mac l blocks) ∷ [])) none
+          ∙ ap (λ (real : Real). Moves rest (answer_from address caller call Connect (connect_answer identity real options number caller.mac None blocks) ∷ [])) plugged,
+    )
 
 -- if the device reads the plan's request and no module differs, it responds with these blocks
 blocks_by : (setup : Setup) (identity : Identity) (options : DeviceOptions) (number : ℕ) → connect_within options setup.plan.controller.mac None (blocks_of setup asks.Connect) ≡ Ok (request_for setup.plan setup.ar)

@@ -1,5 +1,5 @@
 -- The laws of the crates below.
-use Rattle.std.specs.Prelude.{◌≡◌, ◌<◌, ◌++◌, ℕ, List, length, map, Option, Some}
+use Rattle.std.specs.Prelude.{◌≡◌, ◌<◌, ◌++◌, ℕ, List, length, map, Option, Some, None}
 use Rattle.std.specs.List.{AllByRecursion}
 use Rattle.pn_values.specs.declared.identity.Identity.{Identity}
 use Rattle.pn_values.specs.declared.mac.Mac.{Mac}
@@ -20,10 +20,11 @@ use Rattle.connects.specs.requests.Request.{Request}
 use Rattle.records.specs.declared.writes.taken.TakenRecord.{TakenRecord}
 use Rattle.plans.specs.declared.parts.Controller.{Controller}
 use Rattle.plans.specs.declared.parts.Parts.{Parts}
+use Rattle.relations.specs.declared.plugging.PlugReady.{PlugReady}
 use Rattle.relations.specs.declared.ready.Ready.{Ready}
 use Rattle.settings_journal.specs.settings_store.Machine.{Outcome}
 use Rattle.device_frames.specs.Heard.{Calls, Garbled, Heard, Resolves, Responds, Unreadable, heard_of as device_hears}
-use Rattle.device_frames.specs.Sent.{ArpReply, bytes_of as device_bytes, ready_frame, response_frame}
+use Rattle.device_frames.specs.Sent.{ArpReply, bytes_of as device_bytes, plug_ready_frame, ready_frame, response_frame}
 use Rattle.device_core.specs.State.{Live, Station}
 use Rattle.device_core.specs.Machine.{heard_step}
 use Rattle.frame_codec.specs.declared.arp.ArpOperation.TheVariants.{Reply}
@@ -36,16 +37,18 @@ use Rattle.controller_messages.specs.Requests.{call_for}
 use Rattle.controller_messages.specs.Sent.{answer_frame, call_frame, calls_at, bytes_of as controller_bytes}
 use Rattle.controller_core.specs.declared.stored.event.Event.{Event}
 use Rattle.controller_core.specs.Machine.{first, step_of, turn_of}
+use Rattle.controller_core.specs.start_up.Answers.{ready_in}
 use Rattle.controller_core.specs.stored.State.{Controlling, Live as ControllerLive}
 use Rattle.frame_codec.specs.Sendable.{IsHolder, IsMac, IsTag, carrying}
 use Rattle.end_laws.specs.hearing.Hearing.{IsUncalled, IsUnreported, all_hears, comes, mine_reported, own_reported}
-use Rattle.end_laws.specs.hearing.Stations.{IsAddress, IsCalled, IsCaller, IsDevice, IsNumbered, IsRecordCall, IsSetup, ready_call}
+use Rattle.end_laws.specs.hearing.Stations.{IsAddress, IsCalled, IsCaller, IsDevice, IsNumbered, IsRecordCall, IsSetup, plug_ready_call, ready_call}
 use Rattle.end_laws.specs.sending.Addressed.{IsAimed, IsAimedAt, IsEventFrom}
 use Rattle.end_laws.specs.both.Small as small
 use Rattle.end_laws.specs.both.Small.{RelationState, Move, Rules, World}
 use Rattle.end_laws.specs.both.StartUp.{Begins, IsRun, last_of}
 use Rattle.end_laws.specs.both.Steps.{DeviceSteps}
 use Rattle.end_laws.specs.controller.Small.{GoesOn, IsSteady, said_in, small_of as small_controller}
+use Rattle.end_laws.specs.device.Orderly.{IsOrderlyIn}
 use Rattle.end_laws.specs.device.Owed.{IsOwed}
 use Rattle.end_laws.specs.device.Small.{IsHeardAs, IsPlanned, heard_as, small_of}
 
@@ -92,6 +95,17 @@ pub record HeardSo : Type 0 where
       → IsDevice identity → IsMac ready.partner.mac → IsAddress ready.partner.address → IsAddress address → CanBeCalled controllers (ready_call ready)
       → device_hears other (comes (ready_frame identity address ready))
       ≡ own_reported other identity.mac ready.partner.mac (calls_at address) (calls_at ready.partner.address) Garbled
+  pub plug_can : (ready : PlugReady) → IsHeader ready.header → ready.header.interface ≡ interface_uuid controllers → IsUuid ready.block.ar_uuid
+      → CanBeCalled controllers (plug_ready_call ready)
+  pub plug_at_controller : (mine : Controller) (identity : Identity) (address : List ℕ) (ready : PlugReady)
+      → IsDevice identity → IsMac ready.partner.mac → IsAddress ready.partner.address → IsAddress address → CanBeCalled controllers (plug_ready_call ready)
+      → controller_hears mine (plug_ready_frame identity address ready)
+      ≡ mine_reported mine ready.partner.mac (calls_at ready.partner.address) (Called (record { mac = identity.mac; endpoint = calls_at address }) (plug_ready_call ready))
+  pub plug_at_device : (other identity : Identity) (address : List ℕ) (ready : PlugReady)
+      → IsDevice identity → IsMac ready.partner.mac → IsAddress ready.partner.address → IsAddress address → CanBeCalled controllers (plug_ready_call ready)
+      → device_hears other (comes (plug_ready_frame identity address ready))
+      ≡ own_reported other identity.mac ready.partner.mac (calls_at address) (calls_at ready.partner.address) Garbled
+  pub plug_other : (ready : PlugReady) → ready_in (plug_ready_call ready) ≡ None
   pub agreed_at_device : (identity : Identity) (setup : Setup) (caller : Caller) (answer : Response) → IsSetup setup → IsCaller caller → CanBeAnswered answer
       → device_hears identity (comes (answer_frame setup caller answer))
       ≡ own_reported identity setup.plan.controller.mac caller.mac (calls_at setup.plan.controller.address) caller.endpoint (Responds answer)
@@ -110,11 +124,13 @@ pub record GoesSo : Type 0 where
       → GoesOn setup.plan (said_in setup (controller_hears setup.plan.controller) event) live (turn_of setup live event)
   pub frames_are : (old : Controlling) (event : Event) → (step_of old event).frames ≡ map (controller_bytes old.setup) (turn_of old.setup old.live event).sent
   pub device_on : (rules : Rules TakenRecord Request) (activity : List ℕ) (outcomes : List Outcome) (station : Station) (live : Live) (heard : Heard)
-      → IsPlanned rules activity station.real heard
+      → IsOrderlyIn live.rest.link → IsPlanned rules activity live.rest.real heard
       → AllByRecursion (IsHeardAs rules station.identity) (heard_step outcomes station live heard).sent
       → DeviceSteps rules (heard_as rules.is_planned heard) (small_of activity live) (small_of activity (heard_step outcomes station live heard).live) (heard_step outcomes station live heard).frames
+  pub orderly : (rules : Rules TakenRecord Request) (activity : List ℕ) (outcomes : List Outcome) (station : Station) (live : Live) (heard : Heard)
+      → IsPlanned rules activity live.rest.real heard → IsOrderlyIn live.rest.link → IsOrderlyIn (heard_step outcomes station live heard).live.rest.link
   pub owed : (rules : Rules TakenRecord Request) (activity : List ℕ) (outcomes : List Outcome) (station : Station) (live : Live) (heard : Heard)
-      → IsPlanned rules activity station.real heard
+      → IsPlanned rules activity live.rest.real heard
       → AllByRecursion (IsOwed heard live) (heard_step outcomes station live heard).sent
   pub relation : (rules : Rules TakenRecord Request) (from : World TakenRecord Request) (run : List (Move × World TakenRecord Request)) → Begins rules from → IsRun rules from run
       → (link : RelationState TakenRecord Request) → (last_of from run).device.link ≡ Some link → link.request ≡ rules.request

@@ -39,13 +39,17 @@ use Rattle.plans.specs.declared.parts.Controller.{Controller}
 use Rattle.plans.specs.declared.parts.Parts.{Parts}
 use Rattle.plans.specs.Connect.{alarm_block}
 use Rattle.both_ends.specs.startup.request.Request.{request_for}
+use Rattle.connect_blocks.specs.declared.plug_control.PlugControlBlock.{PlugControlBlock}
+use Rattle.expected_places.specs.declared.calls.PlugCall.{PlugCall}
+use Rattle.relations.specs.declared.plugging.PlugReady.{PlugReady}
 use Rattle.relations.specs.declared.ready.Ready.{Ready}
+use Rattle.relations.specs.Plugging.{ready_for}
 use Rattle.relations.specs.RelationState.{RelationState}
 use Rattle.relations.specs.Ready.{ready_of}
 use Rattle.device_frames.specs.Heard as device
 use Rattle.device_frames.specs.Heard.{Heard, is_own}
 use Rattle.device_frames.specs.Sendable.{IsSendable}
-use Rattle.device_frames.specs.Sent.{Sent, IdentifyAnswer, GetAnswer, SetAnswer, ArpReply, CallAnswer, Again, ReadyCall, Ends, Exchanges, bytes_of}
+use Rattle.device_frames.specs.Sent.{Sent, IdentifyAnswer, GetAnswer, SetAnswer, ArpReply, CallAnswer, Again, ReadyCall, PlugReadyCall, Ends, Exchanges, bytes_of}
 use Rattle.device_core.specs.State.{Live, Station}
 use Rattle.controller_messages.specs.declared.record_request.RecordRequest.{RecordRequest}
 use Rattle.controller_messages.specs.declared.request.Request.{Request}
@@ -63,12 +67,13 @@ use Rattle.controller_core.specs.start_up.Answers.{is_ready}
 use Rattle.controller_core.specs.start_up.Answers.{ready_in}
 use Rattle.frame_codec.specs.Sendable.{IsHolder, IsMac, IsTag, carrying}
 use Rattle.end_laws.specs.hearing.Hearing.{IsUncalled, IsUnreported, all_hears, comes, mine_reported, own_reported}
-use Rattle.end_laws.specs.hearing.Stations.{IsAddress, IsCalled, IsCaller, IsDevice, IsNumbered, IsRecordCall, IsSetup, ready_call}
+use Rattle.end_laws.specs.hearing.Stations.{IsAddress, IsCalled, IsCaller, IsDevice, IsNumbered, IsRecordCall, IsSetup, plug_ready_call, ready_call}
 use Rattle.end_laws.specs.sending.Addressed.{IsAimedAt, IsDirection, IsHeardFrom}
 use Rattle.end_laws.specs.both.Small as small
 use Rattle.end_laws.specs.both.Small.{ToController, ToDevice}
 use Rattle.end_laws.specs.both.Steps.{CallsWhile, SaysToDevice}
 use Rattle.end_laws.specs.controller.Small.{asked_by, is_positive, readied_by, said_by, said_to}
+use Rattle.end_laws.specs.device.Orderly.{IsOrderlyIn}
 use Rattle.end_laws.specs.device.Owed.{IsAnswering, IsOwed}
 use Rattle.end_laws.specs.device.Small as ends
 use Rattle.end_laws.specs.device.Small.{IsHeardAs, Planned, confirms, heard_as}
@@ -414,6 +419,39 @@ module _ (so : HeardSo) (setup : Setup) (station : Station) (good : IsSetup setu
       (ap (λ (h : CallHeader). h.interface) header)
       (ap (λ (b : ControlBlock). length b.ar_uuid) block ∙ (ap (λ (r : Asked_for). length r.ar.uuid) made ∙ good.ar))
 
+  -- ---- ApplicationReady of a plug
+
+  plug_met : (address : List ℕ) (ready : PlugReady) → IsMac ready.partner.mac → IsAddress ready.partner.address → IsAddress address → CanBeCalled controllers (plug_ready_call ready)
+      → IsMet (bytes_of identity (PlugReadyCall address ready)) small.Nothing
+  plug_met address ready one four own can =
+      let caller : Caller = record { mac = identity.mac; endpoint = calls_at address } in
+      let from = calls_at address in
+      let to = calls_at ready.partner.address in
+      met_by (bytes_of identity (PlugReadyCall address ready)) small.Nothing (own_reported identity identity.mac ready.partner.mac from to device.Garbled)
+      (mine_reported mine ready.partner.mac to (controller.Calls caller (plug_ready_call ready)))
+      (so.plug_at_device identity identity address ready real one four own can) (so.plug_at_controller mine identity address ready real one four own can)
+      (own_holds (λ (h : Heard). IsKnownHeard setup h) identity.mac ready.partner.mac from to device.Garbled tt tt)
+      (own_holds (λ (h : Heard). heard_as planned h ≡ small.Idle) identity.mac ready.partner.mac from to device.Garbled refl refl)
+      (mine_holds (λ (h : controller.Heard). IsHeardFrom identity.mac h) ready.partner.mac to (controller.Calls caller (plug_ready_call ready))
+      (refl, record { mac = real; endpoint = (own, omega arith) }, can.header, can.maximum) tt)
+      (mine_holds (AtMost small.Nothing) ready.partner.mac to (controller.Calls caller (plug_ready_call ready))
+      (inl (ap (λ (block : Option ControlBlock). readied_by setup block) (so.plug_other ready))) (inl refl))
+
+  -- ApplicationReady of a plug in the relation of the plan can be sent as a call
+  plug_can_be : (link_is : RelationState) (call : PlugCall) (ready : PlugReady) → link_is.request ≡ request_for setup.plan setup.ar → call.sequence < 4294967296
+      → ready.header ≡ (ready_for link_is call).header → ready.block ≡ (ready_for link_is call).block → CanBeCalled controllers (plug_ready_call ready)
+  plug_can_be link_is call ready made few header block =
+      so.plug_can ready
+      (record {
+        object = ap (λ (h : CallHeader). length h.object) header ∙ ap (λ (r : Asked_for). length r.ar.object) made;
+        interface = ap (λ (h : CallHeader). length h.interface) header;
+        activity = ap (λ (h : CallHeader). length h.activity) header ∙ (ap (λ (r : Asked_for). length r.ar.uuid) made ∙ good.ar);
+        sequence = subst (λ (h : CallHeader). h.sequence < 4294967296) (sym header) few;
+        operation = subst (λ (h : CallHeader). h.operation < 65536) (sym header) (omega arith);
+      })
+      (ap (λ (h : CallHeader). h.interface) header)
+      (ap (λ (b : PlugControlBlock). length b.ar_uuid) block ∙ (ap (λ (r : Asked_for). length r.ar.uuid) made ∙ good.ar))
+
   -- ---- a message of the device
 
   -- a call that was heard is one of the controller
@@ -447,26 +485,29 @@ module _ (so : HeardSo) (setup : Setup) (station : Station) (good : IsSetup setu
   IsMetAs (Again frame) = Unit {0}
   IsMetAs message = IsMet (bytes_of identity message) (says_of message)
 
-  message_met : (heard : Heard) (live : Live) (message : Sent) → IsKnownHeard setup heard → IsPlans live.rest.link → IsOwed heard live message → IsSendable identity message → IsMetAs message
-  message_met heard live (Again frame) known plans owed can = tt
-  message_met heard live (IdentifyAnswer asker running xid) known plans owed can = data_met asker None _ _ can.destination tt
-  message_met heard live (GetAnswer asker running alias request) known plans owed can = data_met asker None _ _ can.destination tt
-  message_met heard live (SetAnswer asker request answers) known plans owed can = data_met asker None _ _ can.destination tt
-  message_met heard live (ArpReply asker address target) known plans owed can = packet_met asker address target can.destination can.content.0.1 can.content.1
-  message_met heard live (CallAnswer caller address answer) known plans owed can = answering_met heard caller address answer known owed can.0.content.0.0
-  message_met heard live (ReadyCall address ready) known plans owed can =
+  message_met : (heard : Heard) (live : Live) (message : Sent) → IsKnownHeard setup heard → IsPlans live.rest.link → IsOrderlyIn live.rest.link → IsOwed heard live message → IsSendable identity message → IsMetAs message
+  message_met heard live (Again frame) known plans orderly owed can = tt
+  message_met heard live (IdentifyAnswer asker running xid) known plans orderly owed can = data_met asker None _ _ can.destination tt
+  message_met heard live (GetAnswer asker running alias request) known plans orderly owed can = data_met asker None _ _ can.destination tt
+  message_met heard live (SetAnswer asker request answers) known plans orderly owed can = data_met asker None _ _ can.destination tt
+  message_met heard live (ArpReply asker address target) known plans orderly owed can = packet_met asker address target can.destination can.content.0.1 can.content.1
+  message_met heard live (CallAnswer caller address answer) known plans orderly owed can = answering_met heard caller address answer known owed can.0.content.0.0
+  message_met heard live (ReadyCall address ready) known plans orderly owed can =
       ready_met address ready can.destination can.content.1.0 can.content.0.0 (ready_can_be owed.link ready (plans owed.link owed.is) owed.header owed.block)
-  message_met heard live (Ends farewell) known plans owed can = data_met farewell.initiator (Some farewell.tag) _ _ can.destination can.tag
-  message_met heard live (Exchanges route frame) known plans owed can = data_met route.partner (Some _) _ _ can.destination can.tag
+  message_met heard live (PlugReadyCall address ready) known plans orderly owed can =
+      plug_met address ready can.destination can.content.1.0 can.content.0.0
+      (plug_can_be owed.link owed.call ready (plans owed.link owed.is) (owed.sequence orderly) owed.header owed.block)
+  message_met heard live (Ends farewell) known plans orderly owed can = data_met farewell.initiator (Some farewell.tag) _ _ can.destination can.tag
+  message_met heard live (Exchanges route frame) known plans orderly owed can = data_met route.partner (Some _) _ _ can.destination can.tag
 
   heard_met : (message : Sent) → IsMetAs message → IsHeardAs (rules_of setup station) identity message
   heard_met (Again frame) met = tt
   heard_met message met = (met.idle, met.says_at_most)
 
-  pub all_met : (heard : Heard) (live : Live) (messages : List Sent) → IsKnownHeard setup heard → IsPlans live.rest.link → AllByRecursion (IsOwed heard live) messages
+  pub all_met : (heard : Heard) (live : Live) (messages : List Sent) → IsKnownHeard setup heard → IsPlans live.rest.link → IsOrderlyIn live.rest.link → AllByRecursion (IsOwed heard live) messages
       → AllByRecursion (IsSendable identity) messages → AllByRecursion IsMetAs messages
-  all_met heard live [] known plans owed can = tt
-  all_met heard live (message ∷ messages) known plans owed can = (message_met heard live message known plans owed.0 can.0, all_met heard live messages known plans owed.1 can.1)
+  all_met heard live [] known plans orderly owed can = tt
+  all_met heard live (message ∷ messages) known plans orderly owed can = (message_met heard live message known plans orderly owed.0 can.0, all_met heard live messages known plans orderly owed.1 can.1)
 
   pub all_heard : (messages : List Sent) → AllByRecursion IsMetAs messages → AllByRecursion (IsHeardAs (rules_of setup station) identity) messages
   all_heard [] met = tt

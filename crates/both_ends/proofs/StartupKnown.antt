@@ -37,6 +37,7 @@ use Rattle.end_laws.specs.both.Small.{Rules, ToDevice}
 use Rattle.end_laws.specs.both.StartUp.{Begins as BeginsSmall, IsRun, last_of}
 use Rattle.end_laws.specs.both.Steps.{DeviceSteps, IsDull, Steps}
 use Rattle.end_laws.specs.controller.Small.{IsSteady, small_of}
+use Rattle.end_laws.specs.device.Orderly.{IsOrderlyIn}
 use Rattle.end_laws.specs.device.Owed.{IsOfKept, IsOwed}
 use Rattle.end_laws.specs.device.Small.{heard_as, kept_in, link_of}
 use Rattle.end_laws.specs.device.Small as device
@@ -60,13 +61,14 @@ abbrev pub IsKnownKept : Setup → Identity → Option small.Kept → Type 0
 IsKnownKept setup identity kept = (answer : small.Kept) → kept ≡ Some answer → IsKnown setup identity answer.frame
 
 -- the invariant of both ends
-pub record Holds (setup : Setup) (station : Station) (live : ControllerLive) (kept : Option small.Kept) (sent : List (List ℕ)) : Type 0 where
+pub record Holds (setup : Setup) (station : Station) (live : ControllerLive) (link : Option RelationState) (kept : Option small.Kept) (sent : List (List ℕ)) : Type 0 where
   pub known : AllByRecursion (IsKnown setup station.identity) sent
   pub again : IsKnownKept setup station.identity kept
   pub aimed : IsAimed live
+  pub orderly : IsOrderlyIn link
 
 abbrev pub HoldsAt : {F : Type 0} → World F → Type 0
-HoldsAt w = Holds w.controller.setup w.device.station w.controller.live (device.small_of w.controller.setup.activity w.device.live).kept w.sent
+HoldsAt w = Holds w.controller.setup w.device.station w.controller.live w.device.live.rest.link (device.small_of w.controller.setup.activity w.device.live).kept w.sent
 
 -- the response that is stored after a step
 kept_known : (rules : Rules TakenRecord Request) (P : List ℕ → Type 0) (heard : ToDevice) (before after : small.Device TakenRecord Request) (frames : List (List ℕ)) → DeviceSteps rules heard before after frames
@@ -80,8 +82,7 @@ kept_known rules P (small.Call sequence ask) before after frames (inr (inr rests
     was answer (ap (λ (d : small.Device TakenRecord Request). d.kept) (sym rests.0) ∙ is)
 kept_known rules P small.Confirms before after frames (inl confirms) was all answer is =
     was answer (ap (λ (d : small.Device TakenRecord Request). d.kept) (sym confirms.becomes) ∙ is)
-kept_known rules P small.Confirms before after frames (inr rests) was all answer is =
-    was answer (ap (λ (d : small.Device TakenRecord Request). d.kept) (sym rests.0) ∙ is)
+kept_known rules P small.Confirms before after frames (inr goes) was all answer is = was answer (sym goes.keeps ∙ is)
 kept_known rules P small.Idle before after frames goes was all answer is = was answer (sym goes.keeps ∙ is)
 
 module _ (so : HeardSo) (goes : GoesSo) where
@@ -102,13 +103,13 @@ module _ (so : HeardSo) (goes : GoesSo) where
 
     module _ (plans : IsPlans so setup station can.setup_is can.device_is can.apart before.device.live.rest.link) (heard : Heard) (known : IsKnownHeard setup heard) where
       all_owed : (outcomes : List Outcome) → AllByRecursion (IsOwed heard before.device.live) (heard_step outcomes station before.device.live heard).sent
-      all_owed outcomes = goes.owed rules setup.activity outcomes station before.device.live heard (heard_planned so.block_read so.block_long setup station can.good heard known)
+      all_owed outcomes = goes.owed rules setup.activity outcomes station before.device.live heard (heard_planned so.block_read so.block_long setup station before.device.live.rest.real can.good heard known)
 
       pub meant_at_device : IsMeantAtDevice before heard
       meant_at_device = record {
-        planned = heard_planned so.block_read so.block_long setup station can.good heard known;
+        planned = heard_planned so.block_read so.block_long setup station before.device.live.rest.real can.good heard known;
         sent = λ outcomes sendable. all_heard so setup station can.setup_is can.device_is can.apart (heard_step outcomes station before.device.live heard).sent
-            (all_met so setup station can.setup_is can.device_is can.apart heard before.device.live (heard_step outcomes station before.device.live heard).sent known plans (all_owed outcomes) sendable);
+            (all_met so setup station can.setup_is can.device_is can.apart heard before.device.live (heard_step outcomes station before.device.live heard).sent known plans holds.orderly (all_owed outcomes) sendable);
       }
 
       -- the frame of a repeated response was known
@@ -140,19 +141,20 @@ module _ (so : HeardSo) (goes : GoesSo) where
           let hears = made.hears in
           let live = before.device.live in
           let step = heard_step hears.steps.outcomes station live heard in
-          let met = all_met so setup station can.setup_is can.device_is can.apart heard live step.sent known plans (all_owed hears.steps.outcomes) hears.steps.sendable in
+          let met = all_met so setup station can.setup_is can.device_is can.apart heard live step.sent known plans holds.orderly (all_owed hears.steps.outcomes) hears.steps.sendable in
           let frames : AllByRecursion (IsKnown setup station.identity) step.frames = step_frames hears.steps.outcomes met in
-          let steps = goes.device_on rules setup.activity hears.steps.outcomes station live heard meant_at_device.planned (meant_at_device.sent hears.steps.outcomes hears.steps.sendable) in
+          let steps = goes.device_on rules setup.activity hears.steps.outcomes station live heard holds.orderly meant_at_device.planned (meant_at_device.sent hears.steps.outcomes hears.steps.sendable) in
           let kept = kept_known rules (IsKnown setup station.identity) (heard_as rules.is_planned heard) (device.small_of setup.activity live) (device.small_of setup.activity step.live) step.frames steps holds.again frames in
-          let all : Holds setup station before.controller.live (device.small_of setup.activity step.live).kept (before.sent ++ step.frames) = record {
+          let all : Holds setup station before.controller.live step.live.rest.link (device.small_of setup.activity step.live).kept (before.sent ++ step.frames) = record {
             known = each_behind (IsKnown setup station.identity) before.sent step.frames holds.known frames;
             again = kept;
             aimed = holds.aimed;
+            orderly = goes.orderly rules setup.activity hears.steps.outcomes station live heard meant_at_device.planned holds.orderly;
           } in
-          subst (λ (c : Controlling). Holds c.setup after.device.station c.live (device.small_of c.setup.activity after.device.live).kept after.sent) (sym made.controller)
-          (subst (λ (s : Station). Holds setup s before.controller.live (device.small_of setup.activity after.device.live).kept after.sent) (sym hears.steps.same)
-          (subst (λ (l : Live). Holds setup station before.controller.live (device.small_of setup.activity l).kept after.sent) (sym hears.steps.live)
-          (subst (λ (fs : List (List ℕ)). Holds setup station before.controller.live (device.small_of setup.activity step.live).kept fs)
+          subst (λ (c : Controlling). Holds c.setup after.device.station c.live after.device.live.rest.link (device.small_of c.setup.activity after.device.live).kept after.sent) (sym made.controller)
+          (subst (λ (s : Station). Holds setup s before.controller.live after.device.live.rest.link (device.small_of setup.activity after.device.live).kept after.sent) (sym hears.steps.same)
+          (subst (λ (l : Live). Holds setup station before.controller.live l.rest.link (device.small_of setup.activity l).kept after.sent) (sym hears.steps.live)
+          (subst (λ (fs : List (List ℕ)). Holds setup station before.controller.live step.live.rest.link (device.small_of setup.activity step.live).kept fs)
           (sym (hears.behind ∙ ap (λ (fs : List (List ℕ)). before.sent ++ fs) hears.steps.frames)) all)))
 
     -- ---- the controller
@@ -185,6 +187,7 @@ module _ (so : HeardSo) (goes : GoesSo) where
           let all : HoldsAt now = record {
             known = each_behind (IsKnown setup station.identity) before.sent (map (said.bytes_of setup) turn.sent) holds.known (reported_known turn.sent reported);
             again = holds.again;
+            orderly = holds.orderly;
             aimed = (goes.aimed station.identity.mac setup before.controller.live event can.setup_is holds.aimed from).0;
           } in
           subst (λ (w : World F). HoldsAt w) (sym there) all
@@ -267,7 +270,7 @@ module _ (so : HeardSo) (goes : GoesSo) where
     on run now last same steps can holds in_step (one ∷ others) made =
         let plans = plans_at run now last same steps in
         let meant = all_meant now can holds in_step plans one.0 in
-        let step = happens_steps as_flash goes.device_on goes.controller_on goes.frames_are now one.1 in_step one.0 meant made.0 in
+        let step = happens_steps as_flash goes.device_on goes.controller_on goes.frames_are now one.1 in_step holds.orderly one.0 meant made.0 in
         let still : rules_at one.1 ≡ rules_at now =
         ap (λ (s : Setup). rules_of s one.1.device.station) step.setup ∙ ap (λ (s : Station). rules_of now.controller.setup s) step.station in
         let from : Steps rules (last_of (view_of first) (viewed run)) (move_of one.0) (view_of one.1) =
@@ -311,6 +314,7 @@ module _ (so : HeardSo) (goes : GoesSo) where
       known = subst (λ (frames : List (List ℕ)). AllByRecursion (IsKnown first.controller.setup first.device.station.identity) frames) (sym begins.opened) (opens.known, tt);
       again = λ answer is. absurd (none_kept answer (sym begins_small.uncalled ∙ is));
       aimed = subst (λ (l : ControllerLive). IsAimed l) (sym begins.made) (goes.aimed_first first.controller.setup can.setup_is);
+      orderly = subst (λ (l : Option RelationState). IsOrderlyIn l) (sym begins.unrelated) tt;
     }
       where
         none_kept : (answer : small.Kept) → None ≡ Some answer → ⊥

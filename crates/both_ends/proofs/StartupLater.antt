@@ -51,15 +51,15 @@ module _ (activity : List ℕ) where
   -- ---- a step of the device
 
   module _ (setup : Setup) (station : Station) (live : Live) (heard : Heard) (other : setup.activity ≡ activity → ⊥)
-      (planned : IsPlanned (rules_of setup station) setup.activity station.real heard) where
+      (planned : IsPlanned (rules_of setup station) setup.activity live.rest.real heard) where
     does_none : (after : Rest) (sent : List Sent) → Does station live heard after sent → IsUncalled live.rest.calls → IsUncalled after.calls
     does_none after sent (inl rests) none = ap (λ (r : Rest). kept_of activity r.calls) rests.same ∙ none
     does_none after sent (inr (inl goes)) none = ap (λ (c : List Answer). kept_of activity c) goes.calls ∙ none
     does_none after sent (inr (inr (inl confirms))) none = ap (λ (r : Rest). kept_of activity r.calls) confirms.becomes ∙ none
     does_none after sent (inr (inr (inr (inl repeats)))) none = ap (λ (r : Rest). kept_of activity r.calls) repeats.same ∙ none
     does_none after sent (inr (inr (inr (inr serves)))) none =
-        let plan : IsPlannedCall (rules_of setup station) setup.activity station.real serves.call =
-        subst (λ (h : Heard). IsPlanned (rules_of setup station) setup.activity station.real h) serves.is planned in
+        let plan : IsPlannedCall (rules_of setup station) setup.activity live.rest.real serves.call =
+        subst (λ (h : Heard). IsPlanned (rules_of setup station) setup.activity live.rest.real h) serves.is planned in
         ap (λ (c : List Answer). kept_of activity c) serves.keeps
         ∙ more_none _ live.rest.calls (λ own. other (sym plan.own ∙ own)) none
 

@@ -262,7 +262,7 @@ nothing_written standing real writing e =
     nothing_single kind.IodWriteReq one.0 one.1
 
 module _ (read : (block : Block) (rest : List ℕ) → CanBeWritten block → block_of (block_bytes block ++ rest) ≡ front block rest) (long : (block : Block) → length (block_bytes block) ≡ block_size block)
-    (setup : Setup) (station : Station) (good : IsGood setup) where
+    (setup : Setup) (station : Station) (real : Real) (good : IsGood setup) where
   abbrev rules : Rules TakenRecord Asked_for
   rules = rules_of setup station
 
@@ -295,7 +295,7 @@ module _ (read : (block : Block) (rest : List ℕ) → CanBeWritten block → bl
     group = group_of setup.plan number
 
     -- a Write that carries one record
-    one_planned : setup.plan.multiple_write ≡ false → IsPlannedWrite rules station.real (number + 1) (writing_blocks setup number)
+    one_planned : setup.plan.multiple_write ≡ false → IsPlannedWrite rules real (number + 1) (writing_blocks setup number)
     one_planned alone =
         let inside : number < length records =
         subst (λ (count : ℕ). number < count) (ap (λ (b : Bool). cond b ((length records + 9) / 10) (length records)) alone) listed in
@@ -313,9 +313,9 @@ module _ (read : (block : Block) (rest : List ℕ) → CanBeWritten block → bl
           number = number;
           is = refl;
           keeps = λ standing writing e.
-              let keeping = write_is setup station.real number entry below (λ rest. read (variant.IodWriteReq (write_asked setup number entry)) rest (record_can number listed entry below fits short))
-              standing writing (subst (λ (b : List ℕ). writing_of standing station.real b ≡ Ok writing) blocks e) in
-              subst (λ (w : Writing). IsWritingOf rules station.real standing (number + 1) (map taken_for group) w) (sym keeping.1)
+              let keeping = write_is setup real number entry below (λ rest. read (variant.IodWriteReq (write_asked setup number entry)) rest (record_can number listed entry below fits short))
+              standing writing (subst (λ (b : List ℕ). writing_of standing real b ≡ Ok writing) blocks e) in
+              subst (λ (w : Writing). IsWritingOf rules real standing (number + 1) (map taken_for group) w) (sym keeping.1)
               (taken_for entry, ap (λ (entries : List PlanRecord). map taken_for entries) is_one, keeping.2);
         }
 
@@ -323,17 +323,17 @@ module _ (read : (block : Block) (rest : List ℕ) → CanBeWritten block → bl
     list_kept : setup.plan.multiple_write ≡ true → (standing : Option (List ℕ)) (entries : List PlanRecord) → length entries ≤ 10 → AreWritable read setup number entries
         → AllByRecursion IsParameter entries → IsRecord (list_asked setup number (length (entries_bytes setup number entries))).header
         → ((octets : List ℕ) → says_written setup.plan (number + 1) octets ≡ true → is_all_written (outcomes_behind (outcome_at octets) (length entries)) ≡ true)
-        → (writing : Writing) → writing_of standing station.real (list_blocks setup number entries) ≡ Ok writing
-        → IsWritingOf rules station.real standing (number + 1) (map taken_for entries) writing
-    list_kept several standing [] few can below sized says writing e = absurd (nothing_written standing station.real writing e)
+        → (writing : Writing) → writing_of standing real (list_blocks setup number entries) ≡ Ok writing
+        → IsWritingOf rules real standing (number + 1) (map taken_for entries) writing
+    list_kept several standing [] few can below sized says writing e = absurd (nothing_written standing real writing e)
     list_kept several standing (entry ∷ entries) few can below sized says writing e =
-        let outcome = list_is read setup station.real number entry entries few can sized standing writing e in
-        subst (λ (w : Writing). IsWritingOf rules station.real standing (number + 1) (map taken_for (entry ∷ entries)) w) (sym outcome) (
-          each_keeps read setup station.real number standing (entry ∷ entries) below,
+        let outcome = list_is read setup real number entry entries few can sized standing writing e in
+        subst (λ (w : Writing). IsWritingOf rules real standing (number + 1) (map taken_for (entry ∷ entries)) w) (sym outcome) (
+          each_keeps read setup real number standing (entry ∷ entries) below,
           λ outcomes are said. list_done read setup number (entry ∷ entries) sized can outcomes are (says _ said),
         )
 
-    list_planned : setup.plan.multiple_write ≡ true → IsPlannedWrite rules station.real (number + 1) (writing_blocks setup number)
+    list_planned : setup.plan.multiple_write ≡ true → IsPlannedWrite rules real (number + 1) (writing_blocks setup number)
     list_planned several = record {
       number = number;
       is = refl;
@@ -349,18 +349,18 @@ module _ (read : (block : Block) (rest : List ℕ) → CanBeWritten block → bl
           let few : length group ≤ 10 = omega (arith, take_few each (drop start records), ten) in
           list_kept several standing group few (records_can number listed group below fits short) below
           (list_can read setup number long group good.named (omega (arith, listed, good.few)) few short)
-          (λ octets says. says_all setup number several listed octets says) writing (subst (λ (b : List ℕ). writing_of standing station.real b ≡ Ok writing) blocks e);
+          (λ octets says. says_all setup number several listed octets says) writing (subst (λ (b : List ℕ). writing_of standing real b ≡ Ok writing) blocks e);
     }
 
-    write_planned : IsPlannedWrite rules station.real (number + 1) (writing_blocks setup number)
+    write_planned : IsPlannedWrite rules real (number + 1) (writing_blocks setup number)
     write_planned = by_kind setup.plan.multiple_write refl
       where
-        by_kind : (b : Bool) → setup.plan.multiple_write ≡ b → IsPlannedWrite rules station.real (number + 1) (writing_blocks setup number)
+        by_kind : (b : Bool) → setup.plan.multiple_write ≡ b → IsPlannedWrite rules real (number + 1) (writing_blocks setup number)
         by_kind true several = list_planned several
         by_kind false alone = one_planned alone
 
   asked_planned : (request : Request) → IsCalled request → IsListed setup.plan request
-      → IsPlannedAs rules station.real (call_for setup request).header.sequence (blocks_of setup request) (operation_of (call_for setup request).header.operation)
+      → IsPlannedAs rules real (call_for setup request).header.sequence (blocks_of setup request) (operation_of (call_for setup request).header.operation)
   unfolding operation_of
   asked_planned asks.Identify called listed = absurd called
   asked_planned asks.Address called listed = absurd called
@@ -370,37 +370,37 @@ module _ (read : (block : Block) (rest : List ℕ) → CanBeWritten block → bl
   asked_planned (asks.Release sequence) called listed = tt
 
   -- a Write of the application that is one of the plan
-  access_write : (sequence : ℕ) (blocks : List ℕ) → is_planned setup sequence blocks ≡ true → IsPlannedWrite rules station.real sequence blocks
+  access_write : (sequence : ℕ) (blocks : List ℕ) → is_planned setup sequence blocks ≡ true → IsPlannedWrite rules real sequence blocks
   access_write zero blocks e = absurd cc
   access_write (suc number) blocks e =
       let parts = and_parts (nat_lt number (write_count setup.plan)) (pointwise nat_eq blocks (writing_blocks setup number)) e in
       let planned = write_planned number (ltb-true number (write_count setup.plan) parts.0) in
-      subst (λ (b : List ℕ). IsPlannedWrite rules station.real (suc number) b) (sym (same_text blocks _ (sym parts.1)))
-      (subst (λ (n : ℕ). IsPlannedWrite rules station.real n (writing_blocks setup number)) (add-one number) planned)
+      subst (λ (b : List ℕ). IsPlannedWrite rules real (suc number) b) (sym (same_text blocks _ (sym parts.1)))
+      (subst (λ (n : ℕ). IsPlannedWrite rules real n (writing_blocks setup number)) (add-one number) planned)
 
-  access_planned : (kind : RecordService) (sequence : ℕ) (blocks : List ℕ) → IsPlannedAs rules station.real sequence blocks (operation_of (service_operation kind))
+  access_planned : (kind : RecordService) (sequence : ℕ) (blocks : List ℕ) → IsPlannedAs rules real sequence blocks (operation_of (service_operation kind))
   unfolding operation_of
   access_planned service.Read sequence blocks = tt
   access_planned service.Write sequence blocks = λ planned. access_write sequence blocks planned
 
-  call_planned : (caller : Caller) (call : Call) → IsKnownCall setup caller call → IsPlannedCall rules setup.activity station.real call
-  call_planned caller call (inl own) = subst (λ (c : Call). IsPlannedCall rules setup.activity station.real c) (sym own.is) (record {
+  call_planned : (caller : Caller) (call : Call) → IsKnownCall setup caller call → IsPlannedCall rules setup.activity real call
+  call_planned caller call (inl own) = subst (λ (c : Call). IsPlannedCall rules setup.activity real c) (sym own.is) (record {
     own = refl;
     blocks = blocks_of setup own.request;
     counted = refl;
     asks = asked_planned own.request own.called own.listed;
   })
-  call_planned caller call (inr access) = subst (λ (c : Call). IsPlannedCall rules setup.activity station.real c) (sym access.is) (record {
+  call_planned caller call (inr access) = subst (λ (c : Call). IsPlannedCall rules setup.activity real c) (sym access.is) (record {
     own = refl;
     blocks = record_blocks setup access.request access.octets access.request.service;
     counted = refl;
     asks = access_planned access.request.service access.request.sequence (record_blocks setup access.request access.octets access.request.service);
   })
 
-  said_planned : (caller : Caller) (reported : device.Said) → IsKnownSaid setup caller reported → IsPlannedIn rules setup.activity station.real reported
+  said_planned : (caller : Caller) (reported : device.Said) → IsKnownSaid setup caller reported → IsPlannedIn rules setup.activity real reported
   said_planned caller (device.Calls call) known = call_planned caller call known
   said_planned caller reported known = tt
 
-  pub heard_planned : (heard : Heard) → IsKnownHeard setup heard → IsPlanned rules setup.activity station.real heard
+  pub heard_planned : (heard : Heard) → IsKnownHeard setup heard → IsPlanned rules setup.activity real heard
   heard_planned (device.Reported caller address reported) known = said_planned caller reported known
   heard_planned heard known = tt

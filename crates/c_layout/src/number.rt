@@ -51,5 +51,8 @@ pub const NO_FRAME: u32 = 24;
 /// The device refused what its application said; nothing changed.
 pub const REFUSED: u32 = 44;
 
+/// No place of the relation has this number.
+pub const NO_PLACE: u32 = 45;
+
 /// The number of a fault of a catalogue or a plan is that of the fault, plus this.
 pub const PLAN_FAULT: u32 = 32;

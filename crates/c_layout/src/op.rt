@@ -65,6 +65,8 @@ pub struct Op {
     pub sequence: u32,
     /// What became of the open process alarm of a device in an event.
     pub confirmed: u32,
+    /// How far a place of the relation is.
+    pub progress: u32,
     /// The number of octets of a PortID.
     pub port_length: u32,
     /// The number of octets of a ChassisID.

@@ -131,6 +131,7 @@ fn copy_of(op: &Op) -> Op
         structure: op.structure,
         sequence: op.sequence,
         confirmed: op.confirmed,
+        progress: op.progress,
         port_length: op.port_length,
         chassis_length: op.chassis_length,
         work: op.work,

@@ -54,7 +54,7 @@ frames_of ran more = refl
 
 pub after_more : (begun : Begun) (told more : List Event) → after begun (told ++ more) ≡ then_ran (after begun told) (run_of [] begun.station (after begun told).live more)
 unfolding after
-after_more begun told more = run_append begun.station (started begun.first begun.room) told more
+after_more begun told more = run_append begun.station (started begun.station.real begun.first begun.room) told more
 
 -- One step.
 abbrev one_of : Stepped → Ran

@@ -3,6 +3,7 @@ use Rattle.std.proofs.Common.{◌≡◌, ◌≤◌, ◌-◌, ◌∙◌, ℕ, zer
 use Rattle.std.specs.Prelude.{◌≢◌}
 use Rattle.std.proofs.lemmas.List.{take_all}
 use Rattle.arrayvec.specs.ArrayVec.{ArrayVec}
+use Rattle.pn_values.specs.declared.real.RealSubmodule.{RealSubmodule}
 use Rattle.device_frames.specs.declared.event.Event.{Event}
 use Rattle.device_frames.specs.declared.event.Event.TheVariants.{Tick}
 use Rattle.device_frames.specs.declared.note.Note.{Note}
@@ -27,6 +28,10 @@ pub whole_in : (make : ArrayVec ℕ → Event) (old new : Served) (bytes : Array
     → HandsIn old (make (record { items = take 1519 octets })) new → HandsIn old (make bytes) new
 whole_in make old new bytes octets value fits hands =
     subst (λ (b : List ℕ). HandsIn old (make (record { items = b })) new) (take_all 1519 octets fits ∙ value) hands
+
+-- A copy of a submodule is plugged.
+pub copied_in : (make : RealSubmodule → Event) (old new : Served) (copy given : RealSubmodule) → copy ≡ given → HandsIn old (make copy) new → HandsIn old (make given) new
+copied_in make old new copy given same hands = subst (λ (part : RealSubmodule). HandsIn old (make part) new) same hands
 
 -- One unit passes, if none is refused.
 ticked_by : (left : ℕ) (old new : Served) → barred_both old ≡ None → left ≤ 1 → TicksBoth (1 - left) old new → (left ≢ 0 → barred_both new ≡ Some HasWork) → HandsIn old Tick new

@@ -64,7 +64,7 @@ hosted_behind station live services (one ∷ events) event =
 pub hosted_more : (begun : Begun) (events : List Event) (event : Event)
     → hosted begun (events ++ event ∷ []) ≡ then_turn (hosted begun events) (turn_of begun.station (after begun (heard begun events)).live (hosted begun events).services event)
 unfolding hosted after
-hosted_more begun events event = hosted_behind begun.station (started begun.first begun.room) begun.services events event
+hosted_more begun events event = hosted_behind begun.station (started begun.station.real begun.first begun.room) begun.services events event
 
 -- ---- the frames of the device are those of a run of the device alone
 
@@ -87,7 +87,7 @@ alone_from station live services (event ∷ events) =
 
 alone_in : (begun : Begun) (events : List Event) → flat_map of_device (hosted begun events).turns ≡ (after begun (heard begun events)).frames
 unfolding hosted after
-alone_in begun events = alone_from begun.station (started begun.first begun.room) begun.services events
+alone_in begun events = alone_from begun.station (started begun.station.real begun.first begun.room) begun.services events
 
 -- ---- the point at which a host is cut off
 

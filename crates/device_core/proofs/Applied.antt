@@ -1,10 +1,18 @@
 -- What the application says, case by case, is local.
-use Rattle.std.proofs.Common.{◌≡◌, ◌&&◌, ℕ, Bool, true, false, not, length, List, [], ◌∷◌, Option, Some, None, is_some, option_map, if◌then◌else◌, inl, inr, refl}
+use Rattle.std.proofs.Common.{◌≡◌, ◌∙◌, ◌++◌, ℕ, Bool, true, false, not, length, List, [], ◌∷◌, Option, Some, None, is_some, option_map, if◌then◌else◌, inl, inr, refl}
 use Rattle.std.specs.List.{AllByRecursion}
 use Rattle.std.proofs.lemmas.Bool.{cond_both}
 use Rattle.arrayvec.specs.ArrayVec.{ArrayVec}
 use Rattle.pn_values.specs.declared.real.RealModule.{RealModule}
 use Rattle.module_diff.specs.Plugged.{module_ident, submodule_ident}
+use Rattle.module_diff.specs.declared.changes.Affected.{Affected}
+use Rattle.module_diff.specs.declared.changes.RealChange.{RealChange}
+use Rattle.module_diff.specs.Changes.{affected_by, covers, plugged_with, pulled, slot_pulled}
+use Rattle.cyclic_data.specs.exchange.Cyclic.{Cyclic}
+use Rattle.relations.specs.declared.exchange.marks.Mark.{Mark}
+use Rattle.relations.specs.exchange.Modules.{all_cleared, cleared_at, renewed_marks}
+use Rattle.relations.specs.declared.plugging.PlugReady.{PlugReady}
+use Rattle.relations.specs.Plugging.{calling_next, flow_then, is_alarmed_by, is_called_by, is_calling, is_crowded, is_readied_in, modules_changing, plug_ready_of, readying_at, rows_now}
 use Rattle.cyclic_data.specs.declared.exchange.route.Route.{Route}
 use Rattle.cyclic_data.specs.declared.place.PlaceKind.TheVariants.{Data}
 use Rattle.cyclic_data.specs.Image.{Shown, cell_at, changed as changed_shown, has_size, with_value}
@@ -29,11 +37,12 @@ use Rattle.relations.specs.RelationState.{RelationState, flow_of, is_preparing, 
 use Rattle.device_frames.specs.declared.local.Local.{Local}
 use Rattle.device_frames.specs.declared.local.Local.TheVariants as local
 use Rattle.device_frames.specs.declared.note.Note.TheVariants as note
-use Rattle.device_frames.specs.Relation.{alarms_of, frames_in, low_alarms_of, ready_calls, where_due}
+use Rattle.device_frames.specs.Relation.{alarms_of, frames_in, low_alarms_of, plug_call_in, plug_calls, ready_calls, where_due}
 use Rattle.device_frames.specs.Sent.{Sent}
 use Rattle.device_core.specs.State.{Station, Live}
-use Rattle.device_core.specs.Handled.{Refuses, Moves, change_of, handled_change, handled_diagnosed, handled_input, handled_local, handled_notice, handled_ready, handled_turned, kept_status, may_be_diagnosed}
-use Rattle.device_core.specs.Local.{IsFlowOf, IsLinkOf, IsLocal, IsOfRelation, IsRelationOf}
+use Rattle.device_core.specs.Handled.{Refuses, Moves, change_of, handled_change, handled_diagnosed, handled_input, handled_local, handled_modules, handled_notice, handled_ready, handled_ready_at, handled_turned, kept_status, may_be_diagnosed}
+use Rattle.device_core.specs.Modules.{changed_rest, next_call_sent, outside, plug_of, pull_of, sent_after, slot_pull_of}
+use Rattle.device_core.specs.Local.{IsFlowOf, IsLinkOf, IsLocal, IsOfRelation, IsRelationOf, modules_by}
 
 -- ---- the relation
 
@@ -121,6 +130,41 @@ prepared_in (Some link) =
     (λ is. record { phase = inr (preparing link.phase is, refl); request = refl; inactive = refl; flow = same_flow link.flow })
     (λ _. same_link link)
 
+-- ---- modules that come and go
+
+-- Zeros as inputs change nothing else of the exchange.
+cleared_keeps : (affected : Affected) (cyclic : Cyclic) (mark : Mark)
+    → ((cleared_at affected cyclic mark).route ≡ cyclic.route) × ((cleared_at affected cyclic mark).begun ≡ cyclic.begun) × ((cleared_at affected cyclic mark).hearing ≡ cyclic.hearing)
+cleared_keeps affected cyclic mark =
+    cond_both (covers affected mark.place.slot mark.place.subslot) _ _
+    (λ (after : Cyclic). (after.route ≡ cyclic.route) × (after.begun ≡ cyclic.begun) × (after.hearing ≡ cyclic.hearing)) (λ _. (refl, refl, refl)) (λ _. (refl, refl, refl))
+
+all_cleared_keeps : (affected : Affected) (marks : List Mark) (cyclic : Cyclic)
+    → ((all_cleared affected marks cyclic).route ≡ cyclic.route) × ((all_cleared affected marks cyclic).begun ≡ cyclic.begun)
+    × ((all_cleared affected marks cyclic).hearing ≡ cyclic.hearing)
+all_cleared_keeps affected [] cyclic = (refl, refl, refl)
+all_cleared_keeps affected (mark ∷ marks) cyclic =
+    let one = cleared_keeps affected cyclic mark in
+    let others = all_cleared_keeps affected marks (cleared_at affected cyclic mark) in
+    (others.0 ∙ one.0, others.1 ∙ one.1, others.2 ∙ one.2)
+
+renewed_keeps : (link : RelationState) (made : RealChange) (real : List RealModule) (diagnoses : List Diagnosis)
+    → IsFlowOf link.flow (flow_then (rows_now real link) made diagnoses link)
+renewed_keeps link made real diagnoses =
+    let affected = affected_by made in
+    let kept = all_cleared_keeps affected (renewed_marks affected link.options.inputs_begin_bad link.flow.marks) link.flow.cyclic in
+    record { route = kept.0; begun = kept.1; hearing = kept.2; endpoint = refl }
+
+modules_in : (real : List RealModule) (made : RealChange) (diagnoses : List Diagnosis) (link : Option RelationState)
+    → IsRelationOf link (modules_changing real made diagnoses link)
+modules_in real made diagnoses None = refl
+modules_in real made diagnoses (Some link) =
+    record { phase = inl refl; request = refl; inactive = refl; flow = renewed_keeps link made real diagnoses }
+
+readied_in : (slot subslot : ℕ) (link : Option RelationState) → IsRelationOf link (calling_next (readying_at slot subslot link))
+readied_in slot subslot None = refl
+readied_in slot subslot (Some link) = record { phase = inl refl; request = refl; inactive = refl; flow = same_flow link.flow }
+
 -- ---- what is sent
 
 frames_sent : (route : Route) (frame : Option Frame) → AllByRecursion IsOfRelation (frames_in route frame)
@@ -143,65 +187,120 @@ calls_sent : (address : List ℕ) (link : Option RelationState) → AllByRecursi
 calls_sent address None = tt
 calls_sent address (Some link) = (tt, tt)
 
+plug_call_sent : (address : List ℕ) (ready : Option PlugReady) → AllByRecursion IsOfRelation (plug_call_in address ready)
+plug_call_sent address None = tt
+plug_call_sent address (Some ready) = (tt, tt)
+
+plug_calls_sent : (is_due : Bool) (address : List ℕ) (link : Option RelationState) → AllByRecursion IsOfRelation (where_due is_due (plug_calls address link))
+plug_calls_sent true address link = plug_call_sent address (plug_ready_of link)
+plug_calls_sent false address link = tt
+
+both_sent : (one other : List Sent) → AllByRecursion IsOfRelation one → AllByRecursion IsOfRelation other → AllByRecursion IsOfRelation (one ++ other)
+both_sent [] other first second = second
+both_sent (message ∷ one) other first second = (first.0, both_sent one other first.1 second)
+
 -- ---- the cases
 
 module _ (station : Station) (live : Live) where
-  refused : IsLocal station live (Refuses note.Refused)
-  refused = record { asks = refl; keeps = λ answers. refl; link = λ answers. same_relation live.rest.link; sends = λ answers. tt }
+  refused : IsLocal station live None (Refuses note.Refused)
+  refused =
+      record { asks = refl; keeps = λ answers. refl; real = λ answers. refl; link = λ answers. same_relation live.rest.link; sends = λ answers. tt }
 
   moved : (link : Option RelationState) (is_running : Bool) (statuses : List InputStatus) (diagnoses : List Diagnosis) (sent : List Sent)
       → IsRelationOf live.rest.link link → AllByRecursion IsOfRelation sent
-      → IsLocal station live (Moves (record live.rest { link = link; is_running = is_running; statuses = statuses; diagnoses = diagnoses }) sent)
-  moved link is_running statuses diagnoses sent same sends = record { asks = refl; keeps = λ answers. refl; link = λ answers. same; sends = λ answers. sends }
+      → IsLocal station live None (Moves (record live.rest { link = link; is_running = is_running; statuses = statuses; diagnoses = diagnoses }) sent)
+  moved link is_running statuses diagnoses sent same sends =
+      record { asks = refl; keeps = λ answers. refl; real = λ answers. refl; link = λ answers. same; sends = λ answers. sends }
 
-  input_local : (given : Option Flow) → IsFlowIn live.rest.link given → IsLocal station live (handled_input live given)
+  input_local : (given : Option Flow) → IsFlowIn live.rest.link given → IsLocal station live None (handled_input live given)
   input_local None kept = refused
   input_local (Some flow) kept =
       moved (updated (Exchanged flow) live.rest.link) live.rest.is_running live.rest.statuses live.rest.diagnoses [] (exchanged live.rest.link flow kept) tt
 
-  notice_local : (raised : Option Flow) → IsFlowIn live.rest.link raised → IsLocal station live (handled_notice live raised)
+  notice_local : (raised : Option Flow) → IsFlowIn live.rest.link raised → IsLocal station live None (handled_notice live raised)
   notice_local None kept = refused
   notice_local (Some flow) kept =
       let link = updated (Exchanged flow) live.rest.link in
       moved link live.rest.is_running live.rest.statuses live.rest.diagnoses (alarms_of (flow_of link)) (exchanged live.rest.link flow kept) (alarms_sent (flow_of link))
 
-  status_local : (slot subslot : ℕ) (is_good : Bool) (statuses : Option (List InputStatus)) → IsLocal station live (kept_status live slot subslot is_good statuses)
+  status_local : (slot subslot : ℕ) (is_good : Bool) (statuses : Option (List InputStatus)) → IsLocal station live None (kept_status live slot subslot is_good statuses)
   status_local slot subslot is_good None = refused
   status_local slot subslot is_good (Some statuses) =
       moved (updated (rating slot subslot is_good live.rest.link) live.rest.link) live.rest.is_running statuses live.rest.diagnoses [] (rated_in slot subslot is_good live.rest.link) tt
 
-  turned_local : (is_running : Bool) → IsLocal station live (handled_turned live is_running)
+  turned_local : (is_running : Bool) → IsLocal station live None (handled_turned live is_running)
   turned_local is_running =
       moved (updated (turning is_running live.rest.link) live.rest.link) is_running live.rest.statuses live.rest.diagnoses [] (turned_in is_running live.rest.link) tt
 
-  change_local : (change : Change) (diagnoses : Option (List Diagnosis)) → IsLocal station live (handled_change station live change diagnoses)
+  change_local : (change : Change) (diagnoses : Option (List Diagnosis)) → IsLocal station live None (handled_change station live change diagnoses)
   change_local change None = refused
   change_local change (Some diagnoses) =
-      let real = station.real.modules.items in
+      let real = live.rest.real.modules.items in
       let link = updated (diagnosing real change diagnoses live.rest.link) live.rest.link in
       moved link live.rest.is_running live.rest.statuses diagnoses (where_due (diagnose_one real change diagnoses live.rest.link) (low_alarms_of (flow_of link)))
       (diagnosed_in real change diagnoses live.rest.link) (due_sent (diagnose_one real change diagnoses live.rest.link) (flow_of link))
 
-  diagnosis_local : (change : Change) → IsLocal station live (handled_diagnosed station live change)
+  diagnosis_local : (change : Change) → IsLocal station live None (handled_diagnosed station live change)
   diagnosis_local change =
-      cond_both (may_be_diagnosed station live change) _ _ (IsLocal station live) (λ _. change_local change (changed change live.rest.diagnoses)) (λ _. refused)
+      cond_both (may_be_diagnosed station live change) _ _ (IsLocal station live None) (λ _. change_local change (changed change live.rest.diagnoses)) (λ _. refused)
 
-  ready_local : IsLocal station live (handled_ready live)
+  ready_local : IsLocal station live None (handled_ready live)
   ready_local =
       let link = updated Prepared live.rest.link in
       let address = live.values.running.suite.address in
-      cond_both (is_preparing (phase_of live.rest.link)) _ _ (IsLocal station live)
+      cond_both (is_preparing (phase_of live.rest.link)) _ _ (IsLocal station live None)
       (λ _. moved link live.rest.is_running live.rest.statuses live.rest.diagnoses (ready_calls address link) (prepared_in live.rest.link) (calls_sent address link)) (λ _. refused)
 
-pub local_is : (station : Station) (live : Live) (said : Local (ArrayVec ℕ)) → IsLocal station live (handled_local station live said)
+  -- One that is possible and crowded out is refused.
+  crowded_out : (made : List RealModule) → IsLocal station live (Some made) (Refuses note.Refused)
+  crowded_out made =
+      record { asks = refl; keeps = λ answers. refl; real = λ answers. inr refl; link = λ answers. same_relation live.rest.link; sends = λ answers. tt }
+
+  modules_moved : (change : RealChange) (made : List RealModule) → IsLocal station live (Some made) (Moves (changed_rest live.rest change made) (sent_after live change made))
+  modules_moved change made =
+      let rest = changed_rest live.rest change made in
+      record {
+        asks = refl;
+        keeps = λ answers. refl;
+        real = λ answers. inl refl;
+        link = λ answers. modules_in made change rest.diagnoses live.rest.link;
+        sends = λ answers. both_sent (where_due (is_alarmed_by made change rest.diagnoses live.rest.link) (low_alarms_of (flow_of rest.link))) _
+            (due_sent (is_alarmed_by made change rest.diagnoses live.rest.link) (flow_of rest.link))
+            (plug_calls_sent (is_called_by made change rest.diagnoses live.rest.link) live.values.running.suite.address rest.link);
+      }
+
+  modules_local : (change : RealChange) (made : Option (List RealModule)) → IsLocal station live made (handled_modules live change made)
+  modules_local change None = refused
+  modules_local change (Some made) =
+      cond_both (is_crowded (affected_by change) live.rest.link) _ _ (IsLocal station live (Some made)) (λ _. crowded_out made) (λ _. modules_moved change made)
+
+  ready_at_local : (slot subslot : ℕ) → IsLocal station live None (handled_ready_at live slot subslot)
+  ready_at_local slot subslot =
+      let link = readying_at slot subslot live.rest.link in
+      let address = live.values.running.suite.address in
+      cond_both (is_readied_in slot subslot live.rest.link) _ _ (IsLocal station live None)
+      (λ _. moved (calling_next link) live.rest.is_running live.rest.statuses live.rest.diagnoses (next_call_sent address link) (readied_in slot subslot live.rest.link)
+      (plug_calls_sent (is_calling link) address (calling_next link))) (λ _. refused)
+
+pub local_is : (station : Station) (live : Live) (said : Local (ArrayVec ℕ))
+    → IsLocal station live (modules_by said live.rest.real.modules.items) (handled_local station live said)
 local_is station live (local.Input slot subslot value) =
     input_local station live (given_to slot subslot value.items live.rest.link) (given_in slot subslot value.items live.rest.link)
 local_is station live (local.Alarm slot subslot octets) =
-    let real = station.real.modules.items in
+    let real = live.rest.real.modules.items in
     notice_local station live (raised_to real slot subslot octets.items live.rest.link) (raised_in real slot subslot octets.items live.rest.link)
 local_is station live (local.Status slot subslot is_good) =
     status_local station live slot subslot is_good
-    (statuses_at station.real.modules.items (record { slot = slot; subslot = subslot; is_good = is_good }) live.rest.statuses)
+    (statuses_at live.rest.real.modules.items (record { slot = slot; subslot = subslot; is_good = is_good }) live.rest.statuses)
 local_is station live (local.Diagnosis slot subslot channel error appears) = diagnosis_local station live (change_of slot subslot channel error appears)
+local_is station live (local.Pull slot subslot) =
+    let real = live.rest.real.modules.items in
+    modules_local station live (pull_of real slot subslot) (outside slot (pulled slot subslot real))
+local_is station live (local.PullModule slot) =
+    let real = live.rest.real.modules.items in
+    modules_local station live (slot_pull_of real slot) (outside slot (slot_pulled slot real))
+local_is station live (local.Plug slot ident part) =
+    modules_local station live (plug_of slot ident part) (plugged_with slot ident part live.rest.real.modules.items)
+local_is station live (local.ReadyAt slot subslot) = ready_at_local station live slot subslot
 local_is station live local.Ready = ready_local station live
 local_is station live (local.ProviderState is_running) = turned_local station live is_running

@@ -28,9 +28,13 @@ use Rattle.relations.specs.declared.exchange.statuses.InputStatus.{InputStatus}
 use Rattle.relations.specs.exchange.Statuses.{statuses_at}
 use Rattle.relations.specs.exchange.Flow.{Flow}
 use Rattle.relations.specs.Exchanged.{given_to, heard_by, hearing, raised_to, received_by, receiving}
+use Rattle.rpc_core.specs.Response.{Answered}
+use Rattle.relations.specs.declared.plugging.PlugAnswer.{PlugAnswer}
+use Rattle.relations.specs.declared.plugging.PlugAnswer.TheVariants as to_plug
+use Rattle.relations.specs.Plugging.{is_plug_control, plug_answer_in, plug_end_answer, plug_end_in}
 use Rattle.relations.specs.declared.hearing.ReadyAnswer.{ReadyAnswer}
 use Rattle.relations.specs.declared.hearing.ReadyAnswer.TheVariants as to_ready
-use Rattle.relations.specs.RelationState.{RelationState, uuid_of, is_alarm_of, is_preparing, phase_of}
+use Rattle.relations.specs.RelationState.{RelationState, uuid_of, is_alarm_of, is_in_exchange, is_preparing, phase_of}
 use Rattle.device_records.specs.Reading.{implicit_read, relation_read}
 use Rattle.relations.specs.Phases.{keeping, updated}
 use Rattle.relations.specs.Calls.{prm_end_answer, release_answer}
@@ -48,7 +52,7 @@ use Rattle.diagnosis.specs.declared.diagnosis.Change.{Change}
 use Rattle.diagnosis.specs.declared.diagnosis.Diagnosis.{Diagnosis}
 use Rattle.relations.specs.Diagnosed.{has_sent_low, heard_low, hearing_low, is_full_in}
 use Rattle.device_frames.specs.Heard.{Heard, Ticks, Unreadable, Elsewhere, Asks, Resolves, Reported, Cyclic, Alarms, LowReplies, LowConfirms, Met, Applied, Said, Calls, Responds, Garbled, heard_of}
-use Rattle.device_core.specs.Handled.{Handled, is_running, is_request, answer_from, kept_for, kept_answer, handled_request, handled_effect, handled_write, handled_new, handled_looked, handled_blocks, handled_call, handled_answer, handled_said, handled_pdu, handled_received, handled_input, handled_notice, kept_status, handled, known_of, number_now, handled_alarm, handled_change, handled_low, handled_low_pdu}
+use Rattle.device_core.specs.Handled.{Handled, is_running, is_request, answer_from, kept_for, kept_answer, handled_request, handled_effect, handled_write, handled_new, handled_looked, handled_blocks, handled_call, handled_answer, handled_said, handled_pdu, handled_received, handled_input, handled_notice, kept_status, handled, known_of, number_now, handled_alarm, handled_change, handled_low, handled_low_pdu, handled_plug_answer, handled_response}
 use Rattle.device_core.specs.Several.{judged_each}
 use Rattle.device_core.specs.Machine.{items_in, first_answer, several_answer, written_as, finished, heard_step, handled_step, step_of, first_step, later_steps, run_of}
 use Rattle.device_core.specs.Steps.{IsBehindCalls}
@@ -92,24 +96,26 @@ write_called : (station : Station) (live : Live) (answers : List BlockError) (ca
     → looked call.header.activity call.header.sequence live.rest.calls ≡ new → IsKept station live answers (handled_write station live caller call writing)
 write_called station live answers caller call (Ok (One write)) is_new = effect_called station live answers caller call write.request write.effect is_new
 write_called station live answers caller call (Ok (Each header entries)) is_new =
-    let judged = judged_each (uuid_of live.rest.link) station.real entries in
+    let judged = judged_each (uuid_of live.rest.link) live.rest.real entries in
     kept_called station live call (answer_from live.values.running.suite.address caller call Write (Ok (several_answer header judged answers live.rest.link))) is_new
 write_called station live answers caller call (Err fault) is_new = served_called station live caller call Write (Err fault) is_new
 
 new_called : (station : Station) (live : Live) (answers : List BlockError) (caller : Caller) (call : Called) (blocks : List ℕ) (operation : Operation)
     → looked call.header.activity call.header.sequence live.rest.calls ≡ new → IsKept station live answers (handled_new station live caller call blocks operation)
 new_called station live answers caller call blocks Connect is_new =
-    served_called station live caller call Connect (connect_answer station.identity station.real station.options (number_now station live) caller.mac live.rest.link blocks) is_new
+    served_called station live caller call Connect (connect_answer station.identity live.rest.real station.options (number_now station live) caller.mac live.rest.link blocks) is_new
 new_called station live answers caller call blocks Release is_new =
     served_called station live caller call Release (release_answer live.rest.link blocks) is_new
 new_called station live answers caller call blocks Read is_new =
-    served_called station live caller call Read (relation_read (known_of station live) station.identity station.real live.values.running blocks) is_new
+    served_called station live caller call Read (relation_read (known_of station live) station.identity live.rest.real live.values.running blocks) is_new
 new_called station live answers caller call blocks Write is_new =
-    write_called station live answers caller call (writing_of (uuid_of live.rest.link) station.real blocks) is_new
+    write_called station live answers caller call (writing_of (uuid_of live.rest.link) live.rest.real blocks) is_new
 new_called station live answers caller call blocks Control is_new =
-    served_called station live caller call Control (prm_end_answer live.rest.link blocks) is_new
+    cond_both (is_plug_control blocks live.rest.link) _ _ (IsKept station live answers)
+    (λ _. served_called station live caller call Control (plug_end_answer (plug_end_in blocks live.rest.link)) is_new)
+    (λ _. served_called station live caller call Control (prm_end_answer live.rest.link blocks) is_new)
 new_called station live answers caller call blocks ReadImplicit is_new =
-    served_called station live caller call ReadImplicit (implicit_read (known_of station live) station.identity station.real live.values.running blocks) is_new
+    served_called station live caller call ReadImplicit (implicit_read (known_of station live) station.identity live.rest.real live.values.running blocks) is_new
 
 looked_called : (station : Station) (live : Live) (answers : List BlockError) (caller : Caller) (call : Called) (blocks : List ℕ) (operation : Operation) (reported : Looked)
     → looked call.header.activity call.header.sequence live.rest.calls ≡ reported → IsKept station live answers (handled_looked station live caller call blocks operation reported)
@@ -132,9 +138,22 @@ answer_called station live answers to_ready.Garbled = ([], refl)
 answer_called station live answers to_ready.Confirmed = ([], refl)
 answer_called station live answers (to_ready.Refused farewell) = ([], refl)
 
+plug_answer_called : (station : Station) (live : Live) (answers : List BlockError) (response : Answered) (answer : PlugAnswer)
+    → IsKept station live answers (handled_plug_answer live response answer)
+plug_answer_called station live answers response to_plug.NotWanted = ([], refl)
+plug_answer_called station live answers response to_plug.Garbled = ([], refl)
+plug_answer_called station live answers response to_plug.Confirmed = ([], refl)
+plug_answer_called station live answers response to_plug.Refused = ([], refl)
+
+response_called : (station : Station) (live : Live) (answers : List BlockError) (response : Answered) → IsKept station live answers (handled_response station live response)
+response_called station live answers response =
+    cond_both (is_in_exchange live.rest.link) _ _ (IsKept station live answers)
+    (λ _. plug_answer_called station live answers response (plug_answer_in response live.rest.link))
+    (λ _. answer_called station live answers (ready_answer response live.rest.link))
+
 said_called : (station : Station) (live : Live) (answers : List BlockError) (caller : Caller) (said : Said) → IsKept station live answers (handled_said station live caller said)
 said_called station live answers caller (Calls call) = call_called station live answers caller call (operation_of call.header.operation)
-said_called station live answers caller (Responds response) = answer_called station live answers (ready_answer response live.rest.link)
+said_called station live answers caller (Responds response) = response_called station live answers response
 said_called station live answers caller Garbled = ([], refl)
 
 pdu_called : (station : Station) (live : Live) (answers : List BlockError) (came : PduFate) (link : Option RelationState) → IsKept station live answers (handled_pdu live came link)

@@ -22,13 +22,13 @@ module _ (station : Station) (live : Live) (change : Change) where
 
   -- The relation after it.
   abbrev pub link_with : List Diagnosis → Option RelationState
-  link_with diagnoses = updated (diagnosing station.real.modules.items change diagnoses live.rest.link) live.rest.link
+  link_with diagnoses = updated (diagnosing live.rest.real.modules.items change diagnoses live.rest.link) live.rest.link
 
   pub change_made : (diagnoses : Option (List Diagnosis)) (before : List Diagnosis) → is_some diagnoses ≡ true
       → end_of station live (handled_change station live change diagnoses)
       ≡ record {
         rest = record live.rest { link = link_with (unwrap_or diagnoses before); diagnoses = unwrap_or diagnoses before };
-        sent = where_due (diagnose_one station.real.modules.items change (unwrap_or diagnoses before) live.rest.link) (low_alarms_of (flow_of (link_with (unwrap_or diagnoses before))));
+        sent = where_due (diagnose_one live.rest.real.modules.items change (unwrap_or diagnoses before) live.rest.link) (low_alarms_of (flow_of (link_with (unwrap_or diagnoses before))));
         note = Done;
       }
   change_made (Some diagnoses) before some = refl
@@ -64,7 +64,7 @@ module _ (station : Station) (live : Live) (change : Change) where
           link = link_with (unwrap_or (changed change live.rest.diagnoses) live.rest.diagnoses);
           diagnoses = unwrap_or (changed change live.rest.diagnoses) live.rest.diagnoses;
         };
-        sent = where_due (diagnose_one station.real.modules.items change (unwrap_or (changed change live.rest.diagnoses) live.rest.diagnoses) live.rest.link)
+        sent = where_due (diagnose_one live.rest.real.modules.items change (unwrap_or (changed change live.rest.diagnoses) live.rest.diagnoses) live.rest.link)
             (low_alarms_of (flow_of (link_with (unwrap_or (changed change live.rest.diagnoses) live.rest.diagnoses))));
         note = Done;
       }

@@ -11,9 +11,21 @@ use Rattle.pn_alarms.specs.declared.device.PduFate.TheVariants as fate
 use Rattle.cyclic_data.specs.declared.exchange.received.Received.{Received}
 use Rattle.cyclic_data.specs.declared.exchange.received.Received.TheVariants as received
 use Rattle.relations.specs.exchange.Flow.{Flow}
-use Rattle.relations.specs.RelationState.{RelationState, is_alarm_of, is_preparing, phase_of}
+use Rattle.relations.specs.RelationState.{RelationState, is_alarm_of, is_in_exchange, is_preparing, phase_of}
 use Rattle.relations.specs.Phases.{updated}
+use Rattle.pn_values.specs.declared.real.RealModule.{RealModule}
+use Rattle.module_diff.specs.declared.changes.RealChange.{RealChange}
+use Rattle.module_diff.specs.Changes.{affected_by, plugged_with, pulled, slot_pulled}
 use Rattle.module_diff.specs.Plugged.{submodule_ident}
+use Rattle.rpc_core.specs.Response.{Answered}
+use Rattle.rpc_core.specs.Call.{Asked as Called}
+use Rattle.device_frames.specs.declared.note.Note.TheVariants.{Done}
+use Rattle.frame_codec.specs.declared.udp.Caller.{Caller}
+use Rattle.records.specs.declared.status.operation.Operation.TheVariants.{Control}
+use Rattle.relations.specs.declared.plugging.PlugAnswer.{PlugAnswer}
+use Rattle.relations.specs.declared.plugging.PlugAnswer.TheVariants as to_plug
+use Rattle.relations.specs.Plugging.{is_crowded, is_plug_control, is_readied_in, plug_answer_in}
+use Rattle.relations.specs.Ready.{answer_of as ready_answer}
 use Rattle.diagnosis.specs.Existing.{changed}
 use Rattle.diagnosis.specs.declared.diagnosis.Change.{Change}
 use Rattle.diagnosis.specs.declared.diagnosis.Diagnosis.{Diagnosis}
@@ -26,8 +38,9 @@ use Rattle.relations.specs.exchange.Statuses.{statuses_at}
 use Rattle.device_frames.specs.declared.local.Local.{Local}
 use Rattle.device_frames.specs.declared.local.Local.TheVariants as local
 use Rattle.device_core.specs.State.{Station, Live}
-use Rattle.device_core.specs.Handled.{change_of, is_running, is_request, handled_arp, handled_answer, handled_alarm, handled_pdu, handled_received, handled_cyclic, handled_input, handled_local, handled_notice, handled_ready, handled_change, handled_diagnosed, handled_low, handled_low_pdu, handled_low_reply, kept_status}
+use Rattle.device_core.specs.Handled.{change_of, is_running, is_request, handled_arp, handled_answer, handled_alarm, handled_pdu, handled_received, handled_cyclic, handled_input, handled_local, handled_notice, handled_ready, handled_change, handled_diagnosed, handled_low, handled_low_pdu, handled_low_reply, handled_modules, handled_new, handled_plug_answer, handled_ready_at, handled_response, kept_status}
 use Rattle.device_core.specs.Machine.{end_of}
+use Rattle.device_core.specs.Modules.{outside, plug_of, pull_of, slot_pull_of}
 use Rattle.device_core.proofs.Machine.{is_asking}
 
 -- An ARP packet.
@@ -98,12 +111,34 @@ notice_asks_nothing live None = refl
 pub ready_asks_nothing : (live : Live) → is_asking (handled_ready live) ≡ false
 ready_asks_nothing live = cond_both (is_preparing (phase_of live.rest.link)) _ _ (λ what. is_asking what ≡ false) (λ _. refl) (λ _. refl)
 
+-- A PrmEnd, also one after a plug.
+pub control_asks_nothing : (station : Station) (live : Live) (caller : Caller) (call : Called) (blocks : List ℕ) → is_asking (handled_new station live caller call blocks Control) ≡ false
+control_asks_nothing station live caller call blocks =
+    cond_both (is_plug_control blocks live.rest.link) _ _ (λ what. is_asking what ≡ false) (λ _. refl) (λ _. refl)
+
+pub control_done : (station : Station) (live : Live) (caller : Caller) (call : Called) (blocks : List ℕ) → (end_of station live (handled_new station live caller call blocks Control)).note ≡ Done
+control_done station live caller call blocks =
+    cond_both (is_plug_control blocks live.rest.link) _ _ (λ what. (end_of station live what).note ≡ Done) (λ _. refl) (λ _. refl)
+
 -- The answer to ApplicationReady.
 pub answer_asks_nothing : (station : Station) (live : Live) (answer : ReadyAnswer) → is_asking (handled_answer station live answer) ≡ false
 answer_asks_nothing station live to_ready.NotWanted = refl
 answer_asks_nothing station live to_ready.Garbled = refl
 answer_asks_nothing station live to_ready.Confirmed = refl
 answer_asks_nothing station live (to_ready.Refused farewell) = refl
+
+-- The answer to the ApplicationReady of a plug, and any response.
+pub plug_answer_asks_nothing : (live : Live) (response : Answered) (answer : PlugAnswer) → is_asking (handled_plug_answer live response answer) ≡ false
+plug_answer_asks_nothing live response to_plug.NotWanted = refl
+plug_answer_asks_nothing live response to_plug.Garbled = refl
+plug_answer_asks_nothing live response to_plug.Confirmed = refl
+plug_answer_asks_nothing live response to_plug.Refused = refl
+
+pub response_asks_nothing : (station : Station) (live : Live) (response : Answered) → is_asking (handled_response station live response) ≡ false
+response_asks_nothing station live response =
+    cond_both (is_in_exchange live.rest.link) _ _ (λ what. is_asking what ≡ false)
+    (λ _. plug_answer_asks_nothing live response (plug_answer_in response live.rest.link))
+    (λ _. answer_asks_nothing station live (ready_answer response live.rest.link))
 
 -- A PDU of low priority, and a diagnosis.
 low_pdu_asks_nothing : (station : Station) (live : Live) (heard : PduFate) (link : Option RelationState) → is_asking (handled_low_pdu station live heard link) ≡ false
@@ -128,18 +163,34 @@ change_asks_nothing station live change None = refl
 
 pub diagnosed_asks_nothing : (station : Station) (live : Live) (change : Change) → is_asking (handled_diagnosed station live change) ≡ false
 diagnosed_asks_nothing station live change =
-    cond_both (is_some (submodule_ident station.real.modules.items change.diagnosis.slot change.diagnosis.subslot) && not (is_full_in live.rest.link)) _ _
+    cond_both (is_some (submodule_ident live.rest.real.modules.items change.diagnosis.slot change.diagnosis.subslot) && not (is_full_in live.rest.link)) _ _
     (λ what. is_asking what ≡ false) (λ _. change_asks_nothing station live change (changed change live.rest.diagnoses)) (λ _. refl)
+
+-- A pull or a plug, and the application that is ready for a plug.
+pub modules_ask_nothing : (live : Live) (made : RealChange) (real : Option (List RealModule)) → is_asking (handled_modules live made real) ≡ false
+modules_ask_nothing live made None = refl
+modules_ask_nothing live made (Some real) =
+    cond_both (is_crowded (affected_by made) live.rest.link) _ _ (λ what. is_asking what ≡ false) (λ _. refl) (λ _. refl)
+
+pub ready_at_asks_nothing : (live : Live) (slot subslot : ℕ) → is_asking (handled_ready_at live slot subslot) ≡ false
+ready_at_asks_nothing live slot subslot = cond_both (is_readied_in slot subslot live.rest.link) _ _ (λ what. is_asking what ≡ false) (λ _. refl) (λ _. refl)
 
 -- Whatever the application says.
 pub local_asks_nothing : (station : Station) (live : Live) (said : Local (ArrayVec ℕ)) → is_asking (handled_local station live said) ≡ false
 local_asks_nothing station live (local.Input slot subslot value) = input_asks_nothing live (given_to slot subslot value.items live.rest.link)
 local_asks_nothing station live (local.Alarm slot subslot octets) =
-    notice_asks_nothing live (raised_to station.real.modules.items slot subslot octets.items live.rest.link)
+    notice_asks_nothing live (raised_to live.rest.real.modules.items slot subslot octets.items live.rest.link)
 local_asks_nothing station live (local.Status slot subslot is_good) =
     status_asks_nothing live slot subslot is_good
-    (statuses_at station.real.modules.items (record { slot = slot; subslot = subslot; is_good = is_good }) live.rest.statuses)
+    (statuses_at live.rest.real.modules.items (record { slot = slot; subslot = subslot; is_good = is_good }) live.rest.statuses)
 local_asks_nothing station live (local.Diagnosis slot subslot channel error appears) =
     diagnosed_asks_nothing station live (change_of slot subslot channel error appears)
+local_asks_nothing station live (local.Pull slot subslot) =
+    let real = live.rest.real.modules.items in modules_ask_nothing live (pull_of real slot subslot) (outside slot (pulled slot subslot real))
+local_asks_nothing station live (local.PullModule slot) =
+    let real = live.rest.real.modules.items in modules_ask_nothing live (slot_pull_of real slot) (outside slot (slot_pulled slot real))
+local_asks_nothing station live (local.Plug slot ident part) =
+    modules_ask_nothing live (plug_of slot ident part) (plugged_with slot ident part live.rest.real.modules.items)
+local_asks_nothing station live (local.ReadyAt slot subslot) = ready_at_asks_nothing live slot subslot
 local_asks_nothing station live local.Ready = ready_asks_nothing live
 local_asks_nothing station live (local.ProviderState is_running) = refl

@@ -9,10 +9,12 @@ pub mod Lists
 pub mod Placed
 pub mod Steps
 pub mod Called
+mod RealKept
 pub mod Runs
 pub mod Restarts
 pub mod Exchanged
 mod Rated
+mod Changing
 pub mod Leaping
 mod Logged
 mod Diagnosed

@@ -24,7 +24,7 @@ link_behind station live to_ready.NotWanted = live.rest.link
 link_behind station live to_ready.Garbled = live.rest.link
 link_behind station live to_ready.Confirmed =
     let link = updated (handled_by to_ready.Confirmed) live.rest.link in
-    updated (beginning station.real.modules.items live.rest.diagnoses link) link
+    updated (beginning live.rest.real.modules.items live.rest.diagnoses link) link
 link_behind station live (to_ready.Refused farewell) = updated (handled_by (to_ready.Refused farewell)) live.rest.link
 
 -- The rest after it.

@@ -28,7 +28,7 @@ answers_by station live runs outcomes event asker request is identify =
 
 -- A device that started on a flash.
 is_started_from : {F : Type 0} {S : ℕ} (as_flash : Flash F S) (station : Station) (flash : F) (device : State F) → device.station ≡ station
-    → device.live ≡ started device.live.values.stored device.live.values.room → StartsWith (as_flash.image flash) device.live.values.stored device.live.values.room → as_flash.image device.flash ≡ as_flash.image flash
+    → device.live ≡ started station.real device.live.values.stored device.live.values.room → StartsWith (as_flash.image flash) device.live.values.stored device.live.values.room → as_flash.image device.flash ≡ as_flash.image flash
     → IsStarted as_flash station device
 is_started_from as_flash station flash device station_is fresh starts image_is = record {
   station_is = station_is;
@@ -41,7 +41,7 @@ is_started_from as_flash station flash device station_is fresh starts image_is =
 -- The same if the start may be refused.
 pub is_started_if : {F : Type 0} {S : ℕ} (as_flash : Flash F S) (station : Station) (ran : State F) (flash : F) (again : Result (State F) (BootFault × F)) → ran.station ≡ station
     → IfOk again (λ device. device.station ≡ ran.station)
-    → IfOk again (λ device. device.live ≡ started device.live.values.stored device.live.values.room)
+    → IfOk again (λ device. device.live ≡ started station.real device.live.values.stored device.live.values.room)
     → IfOk again (λ device. StartsWith (as_flash.image flash) device.live.values.stored device.live.values.room)
     → MatchResult again (λ device. as_flash.image device.flash ≡ as_flash.image flash) (λ refused. as_flash.image refused.1 ≡ as_flash.image flash)
     → IfOk again (IsStarted as_flash station)
@@ -50,15 +50,15 @@ is_started_if as_flash station ran flash (Ok again) is_station same fresh starts
 is_started_if as_flash station ran flash (Err refused) is_station same fresh starts image_is = tt
 
 -- A start on a legal end has what its commands make of the first settings.
-ends_made : (image : Image) (accepted : List Accepted) (first : Settings) (live : Live)
-    → ((settings : Settings) (room : ℕ) → StartsWith image settings room → live ≡ started settings room) → LegalEnd image accepted first → IsMadeOf accepted first live.values.stored
-ends_made image accepted first live known (inl boots) = inl (ap (λ l. l.values.stored) (known _ boots.0 boots.1))
-ends_made image accepted first live known (inr less) =
+ends_made : (station : Station) (image : Image) (accepted : List Accepted) (first : Settings) (live : Live)
+    → ((settings : Settings) (room : ℕ) → StartsWith image settings room → live ≡ started station.real settings room) → LegalEnd image accepted first → IsMadeOf accepted first live.values.stored
+ends_made station image accepted first live known (inl boots) = inl (ap (λ l. l.values.stored) (known _ boots.0 boots.1))
+ends_made station image accepted first live known (inr less) =
     inr (less.front, less.last, less.parts, less.not_done, ap (λ l. l.values.stored) (known _ less.boots.0 less.boots.1))
 
 -- A device that started with these settings.
 device_of : {F : Type 0} → F → Station → Settings → ℕ → State F
-device_of flash station first room = record { flash = flash; station = station; live = started first room }
+device_of flash station first room = record { flash = flash; station = station; live = started station.real first room }
 
 -- A run from a start is a cycle.
 cycled_from : {F : Type 0} {S : ℕ} (as_flash : Flash F S) (station : Station) (flash begun : F) (first : Settings) (room : ℕ)
@@ -72,8 +72,8 @@ cycled_from as_flash station flash begun first room events before now ran same_i
     record {
       begun = begun;
       begins = (same_image, same_failures, inactive);
-      caused = subst (λ n. IsCaused n (as_flash.failures ran.flash) (started first room).values end.live.values) same_failures
-          (subst (λ v. IsCaused (as_flash.failures begun) (as_flash.failures ran.flash) (started first room).values v) values runs.stretch.caused);
+      caused = subst (λ n. IsCaused n (as_flash.failures ran.flash) (started station.real first room).values end.live.values) same_failures
+          (subst (λ v. IsCaused (as_flash.failures begun) (as_flash.failures ran.flash) (started station.real first room).values v) values runs.stretch.caused);
       inactive = λ fine. runs.inactive (ap (λ v. v.has_failed) values ∙ fine);
       placed = runs.placed;
       handed_on = runs.frames;
@@ -83,7 +83,7 @@ cycled_from as_flash station flash begun first room events before now ran same_i
 
 -- The run of this device.
 run_from : {F : Type 0} {S : ℕ} (as_flash : Flash F S) (station : Station) (first : Settings) (room : ℕ) (events : List Event)
-    (before now : List (List ℕ)) (begun ran : State F) → begun.live ≡ started first room → begun.station ≡ station
+    (before now : List (List ℕ)) (begun ran : State F) → begun.live ≡ started station.real first room → begun.station ≡ station
     → Runs as_flash begun events before now ran → Runs as_flash (device_of begun.flash station first room) events before now ran
 unfolding device_of
 run_from as_flash station first room events before now begun ran live is_station run =
@@ -91,10 +91,10 @@ run_from as_flash station first room events before now begun ran live is_station
 
 pub cycle_restarts : {F : Type 0} {S : ℕ} (as_flash : Flash F S) (power_up : F → F → Type 0) (station : Station) (flash : F) (first : Settings) (room : ℕ)
     (events : List Event) (before now : List (List ℕ)) (begun ran : State F) (back : F) (again : State F)
-    → begun.live ≡ started first room → begun.station ≡ station → as_flash.image begun.flash ≡ as_flash.image flash → as_flash.failures begun.flash ≡ as_flash.failures flash → as_flash.asked flash [] begun.flash
+    → begun.live ≡ started station.real first room → begun.station ≡ station → as_flash.image begun.flash ≡ as_flash.image flash → as_flash.failures begun.flash ≡ as_flash.failures flash → as_flash.asked flash [] begun.flash
     → LeftByDevice (as_flash.image flash) → Runs as_flash begun events before now ran → power_up ran.flash back → as_flash.image back ≡ as_flash.image ran.flash
-    → ((settings : Settings) (room : ℕ) → StartsWith (as_flash.image back) settings room → again.live ≡ started settings room)
-    → again.live ≡ started again.live.values.stored again.live.values.room → StartsWith (as_flash.image back) again.live.values.stored again.live.values.room
+    → ((settings : Settings) (room : ℕ) → StartsWith (as_flash.image back) settings room → again.live ≡ started station.real settings room)
+    → again.live ≡ started station.real again.live.values.stored again.live.values.room → StartsWith (as_flash.image back) again.live.values.stored again.live.values.room
     → again.station ≡ ran.station → as_flash.image again.flash ≡ as_flash.image back → as_flash.failures again.flash ≡ as_flash.failures back → as_flash.asked back [] again.flash
     → Restarts as_flash power_up station flash first room events before now again
 unfolding device_of
@@ -109,7 +109,7 @@ cycle_restarts as_flash power_up station flash first room events before now begu
       back = back;
       powered = powered;
       cycled = cycled;
-      has = ends_made (as_flash.image back) _ first again.live known (subst (λ i. LegalEnd i end.accepted first) (sym kept) (cycled.safe.legal refl left));
+      has = ends_made station (as_flash.image back) _ first again.live known (subst (λ i. LegalEnd i end.accepted first) (sym kept) (cycled.safe.legal refl left));
       clean = λ fine.
           known end.live.values.stored end.live.values.room
           (subst (λ i. StartsWith i end.live.values.stored end.live.values.room) (sym kept)
@@ -122,10 +122,10 @@ cycle_restarts as_flash power_up station flash first room events before now begu
 -- The same if the start may be refused.
 pub restarts_if : {F : Type 0} {S : ℕ} (as_flash : Flash F S) (power_up : F → F → Type 0) (station : Station) (flash : F) (first : Settings) (room : ℕ)
     (events : List Event) (before now : List (List ℕ)) (begun ran : State F) (back : F) (again : Result (State F) (BootFault × F))
-    → begun.live ≡ started first room → begun.station ≡ station → as_flash.image begun.flash ≡ as_flash.image flash → as_flash.failures begun.flash ≡ as_flash.failures flash → as_flash.asked flash [] begun.flash
+    → begun.live ≡ started station.real first room → begun.station ≡ station → as_flash.image begun.flash ≡ as_flash.image flash → as_flash.failures begun.flash ≡ as_flash.failures flash → as_flash.asked flash [] begun.flash
     → LeftByDevice (as_flash.image flash) → Runs as_flash begun events before now ran → power_up ran.flash back → as_flash.image back ≡ as_flash.image ran.flash
-    → ((settings : Settings) (room : ℕ) → StartsWith (as_flash.image back) settings room → MatchResult again (λ device. device.live ≡ started settings room) (λ refused. refused.0 ≡ FlashFault))
-    → IfOk again (λ device. device.live ≡ started device.live.values.stored device.live.values.room)
+    → ((settings : Settings) (room : ℕ) → StartsWith (as_flash.image back) settings room → MatchResult again (λ device. device.live ≡ started station.real settings room) (λ refused. refused.0 ≡ FlashFault))
+    → IfOk again (λ device. device.live ≡ started station.real device.live.values.stored device.live.values.room)
     → IfOk again (λ device. StartsWith (as_flash.image back) device.live.values.stored device.live.values.room)
     → IfOk again (λ device. device.station ≡ ran.station)
     → MatchResult again (λ device. as_flash.image device.flash ≡ as_flash.image back) (λ refused. as_flash.image refused.1 ≡ as_flash.image back)
@@ -150,7 +150,7 @@ refuses_from as_flash flash fault left cause same none_asked foreign = record {
 -- A start after the cycle that is refused.
 pub refused_if : {F : Type 0} {S : ℕ} (as_flash : Flash F S) (power_up : F → F → Type 0) (station : Station) (flash : F) (events : List Event)
     (before now : List (List ℕ)) (begun ran : State F) (back : F) (again : Result (State F) (BootFault × F))
-    → begun.live ≡ started begun.live.values.stored begun.live.values.room → begun.station ≡ station
+    → begun.live ≡ started station.real begun.live.values.stored begun.live.values.room → begun.station ≡ station
     → StartsWith (as_flash.image flash) begun.live.values.stored begun.live.values.room → as_flash.image begun.flash ≡ as_flash.image flash → as_flash.failures begun.flash ≡ as_flash.failures flash → as_flash.asked flash [] begun.flash
     → Runs as_flash begun events before now ran → power_up ran.flash back → as_flash.image back ≡ as_flash.image ran.flash
     → IfErr again (λ refused. refused.0 ≡ Foreign → IsForeign (as_flash.image back))

@@ -4,6 +4,7 @@ use Rattle.std.proofs.Common.{◌≡◌, ◌≢◌, ◌≤◌, ℕ, false, List,
 use Rattle.std.proofs.lemmas.List.{append-nil, map-append}
 use Rattle.flash_model.specs.declared.flash.Flash.{Ghosts as Flash}
 use Rattle.pn_values.specs.declared.mac.Mac.{Mac}
+use Rattle.pn_values.specs.declared.real.Real.{Real}
 use Rattle.pn_values.specs.declared.set_item.SetItem.{SetItem}
 use Rattle.pn_values.specs.declared.set_item.BlockError.{BlockError}
 use Rattle.pn_values.specs.declared.settings.Settings.{Settings}
@@ -333,7 +334,7 @@ again_step as_flash old new heard frames said steps call frame served reported =
     }
 
 -- The values of a store that has just started, and nothing else.
-pub as_started : (values : store.Values) (settings : Settings) (room : ℕ) → values.running ≡ values.stored → values.has_failed ≡ false → values.is_lost ≡ false
-    → values.stored ≡ settings → values.room ≡ room → record { values = values; rest = at_start } ≡ started settings room
-as_started values settings room running failed lost stored left =
-    same_live _ _ (same_values values (started settings room).values (running ∙ stored) stored left failed lost) refl
+pub as_started : (given : Real) (values : store.Values) (settings : Settings) (room : ℕ) → values.running ≡ values.stored → values.has_failed ≡ false → values.is_lost ≡ false
+    → values.stored ≡ settings → values.room ≡ room → record { values = values; rest = at_start given } ≡ started given settings room
+as_started given values settings room running failed lost stored left =
+    same_live _ _ (same_values values (started given settings room).values (running ∙ stored) stored left failed lost) refl

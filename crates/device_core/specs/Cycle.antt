@@ -11,6 +11,7 @@ use Rattle.settings_journal.specs.settings_store.Legal.{CrashSafe, made_of}
 use Rattle.settings_journal.specs.settings_store.Carries.{IsCaused}
 use Rattle.relations.specs.Exchanged.{output_in}
 use Rattle.device_frames.specs.declared.event.Event.{Event}
+use Rattle.pn_values.specs.declared.real.Real.{Real}
 use Rattle.device_core.specs.State.{Station, State, Live, at_start}
 use Rattle.device_core.specs.Machine.{Ran, run_of}
 use Rattle.relations.specs.Outputs.{output_of, zero_output}
@@ -18,15 +19,15 @@ use Rattle.device_core.specs.Steps.{EventByEvent, AnswersBy}
 
 -- A device as it starts: the stored settings are the running settings, no commit failed, there is power, and nothing
 -- else remains of an earlier cycle.
-abbrev pub started : Settings → ℕ → Live
-started settings room = record {
+abbrev pub started : Real → Settings → ℕ → Live
+started given settings room = record {
   values = record { running = settings; stored = settings; room = room; has_failed = false; is_lost = false };
-  rest = at_start;
+  rest = at_start given;
 }
 
 -- The events of a cycle that begins with the first settings, and with room for this many commits.
 abbrev pub cycle_of : List (List Outcome) → Station → Settings → ℕ → List Event → Ran
-cycle_of outcomes station first room events = run_of outcomes station (started first room) events
+cycle_of outcomes station first room events = run_of outcomes station (started station.real first room) events
 
 -- The settings that all accepted commands make of the first ones, or all but a last one that was not answered 'done'.
 abbrev pub IsMadeOf : List Accepted → Settings → Settings → Type 0
@@ -40,9 +41,9 @@ IsMadeOf accepted first settings =
 pub record Cycled {F : Type 0} {S : ℕ} (as_flash : Flash F S) (station : Station) (flash : F) (first : Settings) (room : ℕ) (events : List Event) (before now : List (List ℕ)) (outcomes : List (List Outcome)) (lost : F) : Type 0 where
   pub begun : F
   pub begins : (as_flash.image begun ≡ as_flash.image flash) × (as_flash.failures begun ≡ as_flash.failures flash) × as_flash.asked flash [] begun
-  pub caused : IsCaused (as_flash.failures flash) (as_flash.failures lost) (started first room).values (cycle_of outcomes station first room events).live.values
+  pub caused : IsCaused (as_flash.failures flash) (as_flash.failures lost) (started station.real first room).values (cycle_of outcomes station first room events).live.values
   pub inactive : (cycle_of outcomes station first room events).live.values.has_failed ≡ false → outcomes ≡ []
-  pub placed : EventByEvent as_flash outcomes station begun (started first room) events lost
+  pub placed : EventByEvent as_flash outcomes station begun (started station.real first room) events lost
   pub handed_on : now ≡ before ++ (cycle_of outcomes station first room events).frames
   pub safe : CrashSafe false first (cycle_of outcomes station first room events).accepted (as_flash.image flash) (as_flash.image lost)
   pub untouched : (cycle_of outcomes station first room events).accepted ≡ [] → lost ≡ begun
@@ -51,7 +52,7 @@ pub record Cycled {F : Type 0} {S : ℕ} (as_flash : Flash F S) (station : Stati
 -- those that the image is read as, Identify is answered only with them, and each output is zeros.
 pub record IsStarted {F : Type 0} {S : ℕ} (as_flash : Flash F S) (station : Station) (device : State F) : Type 0 where
   pub station_is : device.station ≡ station
-  pub nothing_else : device.live ≡ started device.live.values.stored device.live.values.room
+  pub nothing_else : device.live ≡ started station.real device.live.values.stored device.live.values.room
   pub starts : StartsWith (as_flash.image device.flash) device.live.values.stored device.live.values.room
   pub answers : AnswersBy station device.live.values.stored device.live
   pub shows : (slot subslot : ℕ) → output_of station.real slot subslot (output_in slot subslot device.live.rest.link) ≡ zero_output station.real slot subslot
@@ -60,8 +61,8 @@ pub record IsStarted {F : Type 0} {S : ℕ} (as_flash : Flash F S) (station : St
 -- those that the content is read as, and nothing else remains of an earlier cycle.
 pub record IsStartedFrom {F : Type 0} {S : ℕ} (as_flash : Flash F S) (station : Station) (flash : F) (device : State F) : Type 0 where
   pub station_is : device.station ≡ station
-  pub known : (settings : Settings) (room : ℕ) → StartsWith (as_flash.image flash) settings room → device.live ≡ started settings room
-  pub fresh : device.live ≡ started device.live.values.stored device.live.values.room
+  pub known : (settings : Settings) (room : ℕ) → StartsWith (as_flash.image flash) settings room → device.live ≡ started station.real settings room
+  pub fresh : device.live ≡ started station.real device.live.values.stored device.live.values.room
   pub starts : StartsWith (as_flash.image flash) device.live.values.stored device.live.values.room
   pub image_is : as_flash.image device.flash ≡ as_flash.image flash
   pub failures_are : as_flash.failures device.flash ≡ as_flash.failures flash
@@ -80,7 +81,7 @@ pub record Restarts {F : Type 0} {S : ℕ} (as_flash : Flash F S) (power_up : F 
   pub cycled : Cycled as_flash station flash first room events before now outcomes lost
   pub has : IsMadeOf (cycle_of outcomes station first room events).accepted first restarted.live.values.stored
   pub clean : (cycle_of outcomes station first room events).live.values.has_failed ≡ false →
-      restarted.live ≡ started (cycle_of outcomes station first room events).live.values.stored (cycle_of outcomes station first room events).live.values.room
+      restarted.live ≡ started station.real (cycle_of outcomes station first room events).live.values.stored (cycle_of outcomes station first room events).live.values.room
   pub is_started : IsStarted as_flash station restarted
   pub left : LeftByDevice (as_flash.image restarted.flash)
   pub same : (as_flash.image restarted.flash ≡ as_flash.image lost) × (as_flash.failures restarted.flash ≡ as_flash.failures back) × as_flash.asked back [] restarted.flash

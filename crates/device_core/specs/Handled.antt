@@ -16,7 +16,7 @@ use Rattle.dcp_core.specs.Request.{Asked}
 use Rattle.dcp_core.specs.Identify.{matches}
 use Rattle.rpc_core.specs.declared.response.Status.{Status}
 use Rattle.rpc_core.specs.Call.{Asked as Call}
-use Rattle.rpc_core.specs.Response.{answer_to}
+use Rattle.rpc_core.specs.Response.{Answered, answer_to}
 use Rattle.rpc_core.specs.Cache.{Kept, Reported as Looked, new, again, old, looked, kept_more}
 use Rattle.records.specs.declared.status.operation.Operation.{Operation}
 use Rattle.records.specs.declared.status.operation.Operation.TheVariants.{Connect, Release, Read, Write, Control, ReadImplicit}
@@ -44,6 +44,10 @@ use Rattle.relations.specs.declared.exchange.statuses.InputStatus.{InputStatus}
 use Rattle.relations.specs.exchange.Statuses.{statuses_at}
 use Rattle.relations.specs.exchange.Marks.{Starting}
 use Rattle.module_diff.specs.Plugged.{submodule_ident}
+use Rattle.module_diff.specs.declared.changes.RealChange.{RealChange}
+use Rattle.module_diff.specs.Changes.{affected_by, plugged_with, pulled, slot_pulled}
+use Rattle.pn_values.specs.declared.real.RealModule.{RealModule}
+use Rattle.pn_values.specs.declared.real.RealSubmodule.{RealSubmodule}
 use Rattle.diagnosis.specs.Existing.{changed}
 use Rattle.diagnosis.specs.declared.diagnosis.Change.{Change}
 use Rattle.diagnosis.specs.declared.diagnosis.Diagnosis.{Diagnosis}
@@ -52,7 +56,10 @@ use Rattle.relations.specs.Exchanged.{given_to, heard_by, hearing, raised_to, ra
 use Rattle.relations.specs.declared.hearing.ReadyAnswer.{ReadyAnswer}
 use Rattle.relations.specs.declared.hearing.ReadyAnswer.TheVariants as to_ready
 use Rattle.relations.specs.declared.phase.Partner.{Partner}
-use Rattle.relations.specs.RelationState.{RelationState, uuid_of, flow_of, is_alarm_of, is_preparing, phase_of}
+use Rattle.relations.specs.RelationState.{RelationState, uuid_of, flow_of, is_alarm_of, is_in_exchange, is_preparing, phase_of}
+use Rattle.relations.specs.declared.plugging.PlugAnswer.{PlugAnswer}
+use Rattle.relations.specs.declared.plugging.PlugAnswer.TheVariants as to_plug
+use Rattle.relations.specs.Plugging.{calling_next, is_crowded, is_plug_control, is_readied_in, plug_answer_in, plug_answering, plug_end_answer, plug_end_in, plug_ending, readying_at}
 use Rattle.device_records.specs.Reading.{implicit_read, relation_read}
 use Rattle.device_records.specs.Sources.{Known}
 use Rattle.relations.specs.Calls.{prm_end_of, release_of, prm_end_answer, release_answer}
@@ -68,6 +75,7 @@ use Rattle.device_frames.specs.declared.note.Note.TheVariants as note
 use Rattle.frame_codec.specs.declared.udp.Caller.{Caller}
 use Rattle.lldp.specs.Peer.{Peer}
 use Rattle.device_core.specs.State.{Station, Rest, Live, alias_in, counter_of, units_after}
+use Rattle.device_core.specs.Modules.{call_after, calling_after, changed_rest, next_call_sent, outside, plug_of, pull_of, sent_after, slot_pull_of}
 use Rattle.device_core.specs.Several.{Judged, judged_each}
 use Rattle.device_core.specs.Log.{arguments_log, but_rest, connect_log, end_log, err_log, release_log, with_log}
 use Rattle.device_frames.specs.Relation.{alarms_of, due_frames, low_alarms_of, low_replies_of, ready_calls, replies_of, where_due}
@@ -183,7 +191,7 @@ handled_effect station live caller call header (Keeps parameter) =
 abbrev pub handled_write : Station → Live → Caller → Call → Result Writing CallFault → Handled
 handled_write station live caller call (Ok (One write)) = handled_effect station live caller call write.request write.effect
 handled_write station live caller call (Ok (Each header entries)) =
-    WritesEach caller live.values.running.suite.address call header (judged_each (uuid_of live.rest.link) station.real entries)
+    WritesEach caller live.values.running.suite.address call header (judged_each (uuid_of live.rest.link) live.rest.real entries)
 handled_write station live caller call (Err fault) = served station live caller call Write (Err fault) live.rest.link []
 
 -- The number of a relation that begins now.
@@ -216,29 +224,42 @@ known_of station live = record {
   diagnoses = live.rest.diagnoses;
 }
 
--- A new call, by its operation.
-abbrev pub handled_new : Station → Live → Caller → Call → List ℕ → Operation → Handled
-handled_new station live caller call blocks Connect =
-    let options = station.options in
-    let answer = connect_answer station.identity station.real options (number_now station live) caller.mac live.rest.link blocks in
-    served station (but_rest live (counted_by answer (with_log (connect_log blocks answer) live.rest))) caller call Connect answer
-    (updated (making station.real (partner_of caller) options (starting_of station live) (connect_within options caller.mac live.rest.link blocks)) live.rest.link) []
-handled_new station live caller call blocks Release =
-    let answer = release_answer live.rest.link blocks in
-    served station (but_rest live (with_log (release_log (uuid_of live.rest.link) answer) live.rest)) caller call Release answer
-    (updated (answered Ended (release_of live.rest.link blocks)) live.rest.link) []
-handled_new station live caller call blocks Read =
-    let read = relation_read (known_of station live) station.identity station.real live.values.running blocks in
-    served station live caller call Read read (updated (answered (Named (partner_of caller)) read) live.rest.link) []
-handled_new station live caller call blocks Write = handled_write station live caller call (writing_of (uuid_of live.rest.link) station.real blocks)
-handled_new station live caller call blocks Control =
+-- A PrmEnd, and what follows it.
+abbrev pub handled_prm_end : Station → Live → Caller → Call → List ℕ → Handled
+handled_prm_end station live caller call blocks =
     let ended = prm_end_of live.rest.link blocks in
     let by_application = station.options.ready_by_application in
     let link = updated (answered (Named (partner_of caller)) ended) (updated (answered (Parameterized by_application) ended) live.rest.link) in
     served station live caller call Control (prm_end_answer live.rest.link blocks) link
     (ready_behind by_application live.values.running.suite.address link ended)
+
+-- A PrmEnd after a plug: its answer, and after it the next ApplicationReady of a plug, if one is called.
+abbrev pub handled_plug_end : Station → Live → Caller → Call → List ℕ → Handled
+handled_plug_end station live caller call blocks =
+    let ended = plug_end_in blocks live.rest.link in
+    let link = updated (answered (Named (partner_of caller)) ended) (plug_ending station.options.ready_by_application blocks live.rest.link) in
+    served station live caller call Control (plug_end_answer ended) (calling_after ended link) (call_after ended live.values.running.suite.address link)
+
+-- A new call, by its operation.
+abbrev pub handled_new : Station → Live → Caller → Call → List ℕ → Operation → Handled
+handled_new station live caller call blocks Connect =
+    let options = station.options in
+    let answer = connect_answer station.identity live.rest.real options (number_now station live) caller.mac live.rest.link blocks in
+    served station (but_rest live (counted_by answer (with_log (connect_log blocks answer) live.rest))) caller call Connect answer
+    (updated (making live.rest.real (partner_of caller) options (starting_of station live) (connect_within options caller.mac live.rest.link blocks)) live.rest.link) []
+handled_new station live caller call blocks Release =
+    let answer = release_answer live.rest.link blocks in
+    served station (but_rest live (with_log (release_log (uuid_of live.rest.link) answer) live.rest)) caller call Release answer
+    (updated (answered Ended (release_of live.rest.link blocks)) live.rest.link) []
+handled_new station live caller call blocks Read =
+    let read = relation_read (known_of station live) station.identity live.rest.real live.values.running blocks in
+    served station live caller call Read read (updated (answered (Named (partner_of caller)) read) live.rest.link) []
+handled_new station live caller call blocks Write = handled_write station live caller call (writing_of (uuid_of live.rest.link) live.rest.real blocks)
+handled_new station live caller call blocks Control =
+    if is_plug_control blocks live.rest.link then handled_plug_end station live caller call blocks
+    else handled_prm_end station live caller call blocks
 handled_new station live caller call blocks ReadImplicit =
-    let read = implicit_read (known_of station live) station.identity station.real live.values.running blocks in
+    let read = implicit_read (known_of station live) station.identity live.rest.real live.values.running blocks in
     served station live caller call ReadImplicit read (updated (answered (implicitly (partner_of caller) live.rest.link blocks) read) live.rest.link) []
 
 -- A call by the result of the cache: it is answered as new, or again with the same frame, or it is older than an
@@ -264,7 +285,7 @@ handled_call station live caller call (Some operation) = handled_blocks station 
 -- ApplicationReady is confirmed: what exists of diagnosis is reported, and the first alarm of it is sent.
 abbrev pub handled_beginning : Station → Live → Option RelationState → Handled
 handled_beginning station live link =
-    let real = station.real.modules.items in
+    let real = live.rest.real.modules.items in
     let reported = updated (beginning real live.rest.diagnoses link) link in
     Moves (record live.rest { link = reported }) (where_due (begin_one real live.rest.diagnoses link) (low_alarms_of (flow_of reported)))
 
@@ -277,10 +298,29 @@ handled_answer station live (to_ready.Refused farewell) =
     Moves (with_log (err_log (Some farewell)) (record live.rest { link = updated (handled_by (to_ready.Refused farewell)) live.rest.link }))
     (Ends farewell ∷ [])
 
--- What a datagram does: a call, a response to ApplicationReady, or octets that are neither.
+-- A response of the controller while data is exchanged, by what it means to the ApplicationReady of a plug: then the next one is
+-- called, if one may be.
+abbrev pub handled_next_call : Live → Option RelationState → Handled
+handled_next_call live link =
+    Moves (record live.rest { link = calling_next link }) (next_call_sent live.values.running.suite.address link)
+
+-- A response while data is exchanged: once the ApplicationReady of a plug is answered, also by a refusal, the next one is called.
+abbrev pub handled_plug_answer : Live → Answered → PlugAnswer → Handled
+handled_plug_answer live response to_plug.NotWanted = Refuses note.NoRelation
+handled_plug_answer live response to_plug.Garbled = Refuses note.Fault
+handled_plug_answer live response to_plug.Confirmed = handled_next_call live (plug_answering response live.rest.link)
+handled_plug_answer live response to_plug.Refused = handled_next_call live (plug_answering response live.rest.link)
+
+-- A response: to ApplicationReady, or, while data is exchanged, to that of a plug.
+abbrev pub handled_response : Station → Live → Answered → Handled
+handled_response station live response =
+    if is_in_exchange live.rest.link then handled_plug_answer live response (plug_answer_in response live.rest.link)
+    else handled_answer station live (ready_answer response live.rest.link)
+
+-- What a datagram does: a call, a response, or octets that are neither.
 abbrev pub handled_said : Station → Live → Caller → Said → Handled
 handled_said station live caller (Calls call) = handled_call station live caller call (operation_of call.header.operation)
-handled_said station live caller (Responds response) = handled_answer station live (ready_answer response live.rest.link)
+handled_said station live caller (Responds response) = handled_response station live response
 handled_said station live caller Garbled = Refuses note.Fault
 
 -- The address is checked first.
@@ -326,7 +366,7 @@ kept_status live slot subslot is_good None = Refuses note.Refused
 abbrev pub handled_rated : Station → Live → ℕ → ℕ → Bool → Handled
 handled_rated station live slot subslot is_good =
     kept_status live slot subslot is_good
-    (statuses_at station.real.modules.items (record { slot = slot; subslot = subslot; is_good = is_good }) live.rest.statuses)
+    (statuses_at live.rest.real.modules.items (record { slot = slot; subslot = subslot; is_good = is_good }) live.rest.statuses)
 
 -- The application runs from now on, or is stopped: it is kept, and the relation follows.
 abbrev pub handled_turned : Live → Bool → Handled
@@ -341,7 +381,7 @@ handled_met live peer = Moves (record live.rest { peer = peer }) []
 -- low priority is active. Or the change is refused.
 abbrev pub handled_change : Station → Live → Change → Option (List Diagnosis) → Handled
 handled_change station live change (Some diagnoses) =
-    let real = station.real.modules.items in
+    let real = live.rest.real.modules.items in
     let link = updated (diagnosing real change diagnoses live.rest.link) live.rest.link in
     Moves (record live.rest { link = link; diagnoses = diagnoses })
     (where_due (diagnose_one real change diagnoses live.rest.link) (low_alarms_of (flow_of link)))
@@ -350,7 +390,7 @@ handled_change station live change None = Refuses note.Refused
 -- It is refused for what is not plugged, and while no further change can wait.
 abbrev pub may_be_diagnosed : Station → Live → Change → Bool
 may_be_diagnosed station live change =
-    is_some (submodule_ident station.real.modules.items change.diagnosis.slot change.diagnosis.subslot) && not (is_full_in live.rest.link)
+    is_some (submodule_ident live.rest.real.modules.items change.diagnosis.slot change.diagnosis.subslot) && not (is_full_in live.rest.link)
 
 -- What a change of diagnosis does.
 abbrev pub handled_diagnosed : Station → Live → Change → Handled
@@ -368,7 +408,7 @@ handled_notice live None = Refuses note.Refused
 
 -- What a process alarm does that the application raises.
 abbrev pub handled_raised : Station → Live → ℕ → ℕ → List ℕ → Handled
-handled_raised station live slot subslot octets = handled_notice live (raised_to station.real.modules.items slot subslot octets live.rest.link)
+handled_raised station live slot subslot octets = handled_notice live (raised_to live.rest.real.modules.items slot subslot octets live.rest.link)
 
 -- The application is ready: ApplicationReady is sent if the relation waited for that, else it is refused.
 abbrev pub handled_ready : Live → Handled
@@ -382,6 +422,35 @@ abbrev pub change_of : (slot subslot channel error : ℕ) → Bool → Change
 change_of slot subslot channel error appears =
     record { diagnosis = record { slot = slot; subslot = subslot; channel = channel; error = error }; appears = appears }
 
+-- The modules are these now, if there is a change and its alarm could wait.
+abbrev pub handled_modules : Live → RealChange → Option (List RealModule) → Handled
+handled_modules live made None = Refuses note.Refused
+handled_modules live made (Some real) =
+    if is_crowded (affected_by made) live.rest.link then Refuses note.Refused
+    else Moves (changed_rest live.rest made real) (sent_after live made real)
+
+-- A submodule is pulled, a module is pulled, a submodule is plugged.
+abbrev pub handled_pull : Live → ℕ → ℕ → Handled
+handled_pull live slot subslot =
+    let real = live.rest.real.modules.items in
+    handled_modules live (pull_of real slot subslot) (outside slot (pulled slot subslot real))
+
+-- A module is pulled.
+abbrev pub handled_pull_module : Live → ℕ → Handled
+handled_pull_module live slot =
+    let real = live.rest.real.modules.items in
+    handled_modules live (slot_pull_of real slot) (outside slot (slot_pulled slot real))
+
+-- A submodule is plugged.
+abbrev pub handled_plug : Live → ℕ → ℕ → RealSubmodule → Handled
+handled_plug live slot ident part = handled_modules live (plug_of slot ident part) (plugged_with slot ident part live.rest.real.modules.items)
+
+-- The application is ready for the plug at a place, which waited for that: the next ApplicationReady is called.
+abbrev pub handled_ready_at : Live → ℕ → ℕ → Handled
+handled_ready_at live slot subslot =
+    if is_readied_in slot subslot live.rest.link then handled_next_call live (readying_at slot subslot live.rest.link)
+    else Refuses note.Refused
+
 -- What the application says, by its cases.
 abbrev pub handled_local : Station → Live → Local (ArrayVec ℕ) → Handled
 handled_local station live (local.Input slot subslot value) = handled_given live slot subslot value.items
@@ -389,6 +458,10 @@ handled_local station live (local.Alarm slot subslot octets) = handled_raised st
 handled_local station live (local.Status slot subslot is_good) = handled_rated station live slot subslot is_good
 handled_local station live (local.Diagnosis slot subslot channel error appears) =
     handled_diagnosed station live (change_of slot subslot channel error appears)
+handled_local station live (local.Pull slot subslot) = handled_pull live slot subslot
+handled_local station live (local.PullModule slot) = handled_pull_module live slot
+handled_local station live (local.Plug slot ident part) = handled_plug live slot ident part
+handled_local station live (local.ReadyAt slot subslot) = handled_ready_at live slot subslot
 handled_local station live local.Ready = handled_ready live
 handled_local station live (local.ProviderState is_running) = handled_turned live is_running
 
@@ -414,9 +487,8 @@ handled_alarm live source header message =
 -- an ACK counts or does not.
 abbrev pub handled_low_pdu : Station → Live → PduFate → Option RelationState → Handled
 handled_low_pdu station live (fate.Data taken) link =
-    let real = station.real.modules.items in
-    let next = updated (reporting real link) link in
-    goes_on_with live next (low_replies_of taken (flow_of link) ++ where_due (report_one real link) (low_alarms_of (flow_of next)))
+    let next = updated (reporting link) link in
+    goes_on_with live next (low_replies_of taken (flow_of link) ++ where_due (report_one link) (low_alarms_of (flow_of next)))
 handled_low_pdu station live fate.Done link = goes_on_with live link []
 handled_low_pdu station live fate.Ignored link = Refuses note.Filter
 handled_low_pdu station live (fate.Aborted status) link = Refuses note.Filter

@@ -1,6 +1,7 @@
 pub mod State
 pub mod Several
 pub mod Log
+pub mod Modules
 pub mod Handled
 pub mod Machine
 pub mod Faults

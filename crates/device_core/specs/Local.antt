@@ -2,7 +2,10 @@
 use Rattle.std.specs.Prelude.{◌≡◌, ◌⊎◌, ℕ, Bool, List, [], Option, Some, None}
 use Rattle.std.specs.List.{AllByRecursion}
 use Rattle.arrayvec.specs.ArrayVec.{ArrayVec}
+use Rattle.pn_values.specs.declared.real.Real.{Real}
+use Rattle.pn_values.specs.declared.real.RealModule.{RealModule}
 use Rattle.pn_values.specs.declared.set_item.BlockError.{BlockError}
+use Rattle.module_diff.specs.Changes.{plugged_with, pulled, slot_pulled}
 use Rattle.cyclic_data.specs.declared.exchange.route.Route.{Route}
 use Rattle.cyclic_data.specs.Timing.{Hearing}
 use Rattle.relations.specs.declared.phase.Phase.{Phase}
@@ -10,10 +13,13 @@ use Rattle.relations.specs.declared.phase.Phase.TheVariants.{Preparing, Awaiting
 use Rattle.relations.specs.exchange.Flow.{Flow}
 use Rattle.relations.specs.RelationState.{RelationState}
 use Rattle.device_frames.specs.declared.local.Local.{Local}
-use Rattle.device_frames.specs.Sent.{Sent, IdentifyAnswer, GetAnswer, SetAnswer, ArpReply, CallAnswer, Again, ReadyCall, Ends, Exchanges}
+use Rattle.device_frames.specs.declared.local.Local.TheVariants as local
+use Rattle.device_frames.specs.Heard.{Heard, Ticks, Unreadable, Elsewhere, Asks, Resolves, Reported, Cyclic, Alarms, LowReplies, LowConfirms, Met, Applied}
+use Rattle.device_frames.specs.Sent.{Sent, IdentifyAnswer, GetAnswer, SetAnswer, ArpReply, CallAnswer, Again, ReadyCall, PlugReadyCall, Ends, Exchanges}
 use Rattle.device_core.specs.State.{Station, Rest, Live}
-use Rattle.device_core.specs.Handled.{Handled, handled_local}
+use Rattle.device_core.specs.Handled.{Handled, handled, handled_local}
 use Rattle.device_core.specs.Machine.{finished, items_in}
+use Rattle.device_core.specs.Modules.{outside}
 
 -- The phase is the one before, or the application is ready.
 abbrev pub IsPhaseOf : Phase → Phase → Type 0
@@ -39,7 +45,7 @@ IsRelationOf None after = after ≡ None
 IsRelationOf (Some before) None = ⊥
 IsRelationOf (Some before) (Some after) = IsLinkOf before after
 
--- A message of the relation: a frame of its exchange, or ApplicationReady.
+-- A message of the relation: a frame of its exchange, ApplicationReady, or that of a plug.
 abbrev pub IsOfRelation : Sent → Type 0
 IsOfRelation (IdentifyAnswer asker running xid) = ⊥
 IsOfRelation (GetAnswer asker running alias request) = ⊥
@@ -48,19 +54,60 @@ IsOfRelation (ArpReply asker address target) = ⊥
 IsOfRelation (CallAnswer caller address answer) = ⊥
 IsOfRelation (Again frame) = ⊥
 IsOfRelation (ReadyCall address ready) = Unit {0}
+IsOfRelation (PlugReadyCall address ready) = Unit {0}
 IsOfRelation (Ends farewell) = ⊥
 IsOfRelation (Exchanges route frame) = Unit {0}
 
--- It asks nothing of the settings. Of the rest only the relation, whether the application runs, the statuses and the diagnoses
--- can change, whatever the settings answer: the lamp, the stored answers, the units, the log, the neighbour and the count of
--- relations stay. The relation stays too, with the time that it has. Only frames of the relation are sent.
-pub record IsLocal (station : Station) (live : Live) (what : Handled) : Type 0 where
+-- What a pull or a plug makes of the modules, if it is possible; nothing else changes them.
+abbrev pub modules_by : Local (ArrayVec ℕ) → List RealModule → Option (List RealModule)
+modules_by (local.Input slot subslot value) real = None
+modules_by (local.Alarm slot subslot octets) real = None
+modules_by (local.Status slot subslot is_good) real = None
+modules_by (local.Diagnosis slot subslot channel error appears) real = None
+modules_by (local.Pull slot subslot) real = outside slot (pulled slot subslot real)
+modules_by (local.PullModule slot) real = outside slot (slot_pulled slot real)
+modules_by (local.Plug slot ident part) real = plugged_with slot ident part real
+modules_by (local.ReadyAt slot subslot) real = None
+modules_by local.Ready real = None
+modules_by (local.ProviderState is_running) real = None
+
+-- The modules after it are these, or it is refused and they are as before.
+abbrev pub IsRealOf : Option (List RealModule) → Real → Real → Type 0
+IsRealOf None before after = after ≡ before
+IsRealOf (Some made) before after = (after ≡ record { modules = record { items = made } }) ⊎ (after ≡ before)
+
+-- It asks nothing of the settings. Of the rest only the relation, whether the application runs, the statuses, the diagnoses and, by a
+-- pull or a plug, the modules can change, whatever the settings answer: the lamp, the stored answers, the units, the log, the neighbour
+-- and the count of relations stay. The relation stays too, with the time that it has. Only frames of the relation are sent.
+pub record IsLocal (station : Station) (live : Live) (made : Option (List RealModule)) (what : Handled) : Type 0 where
   pub asks : items_in what ≡ []
   pub keeps : (answers : List BlockError) → let rest = (finished station.identity live.rest what answers).rest in
-      rest ≡ record live.rest { link = rest.link; is_running = rest.is_running; statuses = rest.statuses; diagnoses = rest.diagnoses }
+      rest ≡ record live.rest { link = rest.link; is_running = rest.is_running; statuses = rest.statuses; diagnoses = rest.diagnoses; real = rest.real }
+  pub real : (answers : List BlockError) → IsRealOf made live.rest.real (finished station.identity live.rest what answers).rest.real
   pub link : (answers : List BlockError) → IsRelationOf live.rest.link (finished station.identity live.rest what answers).rest.link
   pub sends : (answers : List BlockError) → AllByRecursion IsOfRelation (finished station.identity live.rest what answers).sent
 
 -- Each event of the application is such.
 abbrev pub ApplicationIsLocal : Type 0
-ApplicationIsLocal = (station : Station) (live : Live) (said : Local (ArrayVec ℕ)) → IsLocal station live (handled_local station live said)
+ApplicationIsLocal = (station : Station) (live : Live) (said : Local (ArrayVec ℕ)) →
+    IsLocal station live (modules_by said live.rest.real.modules.items) (handled_local station live said)
+
+-- What is real after an event: by a pull or a plug what it makes of the modules, or as before, and by any other event as before.
+abbrev pub IsRealBehind : Heard → Real → Real → Type 0
+IsRealBehind (Asks asker request) before after = after ≡ before
+IsRealBehind (Resolves asker packet) before after = after ≡ before
+IsRealBehind (Reported caller address said) before after = after ≡ before
+IsRealBehind (Alarms source header message) before after = after ≡ before
+IsRealBehind (LowReplies source header message) before after = after ≡ before
+IsRealBehind (LowConfirms source header message) before after = after ≡ before
+IsRealBehind (Cyclic source frame_id body) before after = after ≡ before
+IsRealBehind (Met peer) before after = after ≡ before
+IsRealBehind (Applied said) before after = IsRealOf (modules_by said before.modules.items) before after
+IsRealBehind Ticks before after = after ≡ before
+IsRealBehind Unreadable before after = after ≡ before
+IsRealBehind Elsewhere before after = after ≡ before
+
+-- So it is after each event, whatever the settings answer.
+abbrev pub OnlyPullsAndPlugsChangeModules : Type 0
+OnlyPullsAndPlugsChangeModules = (station : Station) (live : Live) (answers : List BlockError) (heard : Heard) →
+    IsRealBehind heard live.rest.real (finished station.identity live.rest (handled station live heard) answers).rest.real

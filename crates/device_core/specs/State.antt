@@ -14,7 +14,7 @@ use Rattle.relations.specs.Options.{default_options}
 use Rattle.relations.specs.declared.exchange.statuses.InputStatus.{InputStatus}
 use Rattle.relations.specs.RelationState.{RelationState}
 
--- The fixed properties of a device: its identity, the modules that are plugged, and its options.
+-- The fixed properties of a device: its identity, the modules that it was given, and its options.
 pub record Station : Type 0 where
   pub identity : Identity
   pub real : Real
@@ -31,7 +31,7 @@ plain identity real = station_with identity real default_options
 -- The state that a device has besides its settings, and loses with its power: the number of units for which the lamp
 -- still flashes, the answers to the last calls, newest first, its application relation, if there is one, the units since
 -- its start, modulo 2^64, whether its application runs, the statuses that the application gave to its inputs, the log, its neighbour, if one is known,
--- the diagnoses that exist, and how many relations it had since its start, modulo 14,336.
+-- the diagnoses that exist, how many relations it had since its start, modulo 14,336, and the modules that are plugged now.
 pub record Rest : Type 0 where
   pub lamp : ℕ
   pub calls : List Kept
@@ -43,6 +43,7 @@ pub record Rest : Type 0 where
   pub peer : Option Peer
   pub diagnoses : List Diagnosis
   pub made : ℕ
+  pub real : Real
 
 -- The units one unit later, and several units later.
 abbrev pub units_after : ℕ → ℕ → ℕ
@@ -53,9 +54,9 @@ abbrev pub counter_of : ℕ → ℕ
 counter_of units = units % 65536
 
 -- The rest as a device starts: the lamp is off, no answer is kept, there is no relation, the application runs and gave no status, the
--- log is empty, no neighbour is known, no diagnosis exists, and it had no relation.
-abbrev pub at_start : Rest
-at_start = record { lamp = 0; calls = []; link = None; units = 0; is_running = true; statuses = []; log = []; peer = None; diagnoses = []; made = 0 }
+-- log is empty, no neighbour is known, no diagnosis exists, it had no relation, and the given modules are plugged.
+abbrev pub at_start : Real → Rest
+at_start given = record { lamp = 0; calls = []; link = None; units = 0; is_running = true; statuses = []; log = []; peer = None; diagnoses = []; made = 0; real = given }
 
 -- The name of the station by its place (AliasName), while it knows its neighbour.
 abbrev pub alias_in : Option Peer → Option (List ℕ)

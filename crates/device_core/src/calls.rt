@@ -1,6 +1,6 @@
 // Calls, and their stored answers (IEC 61158-6-10, 4.10; C706, 9.5).
 ghost use Rattle.std.specs.Prelude.{◌≡◌, ◌<◌, ◌≤◌, ◌&&◌, [], ◌∷◌, Ok, Err, is_ok, length, not};
-ghost use Rattle.relations.specs.RelationState.{uuid_of};
+ghost use Rattle.relations.specs.RelationState.{is_in_exchange, uuid_of};
 ghost use Rattle.device_core.specs.Several.{judged_each};
 ghost use Rattle.arrayvec.specs.ArrayVec.{array_vec_len};
 ghost use Rattle.settings_journal.specs.settings_store.Carries.{Holds};
@@ -16,7 +16,7 @@ ghost use Rattle.device_frames.specs.Heard.{Heard as Hears, Reported, said_by};
 ghost use Rattle.device_frames.specs.Sendable.{IsSendable};
 ghost use Rattle.device_frames.specs.Sent.{bytes_of};
 ghost use Rattle.device_core.specs.Handled.{Writes, WritesEach, answer_from, came_with, count_after, kept_for, handled, handled_call, outcome_of, partner_of};
-ghost use Rattle.device_core.specs.Behind.{CanSend, answer_to, behind, brings, called, frames_of, responded, wrote};
+ghost use Rattle.device_core.specs.Behind.{CanSend, answer_to, behind, brings, called, exchanging_of, frames_of, parameters_ended, plug_ended, ready_responded, responded, wrote};
 ghost use Rattle.device_core.specs.Log.{arguments_log, with_log};
 ghost use Rattle.device_core.specs.State.{with_rest};
 ghost use Rattle.device_core.specs.Machine.{end_of, written_as as comes_out};
@@ -38,7 +38,7 @@ use records::{
     Blocks, CallFault, Effect, Entries, Operation, TakenRecord, Write, Writing, done, judge_write,
     names_relation, put_write_answer,
 };
-use relations::{Application, Partner, ReadyAnswer, made_after};
+use relations::{Application, Partner, Phase, ReadyAnswer, made_after};
 use rpc_core::{Call, CallCache, Interface, Looked, Response, Status, read_call, read_response};
 
 impl<F: Flash<S>, const S: usize> Device<F, S> {
@@ -70,14 +70,36 @@ impl<F: Flash<S>, const S: usize> Device<F, S> {
         }
     }
 
-    // A response of the controller: the relation may wait for that to ApplicationReady.
-    #[tactic(auto, using(crate::proofs::Logged::answer_leaves))]
+    // A response of the controller: the relation may wait for that to ApplicationReady, or, while data is exchanged, to that of a
+    // plug.
     fn hear_response(&mut self, response: &Response<'_>, outbox: &mut Outbox) -> Note
         requires empty { outbox.old.items ≡ [] }
         ensures state { self.new ≡ behind self.old (responded self.old response.now) }
         ensures frames { boxed outbox.new ≡ frames_of self.old (responded self.old response.now) }
         ensures sendable { CanSend self.old (responded self.old response.now) }
         ensures note { result ≡ (end_of self.old.station self.old.live (responded self.old response.now)).note }
+    {
+        if self.is_in_exchange() {
+            return self.hear_plug_response(response, outbox);
+        }
+        self.hear_ready_response(response, outbox)
+    }
+
+    // Whether data is exchanged in the relation.
+    fn is_in_exchange(&self) -> bool
+        ensures { result ≡ is_in_exchange self.now.live.rest.link }
+    {
+        is_exchanging(self.relation.phase())
+    }
+
+    // A response before data is exchanged.
+    #[tactic(auto, using(crate::proofs::Logged::answer_leaves))]
+    fn hear_ready_response(&mut self, response: &Response<'_>, outbox: &mut Outbox) -> Note
+        requires empty { outbox.old.items ≡ [] }
+        ensures state { self.new ≡ behind self.old (ready_responded self.old response.now) }
+        ensures frames { boxed outbox.new ≡ frames_of self.old (ready_responded self.old response.now) }
+        ensures sendable { CanSend self.old (ready_responded self.old response.now) }
+        ensures note { result ≡ (end_of self.old.station self.old.live (ready_responded self.old response.now)).note }
     {
         let heard = self.relation.hear_ready(response);
         log_answer(&mut self.log, self.units, &heard);
@@ -233,8 +255,7 @@ impl<F: Flash<S>, const S: usize> Device<F, S> {
         Note::Done
     }
 
-    // A PrmEnd that is accepted is answered, and then ApplicationReady is sent, unless the application says when it is
-    // ready.
+    // A PrmEnd, or, once the alarm of a plug was sent, one after a plug.
     #[inline(never)]
     fn control(&mut self, serving: &Serving<'_>, outbox: &mut Outbox) -> Note
         requires operation { serving.now.operation ≡ operation.Control }
@@ -242,6 +263,23 @@ impl<F: Flash<S>, const S: usize> Device<F, S> {
         ensures state { self.new ≡ behind self.old (called self.old serving.now operation.Control) }
         ensures frames { boxed outbox.new ≡ frames_of self.old (called self.old serving.now operation.Control) }
         ensures sendable { CanSend self.old (called self.old serving.now operation.Control) }
+        ensures note { result ≡ Note.Done }
+    {
+        if self.relation.is_plug_control(serving.blocks) {
+            return self.end_plug(serving, outbox);
+        }
+        self.end_parameters(serving, outbox)
+    }
+
+    // A PrmEnd that is accepted is answered, and then ApplicationReady is sent, unless the application says when it is
+    // ready.
+    #[inline(never)]
+    fn end_parameters(&mut self, serving: &Serving<'_>, outbox: &mut Outbox) -> Note
+        requires operation { serving.now.operation ≡ operation.Control }
+        requires empty { outbox.old.items ≡ [] }
+        ensures state { self.new ≡ behind self.old (parameters_ended self.old serving.now) }
+        ensures frames { boxed outbox.new ≡ frames_of self.old (parameters_ended self.old serving.now) }
+        ensures sendable { CanSend self.old (parameters_ended self.old serving.now) }
         ensures note { result ≡ Note.Done }
     {
         let address = self.store.running().suite.address();
@@ -257,6 +295,30 @@ impl<F: Flash<S>, const S: usize> Device<F, S> {
         let is_due = is_ready_due(came, by_application);
         send_ready_again(&self.identity, address, is_due, &self.relation, outbox);
         Note::Done
+    }
+
+    // A PrmEnd after a plug that is accepted is answered, and then ApplicationReady for the plug is sent, unless one is active or
+    // the application says when it is ready.
+    #[inline(never)]
+    fn end_plug(&mut self, serving: &Serving<'_>, outbox: &mut Outbox) -> Note
+        requires operation { serving.now.operation ≡ operation.Control }
+        requires empty { outbox.old.items ≡ [] }
+        ensures state { self.new ≡ behind self.old (plug_ended self.old serving.now) }
+        ensures frames { boxed outbox.new ≡ frames_of self.old (plug_ended self.old serving.now) }
+        ensures sendable { CanSend self.old (plug_ended self.old serving.now) }
+        ensures note { result ≡ Note.Done }
+    {
+        let address = self.store.running().suite.address();
+        let by_application = self.options.ready_by_application;
+        self.answers.blocks.clear();
+        let came = self
+            .relation
+            .end_plug(by_application, serving.blocks, &mut self.answers.blocks);
+        self.relation
+            .hear_controller(&source_of(serving.caller), true, came);
+        self.answers
+            .give(&self.identity, address, serving, came, outbox);
+        self.call_after(came, outbox)
     }
 
     #[inline(never)]
@@ -385,7 +447,7 @@ impl<F: Flash<S>, const S: usize> Device<F, S> {
         requires few { length entries.now ≤ 16 }
         ensures steps { (heard : Hears) → handled self.old.station self.old.live heard
             ≡ WritesEach serving.now.caller.now self.old.live.values.running.suite.address (asked serving.now.call.now) header.now
-            (judged_each (uuid_of self.old.live.rest.link) self.old.station.real entries.now) →
+            (judged_each (uuid_of self.old.live.rest.link) self.old.live.rest.real entries.now) →
             Steps F.Flash self.old heard (boxed outbox.new) result self.new }
         ensures reliable { StaysReliable F.Flash self.old self.new }
     {
@@ -484,6 +546,16 @@ struct Serving<'a> {
     call: &'a Call<'a>,
     operation: Operation,
     blocks: &'a [u8],
+}
+
+// Whether data is exchanged in this phase, if there is one.
+fn is_exchanging(phase: Option<Phase>) -> bool
+    ensures { result ≡ exchanging_of phase }
+{
+    match phase {
+        Some(Phase::Exchanging) => true,
+        Some(Phase::Started | Phase::Preparing | Phase::Awaiting) | None => false,
+    }
 }
 
 // How many relations the device had, after a Connect with this outcome.

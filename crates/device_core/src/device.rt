@@ -31,6 +31,9 @@ use std::marker::Model;
 #[derive(Drop)]
 pub struct Device<F: Flash<S>, const S: usize> {
     pub(crate) identity: Identity,
+    // The modules that the device was given.
+    pub(crate) given: Real,
+    // The modules that are plugged now.
     pub(crate) real: Real,
     pub(crate) options: DeviceOptions,
     pub(crate) lamp: u32,
@@ -69,7 +72,7 @@ impl<F: Flash<S>, const S: usize> Model for Device<F, S> {
 
     ghost view = { λ device. record {
       flash = device.store.flash;
-      station = record { identity = device.identity; real = device.real; options = device.options };
+      station = record { identity = device.identity; real = device.given; options = device.options };
       live = record {
         values = device.store.values;
         rest = record {
@@ -83,6 +86,7 @@ impl<F: Flash<S>, const S: usize> Model for Device<F, S> {
           peer = option_map peer_as device.neighbour;
           diagnoses = device.diagnoses;
           made = device.made;
+          real = device.real;
         };
       };
     } };
@@ -97,14 +101,14 @@ impl<F: Flash<S>, const S: usize> Device<F, S> {
         // After a successful start the stored settings are the running settings, and nothing remains of an earlier
         // cycle.
         ensures starts { IfOk result (λ device. StartsWith (F.image flash) device.live.values.stored device.live.values.room) }
-        ensures fresh { IfOk result (λ device. device.live ≡ started device.live.values.stored device.live.values.room) }
+        ensures fresh { IfOk result (λ device. device.live ≡ started real device.live.values.stored device.live.values.room) }
         ensures station { IfOk result (λ device. device.station ≡ plain identity real) }
 
         // If the settings can be read, the start succeeds with them, or it fails with FlashFault. Content that this device
         // wrote is refused only with FlashFault. A blank flash counts as such, with the factory settings and room for at
         // least 65,535 commits.
         ensures known { (settings : Settings) (room : ℕ) → StartsWith (F.image flash) settings room →
-            MatchResult result (λ device. device.live ≡ started settings room) (λ refused. refused.0 ≡ BootFault.FlashFault) }
+            MatchResult result (λ device. device.live ≡ started real settings room) (λ refused. refused.0 ≡ BootFault.FlashFault) }
         ensures left { LeftByDevice (F.image flash) → IfErr result (λ refused. refused.0 ≡ BootFault.FlashFault) }
         ensures blank { F.image flash ≡ record { first = erased S; second = erased S } →
             LeftByDevice (F.image flash) × StartsWith (F.image flash) factory_settings (capacity S) }
@@ -137,14 +141,14 @@ impl<F: Flash<S>, const S: usize> Device<F, S> {
         // After a successful start the stored settings are the running settings, and nothing remains of an earlier
         // cycle.
         ensures starts { IfOk result (λ device. StartsWith (F.image flash) device.live.values.stored device.live.values.room) }
-        ensures fresh { IfOk result (λ device. device.live ≡ started device.live.values.stored device.live.values.room) }
+        ensures fresh { IfOk result (λ device. device.live ≡ started real device.live.values.stored device.live.values.room) }
         ensures station { IfOk result (λ device. device.station ≡ station_with identity real options) }
 
         // If the settings can be read, the start succeeds with them, or it fails with FlashFault. Content that this device
         // wrote is refused only with FlashFault. A blank flash counts as such, with the factory settings and room for at
         // least 65,535 commits.
         ensures known { (settings : Settings) (room : ℕ) → StartsWith (F.image flash) settings room →
-            MatchResult result (λ device. device.live ≡ started settings room) (λ refused. refused.0 ≡ BootFault.FlashFault) }
+            MatchResult result (λ device. device.live ≡ started real settings room) (λ refused. refused.0 ≡ BootFault.FlashFault) }
         ensures left { LeftByDevice (F.image flash) → IfErr result (λ refused. refused.0 ≡ BootFault.FlashFault) }
         ensures blank { F.image flash ≡ record { first = erased S; second = erased S } →
             LeftByDevice (F.image flash) × StartsWith (F.image flash) factory_settings (capacity S) }
@@ -265,7 +269,7 @@ impl<F: Flash<S>, const S: usize> Device<F, S> {
     /// plugged submodule has). `None` if also no submodule with outputs is plugged there.
     pub fn output(&self, slot: u16, subslot: u16) -> Option<&[u8]>
         ensures value { option_map (λ value. value.now) result
-            ≡ output_of self.now.station.real slot subslot (output_in slot subslot self.now.live.rest.link) }
+            ≡ output_of self.now.live.rest.real slot subslot (output_in slot subslot self.now.live.rest.link) }
         ensures short { IfSome result (λ value. length value.now ≤ 1440) }
     {
         self.relation.output(&self.real, slot, subslot)
@@ -295,13 +299,6 @@ impl<F: Flash<S>, const S: usize> Device<F, S> {
         ensures { result.now ≡ self.now.station.identity }
     {
         &self.identity
-    }
-
-    /// The modules and submodules that are plugged.
-    pub fn real(&self) -> &Real
-        ensures { result.now ≡ self.now.station.real }
-    {
-        &self.real
     }
 
     /// Whether power was lost.
@@ -342,7 +339,8 @@ impl<F: Flash<S>, const S: usize> Device<F, S> {
     {
         let Device {
             identity,
-            real,
+            given,
+            real: _,
             options,
             store,
             lamp: _,
@@ -357,6 +355,6 @@ impl<F: Flash<S>, const S: usize> Device<F, S> {
             made: _,
             plan: _,
         } = self;
-        (identity, real, options, store.into_flash())
+        (identity, given, options, store.into_flash())
     }
 }

@@ -4,7 +4,7 @@ ghost use Rattle.settings_journal.specs.settings_store.Carries.{Holds};
 ghost use Rattle.device_frames.specs.Heard.{heard_of};
 ghost use Rattle.device_frames.specs.declared.event.Event.{Event};
 ghost use Rattle.device_core.specs.Faults.{RunGoesOn};
-ghost use Rattle.device_core.specs.Local.{ApplicationIsLocal};
+ghost use Rattle.device_core.specs.Local.{ApplicationIsLocal, OnlyPullsAndPlugsChangeModules};
 ghost use Rattle.device_core.specs.State.{State};
 ghost use Rattle.device_core.specs.Steps.{HandsOn, IsBehindCalls, IsExactRun, Runs, TakesRoom};
 
@@ -40,8 +40,14 @@ pub fn steps_make_runs<F: Flash<S>, const S: usize>()
 {}
 
 /// What an application says asks nothing of the settings, keeps the stored answers, the neighbour and the count of relations,
-/// leaves the relation with the time that it has, and sends only frames of the relation. This is a law of the definitions that
-/// specify `Device::step`; the function has no code.
+/// leaves the relation with the time that it has, sends only frames of the relation, and changes the modules only by a pull or a
+/// plug. This is a law of the definitions that specify `Device::step`; the function has no code.
 pub fn application_is_local()
     ensures { ApplicationIsLocal }
+{}
+
+/// The modules that are plugged change only by a pull or a plug, and then to exactly what that makes of them. This is a law of the
+/// definitions that specify `Device::step`; the function has no code.
+pub fn only_pulls_and_plugs_change_modules()
+    ensures { OnlyPullsAndPlugsChangeModules }
 {}

@@ -147,14 +147,14 @@ impl<F: Flash<S>, const S: usize> Device<F, S> {
     fn confirm(&mut self, taken: Taken, outbox: &mut Outbox) -> Note
         requires { outbox.old.items ≡ [] }
         ensures state { self.new ≡ with_rest self.old (record self.old.live.rest {
-          link = updated (reporting self.old.station.real.modules.items self.old.live.rest.link) self.old.live.rest.link;
+          link = updated (reporting self.old.live.rest.link) self.old.live.rest.link;
         }) }
         ensures frames { boxed outbox.new ≡ map (bytes_of self.old.station.identity) (confirmed_with self.old taken) }
         ensures sendable { AreSendable self.old.station.identity (confirmed_with self.old taken) }
         ensures note { result ≡ Note.Done }
     {
         send_low_reply(&self.identity, taken, &self.relation, outbox);
-        let is_sent = self.relation.report_next(&self.real);
+        let is_sent = self.relation.report_next();
         send_low_alarm(&self.identity, is_sent, &self.relation, outbox);
         Note::Done
     }

@@ -30,7 +30,8 @@ impl<F: Flash<S>, const S: usize> Device<F, S> {
     {
         Device {
             identity,
-            real,
+            given: real,
+            real: Real::none(),
             options,
             store: Store::unstarted(flash),
             lamp: 0,
@@ -65,7 +66,7 @@ impl<F: Flash<S>, const S: usize> Device<F, S> {
         // After a successful start the stored settings are the running settings, and nothing remains of an earlier
         // cycle.
         ensures starts { OnOk result (StartsWith (F.image self.old.flash) self.new.live.values.stored self.new.live.values.room) }
-        ensures fresh { OnOk result (self.new.live ≡ started self.new.live.values.stored self.new.live.values.room) }
+        ensures fresh { OnOk result (self.new.live ≡ started self.old.station.real self.new.live.values.stored self.new.live.values.room) }
         ensures refused { OnErr result (self.new.live.values.has_failed ≡ true) }
         ensures station { self.new.station ≡ self.old.station }
 
@@ -73,7 +74,7 @@ impl<F: Flash<S>, const S: usize> Device<F, S> {
         // wrote is refused only with FlashFault. A blank flash counts as such, with the factory settings and room for at
         // least 65,535 commits.
         ensures known { (settings : Settings) (room : ℕ) → StartsWith (F.image self.old.flash) settings room →
-            MatchResult result (λ _. self.new.live ≡ started settings room) (λ fault. fault ≡ BootFault.FlashFault) }
+            MatchResult result (λ _. self.new.live ≡ started self.old.station.real settings room) (λ fault. fault ≡ BootFault.FlashFault) }
         ensures left { LeftByDevice (F.image self.old.flash) → IfErr result (λ fault. fault ≡ BootFault.FlashFault) }
         ensures blank { F.image self.old.flash ≡ record { first = erased S; second = erased S } →
             LeftByDevice (F.image self.old.flash) × StartsWith (F.image self.old.flash) factory_settings (capacity S) }
@@ -101,7 +102,7 @@ impl<F: Flash<S>, const S: usize> Device<F, S> {
     // stack, so it is a function of its own.
     #[inline(never)]
     fn forget(&mut self)
-        ensures { self.new ≡ with_rest self.old at_start }
+        ensures { self.new ≡ with_rest self.old (at_start self.old.station.real) }
     {
         self.lamp = 0;
         self.units = 0;
@@ -111,6 +112,8 @@ impl<F: Flash<S>, const S: usize> Device<F, S> {
         self.neighbour = None;
         self.diagnoses = Diagnoses::new();
         self.made = 0;
+        // Nothing of what was pulled or plugged is stored.
+        self.real.replace_by(&self.given);
         self.answers.kept = CallCache::new();
         // No frame is sent: the controller that had the relation hears nothing, and notices by its own data hold.
         let _ = self.relation.end(Abort::Other);

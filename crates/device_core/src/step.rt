@@ -1,5 +1,6 @@
 // One step: what an event is, and its outcome.
-ghost use Rattle.std.specs.Prelude.{◌≡◌, ◌≢◌, ◌<◌, ◌≤◌, ◌-◌, ◌^◌, ◌&&◌, [], true, false, List, ℕ, Option, Some, map, option_map};
+ghost use Rattle.std.specs.Prelude.{◌≡◌, ◌≢◌, ◌<◌, ◌≤◌, ◌+◌, ◌++◌, ◌-◌, ◌^◌, ◌&&◌, [], true, false, List, ℕ, Option, Some, map, option_map};
+ghost use Rattle.arrayvec.specs.ArrayVec.{array_vec_len};
 ghost use Rattle.settings_journal.specs.settings_store.Carries.{Holds};
 ghost use Rattle.dcp_core.specs.Request.{Asked};
 ghost use Rattle.device_frames.specs.Heard.{Asks, heard_alarm, heard_by, heard_content, heard_of, heard_reply};
@@ -19,7 +20,7 @@ ghost use Rattle.device_core.specs.Handled.{handled_alarm, handled_message, hand
 ghost use Rattle.device_core.specs.Handled.{handled_ready, handled_turned, ticked};
 ghost use Rattle.device_core.specs.Behind.{is_low_reply};
 ghost use Rattle.device_frames.specs.Relation.{farewells_in, inputs_of};
-ghost use Rattle.device_core.specs.Behind.{CanSend, behind, brought, due_in, frames_of};
+ghost use Rattle.device_core.specs.Behind.{CanSend, behind, brought, calls_due, due_in, frames_of};
 ghost use Rattle.device_core.specs.Machine.{end_of};
 ghost use Rattle.rpc_core.specs.Call.{Asked as Called};
 ghost use Rattle.rpc_core.specs.Cache.{looked, again};
@@ -35,7 +36,7 @@ use dcp_core::Service;
 use device_frames::{
     Caller, RealTimeKind, is_asked, is_called, kind_of, open_frame, real_time_in, send_alarm,
     send_alarm_again, send_alarm_reply, send_farewell, send_inputs, send_inputs_of, send_low_alarm,
-    send_ready, send_ready_again,
+    send_plug_ready, send_ready, send_ready_again,
 };
 use diagnosis::{Change, Diagnosis, Priority};
 use flash_model::Flash;
@@ -151,6 +152,12 @@ impl<F: Flash<S>, const S: usize> Device<F, S> {
                 self.raise(*slot, *subslot, octets.as_slice(), outbox)
             }
             Local::Status(slot, subslot, is_good) => self.rate(*slot, *subslot, *is_good),
+            Local::Pull(slot, subslot) => self.pull(*slot, *subslot, outbox),
+            Local::PullModule(slot) => self.pull_module(*slot, outbox),
+            Local::Plug(slot, module_ident, submodule) => {
+                self.plug(*slot, *module_ident, submodule, outbox)
+            }
+            Local::ReadyAt(slot, subslot) => self.get_ready_at(*slot, *subslot, outbox),
             Local::Diagnosis(slot, subslot, channel, error, appears) => self.diagnose(
                 &Change {
                     diagnosis: Diagnosis {
@@ -336,6 +343,7 @@ impl<F: Flash<S>, const S: usize> Device<F, S> {
     #[inline(never)]
     fn bring(&mut self, elapsed: &Elapsed, outbox: &mut Outbox) -> Note
         requires empty { outbox.old.items ≡ [] }
+        requires apart { elapsed.now.is_ready ≡ true → elapsed.now.is_plug_ready ≡ false }
         ensures state { self.new ≡ with_rest self.old (with_log (err_log (farewell_for elapsed.now.tick.ending self.old.live.rest.link))
             (record self.old.live.rest { link = left_behind elapsed.now.tick.ending self.old.live.rest.link })) }
         ensures frames { boxed outbox.new ≡ map (bytes_of self.old.station.identity) (brought self.old elapsed.now) }
@@ -346,7 +354,7 @@ impl<F: Flash<S>, const S: usize> Device<F, S> {
             Some(reason) => self.end(reason, outbox),
             None => self.send_each(
                 repeated_with(elapsed, self.relation.repeated()),
-                elapsed.is_ready,
+                elapsed,
                 elapsed.tick.is_cyclic(),
                 outbox,
             ),
@@ -400,19 +408,41 @@ impl<F: Flash<S>, const S: usize> Device<F, S> {
         Note::Done
     }
 
-    // An alarm, ApplicationReady and inputs, each if it is due.
+    // The alarms of each priority, ApplicationReady or that of a plug, and inputs, each if it is due.
     #[inline(never)]
-    fn send_each(&self, repeated: Repeated, is_ready: bool, is_cyclic: bool, outbox: &mut Outbox)
-        requires { outbox.old.items ≡ [] }
-        ensures frames { boxed outbox.new ≡ map (bytes_of self.now.station.identity) (due_in self.now repeated is_ready is_cyclic) }
-        ensures sendable { AreSendable self.now.station.identity (due_in self.now repeated is_ready is_cyclic) }
+    fn send_each(&self, repeated: Repeated, elapsed: &Elapsed, is_cyclic: bool, outbox: &mut Outbox)
+        requires empty { outbox.old.items ≡ [] }
+        requires apart { elapsed.now.is_ready ≡ true → elapsed.now.is_plug_ready ≡ false }
+        ensures frames { boxed outbox.new ≡ map (bytes_of self.now.station.identity) (due_in self.now repeated elapsed.now is_cyclic) }
+        ensures sendable { AreSendable self.now.station.identity (due_in self.now repeated elapsed.now is_cyclic) }
     {
-        let address = self.store.running().suite.address();
         let counter = self.counter();
         send_alarm_again(&self.identity, repeated.high, &self.relation, outbox);
         send_low_alarm(&self.identity, repeated.low, &self.relation, outbox);
-        send_ready_again(&self.identity, address, is_ready, &self.relation, outbox);
+        self.send_calls(elapsed.is_ready, elapsed.is_plug_ready, outbox);
         send_inputs(&self.identity, counter, is_cyclic, &self.relation, outbox);
+    }
+
+    // ApplicationReady, which is due only before data is exchanged, or that of a plug, which is due only from then on.
+    fn send_calls(&self, is_ready: bool, is_plug_ready: bool, outbox: &mut Outbox)
+        requires room { array_vec_len outbox.old < 4 }
+        requires apart { is_ready ≡ true → is_plug_ready ≡ false }
+        ensures frames { boxed outbox.new ≡ boxed outbox.old ++ map (bytes_of self.now.station.identity) (calls_due self.now is_ready is_plug_ready) }
+        ensures sendable { AreSendable self.now.station.identity (calls_due self.now is_ready is_plug_ready) }
+        ensures few { array_vec_len outbox.new ≤ array_vec_len outbox.old + 1 }
+    {
+        let address = self.store.running().suite.address();
+        if is_ready {
+            send_ready_again(&self.identity, address, is_ready, &self.relation, outbox);
+            return;
+        }
+        send_plug_ready(
+            &self.identity,
+            address,
+            is_plug_ready,
+            &self.relation,
+            outbox,
+        );
     }
 
     // A cyclic frame: its outputs are accepted, or it changes nothing.

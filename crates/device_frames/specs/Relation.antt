@@ -8,12 +8,23 @@ use Rattle.relations.specs.declared.farewell.Farewell.{Farewell}
 use Rattle.relations.specs.Timers.{Due}
 use Rattle.relations.specs.RelationState.{RelationState, flow_of}
 use Rattle.relations.specs.Ready.{ready_of}
-use Rattle.device_frames.specs.Sent.{Sent, ReadyCall, Ends, Exchanges}
+use Rattle.relations.specs.declared.plugging.PlugReady.{PlugReady}
+use Rattle.relations.specs.Plugging.{plug_ready_of}
+use Rattle.device_frames.specs.Sent.{Sent, ReadyCall, PlugReadyCall, Ends, Exchanges}
 
 -- ApplicationReady of a relation, if there is one, from this address.
 abbrev pub ready_calls : List ℕ → Option RelationState → List Sent
 ready_calls address None = []
 ready_calls address (Some link) = ReadyCall address (ready_of link) ∷ []
+
+-- The active ApplicationReady of a plug, if there is one, from this address.
+abbrev pub plug_call_in : List ℕ → Option PlugReady → List Sent
+plug_call_in address None = []
+plug_call_in address (Some ready) = PlugReadyCall address ready ∷ []
+
+-- The ApplicationReady of a plug that is active, if there is one.
+abbrev pub plug_calls : List ℕ → Option RelationState → List Sent
+plug_calls address link = plug_call_in address (plug_ready_of link)
 
 -- The frames that exist: of a relation, the active alarm, the inputs at this CycleCounter, and the response to data
 -- with this outcome.
@@ -56,9 +67,10 @@ abbrev pub where_due : Bool → List Sent → List Sent
 where_due is_due sent = if is_due then sent else []
 
 -- What is sent with a unit: the ERR of a timeout, and nothing else; or the active alarms of each priority again,
--- ApplicationReady again, and inputs.
+-- ApplicationReady or that of a plug again, and inputs.
 abbrev pub due_frames : List ℕ → ℕ → Due → Option RelationState → List Sent
 due_frames address units due link =
     farewells_in due.farewell
     ++ (where_due due.is_alarm (alarms_of (flow_of link)) ++ (where_due due.is_low (low_alarms_of (flow_of link))
-    ++ (where_due due.is_ready (ready_calls address link) ++ where_due due.is_cyclic (inputs_of units (flow_of link)))))
+    ++ (where_due due.is_ready (ready_calls address link) ++ (where_due due.is_plug_ready (plug_calls address link)
+    ++ where_due due.is_cyclic (inputs_of units (flow_of link))))))

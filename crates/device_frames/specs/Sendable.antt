@@ -10,7 +10,7 @@ use Rattle.dcp_core.specs.Identify.{identify_bytes}
 use Rattle.dcp_core.specs.Get.{get_bytes}
 use Rattle.dcp_core.specs.Set.{set_bytes}
 use Rattle.relations.specs.exchange.Frames.{tag_of}
-use Rattle.device_frames.specs.Sent.{Sent, IdentifyAnswer, GetAnswer, SetAnswer, ArpReply, CallAnswer, Again, ReadyCall, Ends, Exchanges, exchange_content, farewell_content, ready_content, reply_content, response_content}
+use Rattle.device_frames.specs.Sent.{Sent, IdentifyAnswer, GetAnswer, SetAnswer, ArpReply, CallAnswer, Again, ReadyCall, PlugReadyCall, Ends, Exchanges, exchange_content, farewell_content, plug_ready_content, ready_content, reply_content, response_content}
 
 -- A message whose frame can be sent. The frame of an answer that is sent again was sent before.
 abbrev pub IsSendable : Identity → Sent → Type 0
@@ -21,6 +21,7 @@ IsSendable identity (ArpReply asker address target) = CanBeSent (carrying asker 
 IsSendable identity (CallAnswer caller address answer) =
     CanBeSent (carrying caller.mac identity.mac None (response_content caller address answer)) × CanBeAnswered answer
 IsSendable identity (Again frame) = ⊤
+IsSendable identity (PlugReadyCall address ready) = CanBeSent (carrying ready.partner.mac identity.mac None (plug_ready_content address ready))
 IsSendable identity (ReadyCall address ready) = CanBeSent (carrying ready.partner.mac identity.mac None (ready_content address ready))
 IsSendable identity (Ends farewell) = CanBeSent (carrying farewell.initiator identity.mac (Some farewell.tag) (farewell_content farewell))
 IsSendable identity (Exchanges route frame) = CanBeSent (carrying route.partner identity.mac (Some (tag_of route frame)) (exchange_content route frame))

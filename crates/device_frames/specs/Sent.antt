@@ -1,5 +1,5 @@
 -- What a device sends: messages by their meaning, and their one encoding as octets.
-use Rattle.std.specs.Prelude.{ℕ, List, Option, Some, None}
+use Rattle.std.specs.Prelude.{ℕ, List, [], Option, Some, None}
 use Rattle.pn_values.specs.declared.mac.Mac.{Mac}
 use Rattle.pn_values.specs.declared.identity.Identity.{Identity}
 use Rattle.pn_values.specs.declared.settings.Settings.{Settings}
@@ -13,6 +13,7 @@ use Rattle.dcp_core.specs.Request.{Asked}
 use Rattle.dcp_core.specs.Identify.{identify_bytes}
 use Rattle.dcp_core.specs.Get.{get_bytes}
 use Rattle.dcp_core.specs.Set.{set_bytes}
+use Rattle.rpc_core.specs.declared.header.CallHeader.{CallHeader}
 use Rattle.rpc_core.specs.declared.interface.Interface.TheVariants.{Controller}
 use Rattle.rpc_core.specs.Call.{call_bytes}
 use Rattle.rpc_core.specs.Response.{Answered, response_bytes}
@@ -21,7 +22,10 @@ use Rattle.block_codec.specs.Block.{block_bytes}
 use Rattle.pn_alarms.specs.declared.pdu.PduType.TheVariants.{Error}
 use Rattle.pn_alarms.specs.Format.{frame_id_of, pdu_bytes}
 use Rattle.relations.specs.declared.farewell.Farewell.{Farewell}
+use Rattle.relations.specs.declared.phase.Partner.{Partner}
 use Rattle.relations.specs.declared.ready.Ready.{Ready}
+use Rattle.relations.specs.declared.plugging.PlugReady.{PlugReady}
+use Rattle.connect_blocks.specs.PlugControl.{plug_control}
 use Rattle.relations.specs.Farewells.{said_by}
 use Rattle.cyclic_data.specs.declared.exchange.route.Route.{Route}
 use Rattle.relations.specs.exchange.Frames.{Frame, tag_of, id_of, body_of}
@@ -29,7 +33,7 @@ use Rattle.frame_codec.specs.declared.udp.Caller.{Caller}
 
 -- A message and its destination: the answer to an Identify request, to a Get of a station with this name by its place, or to a Set with the result of each of
 -- its blocks; who holds an address, sent to the station that asked for it; the answer to a call, from this address; the
--- frame of such an answer again; the call ApplicationReady, from this address; the ERR with which this device ends its
+-- frame of such an answer again; the call ApplicationReady, from this address, of the relation or for a plug; the ERR with which this device ends its
 -- relation; or a frame of the exchange.
 pub data Sent : Type 0 where
   IdentifyAnswer : (asker : Mac) → (running : Settings) → (xid : ℕ) → Sent
@@ -39,6 +43,7 @@ pub data Sent : Type 0 where
   CallAnswer : (caller : Caller) → (address : List ℕ) → (answer : Answered) → Sent
   Again : (frame : List ℕ) → Sent
   ReadyCall : (address : List ℕ) → (ready : Ready) → Sent
+  PlugReadyCall : (address : List ℕ) → (ready : PlugReady) → Sent
   Ends : (farewell : Farewell) → Sent
   Exchanges : (route : Route) → (frame : Frame) → Sent
 
@@ -71,15 +76,30 @@ response_content caller address answer = UdpDatagram (calls_at address) caller.e
 abbrev pub response_frame : Identity → Caller → List ℕ → Answered → List ℕ
 response_frame identity caller address answer = own_frame identity caller.mac (response_content caller address answer)
 
--- ApplicationReady, to the station that asked for the relation. Its response may have 1,372 octets of blocks.
+-- A call of this device to the station that asked for the relation. Its response may have 1,372 octets of blocks.
+abbrev pub call_content : List ℕ → Partner → CallHeader → List ℕ → Content
+call_content address partner header blocks =
+    UdpDatagram (calls_at address) (calls_at partner.address) (call_bytes Controller (record { header = header; args_maximum = 1372; blocks = Some blocks }))
+
+-- The octets of such a call.
+abbrev pub call_frame : Identity → List ℕ → Partner → CallHeader → List ℕ → List ℕ
+call_frame identity address partner header blocks = own_frame identity partner.mac (call_content address partner header blocks)
+
+-- ApplicationReady.
 abbrev pub ready_content : List ℕ → Ready → Content
-ready_content address ready =
-    UdpDatagram (calls_at address) (calls_at ready.partner.address)
-    (call_bytes Controller (record { header = ready.header; args_maximum = 1372; blocks = Some (block_bytes (is.ApplicationReady ready.block)) }))
+ready_content address ready = call_content address ready.partner ready.header (block_bytes (is.ApplicationReady ready.block))
 
 -- The octets of an ApplicationReady.
 abbrev pub ready_frame : Identity → List ℕ → Ready → List ℕ
 ready_frame identity address ready = own_frame identity ready.partner.mac (ready_content address ready)
+
+-- ApplicationReady for a plug.
+abbrev pub plug_ready_content : List ℕ → PlugReady → Content
+plug_ready_content address ready = call_content address ready.partner ready.header ((plug_control 0x0113).write ready.block [])
+
+-- The octets of an ApplicationReady for a plug.
+abbrev pub plug_ready_frame : Identity → List ℕ → PlugReady → List ℕ
+plug_ready_frame identity address ready = own_frame identity ready.partner.mac (plug_ready_content address ready)
 
 -- An ERR, to CMInitiatorMacAdd.
 abbrev pub farewell_content : Farewell → Content
@@ -106,5 +126,6 @@ bytes_of identity (ArpReply asker address target) = reply_frame identity asker a
 bytes_of identity (CallAnswer caller address answer) = response_frame identity caller address answer
 bytes_of identity (Again frame) = frame
 bytes_of identity (ReadyCall address ready) = ready_frame identity address ready
+bytes_of identity (PlugReadyCall address ready) = plug_ready_frame identity address ready
 bytes_of identity (Ends farewell) = farewell_frame identity farewell
 bytes_of identity (Exchanges route frame) = exchange_frame identity route frame

@@ -6,6 +6,7 @@ ghost use Rattle.device_frames.specs.declared.local.Local.TheVariants as local;
 use crate::{Local, Octets};
 use frame_codec::Caller;
 use lldp::Neighbour;
+use pn_values::RealSubmodule;
 
 /// What happens to a device. It borrows its octets.
 // The tag is an octet of its own: in an unused value of `Neighbour`, where the compiler puts it, it costs each step 3 instructions.
@@ -60,6 +61,38 @@ impl<'a> Event<'a> {
         ensures { result ≡ Application (local.Diagnosis slot subslot channel error appears) }
     {
         Event::Application(Local::Diagnosis(slot, subslot, channel, error, appears))
+    }
+
+    /// The submodule in this slot and subslot is pulled. Its module stays, also without submodules.
+    #[inline(always)]
+    pub fn pull(slot: u16, subslot: u16) -> Event<'a>
+        ensures { result ≡ Application (local.Pull slot subslot) }
+    {
+        Event::Application(Local::Pull(slot, subslot))
+    }
+
+    /// The module in this slot is pulled, with all its submodules.
+    #[inline(always)]
+    pub fn pull_module(slot: u16) -> Event<'a>
+        ensures { result ≡ Application (local.PullModule slot) }
+    {
+        Event::Application(Local::PullModule(slot))
+    }
+
+    /// This submodule is plugged into this slot, with a module of this ident number if the slot is empty.
+    #[inline(always)]
+    pub fn plug(slot: u16, module_ident: u32, submodule: RealSubmodule) -> Event<'a>
+        ensures { result ≡ Application (local.Plug slot module_ident submodule) }
+    {
+        Event::Application(Local::Plug(slot, module_ident, submodule))
+    }
+
+    /// The application is ready for the plug in this slot and subslot.
+    #[inline(always)]
+    pub fn ready_at(slot: u16, subslot: u16) -> Event<'a>
+        ensures { result ≡ Application (local.ReadyAt slot subslot) }
+    {
+        Event::Application(Local::ReadyAt(slot, subslot))
     }
 
     /// The application is ready.

@@ -115,13 +115,13 @@ fn put_low_alarm(identity: &Identity, relation: &Relation, outbox: &mut Outbox)
     let Some(alarm) = exchange.low_alarm() else {
         return;
     };
-    let (front, octets) = (alarm.0, alarm.1);
+    let (front, octets) = (&alarm.0, alarm.1);
     let pieces = Pieces {
         destination: exchange.route().partner,
         source: identity.mac,
         tag: Some(exchange.low_tag()),
         frame_id: Priority::Low.frame_id(PduType::Data),
-        front: &front,
+        front: front.as_slice(),
         behind: octets,
     };
     can_be_sent_in(&pieces);

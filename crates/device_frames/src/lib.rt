@@ -26,4 +26,4 @@ pub use hearing::{RealTimeKind, is_asked, is_called, kind_of, open_frame, real_t
 pub use local::Local;
 pub use note::Note;
 pub use octets::Octets;
-pub use relation::{send_farewell, send_ready};
+pub use relation::{send_farewell, send_plug_ready, send_ready};

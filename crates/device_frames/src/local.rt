@@ -1,5 +1,7 @@
 //! What an application says to its device.
 
+use pn_values::RealSubmodule;
+
 /// What an application says to its device, with its octets as `B`.
 #[derive(Drop)]
 #[repr(u8)]
@@ -13,6 +15,15 @@ pub enum Local<B> {
     /// A diagnosis of the submodule in this slot and subslot, of this channel (0 to 0x7FFF, or 0x8000 for the submodule
     /// itself) and with this ChannelErrorType, appears or disappears.
     Diagnosis(u16, u16, u16, u16, bool),
+    /// The submodule in this slot and subslot is pulled. Its module stays, also without submodules.
+    Pull(u16, u16),
+    /// The module in this slot is pulled, with all its submodules.
+    PullModule(u16),
+    /// This submodule is plugged into this slot, with a module of this ident number if the slot is empty.
+    Plug(u16, u32, RealSubmodule),
+    /// The application is ready for the plug in this slot and subslot, whose parameters have ended. It counts once for a plug,
+    /// at a device whose application says when it is ready.
+    ReadyAt(u16, u16),
     /// The application is ready. It counts once in a relation: after PrmEnd, at a device whose application says when it is
     /// ready.
     Ready,

@@ -3,7 +3,10 @@ ghost use Rattle.std.specs.Prelude.{◌≡◌, ◌≤◌, [], IfErr, IfOk, Err, 
 ghost use Rattle.device_records.specs.Own.{own_asked};
 ghost use Rattle.device_records.specs.Reading.{implicit_read, relation_read};
 ghost use Rattle.device_records.specs.Sources.{known};
+ghost use Rattle.records.specs.reads.Handled.{read_of};
 ghost use Rattle.records.specs.reads.Listing.{listed_at};
+ghost use Rattle.records.specs.reads.Within.{record_within};
+ghost use Rattle.relations.specs.Phases.{differing_in};
 
 use crate::own::put_own;
 use crate::sources::Sources;
@@ -37,15 +40,39 @@ pub fn read_within(
     let request = request_within(sources.relation.uuid(), blocks)?;
     match listing_of(real, &request) {
         Some(listing) => serve_own(true, sources, real, &request, listing, answer),
-        None => serve_within(
-            sources.relation.differing(),
-            identity,
-            real,
-            settings,
-            &request,
-            answer,
-        ),
+        None => serve_record(sources, identity, real, settings, &request, answer),
     }
+}
+
+/// Serves a Read of the controller for a record that does not list anything, or for its ModuleDiffBlock, which tells what
+/// differs now. That block is built first, so this is a function of its own.
+#[inline(never)]
+fn serve_record(
+    sources: &Sources<'_>,
+    identity: &Identity,
+    real: &Real,
+    settings: &Settings,
+    request: &IodReadReq,
+    answer: &mut Blocks,
+) -> Result<(), CallFault>
+    requires empty { answer.old.items ≡ [] }
+    ensures done { IfOk result (λ _. read_of real.now request.now
+        (record_within (differing_in real.now.modules.items (known sources.now).link) request.now identity.now real.now settings.now)
+        ≡ Ok answer.new.items) }
+    ensures refused { IfErr result (λ fault. (read_of real.now request.now
+        (record_within (differing_in real.now.modules.items (known sources.now).link) request.now identity.now real.now settings.now)
+        ≡ Err fault) × (answer.new.items ≡ [])) }
+{
+    let mut differing = ArrayVec::new();
+    sources.relation.put_differing(real, &mut differing);
+    serve_within(
+        differing.as_slice(),
+        identity,
+        real,
+        settings,
+        request,
+        answer,
+    )
 }
 
 /// Serves a Read Implicit, which reads a record of the device without a relation. Puts the blocks of the response into

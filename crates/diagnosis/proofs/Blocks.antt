@@ -1,5 +1,5 @@
 -- The blocks in data are read back.
-use Rattle.std.proofs.Common.{◌≡◌, ◌+◌, ◌<◌, ℕ, List, [], length, Some, Ok, refl, ◌∙◌, arith}
+use Rattle.std.proofs.Common.{◌≡◌, ◌+◌, ◌<◌, ℕ, List, [], length, Some, None, Ok, refl, ◌∙◌, arith}
 use Rattle.std.proofs.lemmas.List.{length-append}
 use Rattle.wire.specs.blocks.Fields.{body, number_bytes, open_body, version}
 use Rattle.record_blocks.specs.declared.alarm_ack.AlarmAck.{AlarmAck}
@@ -12,7 +12,7 @@ use Rattle.block_codec.specs.Block.{block_bytes, block_of, block_size, fields_of
 use Rattle.block_codec.specs.Writable.{CanBeWritten, IsAck, IsAlarm}
 use Rattle.pn_alarms.specs.Carried.{ack_of}
 use Rattle.diagnosis.specs.declared.reports.report.Report.{Report}
-use Rattle.diagnosis.specs.reports.Report.{block_priority, diagnosed, front as report_front, front_of, low_ack, low_ack_of, ours, payload, report, report_fields, report_of}
+use Rattle.diagnosis.specs.reports.Report.{bare, block_priority, diagnosed, front as report_front, front_of, low_ack, low_ack_of, ours, payload, report, report_fields, report_of}
 
 -- a block that can be written is read back, and has as many octets as its format says
 abbrev pub BlocksAreRead : Type 0
@@ -97,6 +97,31 @@ diagnosed_read reads alarm good = reads (diagnosed alarm) [] (diagnosed_fits ala
 pub diagnosed_long : (alarm : AlarmNotification) → length (report.write (diagnosed alarm) []) ≡ 28 + length alarm.alarm_data
 unfolding report block_priority open_body version report_fields report_front payload number_bytes
 diagnosed_long alarm = omega (arith, length-append alarm.alarm_data [])
+
+-- Without a UserStructureIdentifier.
+bare_payload_fits : (alarm : AlarmNotification) → alarm.alarm_data ≡ [] → payload.Fits (None, alarm.alarm_data)
+unfolding payload
+bare_payload_fits alarm none = none
+
+bare_fields_fit : (alarm : AlarmNotification) → alarm.alarm_data ≡ [] → IsAlarm alarm → report_fields.Fits (alarm, None)
+unfolding report_fields
+bare_fields_fit alarm none is = (front_fits alarm is, bare_payload_fits alarm none)
+
+bare_fields_size : (alarm : AlarmNotification) → IsAlarm alarm → report_fields.size (alarm, None) < 2000
+unfolding report_fields report_front payload
+bare_fields_size alarm is = omega (arith, is.few)
+
+bare_fits : (alarm : AlarmNotification) → alarm.alarm_data ≡ [] → IsAlarm alarm → report.Fits (bare alarm)
+unfolding report block_priority open_body version
+bare_fits alarm none is = (omega arith, (omega (arith, bare_fields_size alarm is), (((refl, omega arith), (refl, omega arith)), bare_fields_fit alarm none is)))
+
+pub bare_read : ReportsAreRead → (alarm : AlarmNotification) → alarm.alarm_data ≡ [] → IsAlarm alarm
+    → report_of (report.write (bare alarm) []) ≡ Ok (bare alarm)
+bare_read reads alarm none good = reads (bare alarm) [] (bare_fits alarm none good)
+
+pub bare_long : (alarm : AlarmNotification) → length (report.write (bare alarm) []) ≡ 26 + length alarm.alarm_data
+unfolding report block_priority open_body version report_fields report_front payload number_bytes
+bare_long alarm = omega (arith, length-append alarm.alarm_data [])
 
 abbrev pub LowAcksAreRead : Type 0
 LowAcksAreRead = (ack : AlarmAck) (rest : List ℕ) → low_ack.Fits ack → low_ack.read (low_ack.write ack rest) ≡ Ok (ack, rest)

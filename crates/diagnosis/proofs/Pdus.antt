@@ -1,5 +1,6 @@
 -- PDUs are read back.
-use Rattle.std.proofs.Common.{◌≡◌, ◌≤◌, ◌<◌, ◌^◌, ℕ, true, List, ◌++◌, length, Result, Ok, refl, ap, ◌∙◌, arith}
+use Rattle.std.proofs.Common.{◌≡◌, ◌==◌, ◌≤◌, ◌<◌, ◌^◌, ℕ, Bool, true, List, [], ◌++◌, length, Result, Ok, refl, sym, ap, subst, ◌∙◌, inl, inr, arith}
+use Rattle.std.specs.Prelude.{if◌then◌else◌}
 use Rattle.record_blocks.specs.declared.alarm_ack.AlarmAck.{AlarmAck}
 use Rattle.record_blocks.specs.declared.alarm_notification.AlarmNotification.{AlarmNotification}
 use Rattle.pn_alarms.specs.declared.abort.Abort.{Abort}
@@ -11,15 +12,17 @@ use Rattle.pn_alarms.specs.declared.pdu.PduType.{PduType}
 use Rattle.pn_alarms.specs.declared.pdu.PduType.TheVariants as pdu
 use Rattle.pn_alarms.specs.Abort.{abort_of, status_of}
 use Rattle.pn_alarms.specs.Carried.{ack_of, alarm_pdu}
-use Rattle.std.proofs.lemmas.Bool.{le-leb}
+use Rattle.std.proofs.lemmas.Bool.{cases_Bool, eqb-true, le-leb}
+use Rattle.std.proofs.lemmas.List.{nil_from_length}
 use Rattle.wire.specs.Codec.{◌>>=◌}
 use Rattle.pn_alarms.specs.Format.{Said, flags_of, header, is_long, kind, pdu_bytes, pdu_of}
 use Rattle.pn_alarms.specs.Message.{message_of, notice_in, notice_of}
 use Rattle.diagnosis.specs.reports.Message.{alarm_of, low_message_of}
-use Rattle.diagnosis.specs.reports.Report.{diagnosed, diagnosis_pdu, low_ack_of, ours, report_of}
+use Rattle.diagnosis.specs.declared.reports.report.Report.{Report}
+use Rattle.diagnosis.specs.reports.Report.{bare, bare_pdu, diagnosed, diagnosis_pdu, low_ack_of, low_pdu, low_report, ours, report, report_of}
 use Rattle.block_codec.specs.Writable.{IsAck, IsAlarm}
 use Rattle.diagnosis.specs.Sendable.{CanBeSaid, IsHeader, ack_pdu, empty_pdu, low_ack_pdu}
-use Rattle.diagnosis.proofs.Blocks.{BlocksAreLong, BlocksAreRead, LowAcksAreRead, OursIsRead, ReportsAreRead, ack_long, ack_read, alarm_long, alarm_read, diagnosed_long, diagnosed_read, low_long, low_read}
+use Rattle.diagnosis.proofs.Blocks.{BlocksAreLong, BlocksAreRead, LowAcksAreRead, OursIsRead, ReportsAreRead, ack_long, ack_read, alarm_long, alarm_read, bare_long, bare_read, diagnosed_long, diagnosed_read, low_long, low_read}
 
 -- ---- any PDU
 
@@ -86,6 +89,37 @@ diagnosis_said fitting reads value alarm more same is good =
     let can : CanBeSaid (diagnosis_pdu value alarm) =
     record { header = is; long = any_long value.kind (length (diagnosis_pdu value alarm).body) (omega (arith, diagnosed_long alarm)); few = omega (arith, diagnosed_long alarm, good.few) } in
     says fitting report_of (diagnosis_pdu value alarm) more pdu.Data (notice.Data value.send_number (diagnosed alarm)) can same (rw (diagnosed_read reads alarm good) refl)
+
+-- A pull or a plug.
+pub bare_said : FittingIsRead → ReportsAreRead → (value : Header) (alarm : AlarmNotification) (more : List ℕ) → value.kind ≡ pdu.Data
+    → IsHeader value → IsAlarm alarm → alarm.alarm_data ≡ []
+    → alarm_of (pdu_bytes (bare_pdu value alarm) ++ more) ≡ Ok (value, notice.Data value.send_number (bare alarm))
+bare_said fitting reads value alarm more same is good none =
+    let long = bare_long alarm in
+    let can : CanBeSaid (bare_pdu value alarm) = record {
+      header = is;
+      long = any_long value.kind (length (bare_pdu value alarm).body) (omega (arith, long));
+      few = omega (arith, long, good.few);
+    } in
+    says fitting report_of (bare_pdu value alarm) more pdu.Data (notice.Data value.send_number (bare alarm)) can same
+    (rw (bare_read reads alarm none good) refl)
+
+-- Data that carries such an alarm.
+abbrev carrying : Header → Report → Said
+carrying value alarm = record { header = value; body = report.write alarm [] }
+
+-- Any alarm of low priority of this product.
+pub low_said : FittingIsRead → ReportsAreRead → (value : Header) (alarm : AlarmNotification) (more : List ℕ) → value.kind ≡ pdu.Data
+    → IsHeader value → IsAlarm alarm
+    → alarm_of (pdu_bytes (low_pdu value alarm) ++ more) ≡ Ok (value, notice.Data value.send_number (low_report alarm))
+low_said fitting reads value alarm more same is good =
+    let of : Report → Type 0 = λ (said : Report). alarm_of (pdu_bytes (carrying value said) ++ more) ≡ Ok (value, notice.Data value.send_number said) in
+    elim (cases_Bool (length alarm.alarm_data == 0)) [
+      | inl t ↦ subst of (sym (ap (λ (b : Bool). if b then bare alarm else diagnosed alarm) t))
+          (bare_said fitting reads value alarm more same is good (nil_from_length alarm.alarm_data (eqb-true (length alarm.alarm_data) 0 t)))
+      | inr t ↦ subst of (sym (ap (λ (b : Bool). if b then bare alarm else diagnosed alarm) t))
+          (diagnosis_said fitting reads value alarm more same is good)
+    ]
 
 pub low_ack_said : FittingIsRead → LowAcksAreRead → (value : Header) (ack : AlarmAck) (more : List ℕ) → value.kind ≡ pdu.Data → IsHeader value → IsAck ack
     → low_message_of (pdu_bytes (low_ack_pdu value ack) ++ more) ≡ Ok (value, notice.Data value.send_number ack)

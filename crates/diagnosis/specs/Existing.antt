@@ -1,6 +1,8 @@
 -- The diagnoses that exist at a device, and how they change (IEC 61158-6-10, 5.2.6).
 use Rattle.std.specs.Prelude.{◌==◌, ◌&&◌, ◌++◌, ℕ, Bool, not, nat_le, nat_lt, List, [], ◌∷◌, length, Option, Some, None, if◌then◌else◌}
 use Rattle.std.specs.List.{filter, list_any}
+use Rattle.module_diff.specs.declared.changes.Affected.{Affected}
+use Rattle.module_diff.specs.Changes.{covers}
 use Rattle.diagnosis.specs.declared.diagnosis.Change.{Change}
 use Rattle.diagnosis.specs.declared.diagnosis.Diagnosis.{Diagnosis}
 
@@ -45,3 +47,7 @@ is_any_at slot subslot diagnoses = list_any (is_at slot subslot) diagnoses
 -- Whether a diagnosis exists at one of these submodules.
 abbrev pub is_any_in : (ℕ → ℕ → Bool) → List Diagnosis → Bool
 is_any_in has diagnoses = list_any (λ diagnosis. has diagnosis.slot diagnosis.subslot) diagnoses
+
+-- The diagnoses elsewhere, after what was pulled is gone: nothing is wrong at a submodule that is not plugged.
+abbrev pub remaining : Affected → List Diagnosis → List Diagnosis
+remaining gone diagnoses = filter (λ diagnosis. not (covers gone diagnosis.slot diagnosis.subslot)) diagnoses

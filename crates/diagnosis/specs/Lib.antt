@@ -3,6 +3,7 @@ pub mod Notices
 pub mod Record
 pub mod reports
 pub mod alarms
+pub mod Queue
 pub mod reported
 pub mod Sendable
 pub mod Line

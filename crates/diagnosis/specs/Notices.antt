@@ -1,5 +1,5 @@
--- The changes of diagnosis that wait for an alarm of low priority (IEC 61158-6-10, 5.2.5).
-use Rattle.std.specs.Prelude.{◌+◌, ◌++◌, ℕ, Bool, true, false, nat_lt, List, [], ◌∷◌, length, map, Option, Some, None, if◌then◌else◌}
+-- The changes of diagnosis that an alarm of low priority reports (IEC 61158-6-10, 5.2.5).
+use Rattle.std.specs.Prelude.{◌++◌, ℕ, Bool, true, List, map, if◌then◌else◌}
 use Rattle.std.specs.List.{filter}
 use Rattle.wire.specs.Formats.{big_bytes}
 use Rattle.diagnosis.specs.Existing.{is_any_at, is_any_in}
@@ -28,20 +28,11 @@ properties_of change = if change.appears then 0x0800 else 0x1000
 abbrev pub flag : Bool → ℕ → ℕ
 flag is_set value = if is_set then value else 0
 
--- The AlarmSpecifier of a change (5.2.5.11): sequence number, and whether a diagnosis exists at the submodule and in the
--- relation.
-abbrev pub specifier_of : Notice → ℕ → ℕ
-specifier_of notice sequence = sequence + flag notice.is_any_at_submodule 0x2800 + flag notice.is_any_in_relation 0x8000
-
 -- ChannelNumber, ChannelProperties and ChannelErrorType: what follows UserStructureIdentifier 0x8000.
 abbrev pub channel_bytes : Change → List ℕ
 channel_bytes change = big_bytes 2 change.diagnosis.channel ++ big_bytes 2 (properties_of change) ++ big_bytes 2 change.diagnosis.error
 
--- One more, after the others, if fewer than 32 wait.
-abbrev pub waiting_with : Notice → List Notice → Option (List Notice)
-waiting_with notice notices = if nat_lt (length notices) 32 then Some (notices ++ notice ∷ []) else None
-
--- What is reported as the exchange begins: what exists in the relation, in order of appearing.
+-- What is reported of a diagnosis that exists as data exchange begins: that it appears.
 abbrev pub first_notice : Diagnosis → Notice
 first_notice diagnosis = record {
   change = record { diagnosis = diagnosis; appears = true };
@@ -50,16 +41,6 @@ first_notice diagnosis = record {
 }
 
 -- What must be reported when data exchange begins: each diagnosis that exists at a submodule of the relation, as one that
--- appears.
+-- appears, in order of appearing.
 abbrev pub first_notices : (ℕ → ℕ → Bool) → List Diagnosis → List Notice
 first_notices has diagnoses = map first_notice (filter (λ diagnosis. has diagnosis.slot diagnosis.subslot) diagnoses)
-
--- The first one, and the others.
-abbrev pub first_of : List Notice → Option Notice
-first_of [] = None
-first_of (notice ∷ notices) = Some notice
-
--- The changes that wait after the first one.
-abbrev pub rest_of : List Notice → List Notice
-rest_of [] = []
-rest_of (notice ∷ notices) = notices

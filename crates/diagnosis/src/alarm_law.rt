@@ -13,7 +13,7 @@ ghost use Rattle.pn_alarms.specs.Carried.{alarm_pdu};
 ghost use Rattle.pn_alarms.specs.Format.{Said, pdu_bytes, pdu_of};
 ghost use Rattle.pn_alarms.specs.Message.{message_of};
 ghost use Rattle.diagnosis.specs.reports.Message.{alarm_of, low_message_of};
-ghost use Rattle.diagnosis.specs.reports.Report.{diagnosed, diagnosis_pdu, ours, report};
+ghost use Rattle.diagnosis.specs.reports.Report.{bare, bare_pdu, diagnosed, diagnosis_pdu, low_pdu, low_report, ours, report};
 ghost use Rattle.block_codec.specs.Writable.{IsAck, IsAlarm};
 ghost use Rattle.diagnosis.specs.Sendable.{CanBeSaid, IsHeader, ack_pdu, empty_pdu, low_ack_pdu};
 
@@ -56,7 +56,15 @@ pub fn alarms_are_read()
     // A change of diagnosis is read as an alarm of low priority, with the UserStructureIdentifier 0x8000.
     ensures low { (header : Header) (alarm : AlarmNotification) (more : List ℕ) → header.kind ≡ pdu.Data → IsHeader header → IsAlarm alarm
         → alarm_of (pdu_bytes (diagnosis_pdu header alarm) ++ more) ≡ Ok (header, notice.Data header.send_number (diagnosed alarm)) }
-    // It has 28 octets and those of its data.
+    // A pull or a plug is read as an alarm of low priority, without a UserStructureIdentifier.
+    ensures bare { (header : Header) (alarm : AlarmNotification) (more : List ℕ) → header.kind ≡ pdu.Data → IsHeader header → IsAlarm alarm
+        → alarm.alarm_data ≡ [] → alarm_of (pdu_bytes (bare_pdu header alarm) ++ more) ≡ Ok (header, notice.Data header.send_number (bare alarm)) }
+    // So each alarm of low priority is read as it was sent.
+    ensures any { (header : Header) (alarm : AlarmNotification) (more : List ℕ) → header.kind ≡ pdu.Data → IsHeader header → IsAlarm alarm
+        → alarm_of (pdu_bytes (low_pdu header alarm) ++ more) ≡ Ok (header, notice.Data header.send_number (low_report alarm)) }
+    // That of a pull or a plug has 26 octets; as it has no data, none follow.
+    ensures bare_long { (alarm : AlarmNotification) → length (report.write (bare alarm) []) ≡ 26 + length alarm.alarm_data }
+    // That of a change of diagnosis has 28 octets and those of its data.
     ensures low_long { (alarm : AlarmNotification) → length (report.write (diagnosed alarm) []) ≡ 28 + length alarm.alarm_data }
     // An alarm has 28 octets and those of its data.
     ensures long { (alarm : AlarmNotification) → length (block_bytes (alarm_block alarm)) ≡ 28 + length alarm.alarm_data }

@@ -1,9 +1,10 @@
 //! The diagnoses that exist.
 ghost use Rattle.std.specs.Prelude.{◌≡◌, ◌≤◌, [], is_some, length, unwrap_or};
-ghost use Rattle.diagnosis.specs.Existing.{changed, exists, is_any_at, is_any_in, others, with_one, without};
+ghost use Rattle.diagnosis.specs.Existing.{changed, exists, is_any_at, is_any_in, others, remaining, with_one, without};
 
 use crate::{Change, Diagnosis, Places};
 use arrayvec::ArrayVec;
+use module_diff::Affected;
 use std::marker::Model;
 
 /// The diagnoses that exist at a device, at most 32, in the order in which they appeared.
@@ -115,6 +116,19 @@ impl Diagnoses {
         for other in self.entries.as_slice() {
             if !diagnosis.is_same(other) {
                 next.push(*other);
+            }
+        }
+        self.entries = next;
+    }
+
+    /// Forgets the diagnoses of what was pulled: nothing is wrong at a submodule that is gone.
+    pub fn forget(&mut self, gone: Affected)
+        ensures { self.new ≡ remaining gone self.old }
+    {
+        let mut next = ArrayVec::new();
+        for diagnosis in self.entries.as_slice() {
+            if !gone.covers(diagnosis.slot, diagnosis.subslot) {
+                next.push(*diagnosis);
             }
         }
         self.entries = next;

@@ -1,6 +1,7 @@
 //! A diagnosis, and a change of what exists.
 ghost use Rattle.std.specs.Prelude.{◌≡◌};
 ghost use Rattle.diagnosis.specs.Existing.{is_at, is_same, is_valid};
+ghost use Rattle.diagnosis.specs.Notices.{channel_bytes, properties_of, type_of};
 
 /// ChannelNumber of a diagnosis of the submodule itself.
 pub const WHOLE_SUBMODULE: u16 = 0x8000;
@@ -50,4 +51,37 @@ pub struct Change {
     pub diagnosis: Diagnosis,
     /// Whether it appears.
     pub appears: bool,
+}
+
+impl Change {
+    /// AlarmType of the alarm that reports it.
+    pub fn alarm_type(&self) -> u16
+        ensures { result ≡ type_of self.now }
+    {
+        if self.appears { 1 } else { 0x000C }
+    }
+
+    /// ChannelNumber, ChannelProperties and ChannelErrorType: what follows UserStructureIdentifier 0x8000.
+    pub fn octets(&self) -> [u8; 6]
+        ensures { result ≡ channel_bytes self.now }
+    {
+        let channel = self.diagnosis.channel.to_be_bytes();
+        let properties = self.properties().to_be_bytes();
+        let error = self.diagnosis.error.to_be_bytes();
+        [
+            channel[0],
+            channel[1],
+            properties[0],
+            properties[1],
+            error[0],
+            error[1],
+        ]
+    }
+
+    /// ChannelProperties.
+    fn properties(&self) -> u16
+        ensures { result ≡ properties_of self.now }
+    {
+        if self.appears { 0x0800 } else { 0x1000 }
+    }
 }

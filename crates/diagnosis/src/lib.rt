@@ -9,9 +9,10 @@ mod alarm_law;
 mod alarms;
 mod diagnoses;
 mod diagnosis;
+mod module_change;
 mod notice;
-mod notices;
 mod places;
+mod queue;
 mod record;
 mod reported;
 mod reports;
@@ -20,19 +21,20 @@ mod taken;
 pub use alarm_law::{
     acks_are_read, alarms_are_read, ends_are_read, pdus_are_read, replies_are_read,
 };
-pub use alarms::{DiagnosisAlarms, Own, Place, Terms};
+pub use alarms::{DiagnosisAlarms, Own, Place, SentAlarm, Terms};
 pub use diagnoses::Diagnoses;
 pub use diagnosis::{Change, Diagnosis, WHOLE_SUBMODULE};
+pub use module_change::{ModuleChange, ModuleChangeKind};
 pub use notice::Notice;
-pub use notices::Notices;
 pub use places::Places;
+pub use queue::{LowChange, QueuedAlarm};
 pub use record::put_diagnosis_data;
 pub use reported::{
     ChannelReport, MOST_DIAGNOSES, ReportedDiagnoses, Specifier, channel_report,
     reports_are_followed,
 };
 pub use reports::{
-    Priority, Report, diagnosis_front, low_ack_octets, read_alarm, read_low_ack, read_low_message,
+    Priority, Report, low_ack_octets, low_alarm_front, read_alarm, read_low_ack, read_low_message,
     read_report, reports_are_read,
 };
 pub use taken::alarms_are_taken_in_order;

@@ -1,13 +1,8 @@
 //! A change of diagnosis that waits for its alarm.
-ghost use Rattle.std.specs.Prelude.{◌≡◌, ◌<◌};
-ghost use Rattle.diagnosis.specs.Notices.{channel_bytes, notice_of, properties_of, specifier_of, type_of};
+ghost use Rattle.std.specs.Prelude.{◌≡◌};
+ghost use Rattle.diagnosis.specs.Notices.{first_notice, notice_of};
 
-use crate::{Change, Diagnoses, Places};
-
-/// AlarmSpecifier: ChannelDiagnosis and SubmoduleDiagnosisState.
-const AT_SUBMODULE: u16 = 0x2800;
-/// AlarmSpecifier: ARDiagnosisState.
-const IN_RELATION: u16 = 0x8000;
+use crate::{Change, Diagnoses, Diagnosis, Places};
 
 /// A change of diagnosis, and what existed after it. Its alarm says so even if it is sent later.
 #[derive(Clone, Copy, Debug, Default, PartialEq, Eq)]
@@ -32,52 +27,17 @@ impl Notice {
         }
     }
 
-    /// AlarmType.
-    pub fn alarm_type(&self) -> u16
-        ensures { result ≡ type_of self.now.change }
+    /// What is reported as data exchange begins: that this diagnosis, which exists in the relation, appears.
+    pub(crate) fn first(diagnosis: &Diagnosis) -> Notice
+        ensures { result ≡ first_notice diagnosis.now }
     {
-        if self.change.appears { 1 } else { 0x000C }
-    }
-
-    /// AlarmSpecifier with this sequence.
-    pub fn specifier(&self, sequence: u16) -> u16
-        requires { sequence < 2048 }
-        ensures { result ≡ specifier_of self.now sequence }
-    {
-        let at_submodule = if self.is_any_at_submodule {
-            AT_SUBMODULE
-        } else {
-            0
-        };
-        let in_relation = if self.is_any_in_relation {
-            IN_RELATION
-        } else {
-            0
-        };
-        sequence + at_submodule + in_relation
-    }
-
-    /// ChannelNumber, ChannelProperties and ChannelErrorType: what follows UserStructureIdentifier 0x8000.
-    pub fn octets(&self) -> [u8; 6]
-        ensures { result ≡ channel_bytes self.now.change }
-    {
-        let channel = self.change.diagnosis.channel.to_be_bytes();
-        let properties = self.properties().to_be_bytes();
-        let error = self.change.diagnosis.error.to_be_bytes();
-        [
-            channel[0],
-            channel[1],
-            properties[0],
-            properties[1],
-            error[0],
-            error[1],
-        ]
-    }
-
-    /// ChannelProperties.
-    fn properties(&self) -> u16
-        ensures { result ≡ properties_of self.now.change }
-    {
-        if self.change.appears { 0x0800 } else { 0x1000 }
+        Notice {
+            change: Change {
+                diagnosis: *diagnosis,
+                appears: true,
+            },
+            is_any_at_submodule: true,
+            is_any_in_relation: true,
+        }
     }
 }

@@ -5,7 +5,7 @@ ghost use Rattle.arrayvec.specs.ArrayVec.{array_vec_len};
 ghost use Rattle.diagnosis.specs.Existing.{is_at};
 ghost use Rattle.diagnosis.specs.Record.{channels_bytes, block_bytes, head_bytes, record_bytes, slot_bytes, submodule_bytes};
 
-use crate::{Change, Diagnoses, Diagnosis, Notice, Places};
+use crate::{Change, Diagnoses, Diagnosis, Places};
 use arrayvec::ArrayVec;
 use pn_values::{Real, RealSubmodule};
 use wire::{append, at_most};
@@ -101,15 +101,11 @@ fn put_channels(octets: &mut ArrayVec<u8, 1308>, own: &[Diagnosis])
     ensures few { length octets.new.items ≤ 1308 }
 {
     for diagnosis in own {
-        let notice = Notice {
-            change: Change {
-                diagnosis: *diagnosis,
-                appears: true,
-            },
-            is_any_at_submodule: true,
-            is_any_in_relation: true,
+        let change = Change {
+            diagnosis: *diagnosis,
+            appears: true,
         };
-        append_cut(octets, &notice.octets());
+        append_cut(octets, &change.octets());
     }
 }
 

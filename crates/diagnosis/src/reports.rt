@@ -11,4 +11,4 @@ pub use law::reports_are_read;
 pub use message::{read_alarm, read_low_message};
 pub use priority::Priority;
 pub use report::{Report, low_ack_octets, read_low_ack, read_report};
-pub use writing::diagnosis_front;
+pub use writing::low_alarm_front;

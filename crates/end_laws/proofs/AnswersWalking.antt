@@ -1,5 +1,5 @@
 -- What a device sends and stores in each step.
-use Rattle.std.proofs.Common.{◌≡◌, ◌&&◌, ℕ, Bool, true, false, List, [], ◌∷◌, ◌++◌, Option, Some, None, is_some, Result, Ok, Err, refl, sym, subst}
+use Rattle.std.proofs.Common.{◌≡◌, ◌&&◌, ℕ, Bool, true, false, List, [], ◌∷◌, ◌++◌, Option, Some, None, is_some, option_map, Result, Ok, Err, refl, sym, subst}
 use Rattle.std.specs.List.{AllByRecursion}
 use Rattle.std.proofs.lemmas.Bool.{cond_both}
 use Rattle.pn_values.specs.declared.mac.Mac.{Mac}
@@ -45,21 +45,26 @@ use Rattle.pn_alarms.specs.declared.receiver.Taken.{Taken}
 use Rattle.rpc_core.specs.Cache.{Reported as Looked, new, again, old, looked, kept_more}
 use Rattle.relations.specs.declared.farewell.Farewell.{Farewell}
 use Rattle.relations.specs.Timers.{Due, due_of}
-use Rattle.relations.specs.RelationState.{RelationState, uuid_of, flow_of, is_alarm_of}
+use Rattle.relations.specs.RelationState.{RelationState, uuid_of, flow_of, is_alarm_of, is_in_exchange}
 use Rattle.relations.specs.exchange.Frames.{Frame, alarm_frame, low_alarm_frame}
 use Rattle.relations.specs.Phases.{Named, Parameterized, answered, keeping, passing, updated}
 use Rattle.relations.specs.Calls.{prm_end_of, prm_end_answer, release_answer}
 use Rattle.relations.specs.Diagnosed.{begin_one, beginning, has_sent_low, heard_low, hearing_low, report_one, reporting}
 use Rattle.relations.specs.Ready.{handled_by}
-use Rattle.device_frames.specs.Relation.{alarms_of, due_frames, farewells_in, frames_in, inputs_of, low_alarms_of, low_replies_of, ready_calls, replies_of, where_due}
+use Rattle.device_frames.specs.Relation.{alarms_of, due_frames, farewells_in, frames_in, inputs_of, low_alarms_of, low_replies_of, plug_call_in, plug_calls, ready_calls, replies_of, where_due}
 use Rattle.device_frames.specs.Sendable.{AreSendable}
 use Rattle.device_frames.specs.Sent.{Sent, IdentifyAnswer, GetAnswer, SetAnswer, ArpReply, CallAnswer, Again, Ends}
-use Rattle.rpc_core.specs.Response.{answer_to}
+use Rattle.rpc_core.specs.Response.{Answered, answer_to}
+use Rattle.expected_places.specs.declared.calls.PlugCall.{PlugCall}
+use Rattle.relations.specs.declared.plugging.PlugAnswer.{PlugAnswer}
+use Rattle.relations.specs.declared.plugging.PlugAnswer.TheVariants as to_plug
+use Rattle.relations.specs.Plugging.{calling_next, is_calling, is_plug_control, plug_answer_in, plug_answering, plug_end_answer, plug_end_in, plug_ending, ready_for}
 use Rattle.device_core.specs.State.{Station, Live, Rest, alias_in, counter_of, units_after}
 use Rattle.device_core.specs.Local.{ApplicationIsLocal, IsOfRelation}
 use Rattle.device_core.specs.Several.{judged_each}
 use Rattle.device_core.specs.Log.{but_rest, connect_log, with_log}
-use Rattle.device_core.specs.Handled.{counted_by, number_now, starting_of, served as served_by, Handled, is_running, is_request, answer_from, kept_for, kept_answer, outcome_of, partner_of, ready_behind, handled_request, handled_effect, handled_write, handled_new, handled_looked, handled_blocks, handled_call, handled_answer, handled_said, handled_pdu, handled_received, handled, known_of, handled_alarm, handled_low, handled_low_pdu}
+use Rattle.device_core.specs.Modules.{call_after, next_call_sent}
+use Rattle.device_core.specs.Handled.{counted_by, number_now, starting_of, served as served_by, Handled, is_running, is_request, answer_from, kept_for, kept_answer, outcome_of, partner_of, ready_behind, handled_request, handled_effect, handled_next_call, handled_plug_answer, handled_plug_end, handled_prm_end, handled_write, handled_new, handled_looked, handled_blocks, handled_call, handled_answer, handled_said, handled_pdu, handled_received, handled, known_of, handled_alarm, handled_low, handled_low_pdu}
 use Rattle.device_core.specs.Machine.{farewells_at, items_in, first_answer, resets, several_answer, written_as, finished, heard_step, handled_step}
 use Rattle.dcp_core.specs.Set.{plan_of}
 use Rattle.end_laws.specs.answers.Whole.{AreStoredWhole, IsAnsweredWhole, IsOneDatagram}
@@ -116,6 +121,21 @@ calls_other : (address : List ℕ) (link : Option RelationState) → AreOthers (
 calls_other address None = tt
 calls_other address (Some link) = (tt, tt)
 
+plug_calls_other : (address : List ℕ) (link : Option RelationState) → AreOthers (plug_calls address link)
+plug_calls_other address None = tt
+plug_calls_other address (Some link) = by_standing link.plugs.calls.standing
+  where
+    by_standing : (standing : Option PlugCall) → AreOthers (plug_call_in address (option_map (ready_for link) standing))
+    by_standing None = tt
+    by_standing (Some call) = (tt, tt)
+
+next_other : (address : List ℕ) (link : Option RelationState) → AreOthers (next_call_sent address link)
+next_other address link = due_other (is_calling link) (plug_calls address (calling_next link)) (plug_calls_other address (calling_next link))
+
+after_other : {A : Type 0} (ended : Result A CallFault) (address : List ℕ) (link : Option RelationState) → AreOthers (call_after ended address link)
+after_other (Ok it) address link = next_other address link
+after_other (Err fault) address link = tt
+
 ready_other : (by_application : Bool) (address : List ℕ) (link : Option RelationState) (ended : Result ControlBlock CallFault) → AreOthers (ready_behind by_application address link ended)
 ready_other true address link (Ok block) = tt
 ready_other false address link (Ok block) = calls_other address link
@@ -132,7 +152,8 @@ unit_other address counter due link =
     (others_then (where_due due.is_alarm (alarms_of (flow_of link))) _ (due_other due.is_alarm _ (alarms_other (flow_of link)))
     (others_then (where_due due.is_low (low_alarms_of (flow_of link))) _ (due_other due.is_low _ (low_alarms_other (flow_of link)))
     (others_then (where_due due.is_ready (ready_calls address link)) _ (due_other due.is_ready _ (calls_other address link))
-    (due_other due.is_cyclic _ (inputs_other counter (flow_of link))))))
+    (others_then (where_due due.is_plug_ready (plug_calls address link)) _ (due_other due.is_plug_ready _ (plug_calls_other address link))
+    (due_other due.is_cyclic _ (inputs_other counter (flow_of link)))))))
 
 other_whole : (identity : Identity) (message : Sent) → IsOther message → IsAnsweredWhole identity message
 other_whole identity (CallAnswer caller address answer) other = absurd other
@@ -202,7 +223,7 @@ module _ (datagrams : DatagramsAreRead) (reads : ResponsesAreRead) (local_is : A
   write_good : (caller : Caller) (call : Called) (writing : Result Writing CallFault) → IsGood (handled_write station live caller call writing)
   write_good caller call (Ok (One write)) = effect_good caller call write.request write.effect
   write_good caller call (Ok (Each header entries)) =
-      served caller call Write (Ok (several_answer header (judged_each (uuid_of live.rest.link) station.real entries) answers live.rest.link)) [] tt
+      served caller call Write (Ok (several_answer header (judged_each (uuid_of live.rest.link) live.rest.real entries) answers live.rest.link)) [] tt
   write_good caller call (Err fault) = served caller call Write (Err fault) [] tt
 
   connect_good : (caller : Caller) (call : Called) (blocks : List ℕ) (answer : Result (List ℕ) CallFault) (link : Option RelationState)
@@ -210,22 +231,33 @@ module _ (datagrams : DatagramsAreRead) (reads : ResponsesAreRead) (local_is : A
   connect_good caller call blocks (Ok octets) link = served caller call Connect (Ok octets) [] tt
   connect_good caller call blocks (Err why) link = served caller call Connect (Err why) [] tt
 
-  new_good : (caller : Caller) (call : Called) (blocks : List ℕ) (operation : Operation) → IsGood (handled_new station live caller call blocks operation)
-  new_good caller call blocks Connect =
-      connect_good caller call blocks (connect_answer station.identity station.real station.options (number_now station live) caller.mac live.rest.link blocks)
-      (updated (making station.real (partner_of caller) station.options (starting_of station live) (connect_within station.options caller.mac live.rest.link blocks)) live.rest.link)
-  new_good caller call blocks Release = served caller call Release (release_answer live.rest.link blocks) [] tt
-  new_good caller call blocks Read =
-      served caller call Read (relation_read (known_of station live) station.identity station.real live.values.running blocks) [] tt
-  new_good caller call blocks Write = write_good caller call (writing_of (uuid_of live.rest.link) station.real blocks)
-  new_good caller call blocks Control =
+  control_good : (caller : Caller) (call : Called) (blocks : List ℕ) → IsGood (handled_prm_end station live caller call blocks)
+  control_good caller call blocks =
       let by_application = station.options.ready_by_application in
       let ended = prm_end_of live.rest.link blocks in
       let link = updated (answered (Named (partner_of caller)) ended) (updated (answered (Parameterized by_application) ended) live.rest.link) in
       served caller call Control (prm_end_answer live.rest.link blocks) (ready_behind by_application live.values.running.suite.address link ended)
       (ready_other by_application live.values.running.suite.address link ended)
+
+  plug_good : (caller : Caller) (call : Called) (blocks : List ℕ) → IsGood (handled_plug_end station live caller call blocks)
+  plug_good caller call blocks =
+      let ended = plug_end_in blocks live.rest.link in
+      let link = updated (answered (Named (partner_of caller)) ended) (plug_ending station.options.ready_by_application blocks live.rest.link) in
+      served caller call Control (plug_end_answer ended) (call_after ended live.values.running.suite.address link)
+      (after_other ended live.values.running.suite.address link)
+
+  new_good : (caller : Caller) (call : Called) (blocks : List ℕ) (operation : Operation) → IsGood (handled_new station live caller call blocks operation)
+  new_good caller call blocks Connect =
+      connect_good caller call blocks (connect_answer station.identity live.rest.real station.options (number_now station live) caller.mac live.rest.link blocks)
+      (updated (making live.rest.real (partner_of caller) station.options (starting_of station live) (connect_within station.options caller.mac live.rest.link blocks)) live.rest.link)
+  new_good caller call blocks Release = served caller call Release (release_answer live.rest.link blocks) [] tt
+  new_good caller call blocks Read =
+      served caller call Read (relation_read (known_of station live) station.identity live.rest.real live.values.running blocks) [] tt
+  new_good caller call blocks Write = write_good caller call (writing_of (uuid_of live.rest.link) live.rest.real blocks)
+  new_good caller call blocks Control =
+      cond_both (is_plug_control blocks live.rest.link) _ _ IsGood (λ _. plug_good caller call blocks) (λ _. control_good caller call blocks)
   new_good caller call blocks ReadImplicit =
-      served caller call ReadImplicit (implicit_read (known_of station live) station.identity station.real live.values.running blocks) [] tt
+      served caller call ReadImplicit (implicit_read (known_of station live) station.identity live.rest.real live.values.running blocks) [] tt
 
   looked_good : (caller : Caller) (call : Called) (blocks : List ℕ) (operation : Operation) (reported : Looked)
       → looked call.header.activity call.header.sequence live.rest.calls ≡ reported → IsGood (handled_looked station live caller call blocks operation reported)
@@ -248,16 +280,27 @@ module _ (datagrams : DatagramsAreRead) (reads : ResponsesAreRead) (local_is : A
   answer_good to_ready.NotWanted = silent
   answer_good to_ready.Garbled = silent
   answer_good to_ready.Confirmed =
-      let real = station.real.modules.items in
+      let real = live.rest.real.modules.items in
       let link = updated (handled_by to_ready.Confirmed) live.rest.link in
       let begun = begin_one real live.rest.diagnoses link in
       let messages = low_alarms_of (flow_of (updated (beginning real live.rest.diagnoses link) link)) in
       quiet (where_due begun messages) (due_other begun messages (low_alarms_other _))
   answer_good (to_ready.Refused farewell) = quiet (Ends farewell ∷ []) (tt, tt)
 
+  next_good : (link : Option RelationState) → IsGood (handled_next_call live link)
+  next_good link = quiet (next_call_sent live.values.running.suite.address link) (next_other live.values.running.suite.address link)
+
+  plug_answer_good : (response : Answered) (answer : PlugAnswer) → IsGood (handled_plug_answer live response answer)
+  plug_answer_good response to_plug.NotWanted = silent
+  plug_answer_good response to_plug.Garbled = silent
+  plug_answer_good response to_plug.Confirmed = next_good (plug_answering response live.rest.link)
+  plug_answer_good response to_plug.Refused = next_good (plug_answering response live.rest.link)
+
   said_good : (caller : Caller) (said : Said) → IsGood (handled_said station live caller said)
   said_good caller (Calls call) = call_good caller call (operation_of call.header.operation)
-  said_good caller (Responds response) = answer_good (ready_answer response live.rest.link)
+  said_good caller (Responds response) =
+      cond_both (is_in_exchange live.rest.link) _ _ IsGood (λ _. plug_answer_good response (plug_answer_in response live.rest.link))
+      (λ _. answer_good (ready_answer response live.rest.link))
   said_good caller Garbled = silent
 
   pdu_good : (came : PduFate) (link : Option RelationState) → IsGood (handled_pdu live came link)
@@ -273,10 +316,9 @@ module _ (datagrams : DatagramsAreRead) (reads : ResponsesAreRead) (local_is : A
 
   low_pdu_good : (came : PduFate) (link : Option RelationState) → IsGood (handled_low_pdu station live came link)
   low_pdu_good (fate.Data taken) link =
-      let real = station.real.modules.items in
-      let next = updated (reporting real link) link in
-      quiet (low_replies_of taken (flow_of link) ++ where_due (report_one real link) (low_alarms_of (flow_of next)))
-      (others_then (low_replies_of taken (flow_of link)) _ (low_replies_other taken (flow_of link)) (due_other (report_one real link) _ (low_alarms_other (flow_of next))))
+      let next = updated (reporting link) link in
+      quiet (low_replies_of taken (flow_of link) ++ where_due (report_one link) (low_alarms_of (flow_of next)))
+      (others_then (low_replies_of taken (flow_of link)) _ (low_replies_other taken (flow_of link)) (due_other (report_one link) _ (low_alarms_other (flow_of next))))
   low_pdu_good fate.Done link = silent
   low_pdu_good fate.Ignored link = silent
   low_pdu_good (fate.Aborted status) link = silent

@@ -1,6 +1,6 @@
 -- What holds of each item of a list.
-use Rattle.std.proofs.Common.{sym, ◌≡◌, inl, inr, ◌≤◌, ℕ, zero, suc, List, [], ◌∷◌, ◌++◌, length, Some, refl, ap, ◌∙◌, subst, arith}
-use Rattle.std.specs.List.{AllByRecursion}
+use Rattle.std.proofs.Common.{sym, ◌≡◌, inl, inr, ◌≤◌, ℕ, zero, suc, Bool, true, false, cond, List, [], ◌∷◌, ◌++◌, length, Some, refl, ap, ◌∙◌, subst, arith}
+use Rattle.std.specs.List.{AllByRecursion, filter}
 use Rattle.std.specs.Prelude.{slice_get}
 use Rattle.end_laws.specs.both.Steps.{IsPart}
 
@@ -61,6 +61,23 @@ module _ {A : Type 0} where
   part_both [] (x ∷ all) more others part next = part_more more x (all ++ others) (part_both [] all more others (part_none all) next)
   part_both (y ∷ some) (x ∷ all) more others (inl part) next = inl (part.0, part_both some all more others part.1 next)
   part_both (y ∷ some) (x ∷ all) more others (inr part) next = inr (part_both (y ∷ some) all more others part next)
+
+  -- some of some of a list are some of it, and so are those that pass a test
+  pub part_past : (few some all : List A) → IsPart few some → IsPart some all → IsPart few all
+  part_past few some [] part other = subst (λ (xs : List A). IsPart few xs) other part
+  part_past [] some (z ∷ all) part other = tt
+  part_past (x ∷ few) [] (z ∷ all) part other = absurd cc
+  part_past (x ∷ few) (y ∷ some) (z ∷ all) part (inr other) = inr (part_past (x ∷ few) (y ∷ some) all part other)
+  part_past (x ∷ few) (y ∷ some) (z ∷ all) (inl part) (inl other) = inl (part.0 ∙ other.0, part_past few some all part.1 other.1)
+  part_past (x ∷ few) (y ∷ some) (z ∷ all) (inr part) (inl other) = inr (part_past (x ∷ few) some all part other.1)
+
+  part_if : (keeps : Bool) (x : A) (some all : List A) → IsPart some all → IsPart (cond keeps (x ∷ some) some) (x ∷ all)
+  part_if true x some all part = inl (refl, part)
+  part_if false x some all part = part_more some x all part
+
+  pub part_filter : (stays : A → Bool) (all : List A) → IsPart (filter stays all) all
+  part_filter stays [] = refl
+  part_filter stays (x ∷ all) = part_if (stays x) x (filter stays all) all (part_filter stays all)
 
   pub part_whole : (some all : List A) → IsPart some all → length all ≤ length some → some ≡ all
   part_whole some [] part enough = part

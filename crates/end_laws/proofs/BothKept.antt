@@ -5,7 +5,7 @@ use Rattle.std.proofs.lemmas.Bool.{leb-true, leb-false}
 use Rattle.std.specs.List.{AllByRecursion}
 use Rattle.std.specs.Prelude.{nat_le, slice_get}
 use Rattle.end_laws.specs.both.Small.{Ask, Connects, Writes, Parameterized, Releases, Accesses, ToDevice, Call, Confirms, Idle, Answers, Readies, Nothing, Rules, Started, Awaiting, Exchanging, RelationState, Kept, Device}
-use Rattle.end_laws.specs.both.Steps.{IsNew, IsPart, made, records_before, records_of, TakesSome, IsParameterized, Partly, Comes, IsReady, IsDull, IsAnswered, IsAgain, Rests, GoesBy, DeviceSteps}
+use Rattle.end_laws.specs.both.Steps.{IsNew, IsPart, made, records_before, records_of, TakesSome, IsParameterized, Partly, Comes, Forgets, IsReady, IsDull, IsAnswered, IsAgain, Rests, GoesBy, DeviceSteps}
 use Rattle.end_laws.proofs.BothEach.{none_is, part_all, part_both, part_few, part_front, part_whole}
 use Rattle.end_laws.proofs.BothHolds.{IsSomeKept, TookIn, Took, IsPast, HasPart, IsHeld, IsHeldIn, HoldsAt, Behind, IsCall, TellsDevice, TellsController, IsFine, AreFine, KeepsFine, Unconfirmed}
 use Rattle.end_laws.proofs.BothGoes.{Grows, are_fine_on, keeps_on, same_grows, fine_as, fine_at_most}
@@ -63,7 +63,8 @@ module _ {T Q : Type 0} (rules : Rules T Q) where
   may_come (Writes number) true link after (inl comes) =
       inr (record { link = comes.link; values = rules.group number; was = comes.was; part = part_all (rules.group number); becomes = comes.becomes })
   may_come Connects true link after comes = inr comes
-  may_come Parameterized true link after comes = inr comes
+  may_come Parameterized true link after (inr passes) = inl passes.same
+  may_come Parameterized true link after (inl comes) = inr comes
   may_come Releases true link after comes = inr comes
   may_come Accesses true link after comes = inr comes
 
@@ -269,13 +270,6 @@ module _ {T Q : Type 0} (rules : Rules T Q) where
     ready_fine : (after : Device T Q) (frame : List ℕ) → GoodNow frame → IsReady rules after frame → IsFine rules GoodNow after.kept after.link frame
     ready_fine after frame good ready = fine_at_most rules GoodNow after.kept after.link frame Readies ready.to_device ready.to_controller good
 
-    readies_fine : (after : Device T Q) (frames : List (List ℕ)) → AreGood after frames → AllByRecursion (IsReady rules after) frames → AreFine rules GoodNow after.kept after.link frames
-    readies_fine after [] good all = tt
-    readies_fine after (frame ∷ frames) good all = (
-      ready_fine after frame (good 0 frame refl all.0) all.0,
-      readies_fine after frames (good_behind after frame frames good) all.1,
-    )
-
     dull_fine : (after : Device T Q) (frame : List ℕ) → (IsReady rules after frame → GoodNow frame) → IsDull rules frame ⊎ IsReady rules after frame
         → IsFine rules GoodNow after.kept after.link frame
     dull_fine after frame good (inl dull) = fine_as rules GoodNow after.kept after.link frame Idle Nothing dull.0 dull.1 tt tt
@@ -340,7 +334,7 @@ module _ {T Q : Type 0} (rules : Rules T Q) where
             kept = subst (λ (k : Option Kept). KeepsFine rules GoodNow k after.link k) (sym answered.keeps) fine;
             new = subst (λ (fs : List (List ℕ)). AreFine rules GoodNow after.kept after.link fs) (sym answered.sent) (
               subst (λ (k : Option Kept). IsFine rules GoodNow k after.link answered.frame) (sym answered.keeps) fine,
-              readies_fine after answered.others (good_behind after answered.frame answered.others behind) answered.readies,
+              all_dull_fine after answered.others (good_behind after answered.frame answered.others behind) answered.readies,
             );
             unconfirmed = unconfirmed_by ask before.link after.link may unconfirmed;
           }
@@ -380,19 +374,28 @@ module _ {T Q : Type 0} (rules : Rules T Q) where
       held_same None link now (inr none) holds = none
       held_same (Some answer) link now (inr none) holds = subst (λ (l : Option (RelationState T Q)). IsHeldIn rules answer.sequence l) (sym none) tt
 
+      -- no record is forgotten before data is exchanged
+      link_same : (after.link ≡ before.link) ⊎ ((after.link ≡ None) ⊎ Forgets before.link after.link) → (after.link ≡ before.link) ⊎ (after.link ≡ None)
+      link_same (inl same) = inl same
+      link_same (inr (inl none)) = inr none
+      link_same (inr (inr forgets)) =
+          let none : Unconfirmed (Some forgets.link) = subst (λ (l : Option (RelationState T Q)). Unconfirmed l) forgets.was unconfirmed in
+          absurd (none forgets.exchanges)
+
       by_leaves : AreGood after frames → GoesBy rules before after frames → Leaves before after frames
       by_leaves good goes =
+          let link = link_same goes.link in
           let grows : Grows rules before.kept before.link after.kept after.link = λ count took. record {
             called = subst (λ (k : Option Kept). IsSomeKept k) (sym goes.keeps) took.called;
-            taken = took_same before.link after.link (size count) goes.link took.taken;
+            taken = took_same before.link after.link (size count) link took.taken;
           } in
           record {
             grows = grows;
-            held = subst (λ (k : Option Kept). HoldsAt rules k after.link) (sym goes.keeps) (held_same before.kept before.link after.link goes.link held);
+            held = subst (λ (k : Option Kept). HoldsAt rules k after.link) (sym goes.keeps) (held_same before.kept before.link after.link link held);
             kept = subst (λ (k : Option Kept). KeepsFine rules GoodNow after.kept after.link k) (sym goes.keeps)
                 (keeps_on rules before.kept after.kept before.link after.link grows Good GoodNow good_on before.kept kept);
             new = all_dull_fine after frames good goes.sent;
-            unconfirmed = still_unconfirmed before.link after.link goes.link unconfirmed;
+            unconfirmed = still_unconfirmed before.link after.link link unconfirmed;
           }
 
       pub device_leaves : (heard : ToDevice) → TellsDevice rules before.kept before.link heard → AreGood after frames → DeviceSteps rules heard before after frames

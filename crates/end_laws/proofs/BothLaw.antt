@@ -3,7 +3,7 @@ use Rattle.std.proofs.Common.{◌≡◌, ◌⊎◌, inl, inr, ◌+◌, ◌≤◌
 use Rattle.std.specs.List.{AllByRecursion}
 use Rattle.std.specs.Prelude.{slice_get}
 use Rattle.end_laws.specs.both.Small.{Ask, Connects, Writes, Parameterized, Releases, Accesses, ToDevice, Call, Confirms, Idle, ToController, Answers, Readies, Nothing, Rules, Awaiting, Exchanging, RelationState, Kept, Device, Controller, Seeking, Asking, Waiting, Exchanges, Ended, World, Move, ComesToDevice, ComesToController, AtDevice, AtController, IsByController, IsByDevice}
-use Rattle.end_laws.specs.both.Steps.{records_of, IsDull, IsPart, CallsWhile, SaysToDevice, IsSaid, IsNext, Moves, DeviceSteps, StepsAtDevice, StepsAtController, ComesToDeviceAs, ComesToControllerAs, Steps}
+use Rattle.end_laws.specs.both.Steps.{records_of, Forgets, IsDull, IsPart, CallsWhile, SaysToDevice, IsSaid, IsNext, Moves, DeviceSteps, StepsAtDevice, StepsAtController, ComesToDeviceAs, ComesToControllerAs, Steps}
 use Rattle.end_laws.specs.both.StartUp.{IsRun, last_of, Begins, WasSent, WasHanded, WasExchanging}
 use Rattle.end_laws.proofs.BothHolds.{HoldsAt, Took, Behind, IsCall, TellsDevice, TellsController, IsFine, AreFine, KeepsFine, AsksBehind, Unconfirmed, Holds, MadeIn, ConfirmedIn, HoldsSince}
 use Rattle.end_laws.proofs.BothRuns.{holds_behind_run, later_on}
@@ -241,6 +241,12 @@ module _ {T Q : Type 0} (rules : Rules T Q) where
   made_by Accesses link after (inr (inr takes)) is_made =
       subst (λ (l : Option (RelationState T Q)). MadeIn rules l) (sym takes.becomes) (subst (λ (l : Option (RelationState T Q)). MadeIn rules l) takes.was is_made)
 
+  made_past : (link after : Option (RelationState T Q)) → (after ≡ link) ⊎ ((after ≡ None) ⊎ Forgets link after) → MadeIn rules link → MadeIn rules after
+  made_past link after (inl same) is_made = subst (λ (l : Option (RelationState T Q)). MadeIn rules l) (sym same) is_made
+  made_past link after (inr (inl none)) is_made = subst (λ (l : Option (RelationState T Q)). MadeIn rules l) (sym none) tt
+  made_past link after (inr (inr forgets)) is_made =
+      subst (λ (l : Option (RelationState T Q)). MadeIn rules l) (sym forgets.becomes) (subst (λ (l : Option (RelationState T Q)). MadeIn rules l) forgets.was is_made)
+
   made_on : (heard : ToDevice) (before after : Device T Q) (frames : List (List ℕ)) → DeviceSteps rules heard before after frames → MadeIn rules before.link → MadeIn rules after.link
   made_on (Call sequence ask) before after frames (inl answered) is_made =
       made_by ask before.link after.link (may_come rules ask answered.positive before.link after.link answered.does) is_made
@@ -248,12 +254,8 @@ module _ {T Q : Type 0} (rules : Rules T Q) where
   made_on (Call sequence ask) before after frames (inr (inr rests)) is_made = subst (λ (d : Device T Q). MadeIn rules d.link) (sym rests.0) is_made
   made_on Confirms before after frames (inl confirms) is_made =
       subst (λ (d : Device T Q). MadeIn rules d.link) (sym confirms.becomes) (subst (λ (l : Option (RelationState T Q)). MadeIn rules l) confirms.was is_made)
-  made_on Confirms before after frames (inr rests) is_made = subst (λ (d : Device T Q). MadeIn rules d.link) (sym rests.0) is_made
-  made_on Idle before after frames goes is_made = by_link goes.link
-    where
-      by_link : (after.link ≡ before.link) ⊎ (after.link ≡ None) → MadeIn rules after.link
-      by_link (inl same) = subst (λ (l : Option (RelationState T Q)). MadeIn rules l) (sym same) is_made
-      by_link (inr none) = subst (λ (l : Option (RelationState T Q)). MadeIn rules l) (sym none) tt
+  made_on Confirms before after frames (inr goes) is_made = made_past before.link after.link goes.link is_made
+  made_on Idle before after frames goes is_made = made_past before.link after.link goes.link is_made
 
   module _ (Was WasNow Past PastNow Handed HandedNow : Type 0) (w : World T Q) (move : Move) (v : World T Q)
       (passes : PassesSince Was WasNow Past PastNow Handed HandedNow move) (holds : HoldsSince rules Was Past Handed w) where
@@ -265,9 +267,12 @@ module _ {T Q : Type 0} (rules : Rules T Q) where
     confirmed_now None past = tt
     confirmed_now (Some link) past = λ exchanges. past
 
-    confirmed_by : (link after : Option (RelationState T Q)) → (after ≡ link) ⊎ (after ≡ None) → ConfirmedIn Past link → ConfirmedIn PastNow after
+    confirmed_by : (link after : Option (RelationState T Q)) → (after ≡ link) ⊎ ((after ≡ None) ⊎ Forgets link after) → ConfirmedIn Past link → ConfirmedIn PastNow after
     confirmed_by link after (inl same) confirmed = subst (λ (l : Option (RelationState T Q)). ConfirmedIn PastNow l) (sym same) (confirmed_on link confirmed)
-    confirmed_by link after (inr none) confirmed = subst (λ (l : Option (RelationState T Q)). ConfirmedIn PastNow l) (sym none) tt
+    confirmed_by link after (inr (inl none)) confirmed = subst (λ (l : Option (RelationState T Q)). ConfirmedIn PastNow l) (sym none) tt
+    confirmed_by link after (inr (inr forgets)) confirmed =
+        subst (λ (l : Option (RelationState T Q)). ConfirmedIn PastNow l) (sym forgets.becomes)
+        (subst (λ (l : Option (RelationState T Q)). ConfirmedIn PastNow l) forgets.was (confirmed_on link confirmed))
 
     goes_since : v.device ≡ w.device → HoldsSince rules WasNow PastNow HandedNow v
     goes_since same = record {

@@ -1,24 +1,32 @@
 -- What a device exchanges over any events: a frame of inputs in each interval, with the values that were given, and the end of a
 -- relation that receives nothing.
-use Rattle.std.proofs.Common.{◌≡◌, ◌⊎◌, inl, inr, ap, ◌+◌, ◌-◌, ◌%◌, ◌==◌, ◌&&◌, ℕ, zero, suc, Bool, true, false, List, [], ◌∷◌, ◌++◌, Option, Some, None, option_map, refl, sym, subst, ◌∙◌, arith}
-use Rattle.std.specs.Prelude.{◌||◌, if◌then◌else◌, is_some, nat_le, unwrap_or, replicate}
+use Rattle.std.proofs.Common.{◌≡◌, ◌⊎◌, inl, inr, ap, ◌+◌, ◌%◌, ◌==◌, ◌&&◌, ℕ, zero, suc, Bool, true, false, List, [], ◌∷◌, ◌++◌, map, Option, Some, None, option_map, refl, sym, subst, ◌∙◌, arith}
+use Rattle.std.specs.Prelude.{◌||◌, if◌then◌else◌, is_some, nat_le, unwrap_or}
 use Rattle.std.specs.List.{AllByRecursion}
 use Rattle.pn_alarms.specs.declared.abort.Abort.{Abort}
 use Rattle.pn_alarms.specs.declared.abort.Abort.TheVariants.{DataHold, Activity, Other}
 use Rattle.pn_alarms.specs.declared.repeats.Due.{Due as AlarmDue}
 use Rattle.pn_alarms.specs.declared.repeats.Due.TheVariants as is_due_of
-use Rattle.cyclic_data.specs.Image.{Shown, cell_at, place_at}
-use Rattle.cyclic_data.specs.Timing.{Hearing, held_on, is_due}
+use Rattle.cyclic_data.specs.Image.{Cell, Shown, cell_at, place_at}
+use Rattle.cyclic_data.specs.Layout.{is_of}
+use Rattle.cyclic_data.specs.exchange.Opening.{StatusOf, first_cell}
+use Rattle.wire.specs.blocks.modules.Lists.{Listed}
+use Rattle.connect_blocks.specs.declared.module_diff.DiffModule.{DiffModule}
+use Rattle.connect_blocks.specs.declared.module_diff.DiffSubmodule.{DiffSubmodule}
+use Rattle.expected_places.specs.declared.calls.PlugCall.{PlugCall}
+use Rattle.cyclic_data.specs.Timing.{Hearing, Sending, held_on, is_due, unit_later as sending_later}
 use Rattle.cyclic_data.specs.declared.exchange.route.Route.{Route}
 use Rattle.cyclic_data.specs.declared.place.Place.{Place}
 use Rattle.cyclic_data.specs.declared.place.PlaceKind.TheVariants.{Data}
 use Rattle.cyclic_data.specs.exchange.Cyclic.{Cyclic as CyclicEnd}
 use Rattle.cyclic_data.specs.exchange.Runs.{later_one}
 use Rattle.cyclic_data.specs.exchange.Units.{ending_by, is_silent as is_cyclic_silent, tick_by}
-use Rattle.connects.specs.requests.Request.{Request}
 use Rattle.relations.specs.exchange.Flow.{Flow}
 use Rattle.relations.specs.exchange.Frames.{Frame, Inputs, Notifies, Replies, Reports, RepliesLow}
-use Rattle.relations.specs.exchange.Opening.{interval_of}
+use Rattle.relations.specs.declared.exchange.marks.Mark.{Mark}
+use Rattle.relations.specs.exchange.Marks.{Starting, first_mark, mark_at}
+use Rattle.relations.specs.exchange.Opening.{first_marks, interval_of, opened, statuses_of}
+use Rattle.relations.specs.Plugging.{ready_for}
 use Rattle.relations.specs.exchange.Runs as runs
 use Rattle.relations.specs.exchange.Units.{alarm_due, flow_later, tick_of}
 use Rattle.relations.specs.RelationState.{RelationState, flow_of, phase_of}
@@ -28,82 +36,93 @@ use Rattle.relations.specs.declared.farewell.Farewell.{Farewell}
 use Rattle.relations.specs.Phases.{made_of, passing_by, updated}
 use Rattle.relations.specs.Timers.{Due, due_by, due_in, ending_of, is_over, is_timed, unit_later}
 use Rattle.device_frames.specs.Heard.{Heard, Ticks, heard_of}
-use Rattle.device_frames.specs.Relation.{alarms_of, due_frames, farewells_in, frames_in, inputs_of, low_alarms_of, ready_calls, where_due}
-use Rattle.device_frames.specs.Sent.{Sent, IdentifyAnswer, GetAnswer, SetAnswer, ArpReply, Again, Ends, CallAnswer, Exchanges, ReadyCall}
+use Rattle.device_frames.specs.Relation.{alarms_of, due_frames, farewells_in, frames_in, inputs_of, low_alarms_of, plug_call_in, plug_calls, ready_calls, where_due}
+use Rattle.device_frames.specs.Sent.{Sent, IdentifyAnswer, GetAnswer, SetAnswer, ArpReply, Again, Ends, CallAnswer, Exchanges, PlugReadyCall, ReadyCall}
 use Rattle.settings_journal.specs.settings_store.Machine.{Outcome}
 use Rattle.device_core.specs.State.{Live, Station, counter_of, units_after}
 use Rattle.device_core.specs.Machine.{handled_step, heard_step}
-use Rattle.end_laws.specs.device.Exchange.{AreUnaccepted, EndsWithoutData, GoesOnFor, Happening, HasTheLast, IsUnaccepted, SendsEachInterval, SendsTheLastGiven, StaysExchanging, StaysRelated, after_all, ends_for_data, input_value, is_end_of_data, is_inputs, is_unit, last_given, sends_inputs, stepped, units_in}
-use Rattle.end_laws.proofs.DeviceExchange.{Follows, alarms_none, both_none, hearing_of, low_alarms_none, none_due, ready_none, step_does, units_of, waiting_on}
+use Rattle.end_laws.specs.device.Exchange.{AreTheLastGiven, AreUnaccepted, EndsWithoutData, GoesOnFor, Happening, IsUnaccepted, OfInputs, SendsEachInterval, SendsTheLastGiven, StaysExchanging, StaysRelated, affects, after_all, ends_for_data, given_then, given_with, is_end_of_data, is_inputs, is_unit, last_given, made_with, sends_inputs, stepped, units_in, value_of}
+use Rattle.end_laws.proofs.DeviceExchange.{Follows, alarms_none, both_none, hearing_of, low_alarms_none, none_due, plug_calls_none, ready_none, step_does, value_then, waiting_on}
+use Rattle.end_laws.proofs.DeviceInputs.{IsPaired, paired_on, value, zeros_if}
+use Rattle.relations.proofs.ExchangeInputs.{cell_in, placed}
 
--- ---- lists of events
+-- ---- options
 
-two : {A : Type 0} (x y : A) → Some x ≡ Some y → x ≡ y
+pub two : {A : Type 0} (x y : A) → Some x ≡ Some y → x ≡ y
 two x y e = cc
 
-some_of : {A : Type 0} (o : Option A) → is_some o ≡ true → (x : A) × (o ≡ Some x)
+pub some_of : {A : Type 0} (o : Option A) → is_some o ≡ true → (x : A) × (o ≡ Some x)
 some_of (Some x) e = (x, refl)
 some_of None e = absurd (no_bool e)
   where
     no_bool : false ≡ true → ⊥
     no_bool e = cc
 
-all_behind : (one more : List runs.Event) (flow : Flow) → runs.behind_all (one ++ more) flow ≡ runs.behind_all more (runs.behind_all one flow)
-all_behind [] more flow = refl
-all_behind (event ∷ one) more flow = all_behind one more (runs.behind event flow)
-
-units_both : (one more : List runs.Event) → runs.units_in (one ++ more) ≡ runs.units_in one + runs.units_in more
-units_both [] more = omega arith
-units_both (event ∷ one) more = omega (arith, units_both one more)
-
-later_none : (value : Option (List ℕ)) → later_one value None ≡ value
-later_none (Some value) = refl
-later_none None = refl
-
-later_thrice : (one other third : Option (List ℕ)) → later_one (later_one one other) third ≡ later_one one (later_one other third)
-later_thrice (Some value) other third = refl
-later_thrice None other third = refl
-
-given_both : (slot subslot size : ℕ) (one more : List runs.Event) → runs.last_given slot subslot size (one ++ more) ≡ later_one (runs.last_given slot subslot size more) (runs.last_given slot subslot size one)
-given_both slot subslot size [] more = sym (later_none (runs.last_given slot subslot size more))
-given_both slot subslot size (event ∷ one) more =
-    ap (λ (v : Option (List ℕ)). later_one v (runs.given_with slot subslot size event)) (given_both slot subslot size one more)
-    ∙ later_thrice (runs.last_given slot subslot size more) (runs.last_given slot subslot size one) (runs.given_with slot subslot size event)
-
-count_one : (is : Bool) (more : ℕ) → (if is then 1 else 0) + more ≡ (if is then suc more else more)
-count_one true more = omega arith
-count_one false more = omega arith
-
 -- ---- a relation over several events
+
+-- the provider after several units
+abbrev sending_after : ℕ → Sending → Sending
+sending_after zero sending = sending
+sending_after (suc units) sending = sending_after units (sending_later sending)
+
+-- a place with the value that it was given
+abbrev given_at : (ℕ → Option (List ℕ)) → Place → Place × List ℕ
+given_at was place = (place, value_of place (was place.size))
 
 record RunFollows (station : Station) (live : Live) (link : RelationState) (happened : List Happening) : Type 0 where
   next : RelationState
   has : (after_all station happened live).rest.link ≡ Some next
-  flows : List runs.Event
-  goes : next.flow ≡ runs.behind_all flows link.flow
-  units : runs.units_in flows ≡ units_in station happened
-  given : (slot subslot size : ℕ) → runs.last_given slot subslot size flows ≡ last_given station slot subslot size happened
+  sends : next.flow.cyclic.sending ≡ sending_after (units_in station happened) link.flow.cyclic.sending
+  inputs : (slot subslot : ℕ) (places : Option Place) (was : ℕ → Option (List ℕ)) → IsPaired slot subslot link.flow
+      → option_map (placed value) (cell_in slot subslot link.flow) ≡ option_map (given_at was) places
+      → option_map (placed value) (cell_in slot subslot next.flow)
+      ≡ option_map (given_at (λ size. last_given station live slot subslot size happened (was size))) places
+
+-- what was given is the value
+then_value : (cleared : Bool) (given was : Option (List ℕ)) (place : Place)
+    → zeros_if cleared (unwrap_or given (value_of place was)) place ≡ value_of place (if cleared then None else later_one given was)
+then_value true given was place = refl
+then_value false None was place = refl
+then_value false (Some octets) was place = refl
+
+given_step : (cleared : Bool) (given was : ℕ → Option (List ℕ)) (cell after : Option Cell) (places : Option Place)
+    → option_map (placed value) after ≡ option_map (placed (λ (c : Cell). value_then cleared (given c.place.size) c)) cell
+    → option_map (placed value) cell ≡ option_map (given_at was) places
+    → option_map (placed value) after ≡ option_map (given_at (λ size. if cleared then None else later_one (given size) (was size))) places
+given_step cleared given was None after None e f = e
+given_step cleared given was None after (Some place) e f = absurd cc
+given_step cleared given was (Some cell) after None e f = absurd cc
+given_step cleared given was (Some cell) after (Some place) e f =
+    e
+    ∙ (ap (λ (x : Place × List ℕ). let o : Option (Place × List ℕ) = Some (x.0, zeros_if cleared (unwrap_or (given x.0.size) x.1) x.0) in o)
+    (two (cell.place, cell.value) (place, value_of place (was place.size)) f)
+    ∙ ap (λ (octets : List ℕ). let o : Option (Place × List ℕ) = Some (place, octets) in o) (then_value cleared (given place.size) (was place.size) place))
+
+sends_more : (is : Bool) (units : ℕ) (sending : Sending) → sending_after units (if is then sending_later sending else sending) ≡ sending_after (if is then suc units else units) sending
+sends_more true units sending = refl
+sends_more false units sending = refl
 
 module _ (station : Station) (live : Live) (link : RelationState) (one : Happening) (more : List Happening) where
   abbrev heard_now : Heard
   heard_now = heard_of station.identity one.event
 
-  then_follows : (between : RelationState) → Follows link heard_now between → RunFollows station (stepped station live one).live between more → RunFollows station live link (one ∷ more)
+  then_follows : (between : RelationState) → Follows live link heard_now between.flow → RunFollows station (stepped station live one).live between more → RunFollows station live link (one ∷ more)
   then_follows between first rest = record {
     next = rest.next;
     has = rest.has;
-    flows = first.events ++ rest.flows;
-    goes = rest.goes ∙ ap (λ (flow : Flow). runs.behind_all rest.flows flow) first.goes ∙ sym (all_behind first.events rest.flows link.flow);
-    units = units_both first.events rest.flows ∙ ap (λ (n : ℕ). n + runs.units_in rest.flows) first.units ∙ ap (λ (n : ℕ). units_of heard_now + n) rest.units
-        ∙ count_one (is_unit heard_now) (units_in station more);
-    given = λ slot subslot size. given_both slot subslot size first.events rest.flows
-        ∙ ap (λ (v : Option (List ℕ)). later_one v (runs.last_given slot subslot size first.events)) (rest.given slot subslot size)
-        ∙ ap (λ (v : Option (List ℕ)). later_one (last_given station slot subslot size more) v) (first.given slot subslot size);
+    sends = rest.sends ∙ (ap (λ (sending : Sending). sending_after (units_in station more) sending) first.sends
+        ∙ sends_more (is_unit heard_now) (units_in station more) link.flow.cyclic.sending);
+    inputs = λ slot subslot places was paired given.
+        let shows = first.inputs slot subslot paired in
+        rest.inputs slot subslot places (λ size. given_then live slot subslot size heard_now (was size))
+        (paired_on slot subslot _ link.flow between.flow shows paired)
+        (given_step (affects (made_with live heard_now) slot subslot) (λ size. given_with slot subslot size heard_now) was
+        (cell_in slot subslot link.flow) (cell_in slot subslot between.flow) places shows.is given);
   }
 
 run_follows : (station : Station) (happened : List Happening) (live : Live) (link : RelationState) → live.rest.link ≡ Some link → StaysRelated station happened live
     → RunFollows station live link happened
-run_follows station [] live link is related = record { next = link; has = is; flows = []; goes = refl; units = refl; given = λ slot subslot size. refl }
+run_follows station [] live link is related = record { next = link; has = is; sends = refl; inputs = λ slot subslot places was paired given. given }
 run_follows station (one ∷ more) live link is related =
     let next = some_of (stepped station live one).live.rest.link related.0 in
     let does = step_does one.outcomes station live link (heard_of station.identity one.event) is in
@@ -129,13 +148,14 @@ inputs_due : (is : Bool) (counter : ℕ) (flow : Flow) → sends_inputs (where_d
 inputs_due true counter flow = refl
 inputs_due false counter flow = refl
 
-due_sends : (address : List ℕ) (counter : ℕ) (is_alarm is_low is_ready is_cyclic : Bool) (link : RelationState)
-    → sends_inputs (due_frames address counter (record { farewell = None; is_alarm = is_alarm; is_low = is_low; is_ready = is_ready; is_cyclic = is_cyclic }) (Some link)) ≡ is_cyclic
-due_sends address counter is_alarm is_low is_ready is_cyclic link =
+due_sends : (address : List ℕ) (counter : ℕ) (is_alarm is_low is_ready is_plug_ready is_cyclic : Bool) (link : RelationState)
+    → sends_inputs (due_frames address counter (record { farewell = None; is_alarm = is_alarm; is_low = is_low; is_ready = is_ready; is_plug_ready = is_plug_ready; is_cyclic = is_cyclic }) (Some link)) ≡ is_cyclic
+due_sends address counter is_alarm is_low is_ready is_plug_ready is_cyclic link =
     skips (where_due is_alarm (alarms_of (Some link.flow))) _ (none_due is_alarm (alarms_of (Some link.flow)) (alarms_none (Some link.flow)))
     ∙ (skips (where_due is_low (low_alarms_of (Some link.flow))) _ (none_due is_low (low_alarms_of (Some link.flow)) (low_alarms_none (Some link.flow)))
     ∙ (skips (where_due is_ready (ready_calls address (Some link))) _ (none_due is_ready (ready_calls address (Some link)) (ready_none address (Some link)))
-    ∙ inputs_due is_cyclic counter link.flow))
+    ∙ (skips (where_due is_plug_ready (plug_calls address (Some link))) _ (none_due is_plug_ready (plug_calls address (Some link)) (plug_calls_none address (Some link)))
+    ∙ inputs_due is_cyclic counter link.flow)))
 
 -- a frame is due if the exchange does not end
 cyclic_due : (cyclic : CyclicEnd) (alarm : AlarmDue) (ending : Option Abort) → (tick_by cyclic alarm ending).ending ≡ None → (tick_by cyclic alarm ending).is_cyclic ≡ is_due cyclic.sending
@@ -168,7 +188,7 @@ module _ (station : Station) (before : Live) (link : RelationState) where
       no_bool : false ≡ true → ⊥
       no_bool e = cc
   unit_sends None is goes_on related =
-      due_sends before.values.running.suite.address (counter_of (units_after 1 before.rest.units)) _ _ _ (tick_of link.flow).is_cyclic (unit_later link)
+      due_sends before.values.running.suite.address (counter_of (units_after 1 before.rest.units)) _ _ _ _ (tick_of link.flow).is_cyclic (unit_later link)
       ∙ cyclic_due link.flow.cyclic (alarm_due link.flow) _ (unended link goes_on is)
 
   tick_sends : (outcomes : List Outcome) → GoesOnFor (Some link) → is_some (heard_step outcomes station (record before { rest = record before.rest { link = Some link } }) Ticks).live.rest.link ≡ true
@@ -202,29 +222,44 @@ module _ (station : Station) (live : Live) (last : Happening) (next : RelationSt
       ap (λ (h : Heard). sends_inputs (heard_step last.outcomes station live h).sent) ticks
       ∙ (tick_at station last.outcomes live next has goes_on related ∙ (is_due_now ∙ sym (ap (λ (b : Bool). b && due) e)))
 
+-- units alone
+abbrev passes : ℕ → List runs.Event
+passes zero = []
+passes (suc units) = runs.Passes ∷ passes units
+
+passes_units : (units : ℕ) → runs.units_in (passes units) ≡ units
+passes_units zero = refl
+passes_units (suc units) = omega (arith, passes_units units)
+
+passes_send : (units : ℕ) (flow : Flow) → (runs.behind_all (passes units) flow).cyclic.sending ≡ sending_after units flow.cyclic.sending
+passes_send zero flow = refl
+passes_send (suc units) flow = passes_send units (flow_later flow)
+
 pub sends_each_interval : runs.IsDueEachInterval → SendsEachInterval
 sends_each_interval law station live happened last answered long related goes_on =
     let front = related_front station happened last live related in
     let run = run_follows station happened live (made_of answered.request answered.partner answered.rows answered.options answered.starting) answered.link front.0 in
+    let units = units_in station happened in
     interval_by station (after_all station happened live) last run.next run.has ((units_in station happened + 1) % interval_of answered.request.input == 0)
-    (ap (λ (flow : Flow). is_due flow.cyclic.sending) run.goes
-    ∙ (law answered.request answered.rows answered.starting run.flows long ∙ ap (λ (n : ℕ). (n + 1) % interval_of answered.request.input == 0) run.units))
+    (ap is_due (run.sends ∙ sym (passes_send units (opened answered.request answered.rows answered.starting)))
+    ∙ (law answered.request answered.rows answered.starting (passes units) long
+    ∙ ap (λ (n : ℕ). (n + 1) % interval_of answered.request.input == 0) (passes_units units)))
     goes_on front.1 (is_unit (heard_of station.identity last.event)) refl
 
 -- ---- its values
 
-module _ (station : Station) (happened : List Happening) (request : Request) where
+module _ (station : Station) (Has : Shown → Type 0) where
   abbrev AllHave : List Sent → Type 0
-  AllHave sent = AllByRecursion (HasTheLast station happened request) sent
+  AllHave sent = AllByRecursion (OfInputs Has) sent
 
-  frame_has : (route : Route) (frame : Frame) → is_inputs (Exchanges route frame) ≡ false → HasTheLast station happened request (Exchanges route frame)
+  frame_has : (route : Route) (frame : Frame) → is_inputs (Exchanges route frame) ≡ false → OfInputs Has (Exchanges route frame)
   frame_has route (Inputs state inputs counter) e = absurd cc
   frame_has route (Notifies header alarm) e = tt
   frame_has route (Replies header) e = tt
   frame_has route (Reports tag header alarm) e = tt
   frame_has route (RepliesLow tag header) e = tt
 
-  message_has : (message : Sent) → is_inputs message ≡ false → HasTheLast station happened request message
+  message_has : (message : Sent) → is_inputs message ≡ false → OfInputs Has message
   message_has (Exchanges route frame) e = frame_has route frame e
   message_has (IdentifyAnswer asker running xid) e = tt
   message_has (GetAnswer asker running alias asked) e = tt
@@ -233,6 +268,7 @@ module _ (station : Station) (happened : List Happening) (request : Request) whe
   message_has (CallAnswer caller address answer) e = tt
   message_has (Again frame) e = tt
   message_has (ReadyCall address ready) e = tt
+  message_has (PlugReadyCall address ready) e = tt
   message_has (Ends farewell) e = tt
 
   none_has : (sent : List Sent) → sends_inputs sent ≡ false → AllHave sent
@@ -249,43 +285,39 @@ module _ (station : Station) (happened : List Happening) (request : Request) whe
   due_has true sent all = all
   due_has false sent all = tt
 
-  -- the inputs of a relation
-  abbrev AreGiven : Shown → Type 0
-  AreGiven inputs = (slot subslot : ℕ) → option_map (λ cell. cell.value) (cell_at Data slot subslot inputs.cells)
-      ≡ option_map (input_value station happened slot subslot) (place_at Data slot subslot request.input.layout.places)
-
   farewells_have : (farewell : Option Farewell) → AllHave (farewells_in farewell)
   farewells_have None = tt
   farewells_have (Some farewell) = (tt, tt)
 
-  inputs_have : (counter : ℕ) (flow : Option Flow) → ((there : Flow) → flow ≡ Some there → AreGiven there.cyclic.shown) → AllHave (inputs_of counter flow)
+  inputs_have : (counter : ℕ) (flow : Option Flow) → ((there : Flow) → flow ≡ Some there → Has there.cyclic.shown) → AllHave (inputs_of counter flow)
   inputs_have counter None given = tt
   inputs_have counter (Some flow) given = (given flow refl, tt)
 
-  frames_have : (address : List ℕ) (counter : ℕ) (due : Due) (link : Option RelationState) → ((there : Flow) → flow_of link ≡ Some there → AreGiven there.cyclic.shown)
+  frames_have : (address : List ℕ) (counter : ℕ) (due : Due) (link : Option RelationState) → ((there : Flow) → flow_of link ≡ Some there → Has there.cyclic.shown)
       → AllHave (due_frames address counter due link)
   frames_have address counter due link given =
       both_have (farewells_in due.farewell) _ (farewells_have due.farewell)
       (both_have (where_due due.is_alarm (alarms_of (flow_of link))) _ (none_has _ (none_due due.is_alarm (alarms_of (flow_of link)) (alarms_none (flow_of link))))
       (both_have (where_due due.is_low (low_alarms_of (flow_of link))) _ (none_has _ (none_due due.is_low (low_alarms_of (flow_of link)) (low_alarms_none (flow_of link))))
       (both_have (where_due due.is_ready (ready_calls address link)) _ (none_has _ (none_due due.is_ready (ready_calls address link) (ready_none address link)))
-      (due_has due.is_cyclic (inputs_of counter (flow_of link)) (inputs_have counter (flow_of link) given)))))
+      (both_have (where_due due.is_plug_ready (plug_calls address link)) _ (none_has _ (none_due due.is_plug_ready (plug_calls address link) (plug_calls_none address link)))
+      (due_has due.is_cyclic (inputs_of counter (flow_of link)) (inputs_have counter (flow_of link) given))))))
 
   -- with a unit
-  module _ (before : Live) (link : RelationState) (given : AreGiven link.flow.cyclic.shown) where
-    later_given : (ending : Option Abort) (there : Flow) → flow_of (updated (passing_by ending) (Some link)) ≡ Some there → AreGiven there.cyclic.shown
+  module _ (before : Live) (link : RelationState) (given : Has link.flow.cyclic.shown) where
+    later_given : (ending : Option Abort) (there : Flow) → flow_of (updated (passing_by ending) (Some link)) ≡ Some there → Has there.cyclic.shown
     later_given (Some because) there e = absurd (none_some e)
       where
         none_some : None ≡ Some there → ⊥
         none_some e = cc
-    later_given None there e = subst (λ (flow : Flow). AreGiven flow.cyclic.shown) (two (flow_later link.flow) there e) given
+    later_given None there e = subst (λ (flow : Flow). Has flow.cyclic.shown) (two (flow_later link.flow) there e) given
 
     tick_has : (outcomes : List Outcome) → AllHave (heard_step outcomes station (record before { rest = record before.rest { link = Some link } }) Ticks).sent
     unfolding heard_step handled_step
     tick_has outcomes =
         frames_have before.values.running.suite.address (counter_of (units_after 1 before.rest.units)) (due_in link) (updated (passing_by (ending_of link)) (Some link)) (later_given (ending_of link))
 
-  any_has : (outcomes : List Outcome) (live : Live) (link : RelationState) (heard : Heard) → live.rest.link ≡ Some link → AreGiven link.flow.cyclic.shown
+  pub any_has : (outcomes : List Outcome) (live : Live) (link : RelationState) (heard : Heard) → live.rest.link ≡ Some link → Has link.flow.cyclic.shown
       → AllHave (heard_step outcomes station live heard).sent
   any_has outcomes live link heard is given = by_unit (is_unit heard) refl
     where
@@ -298,21 +330,50 @@ module _ (station : Station) (happened : List Happening) (request : Request) whe
           subst (λ (h : Heard). AllHave (heard_step outcomes station live h).sent) (sym (unit_is heard e))
           (subst (λ (l : Live). AllHave (heard_step outcomes station l Ticks).sent) (sym same) (tick_has live link given outcomes))
 
-value_same : (f g : Place → List ℕ) → ((place : Place) → f place ≡ g place) → (o : Option Place) → option_map f o ≡ option_map g o
-value_same f g same None = refl
-value_same f g same (Some place) = ap (λ (v : List ℕ). Some v) (same place)
+-- the values alone
+values_alone : (was : ℕ → Option (List ℕ)) (cell : Option Cell) (places : Option Place) → option_map (placed value) cell ≡ option_map (given_at was) places
+    → option_map (λ (c : Cell). c.value) cell ≡ option_map (λ (place : Place). value_of place (was place.size)) places
+values_alone was None None e = refl
+values_alone was None (Some place) e = absurd cc
+values_alone was (Some cell) None e = absurd cc
+values_alone was (Some cell) (Some place) e = ap (λ (o : Option (Place × List ℕ)). option_map (λ (x : Place × List ℕ). x.1) o) e
 
-pub sends_the_last_given : runs.AreTheLastGiven → SendsTheLastGiven
-sends_the_last_given law station live happened last answered related =
-    let first = made_of answered.request answered.partner answered.rows answered.options answered.starting in
-    let run = run_follows station happened live first answered.link related in
-    any_has station happened answered.request last.outcomes (after_all station happened live) run.next (heard_of station.identity last.event) run.has
+-- the answer to a Connect: zeros, and a mark for each input
+first_given : (slot subslot : ℕ) (statuses : StatusOf) (places : List Place)
+    → option_map (placed value) (cell_at Data slot subslot (map (first_cell statuses) places)) ≡ option_map (given_at (λ size. None)) (place_at Data slot subslot places)
+first_given slot subslot statuses [] = refl
+first_given slot subslot statuses (place ∷ places) = by_own (first_given slot subslot statuses places) (is_of Data slot subslot place)
+  where
+    by_own : option_map (placed value) (cell_at Data slot subslot (map (first_cell statuses) places)) ≡ option_map (given_at (λ size. None)) (place_at Data slot subslot places)
+        → (b : Bool) → option_map (placed value) (if b then Some (first_cell statuses place) else cell_at Data slot subslot (map (first_cell statuses) places))
+        ≡ option_map (given_at (λ size. None)) (if b then Some place else place_at Data slot subslot places)
+    by_own rest true = refl
+    by_own rest false = rest
+
+first_paired : (slot subslot : ℕ) (statuses : StatusOf) (starting : Starting) (rows : Listed DiffModule DiffSubmodule) (places : List Place)
+    → option_map (λ (cell : Cell). cell.place) (cell_at Data slot subslot (map (first_cell statuses) places))
+    ≡ option_map (λ (mark : Mark). mark.place) (mark_at slot subslot (map (first_mark starting rows) places))
+first_paired slot subslot statuses starting rows [] = refl
+first_paired slot subslot statuses starting rows (place ∷ places) = by_own (first_paired slot subslot statuses starting rows places) (is_of Data slot subslot place)
+  where
+    by_own : option_map (λ (cell : Cell). cell.place) (cell_at Data slot subslot (map (first_cell statuses) places))
+        ≡ option_map (λ (mark : Mark). mark.place) (mark_at slot subslot (map (first_mark starting rows) places))
+        → (b : Bool) → option_map (λ (cell : Cell). cell.place) (if b then Some (first_cell statuses place) else cell_at Data slot subslot (map (first_cell statuses) places))
+        ≡ option_map (λ (mark : Mark). mark.place) (if b then Some (first_mark starting rows place) else mark_at slot subslot (map (first_mark starting rows) places))
+    by_own rest true = refl
+    by_own rest false = rest
+
+pub sends_the_last_given : SendsTheLastGiven
+sends_the_last_given station live happened last answered related =
+    let made = made_of answered.request answered.partner answered.rows answered.options answered.starting in
+    let run = run_follows station happened live made answered.link related in
+    let places = answered.request.input.layout.places in
+    let statuses = statuses_of answered.rows (first_marks answered.request answered.rows answered.starting) in
+    any_has station (AreTheLastGiven station live happened answered.request) last.outcomes (after_all station happened live) run.next (heard_of station.identity last.event) run.has
     (λ slot subslot.
-    ap (λ (flow : Flow). option_map (λ cell. cell.value) (cell_at Data slot subslot flow.cyclic.shown.cells)) run.goes
-    ∙ (law answered.request answered.rows answered.starting run.flows slot subslot
-    ∙ value_same (runs.input_value slot subslot run.flows) (input_value station happened slot subslot)
-    (λ place. ap (λ (v : Option (List ℕ)). unwrap_or v (replicate (place.size - 1) 0)) (run.given slot subslot place.size))
-    (place_at Data slot subslot answered.request.input.layout.places)))
+    values_alone (λ size. last_given station live slot subslot size happened None) (cell_in slot subslot run.next.flow) (place_at Data slot subslot places)
+    (run.inputs slot subslot (place_at Data slot subslot places) (λ size. None) (first_paired slot subslot statuses answered.starting answered.rows places)
+    (first_given slot subslot statuses places)))
 
 -- ---- the end without data
 
@@ -359,15 +420,6 @@ run_hears station (one ∷ more) live link is phase stays none =
           ∙ waits_more (is_unit heard) (units_in station more) (hearing_of link.flow.cyclic));
     }
 
--- units alone
-abbrev passes : ℕ → List runs.Event
-passes zero = []
-passes (suc units) = runs.Passes ∷ passes units
-
-passes_units : (units : ℕ) → runs.units_in (passes units) ≡ units
-passes_units zero = refl
-passes_units (suc units) = omega (arith, passes_units units)
-
 passes_hear : (units : ℕ) (flow : Flow) → hearing_of (runs.behind_all (passes units) flow).cyclic ≡ waiting_for units (hearing_of flow.cyclic)
 passes_hear zero flow = refl
 passes_hear (suc units) flow = passes_hear units (flow_later flow)
@@ -403,6 +455,14 @@ quiet_ready : (address : List ℕ) (link : Option RelationState) → ends_for_da
 quiet_ready address None = refl
 quiet_ready address (Some link) = refl
 
+quiet_plugs : (address : List ℕ) (link : Option RelationState) → ends_for_data (plug_calls address link) ≡ false
+quiet_plugs address None = refl
+quiet_plugs address (Some link) = by_standing link.plugs.calls.standing
+  where
+    by_standing : (standing : Option PlugCall) → ends_for_data (plug_call_in address (option_map (ready_for link) standing)) ≡ false
+    by_standing None = refl
+    by_standing (Some call) = refl
+
 quiet_inputs : (counter : ℕ) (flow : Option Flow) → ends_for_data (inputs_of counter flow) ≡ false
 quiet_inputs counter None = refl
 quiet_inputs counter (Some flow) = refl
@@ -413,7 +473,8 @@ unending address counter due link none =
     (quiet_both (where_due due.is_alarm (alarms_of (flow_of link))) _ (quiet_due due.is_alarm (alarms_of (flow_of link)) (quiet_alarms (flow_of link)))
     (quiet_both (where_due due.is_low (low_alarms_of (flow_of link))) _ (quiet_due due.is_low (low_alarms_of (flow_of link)) (quiet_low_alarms (flow_of link)))
     (quiet_both (where_due due.is_ready (ready_calls address link)) _ (quiet_due due.is_ready (ready_calls address link) (quiet_ready address link))
-    (quiet_due due.is_cyclic (inputs_of counter (flow_of link)) (quiet_inputs counter (flow_of link))))))
+    (quiet_both (where_due due.is_plug_ready (plug_calls address link)) _ (quiet_due due.is_plug_ready (plug_calls address link) (quiet_plugs address link))
+    (quiet_due due.is_cyclic (inputs_of counter (flow_of link)) (quiet_inputs counter (flow_of link)))))))
 
 -- the end that a unit brings, if data is exchanged
 ending_so : (cyclic : CyclicEnd) (alarm : AlarmDue) (ending : Option Abort) → (tick_by cyclic alarm ending).ending ≡ ending

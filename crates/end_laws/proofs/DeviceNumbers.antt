@@ -5,6 +5,7 @@ use Rattle.frame_codec.specs.declared.udp.Caller.{Caller}
 use Rattle.records.specs.declared.status.call_fault.CallFault.{CallFault}
 use Rattle.records.specs.declared.status.operation.Operation.{Operation}
 use Rattle.records.specs.declared.status.operation.Operation.TheVariants as operation
+use Rattle.pn_values.specs.declared.real.Real.{Real}
 use Rattle.relations.specs.Numbers.{IsNumber, number_of}
 use Rattle.relations.specs.RelationState.{RelationState}
 use Rattle.relations.specs.Phases.{restarted}
@@ -13,7 +14,7 @@ use Rattle.device_frames.specs.Heard.{Heard}
 use Rattle.device_frames.specs.Sent.{Sent}
 use Rattle.device_core.specs.State.{Live, Rest, Station}
 use Rattle.device_core.specs.Handled.{number_now}
-use Rattle.end_laws.specs.device.Does.{Does, IsEffect, with_more}
+use Rattle.end_laws.specs.device.Does.{Does, IsEffect, IsKeptOr, with_more}
 use Rattle.end_laws.specs.device.Small.{link_of}
 use Rattle.end_laws.specs.device.Turn.{BeginsNumbered, IsNumbered}
 
@@ -49,20 +50,21 @@ module _ (options : DeviceOptions) (before after : Option RelationState) where
   same : after ≡ before → BeginsNumbered options before after
   same is link none some = absurd (some_none link (sym some ∙ (is ∙ none)))
 
-effect_numbered : (station : Station) (caller : Caller) (blocks : List ℕ) (outcome : Result (List ℕ) CallFault) (which : Operation) (before after : Option RelationState)
-    → IsEffect station caller blocks outcome which before after → BeginsNumbered station.options before after
-effect_numbered station caller blocks (Err why) which before after is = same station.options before after is
-effect_numbered station caller blocks (Ok octets) operation.Connect before after it = λ link none some.
+effect_numbered : (station : Station) (real : Real) (caller : Caller) (blocks : List ℕ) (outcome : Result (List ℕ) CallFault) (which : Operation) (before after : Option RelationState)
+    → IsEffect station real caller blocks outcome which before after → BeginsNumbered station.options before after
+effect_numbered station real caller blocks (Err why) which before after is = same station.options before after is
+effect_numbered station real caller blocks (Ok octets) operation.Connect before after it = λ link none some.
     subst (λ (l : RelationState). IsNumbered station.options l) (some_same _ link (sym it.made ∙ some))
     (record { number = it.starting.number; is = it.numbered; endpoint = refl; route = refl })
-effect_numbered station caller blocks (Ok octets) operation.Write before after (inl it) = there_was station.options before after it.link it.was
-effect_numbered station caller blocks (Ok octets) operation.Write before after (inr (inl it)) = from_none station.options before after (restarted it.same.0) it.same.1
-effect_numbered station caller blocks (Ok octets) operation.Write before after (inr (inr it)) =
+effect_numbered station real caller blocks (Ok octets) operation.Write before after (inl it) = there_was station.options before after it.link it.was
+effect_numbered station real caller blocks (Ok octets) operation.Write before after (inr (inl it)) = from_none station.options before after (restarted it.same.0) it.same.1
+effect_numbered station real caller blocks (Ok octets) operation.Write before after (inr (inr it)) =
     from_none station.options before after (with_more it.source it.passed it.values) it.becomes
-effect_numbered station caller blocks (Ok octets) operation.Control before after it = there_was station.options before after it.link it.was
-effect_numbered station caller blocks (Ok octets) operation.Release before after it = there_was station.options before after it.link it.was
-effect_numbered station caller blocks (Ok octets) operation.Read before after it = from_none station.options before after (restarted it.0) it.1
-effect_numbered station caller blocks (Ok octets) operation.ReadImplicit before after it = absurd it
+effect_numbered station real caller blocks (Ok octets) operation.Control before after (inl it) = there_was station.options before after it.link it.was
+effect_numbered station real caller blocks (Ok octets) operation.Control before after (inr it) = there_was station.options before after it.link it.was
+effect_numbered station real caller blocks (Ok octets) operation.Release before after it = there_was station.options before after it.link it.was
+effect_numbered station real caller blocks (Ok octets) operation.Read before after it = from_none station.options before after (restarted it.0) it.1
+effect_numbered station real caller blocks (Ok octets) operation.ReadImplicit before after it = absurd it
 
 pub does_numbered : (station : Station) (live : Live) (heard : Heard) (after : Rest) (sent : List Sent) → Does station live heard after sent
     → BeginsNumbered station.options live.rest.link after.link
@@ -70,10 +72,11 @@ does_numbered station live heard after sent (inl it) = same station.options live
 does_numbered station live heard after sent (inr (inl it)) = λ link none some. by_link link none some it.link
   where
     by_link : (link : RelationState) → live.rest.link ≡ None → after.link ≡ Some link
-        → (option_map link_of after.link ≡ option_map link_of live.rest.link) ⊎ (option_map link_of after.link ≡ None) → IsNumbered station.options link
+        → IsKeptOr live.rest.link after.link → IsNumbered station.options link
     by_link link none some (inl e) = absurd (some_none (link_of link) (sym (ap (λ (l : Option RelationState). option_map link_of l) some) ∙ (e ∙ ap (λ (l : Option RelationState). option_map link_of l) none)))
-    by_link link none some (inr e) = absurd (some_none (link_of link) (sym (ap (λ (l : Option RelationState). option_map link_of l) some) ∙ e))
+    by_link link none some (inr (inl e)) = absurd (some_none (link_of link) (sym (ap (λ (l : Option RelationState). option_map link_of l) some) ∙ e))
+    by_link link none some (inr (inr it)) = absurd (some_none it.link (sym it.was ∙ none))
 does_numbered station live heard after sent (inr (inr (inl it))) = there_was station.options live.rest.link after.link it.link it.was
 does_numbered station live heard after sent (inr (inr (inr (inl it)))) = same station.options live.rest.link after.link (ap (λ (r : Rest). r.link) it.same)
 does_numbered station live heard after sent (inr (inr (inr (inr it)))) =
-    effect_numbered station it.caller it.blocks it.outcome it.which live.rest.link after.link it.effect
+    effect_numbered station live.rest.real it.caller it.blocks it.outcome it.which live.rest.link after.link it.effect

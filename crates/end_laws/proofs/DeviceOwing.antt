@@ -46,8 +46,11 @@ use Rattle.records.specs.writes.Asked.{handled_writing, several_of, writing_of}
 use Rattle.records.specs.writes.Handled.{effect_of, is_known, handled_request as write_handled, targeted, written}
 use Rattle.records.specs.writes.Several.{is_several, list_behind}
 use Rattle.records.specs.writes.Taken.{keep_of}
-use Rattle.relations.specs.RelationState.{RelationState, differing_in, is_named, is_session, is_started, passes_on, phase_of, uuid_of}
-use Rattle.relations.specs.Phases.{Records, keeping, kept_in}
+use Rattle.relations.specs.RelationState.{RelationState, is_named, is_session, is_started, passes_on, phase_of, uuid_of}
+use Rattle.relations.specs.Phases.{Records, differing_in, keeping, kept_in}
+use Rattle.relations.specs.Plugging.{block_in, is_told_in, plug_end_in, plug_named, plug_told}
+use Rattle.connect_blocks.specs.declared.plug_control.PlugControlBlock.{PlugControlBlock}
+use Rattle.connect_blocks.specs.PlugControl.{plug_control}
 use Rattle.relations.specs.Passed.{passed_more}
 use Rattle.relations.specs.declared.options.DeviceOptions.{DeviceOptions}
 use Rattle.relations.specs.Calls.{control_block, in_control, in_started, named_of, prm_end_of, release_of}
@@ -148,6 +151,26 @@ prm_plain link blocks =
     bind_plain (control_block kind.PrmEnd blocks) (λ block. named_of link block 1 >>= λ _. in_started link >>= λ _. Ok block) (control_plain kind.PrmEnd blocks)
     (λ block. bind_plain (named_of link block 1) (λ _. in_started link >>= λ _. Ok block) (named_plain link block 1)
     (λ _. bind_plain (in_started link) (λ _. Ok block) (started_plain link) (λ _. tt)))
+
+-- that after a plug
+block_plain : {A : Type 0} (read : Result (PlugControlBlock × A) BlockFault) → IsPlainIn (block_in read)
+block_plain (Ok x) = tt
+block_plain (Err why) = tt
+
+pub plug_plain : (link : Option RelationState) (blocks : List ℕ) → IsPlainIn (plug_end_in blocks link)
+unfolding plug_end_in
+plug_plain link blocks =
+    bind_plain (block_in ((plug_control 0x0111).read blocks)) (λ block. plug_named link block >>= λ _. plug_told link block >>= λ _. Ok block)
+    (block_plain ((plug_control 0x0111).read blocks))
+    (λ block. bind_plain (plug_named link block) (λ _. plug_told link block >>= λ _. Ok block)
+    (handled_plain
+    ((not (is_named block.ar_uuid link), fault.UnknownRelation)
+    ∷ (not (is_session block.session_key link), fault.UnknownSession)
+    ∷ (not (block.control_command == 1), fault.ControlCommand)
+    ∷ [])
+    (Ok tt) (tt, (tt, (tt, tt))) tt)
+    (λ _. bind_plain (plug_told link block) (λ _. Ok block)
+    (handled_plain ((not (is_told_in block.alarm_sequence_number link), fault.Phase) ∷ []) (Ok tt) (tt, tt) tt) (λ _. tt)))
 
 pub release_plain : (link : Option RelationState) (blocks : List ℕ) → IsPlainIn (release_of link blocks)
 unfolding release_of
@@ -289,8 +312,8 @@ pub read_plain : (known : Known) (identity : Identity) (real : Real) (running : 
 unfolding relation_read
 read_plain known identity real running blocks =
     bind_plain (read_within (uuid_of known.link) blocks)
-    (λ request. read_served true real (own_of true known real request) request (record_within (differing_in known.link) request identity real running)) (within_request_plain (uuid_of known.link) blocks)
-    (λ request. served_plain true real (own_of true known real request) request (record_within (differing_in known.link) request identity real running))
+    (λ request. read_served true real (own_of true known real request) request (record_within (differing_in real.modules.items known.link) request identity real running)) (within_request_plain (uuid_of known.link) blocks)
+    (λ request. served_plain true real (own_of true known real request) request (record_within (differing_in real.modules.items known.link) request identity real running))
 
 -- ---- a Write whose record the settings store
 

@@ -25,7 +25,7 @@ use Rattle.relations.specs.Passed.{PassedOn}
 use Rattle.relations.specs.RelationState.{RelationState, is_exchanging, passes_on, uuid_of}
 use Rattle.pn_values.specs.declared.im_value.ImValue.{ImValue}
 use Rattle.device_frames.specs.Heard.{Heard, Reported, Calls}
-use Rattle.device_frames.specs.Sent.{Sent, CallAnswer, Again, Exchanges, ReadyCall, bytes_of}
+use Rattle.device_frames.specs.Sent.{Sent, CallAnswer, Again, Exchanges, ReadyCall, PlugReadyCall, bytes_of}
 use Rattle.settings_journal.specs.settings_store.Machine.{Outcome}
 use Rattle.device_core.specs.State.{Station, Rest, Live}
 use Rattle.device_core.specs.Machine.{handled_step, heard_step, statuses_of}
@@ -33,10 +33,11 @@ use Rattle.device_core.specs.Several.{judged_each}
 use Rattle.device_core.specs.Handled.{outcome_of, answer_from, kept_for}
 use Rattle.end_laws.specs.both.Small as small
 use Rattle.end_laws.specs.both.Small.{Rules, ToDevice}
-use Rattle.end_laws.specs.both.Steps.{IsNew, Carries, Comes, PassesOn, TakesAny, TakesRecords, SaysAtMost, IsReady, IsDull, DeviceSteps}
+use Rattle.end_laws.specs.both.Steps.{IsNew, Carries, Comes, Forgets, GoesBy as SmallGoesBy, PassesOn, TakesAny, TakesRecords, SaysAtMost, IsReady, IsDull, DeviceSteps}
 use Rattle.relations.specs.Phases.{Named, parameterized_from, restarted, updated}
 use Rattle.end_laws.specs.device.Small.{AreDone, Planned, phase_in, link_of, kept_in, small_of, written_by, asked_by, heard_as, IsPlannedAs, IsPlannedCall, IsPlanned, IsHeardAs, IsWritingOf}
-use Rattle.end_laws.specs.device.Does.{AreReadied, Confirms, Does, GoesBy, IsEffect, IsExchange, IsOther, IsReadied, Repeats, Rests, Serves, Stored, Written, WrittenEach, readied_from, with_more}
+use Rattle.end_laws.specs.device.Does.{AreReadied, Confirms, Does, Following, GoesBy, IsEffect, IsExchange, IsKeptOr, IsOther, IsReadied, IsUncalled, Plugging, Readying, Repeats, Rests, Serves, Stored, Written, WrittenEach, readied_from, with_more}
+use Rattle.end_laws.specs.device.Orderly.{IsOrderlyIn}
 use Rattle.end_laws.proofs.BothKept.{may_come}
 use Rattle.end_laws.proofs.DeviceLists.{TakesOf, keeps_take, none_listed, outcomes_are}
 use Rattle.end_laws.proofs.DeviceOwing.{same_request}
@@ -96,7 +97,7 @@ ask_of planned sequence blocks _ = small.Releases
 
 -- ---- turns
 
-module _ (refusals_are_not_done : RefusalsAreNotDone) (rules : Rules TakenRecord Request) (activity : List ℕ) (station : Station) (live : Live) where
+module _ (refusals_are_not_done : RefusalsAreNotDone) (rules : Rules TakenRecord Request) (activity : List ℕ) (station : Station) (live : Live) (orderly : IsOrderlyIn live.rest.link) where
   abbrev small_in : Rest → small.Device TakenRecord Request
   small_in rest = record { kept = option_map kept_in (kept_of activity rest.calls); link = option_map link_of rest.link }
 
@@ -112,7 +113,7 @@ module _ (refusals_are_not_done : RefusalsAreNotDone) (rules : Rules TakenRecord
 
   rests_steps : (heard : ToDevice) → Goes heard live.rest []
   rests_steps (small.Call sequence ask) = inr (inr (refl, refl))
-  rests_steps small.Confirms = inr (refl, refl)
+  rests_steps small.Confirms = inr (record { keeps = refl; link = inl refl; sent = tt })
   rests_steps small.Idle = record { keeps = refl; link = inl refl; sent = tt }
 
   -- ---- messages
@@ -154,10 +155,26 @@ module _ (refusals_are_not_done : RefusalsAreNotDone) (rules : Rules TakenRecord
   all_dull [] exchange heard = tt
   all_dull (message ∷ sent) exchange heard = (one_dull message exchange.0 heard.0, all_dull sent exchange.1 heard.1)
 
-  all_ready : (after : Rest) (address : List ℕ) (ready : Option Ready) → AreReadied live after.link ready → AreHeard (readied_from address ready)
-      → AllByRecursion (IsReady rules (small_in after)) (frames_of (readied_from address ready))
+  all_ready : (after : Rest) (address : List ℕ) (ready : Option Following) → AreReadied live after.link ready → AreHeard (readied_from address ready)
+      → AllByRecursion (λ frame. IsDull rules frame ⊎ IsReady rules (small_in after) frame) (frames_of (readied_from address ready))
   all_ready after address None readied heard = tt
-  all_ready after address (Some ready) readied heard = (one_ready after address ready readied heard.0, tt)
+  all_ready after address (Some (Readying ready)) readied heard = (inr (one_ready after address ready readied heard.0), tt)
+  all_ready after address (Some (Plugging ready)) readied heard =
+      (inl (heard.0.0, hears_nothing (bytes_of station.identity (PlugReadyCall address ready)) heard.0.1), tt)
+
+  -- a relation that is kept or forgets records, as a start-up sees it
+  link_small : (before after : Option RelationState) → IsOrderlyIn before → IsKeptOr before after
+      → (option_map link_of after ≡ option_map link_of before) ⊎ ((option_map link_of after ≡ None) ⊎ Forgets (option_map link_of before) (option_map link_of after))
+  link_small before after own (inl same) = inl same
+  link_small before after own (inr (inl none)) = inr (inl none)
+  link_small before after own (inr (inr it)) = inr (inr (record {
+    link = link_of it.link;
+    was = ap (λ (l : Option RelationState). option_map link_of l) it.was;
+    exchanges = ap phase_in (it.exchanges (subst (λ (l : Option RelationState). IsOrderlyIn l) it.was own));
+    values = it.values;
+    part = it.part;
+    becomes = it.becomes;
+  }))
 
   -- a response says whether the call succeeded, and with it each of its records
   abbrev positive_of : ℕ → Result (List ℕ) CallFault → Bool
@@ -169,13 +186,13 @@ module _ (refusals_are_not_done : RefusalsAreNotDone) (rules : Rules TakenRecord
   says_done which sequence (Ok octets) = refl
   says_done which sequence (Err why) = ap (λ (b : Bool). b && rules.grants sequence []) (refusals_are_not_done which why)
 
-  module _ (heard : Heard) (planned : IsPlanned rules activity station.real heard) (after : Rest) (sent : List Sent) (all : AreHeard sent) where
+  module _ (heard : Heard) (planned : IsPlanned rules activity live.rest.real heard) (after : Rest) (sent : List Sent) (all : AreHeard sent) where
     -- ---- calls
 
-    planned_call : (caller : Caller) (address : List ℕ) (call : Call) → heard ≡ Reported caller address (Calls call) → IsPlannedCall rules activity station.real call
-    planned_call caller address call is = subst (λ (h : Heard). IsPlanned rules activity station.real h) is planned
+    planned_call : (caller : Caller) (address : List ℕ) (call : Call) → heard ≡ Reported caller address (Calls call) → IsPlannedCall rules activity live.rest.real call
+    planned_call caller address call is = subst (λ (h : Heard). IsPlanned rules activity live.rest.real h) is planned
 
-    call_heard : (sequence : ℕ) (blocks : List ℕ) (which : Option Operation) → IsPlannedAs rules station.real sequence blocks which
+    call_heard : (sequence : ℕ) (blocks : List ℕ) (which : Option Operation) → IsPlannedAs rules live.rest.real sequence blocks which
         → asked_by rules.is_planned sequence blocks which ≡ small.Call sequence (ask_of rules.is_planned sequence blocks which)
     call_heard sequence blocks (Some operation.ReadImplicit) plan = absurd plan
     call_heard sequence blocks None plan = absurd plan
@@ -191,8 +208,8 @@ module _ (refusals_are_not_done : RefusalsAreNotDone) (rules : Rules TakenRecord
     hears_call caller address call blocks is counted goes =
         let plan = planned_call caller address call is in
         let same : plan.blocks ≡ blocks = some_is plan.blocks blocks (sym plan.counted ∙ counted) in
-        let asks : IsPlannedAs rules station.real call.header.sequence blocks (operation_of call.header.operation) =
-        subst (λ (b : List ℕ). IsPlannedAs rules station.real call.header.sequence b (operation_of call.header.operation)) same plan.asks in
+        let asks : IsPlannedAs rules live.rest.real call.header.sequence blocks (operation_of call.header.operation) =
+        subst (λ (b : List ℕ). IsPlannedAs rules live.rest.real call.header.sequence b (operation_of call.header.operation)) same plan.asks in
         let now : heard_as rules.is_planned heard ≡ asked_by rules.is_planned call.header.sequence blocks (operation_of call.header.operation) =
         ap (heard_as rules.is_planned) is ∙ ap (λ (b : Option (List ℕ)). asked_by rules.is_planned call.header.sequence (unwrap_or b []) (operation_of call.header.operation)) counted in
         subst (λ (h : ToDevice). Goes h after sent) (sym (now ∙ call_heard call.header.sequence blocks (operation_of call.header.operation) asks)) goes
@@ -241,20 +258,20 @@ module _ (refusals_are_not_done : RefusalsAreNotDone) (rules : Rules TakenRecord
     taking_now link taken = Some (record (link_of link) { taken = taken })
 
     -- the records of a Write of the start-up
-    each_comes : (before now : Option RelationState) (sequence number : ℕ) (blocks octets : List ℕ) (it : WrittenEach station blocks octets before now)
-        → IsWritingOf rules station.real (uuid_of before) sequence (rules.group number) (Each it.header it.entries)
+    each_comes : (before now : Option RelationState) (sequence number : ℕ) (blocks octets : List ℕ) (it : WrittenEach live.rest.real blocks octets before now)
+        → IsWritingOf rules live.rest.real (uuid_of before) sequence (rules.group number) (Each it.header it.entries)
         → (granted : Bool) → rules.grants sequence octets ≡ granted → Comes rules granted (small.Writes number) (option_map link_of before) (option_map link_of now)
-    each_comes None now sequence number blocks octets it keeps granted e = absurd (none_listed station.real blocks it.header it.entries it.judged)
+    each_comes None now sequence number blocks octets it keeps granted e = absurd (none_listed live.rest.real blocks it.header it.entries it.judged)
     each_comes (Some link) now sequence number blocks octets it keeps granted e = by_granted granted e
       where
-        takes : TakesOf (judged_each (uuid_of (Some link)) station.real it.entries) (rules.group number) it.answers link
-        takes = keeps_take refusals_are_not_done (judged_each (uuid_of (Some link)) station.real it.entries) (rules.group number) keeps.0 it.answers link
+        takes : TakesOf (judged_each (uuid_of (Some link)) live.rest.real it.entries) (rules.group number) it.answers link
+        takes = keeps_take refusals_are_not_done (judged_each (uuid_of (Some link)) live.rest.real it.entries) (rules.group number) keeps.0 it.answers link
 
         behind : option_map link_of now ≡ taking_now link (link.taken ++ takes.values)
         behind = ap (λ (l : Option RelationState). option_map link_of l) (it.carried ∙ ap (updated (Named it.source)) takes.becomes)
 
         -- they are kept, or passed on
-        by_option : (b : Bool) → passes_on link ≡ b → AreDone (statuses_of (judged_each (uuid_of (Some link)) station.real it.entries) it.answers (Some link))
+        by_option : (b : Bool) → passes_on link ≡ b → AreDone (statuses_of (judged_each (uuid_of (Some link)) live.rest.real it.entries) it.answers (Some link))
             → TakesRecords rules number (Some (link_of link)) (option_map link_of now) ⊎ PassesOn (Some (link_of link)) (option_map link_of now)
         by_option false keeps done =
             let all = takes.whole keeps done in
@@ -270,14 +287,14 @@ module _ (refusals_are_not_done : RefusalsAreNotDone) (rules : Rules TakenRecord
 
         by_granted : (b : Bool) → rules.grants sequence octets ≡ b → Comes rules b (small.Writes number) (Some (link_of link)) (option_map link_of now)
         by_granted true f =
-            let judged = judged_each (uuid_of (Some link)) station.real it.entries in
+            let judged = judged_each (uuid_of (Some link)) live.rest.real it.entries in
             let says = sym (ap (λ (o : List ℕ). rules.grants sequence o) it.tells) ∙ f in
-            let done = keeps.1 (statuses_of judged it.answers (Some link)) (outcomes_are (uuid_of (Some link)) station.real it.entries it.answers (Some link)) says in
+            let done = keeps.1 (statuses_of judged it.answers (Some link)) (outcomes_are (uuid_of (Some link)) live.rest.real it.entries it.answers (Some link)) says in
             by_option (passes_on link) refl done
         by_granted false f = inr (record { link = link_of link; values = takes.values; was = refl; part = takes.part; becomes = behind })
 
     -- a record of the start-up is kept, or passed on while data is exchanged
-    written_carries : (before now : Option RelationState) (number : ℕ) (blocks : List ℕ) (it : Written station blocks before now) → it.value ∷ [] ≡ rules.group number
+    written_carries : (before now : Option RelationState) (number : ℕ) (blocks : List ℕ) (it : Written live.rest.real blocks before now) → it.value ∷ [] ≡ rules.group number
         → Carries rules (small.Writes number) (option_map link_of before) (option_map link_of now)
     written_carries before now number blocks it values = by_kind (keeping_is it.value it.link it.more it.kept)
       where
@@ -302,7 +319,7 @@ module _ (refusals_are_not_done : RefusalsAreNotDone) (rules : Rules TakenRecord
         })
 
     -- any other record is kept or passed on too
-    written_accesses : (before now : Option RelationState) (blocks : List ℕ) (it : Written station blocks before now)
+    written_accesses : (before now : Option RelationState) (blocks : List ℕ) (it : Written live.rest.real blocks before now)
         → Carries rules small.Accesses (option_map link_of before) (option_map link_of now)
     written_accesses before now blocks it = by_kind (keeping_is it.value it.link it.more it.kept)
       where
@@ -318,8 +335,8 @@ module _ (refusals_are_not_done : RefusalsAreNotDone) (rules : Rules TakenRecord
         by_kind (inr passed) = inl (behind ∙ (ap (taking_now it.link) passed.1 ∙ sym was))
 
     -- what a Write does, which is one of the start-up or not
-    writes : (sequence : ℕ) (blocks octets : List ℕ) (b : Bool) → rules.is_planned sequence blocks ≡ b → IsPlannedAs rules station.real sequence blocks (Some operation.Write)
-        → Written station blocks live.rest.link after.link ⊎ (Stored station blocks live.rest.link after.link ⊎ WrittenEach station blocks octets live.rest.link after.link)
+    writes : (sequence : ℕ) (blocks octets : List ℕ) (b : Bool) → rules.is_planned sequence blocks ≡ b → IsPlannedAs rules live.rest.real sequence blocks (Some operation.Write)
+        → Written live.rest.real blocks live.rest.link after.link ⊎ (Stored live.rest.real blocks live.rest.link after.link ⊎ WrittenEach live.rest.real blocks octets live.rest.link after.link)
         → (granted : Bool) → rules.grants sequence octets ≡ granted → Comes rules granted (written_ask b sequence) (option_map link_of live.rest.link) (option_map link_of after.link)
     writes sequence blocks octets true e asks (inl it) granted g =
         let plan = asks e in
@@ -350,8 +367,8 @@ module _ (refusals_are_not_done : RefusalsAreNotDone) (rules : Rules TakenRecord
         (subst (λ (l : Option RelationState). Comes rules true small.Accesses (option_map link_of live.rest.link) (option_map link_of l)) (sym it.becomes) taken)
 
     -- what a call does to the relation, as the small machine does it
-    comes : (caller : Caller) (sequence : ℕ) (blocks : List ℕ) (outcome : Result (List ℕ) CallFault) (which : Operation) → IsPlannedAs rules station.real sequence blocks (Some which)
-        → IsEffect station caller blocks outcome which live.rest.link after.link
+    comes : (caller : Caller) (sequence : ℕ) (blocks : List ℕ) (outcome : Result (List ℕ) CallFault) (which : Operation) → IsPlannedAs rules live.rest.real sequence blocks (Some which)
+        → IsEffect station live.rest.real caller blocks outcome which live.rest.link after.link
         → Comes rules (positive_of sequence outcome) (ask_of rules.is_planned sequence blocks (Some which)) (option_map link_of live.rest.link) (option_map link_of after.link)
     comes caller sequence blocks (Err why) which plan same = inl (ap (λ (l : Option RelationState). option_map link_of l) same)
     comes caller sequence blocks (Ok octets) operation.Connect plan it =
@@ -361,13 +378,20 @@ module _ (refusals_are_not_done : RefusalsAreNotDone) (rules : Rules TakenRecord
         (same_request (uuid_of live.rest.link) blocks it.request rules.request it.read plan))
     comes caller sequence blocks (Ok octets) operation.Write plan it =
         writes sequence blocks octets (rules.is_planned sequence blocks) refl plan it (rules.grants sequence octets) refl
-    comes caller sequence blocks (Ok octets) operation.Control plan it =
-        comes_so (rules.grants sequence octets) small.Parameterized (option_map link_of live.rest.link) (option_map link_of after.link) (record {
+    comes caller sequence blocks (Ok octets) operation.Control plan (inl it) =
+        comes_so (rules.grants sequence octets) small.Parameterized (option_map link_of live.rest.link) (option_map link_of after.link) (inl (record {
           link = link_of it.link;
           was = ap (λ (l : Option RelationState). option_map link_of l) it.was;
           started = ap phase_in it.started;
           becomes = ap (λ (l : Option RelationState). option_map link_of l) it.becomes ∙ parameterized_small it.source it.link it.by_application;
-        })
+        }))
+    comes caller sequence blocks (Ok octets) operation.Control plan (inr it) =
+        comes_so (rules.grants sequence octets) small.Parameterized (option_map link_of live.rest.link) (option_map link_of after.link) (inr (record {
+          link = link_of it.link;
+          was = ap (λ (l : Option RelationState). option_map link_of l) it.was;
+          exchanges = ap phase_in (it.exchanges (subst (λ (l : Option RelationState). IsOrderlyIn l) it.was orderly));
+          same = ap (λ (l : Option RelationState). option_map link_of l) it.becomes ∙ sym (ap (λ (l : Option RelationState). option_map link_of l) it.was);
+        }))
     comes caller sequence blocks (Ok octets) operation.Release plan it =
         comes_so (rules.grants sequence octets) small.Releases (option_map link_of live.rest.link) (option_map link_of after.link)
         (ap (λ (l : Option RelationState). option_map link_of l) it.gone)
@@ -386,12 +410,12 @@ module _ (refusals_are_not_done : RefusalsAreNotDone) (rules : Rules TakenRecord
       abbrev answer : Sent
       answer = answer_from from it.caller it.call it.which it.outcome
 
-      plan : IsPlannedCall rules activity station.real it.call
+      plan : IsPlannedCall rules activity live.rest.real it.call
       plan = planned_call it.caller it.address it.call it.is
 
-      asks : IsPlannedAs rules station.real sequence it.blocks (Some it.which)
-      asks = subst (λ (o : Option Operation). IsPlannedAs rules station.real sequence it.blocks o) it.asks
-          (subst (λ (b : List ℕ). IsPlannedAs rules station.real sequence b (operation_of it.call.header.operation)) (some_is plan.blocks it.blocks (sym plan.counted ∙ it.counted)) plan.asks)
+      asks : IsPlannedAs rules live.rest.real sequence it.blocks (Some it.which)
+      asks = subst (λ (o : Option Operation). IsPlannedAs rules live.rest.real sequence it.blocks o) it.asks
+          (subst (λ (b : List ℕ). IsPlannedAs rules live.rest.real sequence b (operation_of it.call.header.operation)) (some_is plan.blocks it.blocks (sym plan.counted ∙ it.counted)) plan.asks)
 
       all_heard : AreHeard (answer ∷ readied_from from it.ready)
       all_heard = subst (λ (messages : List Sent). AreHeard messages) it.sends all
@@ -425,10 +449,16 @@ module _ (refusals_are_not_done : RefusalsAreNotDone) (rules : Rules TakenRecord
     rests : Rests live after sent → Goes (heard_as rules.is_planned heard) after sent
     rests it = subst (λ (r : Rest). Goes (heard_as rules.is_planned heard) r sent) (sym it.same) (subst (λ (s : List Sent). Goes (heard_as rules.is_planned heard) live.rest s) (sym it.silent) (rests_steps (heard_as rules.is_planned heard)))
 
+    -- what is no call
+    goes_at : (h : ToDevice) → IsUncalled h → SmallGoesBy rules (small_in live.rest) (small_in after) (frames_of sent) → Goes h after sent
+    goes_at (small.Call sequence ask) uncalled goes = absurd uncalled
+    goes_at small.Confirms uncalled goes = inr goes
+    goes_at small.Idle uncalled goes = goes
+
     goes_by : GoesBy live heard after sent → Goes (heard_as rules.is_planned heard) after sent
-    goes_by it = subst (λ (h : ToDevice). Goes h after sent) (sym (it.idle rules.is_planned)) (record {
+    goes_by it = goes_at (heard_as rules.is_planned heard) (it.uncalled rules.is_planned) (record {
       keeps = ap (λ (c : List Answer). option_map kept_in (kept_of activity c)) it.calls;
-      link = it.link;
+      link = link_small live.rest.link after.link orderly it.link;
       sent = all_other after sent it.others all;
     })
 
@@ -437,6 +467,8 @@ module _ (refusals_are_not_done : RefusalsAreNotDone) (rules : Rules TakenRecord
       link = link_of it.link;
       was = ap (λ (l : Option RelationState). option_map link_of l) it.was;
       awaits = ap phase_in it.awaits;
+      values = it.values;
+      part = it.part;
       becomes = ap small_in it.becomes ∙ ap (λ (l : small.RelationState TakenRecord Request). let d : small.Device TakenRecord Request = record (small_in live.rest) { link = Some l } in d) it.exchanges;
       dull = all_dull sent it.others all;
     }))
@@ -449,9 +481,9 @@ module _ (refusals_are_not_done : RefusalsAreNotDone) (rules : Rules TakenRecord
     turn_goes (inr (inr (inr (inr it)))) = serves it
 
 pub step_goes : RefusalsAreNotDone → (rules : Rules TakenRecord Request) (activity : List ℕ) (outcomes : List Outcome) (station : Station) (live : Live) (heard : Heard)
-    → Does station live heard (heard_step outcomes station live heard).live.rest (heard_step outcomes station live heard).sent
-    → IsPlanned rules activity station.real heard → AllByRecursion (IsHeardAs rules station.identity) (heard_step outcomes station live heard).sent
+    → IsOrderlyIn live.rest.link → Does station live heard (heard_step outcomes station live heard).live.rest (heard_step outcomes station live heard).sent
+    → IsPlanned rules activity live.rest.real heard → AllByRecursion (IsHeardAs rules station.identity) (heard_step outcomes station live heard).sent
     → DeviceSteps rules (heard_as rules.is_planned heard) (small_of activity live) (small_of activity (heard_step outcomes station live heard).live) (heard_step outcomes station live heard).frames
 unfolding heard_step handled_step
-step_goes refusals_are_not_done rules activity outcomes station live heard does planned sent =
-    turn_goes refusals_are_not_done rules activity station live heard planned _ _ sent does
+step_goes refusals_are_not_done rules activity outcomes station live heard orderly does planned sent =
+    turn_goes refusals_are_not_done rules activity station live orderly heard planned _ _ sent does

@@ -1,6 +1,6 @@
 -- One turn of a device: what it does, what becomes of its relation and of the responses that it stores, and where its
 -- messages come from.
-use Rattle.std.proofs.Common.{◌≡◌, ◌⊎◌, inl, inr, ap, ◌+◌, ◌-◌, ℕ, Bool, true, false, cond, List, [], ◌∷◌, ◌++◌, length, Option, Some, None, option_map, Result, Ok, Err, refl, sym, subst, not, ◌∙◌, append_assoc}
+use Rattle.std.proofs.Common.{◌≡◌, ◌⊎◌, inl, inr, ap, arith, ◌<◌, ◌+◌, ◌-◌, ℕ, Bool, true, false, cond, List, [], ◌∷◌, ◌++◌, length, Option, Some, None, option_map, Result, Ok, Err, refl, sym, subst, not, ◌∙◌, append_assoc}
 use Rattle.std.specs.Prelude.{◌&&◌, is_some, nat_eq, nat_lt, ◌==◌}
 use Rattle.std.specs.List.{AllByRecursion}
 use Rattle.lldp.specs.Peer.{Peer}
@@ -43,42 +43,54 @@ use Rattle.cyclic_data.specs.declared.exchange.received.Received.TheVariants as 
 use Rattle.cyclic_data.specs.declared.exchange.route.Route.{Route}
 use Rattle.relations.specs.exchange.Flow.{Flow}
 use Rattle.relations.specs.exchange.Diagnosis.{begins_with_one, behind_low, diagnoses_begun, next_reported}
+use Rattle.expected_places.specs.declared.calls.PlugCall.{PlugCall}
+use Rattle.expected_places.specs.Machine.{ended, is_next_called, next_called, readied as readied_plugs}
+use Rattle.module_diff.specs.declared.changes.RealChange.{RealChange}
+use Rattle.module_diff.specs.Changes.{affected_by, plugged_with, pulled, slot_pulled}
+use Rattle.connect_blocks.specs.declared.plug_control.PlugControlBlock.{PlugControlBlock}
+use Rattle.connect_blocks.specs.PlugControl.{plug_control}
+use Rattle.relations.specs.declared.plugging.PlugAnswer.{PlugAnswer}
+use Rattle.relations.specs.declared.plugging.PlugAnswer.TheVariants as to_plug
+use Rattle.relations.specs.Plugging.{begins_as_plug_end, calling_next, changed_by, ended_by, first_sent, is_called_by, is_calling, is_alarmed_by, is_crowded, is_plug_control, is_readied_in, modules_changing, plug_answer_in, plug_answering, plug_done, plug_end_answer, plug_end_in, plug_ended, plug_ending, plugs_after, ready_for, readying_at, rows_now, taken_after}
 use Rattle.relations.specs.exchange.Frames.{Frame, alarm_frame, low_alarm_frame}
 use Rattle.relations.specs.declared.hearing.ReadyAnswer.{ReadyAnswer}
 use Rattle.relations.specs.declared.hearing.ReadyAnswer.TheVariants as to_ready
-use Rattle.relations.specs.RelationState.{RelationState, flow_of, is_alarm_of, uuid_of, is_started, is_awaiting, is_exchanging, is_preparing, passes_on, phase_of}
+use Rattle.relations.specs.RelationState.{RelationState, flow_of, is_alarm_of, uuid_of, is_started, is_awaiting, is_exchanging, is_in_exchange, is_preparing, passes_on, phase_of}
 use Rattle.relations.specs.declared.phase.Partner.{Partner}
 use Rattle.relations.specs.Passed.{PassedOn, none_passed, passed_more}
 use Rattle.relations.specs.Phases.{Ended, Exchanged, Named, Parameterized, Prepared, Records, answered, keeping, kept_in, parameterized_from, updated, passing, passing_by, taking, Confirmed, exchanging_from, made_of, with_flow, restarted, with_records}
 use Rattle.relations.specs.Calls.{done_of, prm_end_of, release_of, control_block, in_started, named_of}
 use Rattle.relations.specs.Connect.{connect_blocks, connect_within, differing_of, making, rows_of}
-use Rattle.relations.specs.Diagnosed.{diagnose_one, diagnosing, has_sent_low, heard_low, hearing_low, is_full_in}
+use Rattle.relations.specs.Diagnosed.{beginning, diagnose_one, diagnosing, has_sent_low, heard_low, hearing_low, is_full_in, reporting}
 use Rattle.relations.specs.Ready.{answer_of as ready_answer, confirmed_block, confirmed_by, is_wanted, is_answer_to, ready_of}
-use Rattle.relations.specs.Timers.{due_by, due_of, ending_of, is_again, unit_later}
+use Rattle.relations.specs.Timers.{due_by, due_of, ending_of, is_again, is_plug_again, is_timed, plugs_later, unit_later}
 use Rattle.relations.specs.Exchanged.{given_to, heard_by, hearing, raised_to, rating, received_by, receiving, turning, hearing_as, receiving_as}
 use Rattle.device_frames.specs.declared.local.Local.TheVariants as local
 use Rattle.device_frames.specs.Heard.{Heard, Ticks, Unreadable, Elsewhere, Asks, Resolves, Reported, Cyclic, Alarms, LowReplies, LowConfirms, Applied, Met, Said, Calls, Responds, Garbled}
-use Rattle.device_frames.specs.Relation.{alarms_of, frames_in, inputs_of, low_alarms_of, low_replies_of, ready_calls, replies_of, where_due, due_frames}
-use Rattle.device_frames.specs.Sent.{Sent, IdentifyAnswer, GetAnswer, SetAnswer, ArpReply, Again, Ends, CallAnswer, ReadyCall}
+use Rattle.device_frames.specs.Relation.{alarms_of, frames_in, inputs_of, low_alarms_of, low_replies_of, plug_call_in, plug_calls, ready_calls, replies_of, where_due, due_frames}
+use Rattle.device_frames.specs.Sent.{Sent, IdentifyAnswer, GetAnswer, SetAnswer, ArpReply, Again, Ends, CallAnswer, ReadyCall, PlugReadyCall}
 use Rattle.device_frames.specs.declared.note.Note.{Note}
 use Rattle.device_frames.specs.declared.note.Note.TheVariants as note
 use Rattle.settings_journal.specs.settings_store.Machine.{Outcome, carried}
 use Rattle.device_core.specs.State.{Station, Live, Rest, alias_in, counter_of, units_after}
-use Rattle.device_core.specs.Handled.{change_of, Handled, Refuses, Sets, Moves, is_running, is_request, outcome_of, served, ready_behind, partner_of, kept_answer, handled_effect, handled_write, handled_new, handled_looked, handled_blocks, handled_call, handled_alarm, handled_answer, handled_beginning, handled_change, handled_low, handled_low_message, handled_low_pdu, handled_said, handled_received, handled_input, handled_met, handled_notice, handled_pdu, handled_message, handled_request, handled_turned, goes_on_with, kept_status, starting_of, number_now, counted_by, handled, known_of}
+use Rattle.device_core.specs.Handled.{change_of, Handled, Refuses, Sets, Moves, is_running, is_request, outcome_of, served, ready_behind, partner_of, kept_answer, handled_effect, handled_write, handled_new, handled_looked, handled_blocks, handled_call, handled_alarm, handled_answer, handled_beginning, handled_change, handled_low, handled_low_message, handled_low_pdu, handled_modules, handled_next_call, handled_plug_answer, handled_plug_end, handled_prm_end, handled_ready_at, handled_response, handled_said, handled_received, handled_input, handled_met, handled_notice, handled_pdu, handled_message, handled_request, handled_turned, goes_on_with, kept_status, starting_of, number_now, counted_by, handled, known_of}
+use Rattle.device_core.specs.Modules.{call_after, calling_after, changed_rest, next_call_sent, outside, plug_of, pull_of, sent_after, slot_pull_of}
 use Rattle.device_core.specs.Several.{Judged, judged_each}
 use Rattle.device_core.specs.Machine.{effect_link, first_answer, link_behind, one_link, several_answer, resets, farewells_at, finished, items_in, handled_step, heard_step, link_after, written_as}
 use Rattle.device_records.specs.declared.log_data.entry.LogEntry.{LogEntry}
 use Rattle.device_core.specs.Log.{but_rest, connect_log, end_log, err_log, release_log}
 use Rattle.end_laws.specs.both.Small.{Rules}
+use Rattle.end_laws.specs.device.Orderly.{AreNumbered, IsEarly, IsNumberedCall, IsOrderly, IsOrderlyIn}
 use Rattle.end_laws.specs.device.Owed.{IsOwed}
 use Rattle.end_laws.proofs.DeviceConnects.{unlimited}
-use Rattle.end_laws.proofs.DeviceOwing.{IsPlainIn, connect_plain, keeping_plain, outcome_sized, prm_plain, read_plain, release_plain, stored_plain, writing_plain, IsPlain, bind_ok}
+use Rattle.end_laws.proofs.DeviceOrderly.{AreBeside, IsKept, answered_beside, beside_ended, beside_kept, calls_told, changed_numbered, changing_kept, changing_orderly, diagnosing_kept, diagnosing_orderly, ended_keys, ended_numbered, ended_told, exchanges_sent, exchanges_told, exchanging_is, late, next_beside, numbered_next, part_told, plug_of_relation, ready_beside, same_beside, told_kept, unit_numbered, unit_orderly}
+use Rattle.end_laws.proofs.DeviceOwing.{IsPlainIn, connect_plain, keeping_plain, outcome_sized, plug_plain, prm_plain, read_plain, release_plain, stored_plain, writing_plain, IsPlain, bind_ok}
 use Rattle.rpc_core.specs.Response.{Answered as Response, answer_to, is_done}
 use Rattle.relations.specs.Farewells.{farewell_of}
 use Rattle.relations.specs.Numbers.{made_after}
 use Rattle.end_laws.proofs.DeviceNumbers.{does_numbered, number_now_is}
-use Rattle.relations.specs.exchange.Notices.{behind_message}
-use Rattle.relations.specs.exchange.Process.{with_input}
+use Rattle.relations.specs.exchange.Notices.{behind_message, may_raise, raised_by}
+use Rattle.relations.specs.exchange.Process.{remarked, with_cyclic, with_input}
 use Rattle.relations.specs.exchange.Marks.{awaits}
 use Rattle.relations.specs.exchange.Statuses.{statuses_at}
 use Rattle.relations.specs.declared.exchange.statuses.InputStatus.{InputStatus}
@@ -90,13 +102,21 @@ use Rattle.pn_alarms.specs.declared.abort.Abort.TheVariants.{Other}
 use Rattle.pn_alarms.specs.declared.message.Notice.TheVariants as notice
 use Rattle.pn_alarms.specs.declared.pdu.Header.{Header}
 use Rattle.pn_alarms.specs.Numbers.{is_last}
+use Rattle.pn_alarms.specs.Device.{end_with}
 use Rattle.pn_alarms.specs.Receiver.{taken_as}
+use Rattle.pn_alarms.specs.Sender.{notice_of}
+use Rattle.cyclic_data.specs.declared.tail.CyclicTail.{CyclicTail}
+use Rattle.cyclic_data.specs.declared.tail.ShortFrame.{ShortFrame}
+use Rattle.cyclic_data.specs.Tail.{cyclic_of}
+use Rattle.cyclic_data.specs.exchange.Cyclic.{Cyclic as CyclicEnd}
+use Rattle.cyclic_data.specs.exchange.Received.{behind_read, is_new, is_of_partner, taken_from}
 use Rattle.pn_values.specs.declared.real.RealModule.{RealModule}
-use Rattle.module_diff.specs.Plugged.{submodule_ident}
+use Rattle.module_diff.specs.Plugged.{module_ident, submodule_ident}
 use Rattle.diagnosis.specs.Existing.{changed as changed_list}
 use Rattle.diagnosis.specs.declared.diagnosis.Change.{Change}
 use Rattle.diagnosis.specs.declared.diagnosis.Diagnosis.{Diagnosis}
-use Rattle.diagnosis.specs.alarms.Alarms.{is_next}
+use Rattle.diagnosis.specs.Queue.{is_next}
+use Rattle.pn_values.specs.declared.real.RealSubmodule.{RealSubmodule}
 use Rattle.rpc_core.specs.Cache.{Kept as Answer, Reported as Looked, new, again, old, kept_of, reported_by, looked}
 use Rattle.std.proofs.lemmas.Bool.{eqb-true}
 use Rattle.std.proofs.lemmas.List.{append-nil}
@@ -109,8 +129,8 @@ use Rattle.relations.specs.declared.phase.Phase.TheVariants.{Started, Preparing,
 use Rattle.relations.specs.declared.ready.Ready.{Ready}
 use Rattle.end_laws.specs.both.Small as small
 use Rattle.end_laws.specs.device.Small.{IsPlanned, IsPlannedAs, IsPlannedIn, Planned, confirms, heard_as, link_of, names_own, phase_in}
-use Rattle.end_laws.specs.device.Does.{AreReadied, GoesBy, IsEffect, IsExchange, IsOther, IsRestarted, readied_from, with_more}
-use Rattle.end_laws.specs.device.Turn.{AreCalm, BeginsNumbered, Diagnoses, IsCalm, IsHigh, IsLow, IsRaise, IsSameOr, IsTurn, Raises, Standing, Turn, alarm_heard, change_heard, input_heard, standing_of}
+use Rattle.end_laws.specs.device.Does.{AreReadied, Following, GoesBy, IsEffect, IsExchange, IsKeptOr, IsOther, IsRestarted, IsUncalled, Plugging, Readying, readied_from, with_more}
+use Rattle.end_laws.specs.device.Turn.{AreCalm, BeginsNumbered, Changes, Diagnoses, IsCalm, IsHigh, IsLow, IsRaise, IsSameOr, IsTurn, Raises, Standing, Turn, alarm_heard, change_by, change_heard, heard_low_in, input_heard, modules_after, standing_of}
 
 -- ---- what is sent
 
@@ -127,22 +147,28 @@ farewells_calm true (Some link) = ((Other, link, refl, refl), tt)
 farewells_calm true None = tt
 farewells_calm false link = tt
 
-readied_calm : (before : Option RelationState) (address : List ℕ) (ready : Option Ready) → AreCalm before (readied_from address ready)
+readied_calm : (before : Option RelationState) (address : List ℕ) (ready : Option Following) → AreCalm before (readied_from address ready)
 readied_calm before address None = tt
-readied_calm before address (Some ready) = (tt, tt)
+readied_calm before address (Some (Readying ready)) = (tt, tt)
+readied_calm before address (Some (Plugging ready)) = (tt, tt)
+
+-- calls of plugs
+called_calm : (before : Option RelationState) (address : List ℕ) (link : Option RelationState) → AreCalm before (plug_calls address link)
+called_calm before address None = tt
+called_calm before address (Some link) = by_standing link.plugs.calls.standing
+  where
+    by_standing : (standing : Option PlugCall) → AreCalm before (plug_call_in address (option_map (ready_for link) standing))
+    by_standing None = tt
+    by_standing (Some call) = (tt, tt)
 
 -- ---- a relation before and after
 
 some_is : {A : Type 0} (x y : A) → Some x ≡ Some y → x ≡ y
 some_is x y e = cc
 
--- the relation is the same, for outputs and alarms and for a start-up, or it has ended
-abbrev IsKept : Option RelationState → Option RelationState → Type 0
-IsKept before after = IsSameOr before after × ((option_map link_of after ≡ option_map link_of before) ⊎ (option_map link_of after ≡ None))
-
 reset_keeps : (b : Bool) (link : Option RelationState) → IsKept link (link_after b link)
-reset_keeps true link = (inr refl, inr refl)
-reset_keeps false link = (inl refl, inl refl)
+reset_keeps true link = (inr refl, inr (inl refl), λ orderly. tt)
+reset_keeps false link = (inl refl, inl refl, λ orderly. orderly)
 
 exchanged_same : (link : Option RelationState) (flow : Flow) → option_map link_of (updated (Exchanged flow) link) ≡ option_map link_of link
 exchanged_same None flow = refl
@@ -152,6 +178,11 @@ given_keeps : (slot subslot : ℕ) (value : List ℕ) (link : Option RelationSta
 given_keeps slot subslot value None flow e = absurd cc
 given_keeps slot subslot value (Some link) flow e = by_size (has_size (length value) (cell_at at_data slot subslot link.flow.cyclic.shown.cells)) e
   where
+    given_orderly : (shown : Image) (b : Bool) → IsOrderly link
+        → IsOrderly (with_flow (cond b (remarked (with_cyclic link.flow (record link.flow.cyclic { shown = shown })) slot subslot None) (with_cyclic link.flow (record link.flow.cyclic { shown = shown }))) link)
+    given_orderly shown true orderly = orderly
+    given_orderly shown false orderly = orderly
+
     given_same : (shown : Image) (b : Bool) → awaits slot subslot link.flow.marks ≡ b
         → standing_of (with_flow (with_input link.flow slot subslot (record link.flow.cyclic { shown = shown })) link) ≡ standing_of link
     given_same shown true is = rw is refl
@@ -166,18 +197,19 @@ given_keeps slot subslot value (Some link) flow e = by_size (has_size (length va
           ∙ ap (λ (s : Standing). Some s) (given_same _ (awaits slot subslot link.flow.marks) refl)
           ),
       inl refl,
+      λ orderly. subst (λ (other : Flow). IsOrderly (with_flow other link)) (some_is _ flow f) (given_orderly _ (awaits slot subslot link.flow.marks) orderly),
     )
     by_size false f = absurd cc
 
 -- a status of inputs changes nothing of these
 rated_keeps : (slot subslot : ℕ) (is_good : Bool) (link : Option RelationState) → IsKept link (updated (rating slot subslot is_good link) link)
-rated_keeps slot subslot is_good None = (inl refl, inl refl)
-rated_keeps slot subslot is_good (Some link) = (inl refl, inl refl)
+rated_keeps slot subslot is_good None = (inl refl, inl refl, λ orderly. orderly)
+rated_keeps slot subslot is_good (Some link) = (inl refl, inl refl, λ orderly. orderly)
 
 -- nor does it matter whether the application runs
 turned_keeps : (is_running : Bool) (link : Option RelationState) → IsKept link (updated (turning is_running link) link)
-turned_keeps is_running None = (inl refl, inl refl)
-turned_keeps is_running (Some link) = (inl refl, inl refl)
+turned_keeps is_running None = (inl refl, inl refl, λ orderly. orderly)
+turned_keeps is_running (Some link) = (inl refl, inl refl, λ orderly. orderly)
 
 -- a relation that waits for its application, which is ready now
 abbrev readied : RelationState → RelationState
@@ -195,11 +227,48 @@ raise_is real slot subslot octets None flow e = absurd cc
 raise_is real slot subslot octets (Some link) flow e =
     record { slot = slot; subslot = subslot; octets = octets; is = refl; link = link; was = refl; flow = flow; raised = e; becomes = refl; sends = refl }
 
+-- a frame that is accepted leaves the order of a relation
+frame_orderly : (link : RelationState) (source : Mac) (frame_id : ℕ) (body : List ℕ) → IsOrderly link → IsOrderly (with_flow (behind_frame link.flow source frame_id body) link)
+frame_orderly link source frame_id body orderly = (
+  subst (λ (b : Bool). IsEarly (is_exchanging link.phase) b (is_some link.flow.low.alarms.sender.sending.last) link.plugs.has_told)
+      (sym (begun_behind (is_of_partner link.flow.cyclic.route source frame_id) (cyclic_of link.flow.cyclic.taken.data_length body))) orderly.0,
+  orderly.1,
+)
+  where
+    by_new : (b : Bool) (x : List ℕ × CyclicTail) → (cond b (taken_from link.flow.cyclic x.0 x.1) link.flow.cyclic).begun ≡ link.flow.cyclic.begun
+    by_new true x = refl
+    by_new false x = refl
+
+    by_read : (read : Result (List ℕ × CyclicTail) ShortFrame) → (behind_read link.flow.cyclic read).begun ≡ link.flow.cyclic.begun
+    by_read (Ok x) = by_new (is_new link.flow.cyclic x.1) x
+    by_read (Err short) = refl
+
+    begun_behind : (b : Bool) (read : Result (List ℕ × CyclicTail) ShortFrame) → (cond b (behind_read link.flow.cyclic read) link.flow.cyclic).begun ≡ link.flow.cyclic.begun
+    begun_behind true read = by_read read
+    begun_behind false read = refl
+
+-- an alarm that is raised leaves the order of a relation
+raise_orderly : (real : List RealModule) (slot subslot : ℕ) (octets : List ℕ) (link : Option RelationState) (flow : Flow) → raised_to real slot subslot octets link ≡ Some flow
+    → IsOrderlyIn link → IsOrderlyIn (updated (Exchanged flow) link)
+raise_orderly real slot subslot octets None flow e orderly = tt
+raise_orderly real slot subslot octets (Some link) flow e orderly = by_idents (module_ident real slot) (submodule_ident real slot subslot) e
+  where
+    by_may : (ident part : ℕ) (b : Bool)
+        → cond b (Some (record link.flow { alarms = end_with link.flow.alarms (notice_of link.flow.alarms.sender.specifier slot subslot ident part octets) })) None ≡ Some flow
+        → IsOrderly (with_flow flow link)
+    by_may ident part true f = subst (λ (other : Flow). IsOrderly (with_flow other link)) (some_is _ flow f) orderly
+    by_may ident part false f = absurd cc
+
+    by_idents : (ident part : Option ℕ) → raised_by link.flow slot subslot octets ident part ≡ Some flow → IsOrderly (with_flow flow link)
+    by_idents None part f = absurd cc
+    by_idents (Some ident) None f = absurd cc
+    by_idents (Some ident) (Some part) f = by_may ident part (may_raise link.flow octets) f
+
 raise_as : (station : Station) (live : Live) (slot subslot : ℕ) (octets : List ℕ) (flow : Option Flow) (answers : List BlockError)
-    → raised_to station.real.modules.items slot subslot octets live.rest.link ≡ flow
-    → IsRaise station.real.modules.items live.rest.link slot subslot octets (finished station.identity live.rest (handled_notice live flow) answers).rest.link
+    → raised_to live.rest.real.modules.items slot subslot octets live.rest.link ≡ flow
+    → IsRaise live.rest.real.modules.items live.rest.link slot subslot octets (finished station.identity live.rest (handled_notice live flow) answers).rest.link
     (finished station.identity live.rest (handled_notice live flow) answers).sent
-raise_as station live slot subslot octets (Some flow) answers raised = inl (raise_is station.real.modules.items slot subslot octets live.rest.link flow raised)
+raise_as station live slot subslot octets (Some flow) answers raised = inl (raise_is live.rest.real.modules.items slot subslot octets live.rest.link flow raised)
 raise_as station live slot subslot octets None answers raised = inr (record { unraised = raised; same = refl; silent = refl })
 
 -- ---- calls of a relation
@@ -408,6 +477,10 @@ module _ (rules : Rules TakenRecord Request) (activity : List ℕ) (station : St
   abbrev from : List ℕ
   from = live.values.running.suite.address
 
+  -- the modules that are plugged
+  abbrev real : List RealModule
+  real = live.rest.real.modules.items
+
   abbrev AreOthers : Option RelationState → List Sent → Type 0
   AreOthers after sent = AllByRecursion (IsOther live after) sent
 
@@ -440,40 +513,95 @@ module _ (rules : Rules TakenRecord Request) (activity : List ℕ) (station : St
   )
   again_other link false was is = tt
 
+  -- the calls of plugs of this relation
+  plugs_other : (after : Option RelationState) (past next : RelationState) → before ≡ Some past → next.request ≡ past.request → (AreNumbered past.plugs.calls → AreNumbered next.plugs.calls)
+      → AreOthers after (plug_calls from (Some next))
+  plugs_other after past next was same numbered = by_standing next.plugs.calls.standing (λ calls. (numbered calls).1)
+    where
+      by_standing : (standing : Option PlugCall) → (AreNumbered past.plugs.calls → IsNumberedCall standing) → AreOthers after (plug_call_in from (option_map (ready_for next) standing))
+      by_standing None numbered = tt
+      by_standing (Some call) numbered = (plug_of_relation before past next call was same numbered, tt)
+
+  -- that of the next plug
+  next_other : (after past next : Option RelationState) → before ≡ past → AreBeside past next → AreOthers after (next_call_sent from next)
+  next_other after None None was beside = tt
+  next_other after None (Some next) was beside = absurd beside
+  next_other after (Some past) None was beside = absurd beside
+  next_other after (Some past) (Some next) was beside =
+      let called : RelationState = record next { plugs = next_called next.plugs } in
+      due_each (IsOther live after) (is_next_called next.plugs) (plug_calls from (Some called))
+      (plugs_other after past called was beside.request
+      (λ numbered. numbered_next next.plugs.calls (beside.numbered numbered)))
+
+  next_calm : (next : Option RelationState) → AreCalm before (next_call_sent from next)
+  next_calm next = due_each (IsCalm before) (is_calling next) (plug_calls from (calling_next next)) (called_calm before from (calling_next next))
+
   module _ (heard : Heard) where
     other_owed : (after : Option RelationState) (sent : List Sent) → AreOthers after sent → AllByRecursion (IsOwed heard live) sent
     other_owed after [] others = tt
     other_owed after (CallAnswer caller address answer ∷ sent) others = absurd others.0
     other_owed after (Again frame ∷ sent) others = absurd others.0
     other_owed after (ReadyCall address ready ∷ sent) others = (others.0.0, other_owed after sent others.1)
+    other_owed after (PlugReadyCall address ready ∷ sent) others = (others.0, other_owed after sent others.1)
     other_owed after (message ∷ sent) others = (tt, other_owed after sent others.1)
 
     -- something that is no call
-    goes : (after : Rest) (sent : List Sent) → after.diagnoses ≡ live.rest.diagnoses → IsTurn station.real.modules.items live.rest.calls live.rest.diagnoses after.diagnoses before heard after.link sent → GoesBy live heard after sent
-        → Turn station live heard after sent
-    goes after sent same is by = record { does = inr (inl by); is = is; diagnoses = inl same; answers = inl by.calls; owed = other_owed after.link sent by.others }
+    goes : (after : Rest) (sent : List Sent) → after.diagnoses ≡ live.rest.diagnoses → after.real ≡ live.rest.real
+        → IsTurn real after.real.modules.items live.rest.calls live.rest.diagnoses after.diagnoses before heard after.link sent
+        → (IsOrderlyIn before → IsOrderlyIn after.link) → GoesBy live heard after sent → Turn station live heard after sent
+    goes after sent same plugged is orderly by = record {
+      does = inr (inl by);
+      is = is;
+      diagnoses = inl same;
+      modules = inl plugged;
+      answers = inl by.calls;
+      orderly = orderly;
+      owed = other_owed after.link sent by.others;
+    }
 
     refuses : (why : Note) → Comes_to heard (Refuses why)
-    refuses why answers = record { does = inl (record { same = refl; silent = refl }); is = inl (record { link = inl refl; calm = tt }); diagnoses = inl refl; answers = inl refl; owed = tt }
+    refuses why answers = record {
+      does = inl (record { same = refl; silent = refl });
+      is = inl (record { link = inl refl; calm = tt });
+      diagnoses = inl refl;
+      modules = inl refl;
+      answers = inl refl;
+      orderly = λ orderly. orderly;
+      owed = tt;
+    }
 
-    module _ (idle : (planned : Planned) → heard_as planned heard ≡ small.Idle) where
-      stays : (after : Rest) (sent : List Sent) → after.calls ≡ live.rest.calls → after.diagnoses ≡ live.rest.diagnoses → IsKept before after.link → AreCalm before sent → AreOthers after.link sent
-          → Turn station live heard after sent
-      stays after sent calls same kept calm others =
-          goes after sent same (inl (record { link = kept.0; calm = calm })) (record { idle = idle; calls = calls; link = kept.1; others = others })
+    module _ (idle : (planned : Planned) → IsUncalled (heard_as planned heard)) where
+      stays : (after : Rest) (sent : List Sent) → after.calls ≡ live.rest.calls → after.diagnoses ≡ live.rest.diagnoses → after.real ≡ live.rest.real
+          → IsKept before after.link → AreCalm before sent → AreOthers after.link sent → Turn station live heard after sent
+      stays after sent calls same plugged kept calm others =
+          goes after sent same plugged (inl (record { link = kept.0; calm = calm })) kept.2 (record { uncalled = idle; calls = calls; link = kept.1; others = others })
 
       tells : (message : Sent) → IsCalm before message → IsOther live before message → Comes_to heard (Moves live.rest (message ∷ []))
-      tells message calm other answers = stays live.rest (message ∷ []) refl refl (inl refl, inl refl) (calm, tt) (other, tt)
+      tells message calm other answers = stays live.rest (message ∷ []) refl refl refl (inl refl, inl refl, λ orderly. orderly) (calm, tt) (other, tt)
 
       -- the relation became this
-      becomes : (link : Option RelationState) (sent : List Sent) → IsTurn station.real.modules.items live.rest.calls live.rest.diagnoses live.rest.diagnoses before heard link sent → option_map link_of link ≡ option_map link_of before
-          → AreOthers link sent → Comes_to heard (Moves (record live.rest { link = link }) sent)
-      becomes link sent is same others answers = goes (record live.rest { link = link }) sent refl is (record { idle = idle; calls = refl; link = inl same; others = others })
+      becomes_as : (link : Option RelationState) (sent : List Sent) → IsTurn real real live.rest.calls live.rest.diagnoses live.rest.diagnoses before heard link sent
+          → (IsOrderlyIn before → IsOrderlyIn link) → IsKeptOr before link → AreOthers link sent → Comes_to heard (Moves (record live.rest { link = link }) sent)
+      becomes_as link sent is orderly kept others answers =
+          goes (record live.rest { link = link }) sent refl refl is orderly (record { uncalled = idle; calls = refl; link = kept; others = others })
+
+      becomes : (link : Option RelationState) (sent : List Sent) → IsTurn real real live.rest.calls live.rest.diagnoses live.rest.diagnoses before heard link sent
+          → (IsOrderlyIn before → IsOrderlyIn link) → option_map link_of link ≡ option_map link_of before → AreOthers link sent
+          → Comes_to heard (Moves (record live.rest { link = link }) sent)
+      becomes link sent is orderly same others answers = becomes_as link sent is orderly (inl same) others answers
 
       -- the relation ended
       ends : (lamp units : ℕ) (log : List LogEntry) (sent : List Sent) → AreCalm before sent → AreOthers None sent
           → Comes_to heard (Moves (record live.rest { lamp = lamp; link = None; units = units; log = log }) sent)
-      ends lamp units log sent calm others answers = stays (record live.rest { lamp = lamp; link = None; units = units; log = log }) sent refl refl (inr refl, inr refl) calm others
+      ends lamp units log sent calm others answers =
+          stays (record live.rest { lamp = lamp; link = None; units = units; log = log }) sent refl refl refl (inr refl, inr (inl refl), λ orderly. tt) calm others
+
+      -- the next call of a plug may become active
+      calls_next : (link : Option RelationState) → AreBeside before link → Comes_to heard (handled_next_call live link)
+      calls_next link beside answers =
+          let kept = beside_kept before (calling_next link) (next_beside before link beside) in
+          stays (record live.rest { link = calling_next link }) (next_call_sent from link) refl refl refl kept (next_calm link)
+          (next_other (calling_next link) before link refl beside)
 
   -- ---- DCP and ARP
 
@@ -482,22 +610,22 @@ module _ (rules : Rules TakenRecord Request) (activity : List ℕ) (station : St
       let end = finished station.identity live.rest (Sets asker request in_operation) answers in
       let reset = resets (plan_of in_operation request) answers in
       let answer = SetAnswer asker request answers ∷ [] in
-      stays (Asks asker asked) (λ planned. refl) end.rest end.sent refl refl (reset_keeps reset before)
+      stays (Asks asker asked) (λ planned. tt) end.rest end.sent refl refl refl (reset_keeps reset before)
       (each_behind (IsCalm before) (farewells_at reset before) answer (farewells_calm reset before) (tt, tt))
       (each_behind (IsOther live end.rest.link) (farewells_at reset before) answer (farewells_other end.rest.link reset before) (tt, tt))
 
   identifies : (asker : Mac) (request : Asked) (b : Bool)
       → Comes_to (Asks asker request) (cond b (Moves live.rest (IdentifyAnswer asker live.values.running request.xid ∷ [])) (Refuses note.Filter))
-  identifies asker request true = tells (Asks asker request) (λ planned. refl) (IdentifyAnswer asker live.values.running request.xid) tt tt
+  identifies asker request true = tells (Asks asker request) (λ planned. tt) (IdentifyAnswer asker live.values.running request.xid) tt tt
   identifies asker request false = refuses (Asks asker request) note.Filter
 
   requests : (asker : Mac) (which : Service) (request : Asked) → Comes_to (Asks asker request) (handled_request station live asker which request)
   requests asker service.Identify request = identifies asker request (matches station.identity live.values.running (alias_in live.rest.peer) request)
-  requests asker service.Get request = tells (Asks asker request) (λ planned. refl) (GetAnswer asker live.values.running (alias_in live.rest.peer) request) tt tt
+  requests asker service.Get request = tells (Asks asker request) (λ planned. tt) (GetAnswer asker live.values.running (alias_in live.rest.peer) request) tt tt
   requests asker service.Set request = sets asker request request (is_some before)
 
   resolves : (asker : Mac) (packet : Arp) (b : Bool) → Comes_to (Resolves asker packet) (cond b (Moves live.rest (ArpReply asker from packet.sender ∷ [])) (Refuses note.NotMine))
-  resolves asker packet true = tells (Resolves asker packet) (λ planned. refl) (ArpReply asker from packet.sender) tt tt
+  resolves asker packet true = tells (Resolves asker packet) (λ planned. tt) (ArpReply asker from packet.sender) tt tt
   resolves asker packet false = refuses (Resolves asker packet) note.NotMine
 
   -- ---- what is exchanged
@@ -516,26 +644,27 @@ module _ (rules : Rules TakenRecord Request) (activity : List ℕ) (station : St
       by_fate received.Foreign e = refuses (Cyclic source frame_id body) note.NoRelation
       by_fate received.Short e = refuses (Cyclic source frame_id body) note.Fault
       by_fate received.Stale e = refuses (Cyclic source frame_id body) note.StaleCycle
-      by_fate received.Taken e = becomes (Cyclic source frame_id body) (λ planned. refl) (Some (with_flow (behind_frame link.flow source frame_id body) link)) []
+      by_fate received.Taken e = becomes (Cyclic source frame_id body) (λ planned. tt) (Some (with_flow (behind_frame link.flow source frame_id body) link)) []
           (inr (inr (inr (inr (inr (inr (inl (record { source = source; frame_id = frame_id; body = body; is = refl; link = link; was = was; taken = e; becomes = refl; silent = refl }))))))))
+          (λ orderly. frame_orderly link source frame_id body (subst (λ (l : Option RelationState). IsOrderlyIn l) was orderly))
           (flows link (behind_frame link.flow source frame_id body) was) tt
 
   gives : (slot subslot : ℕ) (value : List ℕ) (flow : Option Flow) → given_to slot subslot value before ≡ flow → Comes_to (input_heard slot subslot value) (handled_input live flow)
   gives slot subslot value (Some flow) is = λ answers.
-      stays (input_heard slot subslot value) (λ planned. refl) (record live.rest { link = updated (Exchanged flow) before }) [] refl refl (given_keeps slot subslot value before flow is) tt tt
+      stays (input_heard slot subslot value) (λ planned. tt) (record live.rest { link = updated (Exchanged flow) before }) [] refl refl refl (given_keeps slot subslot value before flow is) tt tt
   gives slot subslot value None is = refuses (input_heard slot subslot value) note.Refused
 
   rates : (slot subslot : ℕ) (is_good : Bool) (statuses : Option (List InputStatus)) → Comes_to (Applied (local.Status slot subslot is_good)) (kept_status live slot subslot is_good statuses)
   rates slot subslot is_good (Some statuses) = λ answers.
-      stays (Applied (local.Status slot subslot is_good)) (λ planned. refl) (record live.rest { link = updated (rating slot subslot is_good before) before; statuses = statuses }) [] refl refl (rated_keeps slot subslot is_good before) tt tt
+      stays (Applied (local.Status slot subslot is_good)) (λ planned. tt) (record live.rest { link = updated (rating slot subslot is_good before) before; statuses = statuses }) [] refl refl refl (rated_keeps slot subslot is_good before) tt tt
   rates slot subslot is_good None = refuses (Applied (local.Status slot subslot is_good)) note.Refused
 
   turns_so : (is_running : Bool) → Comes_to (Applied (local.ProviderState is_running)) (handled_turned live is_running)
   turns_so is_running = λ answers.
-      stays (Applied (local.ProviderState is_running)) (λ planned. refl) (record live.rest { link = updated (turning is_running before) before; is_running = is_running }) [] refl refl (turned_keeps is_running before) tt tt
+      stays (Applied (local.ProviderState is_running)) (λ planned. tt) (record live.rest { link = updated (turning is_running before) before; is_running = is_running }) [] refl refl refl (turned_keeps is_running before) tt tt
 
   meets : (peer : Option Peer) → Comes_to (Met peer) (handled_met live peer)
-  meets peer = λ answers. stays (Met peer) (λ planned. refl) (record live.rest { peer = peer }) [] refl refl (inl refl, inl refl) tt tt
+  meets peer = λ answers. stays (Met peer) (λ planned. tt) (record live.rest { peer = peer }) [] refl refl refl (inl refl, inl refl, λ orderly. orderly) tt tt
 
   -- ---- the application is ready
 
@@ -546,12 +675,15 @@ module _ (rules : Rules TakenRecord Request) (activity : List ℕ) (station : St
     where
       by_test : (b : Bool) → is_preparing (Some link.phase) ≡ b
           → Comes_to (Applied local.Ready) (cond b (goes_on_with live (Some (cond b (readied link) link)) (ready_calls from (Some (cond b (readied link) link)))) (Refuses note.Refused))
-      by_test true is = becomes (Applied local.Ready) (λ planned. refl) (Some (readied link)) (ready_calls from (Some (readied link)))
+      by_test true is = becomes (Applied local.Ready) (λ planned. tt) (Some (readied link)) (ready_calls from (Some (readied link)))
           (inl (record {
             link = inl (ap (λ (b : Bool). let o : Option Standing = Some (record (standing_of link) { exchanges = b }) in o) (sym (ap is_exchanging (preparing_is link.phase is)))
                 ∙ sym (ap (λ (l : Option RelationState). option_map standing_of l) was));
             calm = (tt, tt);
           }))
+          (λ orderly.
+          let own : IsOrderly link = subst (λ (l : Option RelationState). IsOrderlyIn l) was orderly in
+          (λ e. own.0 (ap is_exchanging (preparing_is link.phase is)), own.1))
           (
           ap (λ (p : small.Phase). let o : Option (small.RelationState TakenRecord Request) = Some (record { phase = p; request = link.request; taken = link.taken }) in o)
           (sym (ap phase_in (preparing_is link.phase is)))
@@ -562,22 +694,23 @@ module _ (rules : Rules TakenRecord Request) (activity : List ℕ) (station : St
 
   -- ---- alarms
 
-  raises : (slot subslot : ℕ) (octets : List ℕ) (flow : Option Flow) → raised_to station.real.modules.items slot subslot octets before ≡ flow
+  raises : (slot subslot : ℕ) (octets : List ℕ) (flow : Option Flow) → raised_to real slot subslot octets before ≡ flow
       → Comes_to (alarm_heard slot subslot octets) (handled_notice live flow)
   raises slot subslot octets (Some flow) raised =
       let link = updated (Exchanged flow) before in
-      becomes (alarm_heard slot subslot octets) (λ planned. refl) link (alarms_of (flow_of link)) (inr (inr (inl (raise_is station.real.modules.items slot subslot octets before flow raised))))
+      becomes (alarm_heard slot subslot octets) (λ planned. tt) link (alarms_of (flow_of link)) (inr (inr (inl (raise_is real slot subslot octets before flow raised))))
+      (raise_orderly real slot subslot octets before flow raised)
       (exchanged_same before flow) (alarms_other link (flow_of link))
   raises slot subslot octets None raised = refuses (alarm_heard slot subslot octets) note.Refused
 
   -- what is heard of high priority, in this way
-  module _ (heard : Heard) (source : Mac) (header : Header) (idle : (planned : Planned) → heard_as planned heard ≡ small.Idle) where
+  module _ (heard : Heard) (source : Mac) (header : Header) (idle : (planned : Planned) → IsUncalled (heard_as planned heard)) where
     acks : (number : ℕ) (link : RelationState) (b : Bool) → IsHigh heard source header (notice.Ack number) → before ≡ Some link
         → Comes_to heard (handled_pdu live (cond b fate.Done fate.Ignored) (updated (hearing_as (cond b fate.Done fate.Ignored) (behind_message link.flow (notice.Ack number))) (Some link)))
     acks number link true is was =
         let flow = behind_message link.flow (notice.Ack number) in
         becomes heard idle (Some (with_flow flow link)) []
-        (inr (inr (inr (inl (record { source = source; header = header; number = number; is = is; link = link; was = was; becomes = refl; silent = refl }))))) (flows link flow was) tt
+        (inr (inr (inr (inl (record { source = source; header = header; number = number; is = is; link = link; was = was; becomes = refl; silent = refl }))))) (λ orderly. subst (λ (l : Option RelationState). IsOrderlyIn l) was orderly) (flows link flow was) tt
     acks number link false is was = refuses heard note.Filter
 
     pdus : (message : Message) (link : Option RelationState) → IsHigh heard source header message → before ≡ link
@@ -586,7 +719,8 @@ module _ (rules : Rules TakenRecord Request) (activity : List ℕ) (station : St
     pdus (notice.Data number ack) (Some link) is was =
         let flow = behind_message link.flow (notice.Data number ack) in
         becomes heard idle (Some (with_flow flow link)) (replies_of (taken_as link.flow.alarms.seen number) (Some flow))
-        (inr (inr (inr (inr (inl (record { source = source; header = header; number = number; ack = ack; is = is; link = link; was = was; becomes = refl; sends = refl })))))) (flows link flow was) (tt, tt)
+        (inr (inr (inr (inr (inl (record { source = source; header = header; number = number; ack = ack; is = is; link = link; was = was; becomes = refl; sends = refl }))))))
+        (λ orderly. subst (λ (l : Option RelationState). IsOrderlyIn l) was orderly) (flows link flow was) (tt, tt)
     pdus (notice.Ack number) (Some link) is was = acks number link (is_last link.flow.alarms.sender.sending.last number) is was
     pdus notice.Nack (Some link) is was = refuses heard note.Filter
     pdus (notice.Abort status) (Some link) is was = ends heard idle live.rest.lamp live.rest.units (end_log (uuid_of before) status live.rest.units live.rest.log) [] tt tt
@@ -604,26 +738,47 @@ module _ (rules : Rules TakenRecord Request) (activity : List ℕ) (station : St
   lows_other after b None = due_each (IsOther live after) b [] tt
   lows_other after b (Some link) = low_other after b link.flow
 
-  module _ (heard : Heard) (source : Mac) (header : Header) (idle : (planned : Planned) → heard_as planned heard ≡ small.Idle) where
+  -- data is exchanged once an alarm of low priority was sent
+  late_numbered : (link : RelationState) → before ≡ Some link → has_sent_low before ≡ true → IsOrderlyIn before → (is_exchanging link.phase ≡ true) × AreNumbered link.plugs.calls
+  late_numbered link was has orderly =
+      let own : IsOrderly link = subst (λ (l : Option RelationState). IsOrderlyIn l) was orderly in
+      let sent : has_sent_low (Some link) ≡ true = subst (λ (l : Option RelationState). has_sent_low l ≡ true) was has in
+      (exchanges_sent link own sent, own.1)
+
+  module _ (heard : Heard) (source : Mac) (header : Header) (idle : (planned : Planned) → IsUncalled (heard_as planned heard)) (has : has_sent_low before ≡ true) where
+    low_orderly : (link : RelationState) (message : Message) → before ≡ Some link → IsOrderlyIn before → IsOrderly (heard_low_in link message)
+    low_orderly link message was orderly =
+        let so = late_numbered link was has orderly in
+        (late (is_exchanging link.phase) link.flow.cyclic.begun _ link.plugs.has_told so.0, so.1)
+
     low_acks : (number : ℕ) (link : RelationState) (b : Bool) → IsLow heard source header (notice.Ack number) → before ≡ Some link
         → Comes_to heard (handled_low_pdu station live (cond b fate.Done fate.Ignored) (Some (with_flow (behind_low link.flow (notice.Ack number)) link)))
     low_acks number link true is was =
         let flow = behind_low link.flow (notice.Ack number) in
         becomes heard idle (Some (with_flow flow link)) []
-        (inr (inr (inr (inr (inr (inr (inr (inl (record { source = source; header = header; number = number; is = is; link = link; was = was; becomes = refl; silent = refl }))))))))) (flows link flow was) tt
+        (inr (inr (inr (inr (inr (inr (inr (inl (record { source = source; header = header; number = number; is = is; has_sent = has; link = link; was = was; becomes = refl; silent = refl })))))))))
+        (low_orderly link (notice.Ack number) was) (flows link flow was) tt
     low_acks number link false is was = refuses heard note.Filter
 
     lows : (message : Message) (link : Option RelationState) → IsLow heard source header message → before ≡ link
         → Comes_to heard (handled_low_pdu station live (heard_low message link) (updated (hearing_low message link) link))
     lows message None is was = refuses heard note.Filter
     lows (notice.Data number ack) (Some link) is was =
-        let real = station.real.modules.items in
         let flow = behind_low link.flow (notice.Data number ack) in
-        let next = next_reported real flow in
-        becomes heard idle (Some (with_flow next link))
-        (low_replies_of (taken_as link.flow.low.alarms.seen number) (Some flow) ++ where_due (is_next real flow.low) (low_alarms_of (Some next)))
-        (inr (inr (inr (inr (inr (inr (inr (inr (inl (record { source = source; header = header; number = number; ack = ack; is = is; link = link; was = was; becomes = refl; sends = refl }))))))))))
-        (flows link next was) (tt, low_other (Some (with_flow next link)) (is_next real flow.low) next)
+        let next = next_reported flow in
+        let sent = first_sent (is_next flow.low) next.low in
+        let plugs = plugs_after sent next.low.waiting link.plugs in
+        let after : RelationState = record link { taken = taken_after sent link.plugs.places link.taken; plugs = plugs; flow = next } in
+        becomes_as heard idle (Some after)
+        (low_replies_of (taken_as link.flow.low.alarms.seen number) (Some flow) ++ where_due (is_next flow.low) (low_alarms_of (Some next)))
+        (inr (inr (inr (inr (inr (inr (inr (inr (inl (record { source = source; header = header; number = number; ack = ack; is = is; has_sent = has; link = link; was = was; becomes = refl; sends = refl }))))))))))
+        (λ orderly.
+        let so = late_numbered link was has orderly in
+        (late (is_exchanging link.phase) link.flow.cyclic.begun _ plugs.has_told so.0, subst AreNumbered (sym (calls_told sent next.low.waiting link.plugs)) so.1))
+        (subst (λ (l : Option RelationState). IsKeptOr l (Some after)) (sym was)
+        (told_kept link next.low link.plugs.places plugs next (is_next flow.low)
+        (λ told own. exchanges_sent link own (subst (λ (l : Option RelationState). has_sent_low l ≡ true) was has))))
+        (tt, low_other (Some after) (is_next flow.low) next)
     lows (notice.Ack number) (Some link) is was = low_acks number link (is_last link.flow.low.alarms.sender.sending.last number) is was
     lows notice.Nack (Some link) is was = refuses heard note.Filter
     lows (notice.Abort status) (Some link) is was = refuses heard note.Filter
@@ -632,18 +787,18 @@ module _ (rules : Rules TakenRecord Request) (activity : List ℕ) (station : St
     low_alarms message true is = lows message before is refl
     low_alarms message false is = refuses heard note.NoRelation
 
-  low_replies : (source : Mac) (header : Header) (message : Message) (b : Bool)
+  low_replies : (source : Mac) (header : Header) (message : Message) (b : Bool) → has_sent_low before ≡ b
       → Comes_to (LowReplies source header message) (cond b (handled_low station live source header message) (handled_alarm live source header message))
-  low_replies source header message true =
-      low_alarms (LowReplies source header message) source header (λ planned. refl) message (is_alarm_of source header.destination header.source before) (inl refl)
-  low_replies source header message false =
-      alarms (LowReplies source header message) source header (λ planned. refl) message (is_alarm_of source header.destination header.source before) (inr refl)
+  low_replies source header message true has =
+      low_alarms (LowReplies source header message) source header (λ planned. tt) has message (is_alarm_of source header.destination header.source before) (inl refl)
+  low_replies source header message false has =
+      alarms (LowReplies source header message) source header (λ planned. tt) message (is_alarm_of source header.destination header.source before) (inr refl)
 
-  low_confirms : (source : Mac) (header : Header) (message : Message) (b : Bool)
+  low_confirms : (source : Mac) (header : Header) (message : Message) (b : Bool) → has_sent_low before ≡ b
       → Comes_to (LowConfirms source header message) (cond b (handled_low station live source header message) (Refuses note.Fault))
-  low_confirms source header message true =
-      low_alarms (LowConfirms source header message) source header (λ planned. refl) message (is_alarm_of source header.destination header.source before) (inr refl)
-  low_confirms source header message false = refuses (LowConfirms source header message) note.Fault
+  low_confirms source header message true has =
+      low_alarms (LowConfirms source header message) source header (λ planned. tt) has message (is_alarm_of source header.destination header.source before) (inr refl)
+  low_confirms source header message false has = refuses (LowConfirms source header message) note.Fault
 
   -- ---- diagnoses
 
@@ -651,24 +806,20 @@ module _ (rules : Rules TakenRecord Request) (activity : List ℕ) (station : St
       → Comes_to (change_heard change) (handled_change station live change later)
   changes change None room is = refuses (change_heard change) note.Refused
   changes change (Some later) room is = λ answers.
-      let real = station.real.modules.items in
       let link = updated (diagnosing real change later before) before in
       let sent = where_due (diagnose_one real change later before) (low_alarms_of (flow_of link)) in
       let how : Diagnoses real live.rest.diagnoses later before (change_heard change) link sent =
       record { change = change; is = refl; open_room = room; changes = is; becomes = refl; sends = refl } in
       let others = lows_other link (diagnose_one real change later before) link in
       record {
-        does = inr (inl (record { idle = λ planned. refl; calls = refl; link = inl (diagnosing_same real change later before); others = others }));
-        is = inr (inr (inr (inr (inr (inr (inr (inr (inr (inr how)))))))));
-        diagnoses = inr how;
+        does = inr (inl (record { uncalled = λ planned. tt; calls = refl; link = diagnosing_kept real change later before; others = others }));
+        is = inr (inr (inr (inr (inr (inr (inr (inr (inr (inr (inl how))))))))));
+        diagnoses = inr (inl how);
+        modules = inl refl;
         answers = inl refl;
+        orderly = diagnosing_orderly real change later before;
         owed = other_owed (change_heard change) link sent others;
       }
-    where
-      diagnosing_same : (real : List RealModule) (change : Change) (later : List Diagnosis) (link : Option RelationState)
-          → option_map link_of (updated (diagnosing real change later link) link) ≡ option_map link_of link
-      diagnosing_same real change later None = refl
-      diagnosing_same real change later (Some link) = refl
 
   diagnoses_as : (change : Change) (b c : Bool) → is_full_in before ≡ c
       → Comes_to (change_heard change) (cond (b && not c) (handled_change station live change (changed_list change live.rest.diagnoses)) (Refuses note.Refused))
@@ -676,41 +827,104 @@ module _ (rules : Rules TakenRecord Request) (activity : List ℕ) (station : St
   diagnoses_as change true false room = changes change (changed_list change live.rest.diagnoses) room refl
   diagnoses_as change false c room = refuses (change_heard change) note.Refused
 
+  -- ---- pulls and plugs
+
+  -- the calls of plugs after it
+  changed_other : (now : List RealModule) (made : RealChange) (later : List Diagnosis) (past : Option RelationState) → before ≡ past
+      → AreOthers (modules_changing now made later past) (where_due (is_called_by now made later past) (plug_calls from (modules_changing now made later past)))
+  changed_other now made later None was = tt
+  changed_other now made later (Some past) was =
+      let next = changed_by (rows_now now past) made later past in
+      due_each (IsOther live (Some next)) (is_called_by now made later (Some past)) (plug_calls from (Some next))
+      (plugs_other (Some next) past next was refl (changed_numbered (rows_now now past) made later past))
+
+  module _ (heard : Heard) (idle : (planned : Planned) → IsUncalled (heard_as planned heard)) (made : RealChange) (is : change_by real heard ≡ Some made) where
+    modules_with : (now : List RealModule) (b : Bool) → modules_after real heard ≡ Some now → is_crowded (affected_by made) before ≡ b
+        → Comes_to heard (cond b (Refuses note.Refused) (Moves (changed_rest live.rest made now) (sent_after live made now)))
+    modules_with now true modules room = refuses heard note.Refused
+    modules_with now false modules room = λ answers.
+        let rest = changed_rest live.rest made now in
+        let alarm = where_due (is_alarmed_by now made rest.diagnoses before) (low_alarms_of (flow_of rest.link)) in
+        let calls = where_due (is_called_by now made rest.diagnoses before) (plug_calls from rest.link) in
+        let how : Changes real now live.rest.diagnoses rest.diagnoses before heard rest.link (alarm ++ calls) = record {
+          made = made;
+          is = is;
+          modules = modules;
+          open_room = room;
+          remains = refl;
+          becomes = refl;
+          others = calls;
+          sends = refl;
+          calm = due_each (IsCalm before) (is_called_by now made rest.diagnoses before) (plug_calls from rest.link) (called_calm before from rest.link);
+        } in
+        let others = each_behind (IsOther live rest.link) alarm calls
+        (lows_other rest.link (is_alarmed_by now made rest.diagnoses before) rest.link) (changed_other now made rest.diagnoses before refl) in
+        record {
+          does = inr (inl (record { uncalled = idle; calls = refl; link = changing_kept now made rest.diagnoses before; others = others }));
+          is = inr (inr (inr (inr (inr (inr (inr (inr (inr (inr (inr how))))))))));
+          diagnoses = inr (inr how);
+          modules = inr how;
+          answers = inl refl;
+          orderly = changing_orderly now made rest.diagnoses before;
+          owed = other_owed heard rest.link (alarm ++ calls) others;
+        }
+
+    modules_as : (now : Option (List RealModule)) → modules_after real heard ≡ now → Comes_to heard (handled_modules live made now)
+    modules_as None modules = refuses heard note.Refused
+    modules_as (Some now) modules = modules_with now (is_crowded (affected_by made) before) modules refl
+
+  -- the application is ready for a plug
+  readied_as : (slot subslot : ℕ) (b : Bool)
+      → Comes_to (Applied (local.ReadyAt slot subslot)) (cond b (handled_next_call live (readying_at slot subslot before)) (Refuses note.Refused))
+  readied_as slot subslot true =
+      calls_next (Applied (local.ReadyAt slot subslot)) (λ planned. tt) (readying_at slot subslot before)
+      (ready_beside before (readied_plugs slot subslot) (λ plugs. refl) (λ plugs numbered. numbered) (λ plugs. refl))
+  readied_as slot subslot false = refuses (Applied (local.ReadyAt slot subslot)) note.Refused
+
   -- ---- units
 
   ticks_as : (lamp units : ℕ) (log : List LogEntry) (link : RelationState) (ending : Option Abort) → before ≡ Some link
       → Comes_to Ticks (Moves (record live.rest { lamp = lamp; link = updated (passing_by ending) (Some link); units = units; log = log }) (due_frames from (counter_of units) (due_by link ending) (updated (passing_by ending) (Some link))))
-  ticks_as lamp units log link (Some reason) was = ends Ticks (λ planned. refl) lamp units log _ ((reason, link, was, refl), tt) (tt, tt)
+  ticks_as lamp units log link (Some reason) was = ends Ticks (λ planned. tt) lamp units log _ ((reason, link, was, refl), tt) (tt, tt)
   ticks_as lamp units log link None was = λ answers.
       let tick = tick_of link.flow in
       let again = repeated_of link.flow in
       let later = Some (unit_later link) in
       let alarm = where_due (tick.is_alarm && again.high) (alarms_of (Some (flow_later link.flow))) in
       let low = where_due (tick.is_alarm && again.low) (low_alarms_of (Some (flow_later link.flow))) in
-      let readies = where_due (is_again link) (ready_calls from later) in
-      let inputs = where_due tick.is_cyclic (inputs_of (counter_of units) (Some (flow_later link.flow))) in
-      goes Ticks (record live.rest { lamp = lamp; link = later; units = units; log = log }) (alarm ++ (low ++ (readies ++ inputs))) refl
+      let ready = where_due (is_again link) (ready_calls from later) in
+      let plugs = where_due (is_plug_again link) (plug_calls from later) in
+      let cyclic = where_due tick.is_cyclic (inputs_of (counter_of units) (Some (flow_later link.flow))) in
+      let inputs = plugs ++ cyclic in
+      goes Ticks (record live.rest { lamp = lamp; link = later; units = units; log = log }) (alarm ++ (low ++ (ready ++ inputs))) refl refl
       (inr (inr (inr (inr (inr (inl (record {
         is = refl;
         link = link;
         was = was;
         becomes = refl;
-        others = readies ++ inputs;
+        others = ready ++ inputs;
         sends = refl;
-        calm = each_behind (IsCalm before) readies inputs (due_each (IsCalm before) (is_again link) _ (tt, tt)) (due_each (IsCalm before) tick.is_cyclic _ ((link, was, refl), tt));
+        calm = each_behind (IsCalm before) ready inputs (due_each (IsCalm before) (is_again link) _ (tt, tt))
+            (each_behind (IsCalm before) plugs cyclic (due_each (IsCalm before) (is_plug_again link) _ (called_calm before from later))
+            (due_each (IsCalm before) tick.is_cyclic _ ((link, was, refl), tt)));
       })))))))
+      (λ orderly. unit_orderly link (subst (λ (l : Option RelationState). IsOrderlyIn l) was orderly))
       (record {
-        idle = λ planned. refl;
+        uncalled = λ planned. tt;
         calls = refl;
         link = inl (sym (ap (λ (l : Option RelationState). option_map link_of l) was));
-        others = each_behind (IsOther live later) alarm (low ++ (readies ++ inputs)) (due_each (IsOther live later) (tick.is_alarm && again.high) _ (alarms_other later (Some (flow_later link.flow))))
-            (each_behind (IsOther live later) low (readies ++ inputs) (low_other later (tick.is_alarm && again.low) (flow_later link.flow))
-            (each_behind (IsOther live later) readies inputs (again_other link (is_again link) was refl) (due_each (IsOther live later) tick.is_cyclic _ (tt, tt))));
+        others = each_behind (IsOther live later) alarm (low ++ (ready ++ inputs)) (due_each (IsOther live later) (tick.is_alarm && again.high) _ (alarms_other later (Some (flow_later link.flow))))
+            (each_behind (IsOther live later) low (ready ++ inputs) (low_other later (tick.is_alarm && again.low) (flow_later link.flow))
+            (each_behind (IsOther live later) ready inputs (again_other link (is_again link) was refl)
+            (each_behind (IsOther live later) plugs cyclic
+            (due_each (IsOther live later) (is_plug_again link) _
+            (plugs_other later link (unit_later link) was refl (unit_numbered link)))
+            (due_each (IsOther live later) tick.is_cyclic _ (tt, tt)))));
       })
 
   ticks_with : (lamp units : ℕ) (log : List LogEntry) (link : Option RelationState) → before ≡ link
       → Comes_to Ticks (Moves (record live.rest { lamp = lamp; link = updated (passing link) link; units = units; log = log }) (due_frames from (counter_of units) (due_of link) (updated (passing link) link)))
-  ticks_with lamp units log None was = ends Ticks (λ planned. refl) lamp units log [] tt tt
+  ticks_with lamp units log None was = ends Ticks (λ planned. tt) lamp units log [] tt tt
   ticks_with lamp units log (Some link) was = ticks_as lamp units log link (ending_of link) was
 
   -- ---- the response to ApplicationReady
@@ -718,11 +932,12 @@ module _ (rules : Rules TakenRecord Request) (activity : List ℕ) (station : St
   begins_as : (heard : Heard) (response : Response) (link : RelationState) → ((planned : Planned) → heard_as planned heard ≡ cond (confirms response) small.Confirms small.Idle) → before ≡ Some link → link.phase ≡ Awaiting
       → confirms response ≡ true → Comes_to heard (handled_beginning station live (Some (exchanging_from link)))
   begins_as heard response link said was awaits is = λ answers.
-      let real = station.real.modules.items in
       let now = exchanging_from link in
       let flow = diagnoses_begun real live.rest.diagnoses now.flow in
-      let next = with_flow flow now in
-      let sent = where_due (begins_with_one real live.rest.diagnoses now.flow) (low_alarms_of (Some flow)) in
+      let one = begins_with_one real live.rest.diagnoses now.flow in
+      let first = first_sent one flow.low in
+      let next : RelationState = record now { taken = taken_after first link.plugs.places link.taken; plugs = plugs_after first flow.low.waiting link.plugs; flow = flow } in
+      let sent = where_due one (low_alarms_of (Some flow)) in
       record {
         does = inr (inr (inl (record {
           confirms = λ planned. said planned ∙ ap (λ (b : Bool). cond b small.Confirms small.Idle) is;
@@ -730,19 +945,31 @@ module _ (rules : Rules TakenRecord Request) (activity : List ℕ) (station : St
           was = was;
           awaits = awaits;
           next = next;
+          values = taken_after first link.plugs.places link.taken;
+          part = part_told first link.plugs.places link.taken;
           exchanges = refl;
           becomes = refl;
-          others = due_each IsExchange (begins_with_one real live.rest.diagnoses now.flow) (low_alarms_of (Some flow)) (exchanges_in flow.cyclic.route (low_alarm_frame flow));
+          others = due_each IsExchange one (low_alarms_of (Some flow)) (exchanges_in flow.cyclic.route (low_alarm_frame flow));
         })));
         is = inr (inr (inr (inr (inr (inr (inr (inr (inr (inl (record { link = link; was = was; awaits = awaits; becomes = refl; sends = refl }))))))))));
         diagnoses = inl refl;
+        modules = inl refl;
         answers = inl refl;
-        owed = other_owed heard (Some next) sent (low_other (Some next) (begins_with_one real live.rest.diagnoses now.flow) flow);
+        orderly = λ orderly. (
+          late true flow.cyclic.begun _ _ refl,
+          subst AreNumbered (sym (calls_told first flow.low.waiting link.plugs)) (subst (λ (l : Option RelationState). IsOrderlyIn l) was orderly).1,
+        );
+        owed = other_owed heard (Some next) sent (low_other (Some next) one flow);
       }
     where
       exchanges_in : (route : Route) (frame : Option Frame) → AllByRecursion IsExchange (frames_in route frame)
       exchanges_in route (Some frame) = (tt, tt)
       exchanges_in route None = tt
+
+  -- a response is no call
+  uncalled_by : (b : Bool) → IsUncalled (cond b small.Confirms small.Idle)
+  uncalled_by true = tt
+  uncalled_by false = tt
 
   answers_as : (caller : Caller) (address : List ℕ) (response : Response) (answer : ReadyAnswer) → IsMeaning response before answer
       → Comes_to (Reported caller address (Responds response)) (handled_answer station live answer)
@@ -752,8 +979,26 @@ module _ (rules : Rules TakenRecord Request) (activity : List ℕ) (station : St
       subst (λ (l : Option RelationState). Comes_to (Reported caller address (Responds response)) (handled_beginning station live (updated Confirmed l))) (sym is.1)
       (begins_as (Reported caller address (Responds response)) response is.0 (λ planned. refl) is.1 is.2 is.3)
   answers_as caller address response (to_ready.Refused farewell) is =
-      ends (Reported caller address (Responds response)) (λ planned. ap (λ (b : Bool). cond b small.Confirms small.Idle) is.3) live.rest.lamp live.rest.units (err_log (Some farewell) live.rest.units live.rest.log) (Ends farewell ∷ [])
+      ends (Reported caller address (Responds response)) (λ planned. uncalled_by (confirms response)) live.rest.lamp live.rest.units (err_log (Some farewell) live.rest.units live.rest.log) (Ends farewell ∷ [])
       ((Other, is.0, is.1, is.2), tt) (tt, tt)
+
+  -- the response to ApplicationReady of a plug, while data is exchanged
+  plug_answers : (caller : Caller) (address : List ℕ) (response : Response) (answer : PlugAnswer)
+      → Comes_to (Reported caller address (Responds response)) (handled_plug_answer live response answer)
+  plug_answers caller address response to_plug.NotWanted = refuses (Reported caller address (Responds response)) note.NoRelation
+  plug_answers caller address response to_plug.Garbled = refuses (Reported caller address (Responds response)) note.Fault
+  plug_answers caller address response to_plug.Confirmed =
+      calls_next (Reported caller address (Responds response)) (λ planned. uncalled_by (confirms response)) (plug_answering response before)
+      (answered_beside (plug_answer_in response before) before)
+  plug_answers caller address response to_plug.Refused =
+      calls_next (Reported caller address (Responds response)) (λ planned. uncalled_by (confirms response)) (plug_answering response before)
+      (answered_beside (plug_answer_in response before) before)
+
+  responds : (caller : Caller) (address : List ℕ) (response : Response) (b : Bool)
+      → Comes_to (Reported caller address (Responds response))
+      (cond b (handled_plug_answer live response (plug_answer_in response before)) (handled_answer station live (ready_answer response before)))
+  responds caller address response true = plug_answers caller address response (plug_answer_in response before)
+  responds caller address response false = answers_as caller address response (ready_answer response before) (meaning response before)
 
   -- ---- calls
 
@@ -776,13 +1021,13 @@ module _ (rules : Rules TakenRecord Request) (activity : List ℕ) (station : St
     parameterized_same source link false started = ap (λ (b : Bool). record (standing_of link) { exchanges = b }) (sym (ap is_exchanging started))
 
     restarted_turns : (link : Option RelationState) (sent : List Sent) → IsRestarted before link → AreCalm before sent
-        → IsTurn station.real.modules.items live.rest.calls live.rest.diagnoses live.rest.diagnoses before heard link sent
+        → IsTurn real real live.rest.calls live.rest.diagnoses live.rest.diagnoses before heard link sent
     restarted_turns link sent same calm = inl (record { link = inl (ap (λ (l : Option RelationState). option_map standing_of l) same.1 ∙ restarted_same same.0 before); calm = calm })
 
     -- what a call does, for outputs and alarms
     effect_turns : (blocks : List ℕ) (outcome : Result (List ℕ) CallFault) (which : Operation) (link : Option RelationState) (sent : List Sent) → operation_of call.header.operation ≡ Some which
-        → call.blocks ≡ Some blocks → looked call.header.activity call.header.sequence live.rest.calls ≡ new → IsEffect station caller blocks outcome which before link → AreCalm before sent
-        → IsTurn station.real.modules.items live.rest.calls live.rest.diagnoses live.rest.diagnoses before heard link sent
+        → call.blocks ≡ Some blocks → looked call.header.activity call.header.sequence live.rest.calls ≡ new → IsEffect station live.rest.real caller blocks outcome which before link → AreCalm before sent
+        → IsTurn real real live.rest.calls live.rest.diagnoses live.rest.diagnoses before heard link sent
     effect_turns blocks (Err why) which link sent asks counted fresh same calm = inl (record { link = inl (ap (λ (l : Option RelationState). option_map standing_of l) same); calm = calm })
     effect_turns blocks (Ok octets) operation.Connect link sent asks counted fresh it calm = inr (inl (record {
       caller = caller;
@@ -795,7 +1040,7 @@ module _ (rules : Rules TakenRecord Request) (activity : List ℕ) (station : St
       fresh = fresh;
       request = it.request;
       partner = partner_of caller;
-      rows = rows_of it.request station.real;
+      rows = rows_of it.request live.rest.real;
       options = it.options;
       starting = it.starting;
       few = it.numbered.few;
@@ -811,15 +1056,65 @@ module _ (rules : Rules TakenRecord Request) (activity : List ℕ) (station : St
         inl (record { link = inl (ap (λ (l : Option RelationState). option_map standing_of l) it.becomes ∙ more_same it.source it.passed it.values before); calm = calm })
     effect_turns blocks (Ok octets) operation.Write link sent asks counted fresh (inl it) calm =
         inl (record { link = inl (ap (λ (l : Option RelationState). option_map standing_of l) it.becomes ∙ sym (ap (λ (l : Option RelationState). option_map standing_of l) it.was)); calm = calm })
-    effect_turns blocks (Ok octets) operation.Control link sent asks counted fresh it calm = inl (record {
+    effect_turns blocks (Ok octets) operation.Control link sent asks counted fresh (inr it) calm = inl (record {
+      link = inl (ap (λ (l : Option RelationState). option_map standing_of l) it.becomes
+          ∙ (ap (λ (keys : List (ℕ × ℕ)). let o : Option Standing = Some (record (standing_of it.link) { keys = keys }) in o) it.keys ∙ sym (ap (λ (l : Option RelationState). option_map standing_of l) it.was)));
+      calm = calm;
+    })
+    effect_turns blocks (Ok octets) operation.Control link sent asks counted fresh (inl it) calm = inl (record {
       link = inl (ap (λ (l : Option RelationState). option_map standing_of l) it.becomes
           ∙ (ap (λ (x : Standing). Some x) (parameterized_same it.source it.link it.by_application it.started) ∙ sym (ap (λ (l : Option RelationState). option_map standing_of l) it.was)));
       calm = calm;
     })
 
-    readied_owed : (after : Option RelationState) (ready : Option Ready) → AreReadied live after ready → AllByRecursion (IsOwed heard live) (readied_from from ready)
+    -- its order
+    restarted_orderly : (source : Partner) (link : Option RelationState) → IsOrderlyIn link → IsOrderlyIn (option_map (restarted source) link)
+    restarted_orderly source None orderly = tt
+    restarted_orderly source (Some link) orderly = orderly
+
+    more_orderly : (source : Partner) (passed : PassedOn) (values : List TakenRecord) (link : Option RelationState)
+        → IsOrderlyIn link → IsOrderlyIn (option_map (with_more source passed values) link)
+    more_orderly source passed values None orderly = tt
+    more_orderly source passed values (Some link) orderly = orderly
+
+    parameterized_orderly : (source : Partner) (link : RelationState) (by_application : Bool) → link.phase ≡ Started
+        → IsOrderly link → IsOrderly (restarted source (parameterized_from by_application link))
+    parameterized_orderly source link true started orderly = (λ e. orderly.0 (ap is_exchanging started), orderly.1)
+    parameterized_orderly source link false started orderly = (λ e. orderly.0 (ap is_exchanging started), orderly.1)
+
+    was_orderly : (link : RelationState) → before ≡ Some link → IsOrderlyIn before → IsOrderly link
+    was_orderly link was orderly = subst (λ (l : Option RelationState). IsOrderlyIn l) was orderly
+
+    now_orderly : (link after : Option RelationState) → after ≡ link → IsOrderlyIn link → IsOrderlyIn after
+    now_orderly link after is orderly = subst (λ (l : Option RelationState). IsOrderlyIn l) (sym is) orderly
+
+    effect_orderly : (blocks : List ℕ) (outcome : Result (List ℕ) CallFault) (which : Operation) (link : Option RelationState)
+        → IsEffect station live.rest.real caller blocks outcome which before link → IsOrderlyIn before → IsOrderlyIn link
+    effect_orderly blocks (Err why) which link same orderly = now_orderly before link same orderly
+    effect_orderly blocks (Ok octets) operation.Connect link it orderly =
+        now_orderly (Some (made_of it.request (partner_of caller) (rows_of it.request live.rest.real) it.options it.starting)) link it.made
+        (λ e. (refl, refl, refl), (omega arith, tt))
+    effect_orderly blocks (Ok octets) operation.Release link it orderly = now_orderly None link it.gone tt
+    effect_orderly blocks (Ok octets) operation.Read link it orderly = now_orderly (option_map (restarted it.0) before) link it.1 (restarted_orderly it.0 before orderly)
+    effect_orderly blocks (Ok octets) operation.ReadImplicit link it orderly = absurd it
+    effect_orderly blocks (Ok octets) operation.Write link (inr (inl it)) orderly =
+        now_orderly (option_map (restarted it.same.0) before) link it.same.1 (restarted_orderly it.same.0 before orderly)
+    effect_orderly blocks (Ok octets) operation.Write link (inr (inr it)) orderly =
+        now_orderly (option_map (with_more it.source it.passed it.values) before) link it.becomes (more_orderly it.source it.passed it.values before orderly)
+    effect_orderly blocks (Ok octets) operation.Write link (inl it) orderly =
+        now_orderly (Some (restarted it.source (with_records it.more it.link))) link it.becomes (was_orderly it.link it.was orderly)
+    effect_orderly blocks (Ok octets) operation.Control link (inl it) orderly =
+        now_orderly (Some (restarted it.source (parameterized_from it.by_application it.link))) link it.becomes
+        (parameterized_orderly it.source it.link it.by_application it.started (was_orderly it.link it.was orderly))
+    effect_orderly blocks (Ok octets) operation.Control link (inr it) orderly =
+        let own = was_orderly it.link it.was orderly in
+        now_orderly (Some (record (restarted it.source it.link) { plugs = it.plugs })) link it.becomes
+        (late (is_exchanging it.link.phase) it.link.flow.cyclic.begun _ it.plugs.has_told (ap is_exchanging (it.exchanges own)), it.numbered own.1)
+
+    readied_owed : (after : Option RelationState) (ready : Option Following) → AreReadied live after ready → AllByRecursion (IsOwed heard live) (readied_from from ready)
     readied_owed after None readied = tt
-    readied_owed after (Some ready) readied = (readied.0, tt)
+    readied_owed after (Some (Readying ready)) readied = (readied.0, tt)
+    readied_owed after (Some (Plugging ready)) readied = (readied, tt)
 
     module _ (blocks : List ℕ) (counted : call.blocks ≡ Some blocks) (fresh : looked call.header.activity call.header.sequence live.rest.calls ≡ new) where
       -- the call is answered like this; then this is the relation, and this the log
@@ -830,8 +1125,8 @@ module _ (rules : Rules TakenRecord Request) (activity : List ℕ) (station : St
       abbrev counting : ℕ → List LogEntry → Live
       counting made log = but_rest live (record live.rest { log = log; made = made })
 
-      serves_with : (made : ℕ) (log : List LogEntry) (which : Operation) (outcome : Result (List ℕ) CallFault) (link : Option RelationState) (ready : Option Ready) → operation_of call.header.operation ≡ Some which → IsPlainIn outcome
-          → IsEffect station caller blocks outcome which before link → AreReadied live link ready → Comes_to heard (served station (counting made log) caller call which outcome link (readied_from from ready))
+      serves_with : (made : ℕ) (log : List LogEntry) (which : Operation) (outcome : Result (List ℕ) CallFault) (link : Option RelationState) (ready : Option Following) → operation_of call.header.operation ≡ Some which → IsPlainIn outcome
+          → IsEffect station live.rest.real caller blocks outcome which before link → AreReadied live link ready → Comes_to heard (served station (counting made log) caller call which outcome link (readied_from from ready))
       serves_with made log which outcome link ready asks plain effect readied = λ answers. record {
         does = inr (inr (inr (inr (record {
           caller = caller;
@@ -853,6 +1148,8 @@ module _ (rules : Rules TakenRecord Request) (activity : List ℕ) (station : St
         }))));
         is = effect_turns blocks outcome which link _ asks counted fresh effect (tt, readied_calm before from ready);
         diagnoses = inl refl;
+        modules = inl refl;
+        orderly = effect_orderly blocks outcome which link effect;
         answers = inr (record {
           call = call;
           caller = caller;
@@ -865,31 +1162,55 @@ module _ (rules : Rules TakenRecord Request) (activity : List ℕ) (station : St
         owed = (record { address = address; call = call; is = refl; header = refl; maximum = refl; status = outcome_sized which outcome plain }, readied_owed link ready readied);
       }
 
-      serves : (log : List LogEntry) (which : Operation) (outcome : Result (List ℕ) CallFault) (link : Option RelationState) (ready : Option Ready) → operation_of call.header.operation ≡ Some which → IsPlainIn outcome
-          → IsEffect station caller blocks outcome which before link → AreReadied live link ready → Comes_to heard (served station (logging log) caller call which outcome link (readied_from from ready))
+      serves : (log : List LogEntry) (which : Operation) (outcome : Result (List ℕ) CallFault) (link : Option RelationState) (ready : Option Following) → operation_of call.header.operation ≡ Some which → IsPlainIn outcome
+          → IsEffect station live.rest.real caller blocks outcome which before link → AreReadied live link ready → Comes_to heard (served station (logging log) caller call which outcome link (readied_from from ready))
       serves = serves_with live.rest.made
 
       fails : (log : List LogEntry) (which : Operation) (why : CallFault) (link : Option RelationState) → operation_of call.header.operation ≡ Some which → IsPlain why → before ≡ link
           → Comes_to heard (served station (logging log) caller call which (Err why) link [])
       fails log which why link asks plain was = serves log which (Err why) link None asks plain (sym was) tt
 
+      -- the call is answered, and then the next call of a plug may be sent
+      following : (link : RelationState) → before ≡ Some link → operation_of call.header.operation ≡ Some operation.Control → (outcome : Result (List ℕ) CallFault) (next : Option RelationState)
+          → IsPlainIn outcome → AreBeside (Some link) next → IsEffect station live.rest.real caller blocks outcome operation.Control before (calling_next next)
+          → Comes_to heard (served station live caller call operation.Control outcome (calling_next next) (next_call_sent from next))
+      following link was asks outcome None plain beside effect = absurd beside
+      following link was asks outcome (Some next) plain beside effect = by_called (is_next_called next.plugs)
+        where
+          called : RelationState
+          called = record next { plugs = next_called next.plugs }
+
+          numbered : AreNumbered link.plugs.calls → AreNumbered called.plugs.calls
+          numbered calls = numbered_next next.plugs.calls (beside.numbered calls)
+
+          by_standing : (standing : Option PlugCall) → (AreNumbered link.plugs.calls → IsNumberedCall standing)
+              → Comes_to heard (served station live caller call operation.Control outcome (Some called) (plug_call_in from (option_map (ready_for called) standing)))
+          by_standing None small = serves live.rest.log operation.Control outcome (Some called) None asks plain effect tt
+          by_standing (Some one) small =
+              serves live.rest.log operation.Control outcome (Some called) (Some (Plugging (ready_for called one))) asks plain effect
+              (plug_of_relation before link called one was beside.request small)
+
+          by_called : (b : Bool) → Comes_to heard (served station live caller call operation.Control outcome (Some called) (where_due b (plug_calls from (Some called))))
+          by_called true = by_standing called.plugs.calls.standing (λ calls. (numbered calls).1)
+          by_called false = serves live.rest.log operation.Control outcome (Some called) None asks plain effect tt
+
       -- what is not logged
       abbrev unlogged : List LogEntry
       unlogged = live.rest.log
 
       abbrev answer_for : Result Request CallFault → Result (List ℕ) CallFault
-      answer_for request = request >>= λ r. Ok (connect_blocks station.identity (number_now station live) r (differing_of r station.real))
+      answer_for request = request >>= λ r. Ok (connect_blocks station.identity (number_now station live) r (differing_of r live.rest.real))
 
       connects_as : (request : Result Request CallFault) → operation_of call.header.operation ≡ Some operation.Connect → connect_within station.options caller.mac before blocks ≡ request → IsPlainIn request
           → Comes_to heard (served station (but_rest live (counted_by (answer_for request) (record live.rest { log = connect_log blocks (answer_for request) live.rest.units live.rest.log }))) caller call operation.Connect (answer_for request)
-          (updated (making station.real (partner_of caller) station.options (starting_of station live) request) before) [])
+          (updated (making live.rest.real (partner_of caller) station.options (starting_of station live) request) before) [])
       connects_as (Ok request) asks read plain =
-          serves_with (made_after live.rest.made) unlogged operation.Connect (answer_for (Ok request)) (Some (made_of request (partner_of caller) (rows_of request station.real) station.options (starting_of station live))) None asks tt
+          serves_with (made_after live.rest.made) unlogged operation.Connect (answer_for (Ok request)) (Some (made_of request (partner_of caller) (rows_of request live.rest.real) station.options (starting_of station live))) None asks tt
           (record { request = request; options = station.options; starting = starting_of station live; read = unlimited station.options caller.mac before blocks request read; made = refl; numbered = number_now_is station live; answer = refl }) tt
       connects_as (Err why) asks read plain = fails (connect_log {A = List ℕ} blocks (Err why) live.rest.units live.rest.log) operation.Connect why before asks plain refl
 
       keeps_as : (header : IodWriteReq) (write : Write) (value : TakenRecord) (link : Option RelationState) (kept : Result Records CallFault) → operation_of call.header.operation ≡ Some operation.Write
-          → writing_of (uuid_of before) station.real blocks ≡ Ok (One write) → write.effect ≡ Keeps value → before ≡ link → keeping value link ≡ kept → IsPlainIn kept
+          → writing_of (uuid_of before) live.rest.real blocks ≡ Ok (One write) → write.effect ≡ Keeps value → before ≡ link → keeping value link ≡ kept → IsPlainIn kept
           → Comes_to heard (served station live caller call operation.Write (kept_answer header kept) (updated (answered (Named (partner_of caller)) kept) (updated (taking kept) link)) [])
       keeps_as header write value link (Err why) asks judged keeps was is plain = fails unlogged operation.Write why link asks plain was
       keeps_as header write value None (Ok more) asks judged keeps was is plain = absurd cc
@@ -909,14 +1230,14 @@ module _ (rules : Rules TakenRecord Request) (activity : List ℕ) (station : St
 
       -- a record that the settings store, or do not
       stores_as : (write : Write) (value : ImValue) (outcome : Result (List ℕ) CallFault) → operation_of call.header.operation ≡ Some operation.Write
-          → writing_of (uuid_of before) station.real blocks ≡ Ok (One write) → write.effect ≡ Stores value → IsPlainIn outcome
+          → writing_of (uuid_of before) live.rest.real blocks ≡ Ok (One write) → write.effect ≡ Stores value → IsPlainIn outcome
           → Comes_to heard (served station live caller call operation.Write outcome (updated (answered (Named (partner_of caller)) outcome) before) [])
       stores_as write value (Ok octets) asks judged is plain =
           serves unlogged operation.Write (Ok octets) (updated (Named (partner_of caller)) before) None asks tt
           (inr (inl (record { write = write; judged = judged; value = value; stores = is; same = (partner_of caller, refl) }))) tt
       stores_as write value (Err why) asks judged is plain = fails unlogged operation.Write why before asks plain refl
 
-      effect_as : (write : Write) (effect : Effect) → operation_of call.header.operation ≡ Some operation.Write → writing_of (uuid_of before) station.real blocks ≡ Ok (One write)
+      effect_as : (write : Write) (effect : Effect) → operation_of call.header.operation ≡ Some operation.Write → writing_of (uuid_of before) live.rest.real blocks ≡ Ok (One write)
           → write.effect ≡ effect → Comes_to heard (handled_effect station live caller call write.request effect)
       effect_as write (Stores value) asks judged is = λ answers.
           stores_as write value (written_as write.request (first_answer answers)) asks judged is (stored_plain write.request (first_answer answers)) answers
@@ -925,14 +1246,14 @@ module _ (rules : Rules TakenRecord Request) (activity : List ℕ) (station : St
 
       -- several records, each for itself
       each_as : (header : IodWriteReq) (entries : List Entry) → operation_of call.header.operation ≡ Some operation.Write
-          → writing_of (uuid_of before) station.real blocks ≡ Ok (Each header entries) → Comes_to heard (handled_write station live caller call (Ok (Each header entries)))
+          → writing_of (uuid_of before) live.rest.real blocks ≡ Ok (Each header entries) → Comes_to heard (handled_write station live caller call (Ok (Each header entries)))
       each_as header entries asks judged = λ answers.
-          let each = judged_each (uuid_of before) station.real entries in
+          let each = judged_each (uuid_of before) live.rest.real entries in
           let takes = each_takes (partner_of caller) each before in
           serves unlogged operation.Write (Ok (several_answer header each answers before)) (updated (Named (partner_of caller)) (link_behind each before)) None asks tt
           (inr (inr (record { header = header; entries = entries; judged = judged; answers = answers; tells = refl; source = partner_of caller; carried = refl; passed = takes.1; values = takes.0; becomes = takes.2 }))) tt answers
 
-      writes_as : (writing : Result Writing CallFault) → operation_of call.header.operation ≡ Some operation.Write → writing_of (uuid_of before) station.real blocks ≡ writing → IsPlainIn writing
+      writes_as : (writing : Result Writing CallFault) → operation_of call.header.operation ≡ Some operation.Write → writing_of (uuid_of before) live.rest.real blocks ≡ writing → IsPlainIn writing
           → Comes_to heard (handled_write station live caller call writing)
       writes_as (Ok (One write)) asks judged plain = effect_as write write.effect asks judged refl
       writes_as (Ok (Each header entries)) asks judged plain = each_as header entries asks judged
@@ -954,12 +1275,48 @@ module _ (rules : Rules TakenRecord Request) (activity : List ℕ) (station : St
       controls_as by_application None (Ok block) asks was is plain = absurd (prm_started None blocks block is)
       controls_as true (Some link) (Ok block) asks was is plain =
           serves unlogged operation.Control (Ok (block_bytes (variant.PrmEndRes (done_of block)))) (Some (restarted (partner_of caller) (parameterized_from true link))) None asks tt
-          (record { link = link; was = was; started = prm_started (Some link) blocks block is; by_application = true; source = partner_of caller; becomes = refl }) tt
+          (inl (record { link = link; was = was; started = prm_started (Some link) blocks block is; by_application = true; source = partner_of caller; becomes = refl })) tt
       controls_as false (Some link) (Ok block) asks was is plain =
           let after = restarted (partner_of caller) (parameterized_from false link) in
-          serves unlogged operation.Control (Ok (block_bytes (variant.PrmEndRes (done_of block)))) (Some after) (Some (ready_of after)) asks tt
-          (record { link = link; was = was; started = prm_started (Some link) blocks block is; by_application = false; source = partner_of caller; becomes = refl })
+          serves unlogged operation.Control (Ok (block_bytes (variant.PrmEndRes (done_of block)))) (Some after) (Some (Readying (ready_of after))) asks tt
+          (inl (record { link = link; was = was; started = prm_started (Some link) blocks block is; by_application = false; source = partner_of caller; becomes = refl }))
           (record { link = link; is = was; header = refl; block = refl }, record { link = after; is = refl; awaits = refl })
+
+      -- a PrmEnd after a plug
+      plugged_as : (link : RelationState) → before ≡ Some link → link.plugs.has_told ≡ true → operation_of call.header.operation ≡ Some operation.Control
+          → (by_application : Bool) (ended : Result PlugControlBlock CallFault) → IsPlainIn ended
+          → Comes_to heard (served station live caller call operation.Control (plug_end_answer ended)
+          (calling_after ended (updated (answered (Named (partner_of caller)) ended) (ended_by by_application ended (Some link))))
+          (call_after ended from (updated (answered (Named (partner_of caller)) ended) (ended_by by_application ended (Some link)))))
+      plugged_as link was told asks by_application (Err why) plain = fails unlogged operation.Control why (Some link) asks plain was
+      plugged_as link was told asks by_application (Ok block) plain =
+          let ended_plugs = ended block.alarm_sequence_number (not by_application) link.plugs in
+          let next : RelationState = restarted (partner_of caller) (record link { plugs = ended_plugs }) in
+          following link was asks (Ok ((plug_control 0x8111).write (plug_done block) [])) (Some next) tt
+          (beside_ended link (partner_of caller) block.alarm_sequence_number (not by_application)) (inr (record {
+            link = link;
+            was = was;
+            exchanges = λ own. exchanging_is link.phase (exchanges_told link own told);
+            source = partner_of caller;
+            plugs = next_called ended_plugs;
+            numbered = λ numbered. numbered_next ended_plugs.calls (ended_numbered block.alarm_sequence_number (not by_application) link.plugs numbered);
+            keys = ended_keys block.alarm_sequence_number (not by_application) link.plugs;
+            becomes = refl;
+          }))
+
+      plug_controls : (link : Option RelationState) → before ≡ link → is_plug_control blocks link ≡ true → operation_of call.header.operation ≡ Some operation.Control
+          → (by_application : Bool) (ended : Result PlugControlBlock CallFault) → IsPlainIn ended
+          → Comes_to heard (served station live caller call operation.Control (plug_end_answer ended)
+          (calling_after ended (updated (answered (Named (partner_of caller)) ended) (ended_by by_application ended link)))
+          (call_after ended from (updated (answered (Named (partner_of caller)) ended) (ended_by by_application ended link))))
+      plug_controls None was is asks by_application ended plain = absurd cc
+      plug_controls (Some link) was is asks by_application ended plain =
+          plugged_as link was (and_true link.plugs.has_told (begins_as_plug_end blocks) is).0 asks by_application ended plain
+
+      controls : (b : Bool) → is_plug_control blocks before ≡ b → operation_of call.header.operation ≡ Some operation.Control
+          → Comes_to heard (cond b (handled_plug_end station live caller call blocks) (handled_prm_end station live caller call blocks))
+      controls true is asks = plug_controls before refl is asks station.options.ready_by_application (plug_end_in blocks before) (plug_plain before blocks)
+      controls false is asks = controls_as station.options.ready_by_application before (prm_end_of before blocks) asks refl refl (prm_plain before blocks)
 
       releases_as : (link : Option RelationState) (ended : Result ControlBlock CallFault) → operation_of call.header.operation ≡ Some operation.Release → before ≡ link → release_of link blocks ≡ ended → IsPlainIn ended
           → Comes_to heard (served station (logging (release_log (uuid_of before) (ended >>= λ block. Ok (block_bytes (variant.ReleaseRes (done_of block)))) live.rest.units live.rest.log)) caller call operation.Release (ended >>= λ block. Ok (block_bytes (variant.ReleaseRes (done_of block)))) (updated (answered Ended ended) link) [])
@@ -968,16 +1325,16 @@ module _ (rules : Rules TakenRecord Request) (activity : List ℕ) (station : St
       releases_as (Some link) (Ok block) asks was is plain =
           serves (release_log (uuid_of before) (Ok block) live.rest.units live.rest.log) operation.Release (Ok (block_bytes (variant.ReleaseRes (done_of block)))) None None asks tt (record { link = link; was = was; gone = refl }) tt
 
-      new_call : (which : Operation) → operation_of call.header.operation ≡ Some which → IsPlannedAs rules station.real call.header.sequence blocks (Some which)
+      new_call : (which : Operation) → operation_of call.header.operation ≡ Some which → IsPlannedAs rules live.rest.real call.header.sequence blocks (Some which)
           → Comes_to heard (handled_new station live caller call blocks which)
       new_call operation.Connect asks plan = connects_as (connect_within station.options caller.mac before blocks) asks refl
           (connect_plain station.options caller.mac before blocks rules.request plan)
       new_call operation.Release asks plan = releases_as before (release_of before blocks) asks refl refl (release_plain before blocks)
-      new_call operation.Write asks plan = writes_as (writing_of (uuid_of before) station.real blocks) asks refl (writing_plain (uuid_of before) station.real blocks)
-      new_call operation.Control asks plan = controls_as station.options.ready_by_application before (prm_end_of before blocks) asks refl refl (prm_plain before blocks)
+      new_call operation.Write asks plan = writes_as (writing_of (uuid_of before) live.rest.real blocks) asks refl (writing_plain (uuid_of before) live.rest.real blocks)
+      new_call operation.Control asks plan = controls (is_plug_control blocks before) refl asks
       new_call operation.Read asks plan =
-          reads_as (relation_read (known_of station live) station.identity station.real live.values.running blocks) asks
-          (read_plain (known_of station live) station.identity station.real live.values.running blocks)
+          reads_as (relation_read (known_of station live) station.identity live.rest.real live.values.running blocks) asks
+          (read_plain (known_of station live) station.identity live.rest.real live.values.running blocks)
       new_call operation.ReadImplicit asks plan = absurd plan
 
     repeats : (frame : List ℕ) → looked call.header.activity call.header.sequence live.rest.calls ≡ again frame → Comes_to heard (Moves live.rest (Again frame ∷ []))
@@ -997,56 +1354,65 @@ module _ (rules : Rules TakenRecord Request) (activity : List ℕ) (station : St
           }))));
           is = inl (record { link = inl refl; calm = (tt, tt) });
           diagnoses = inl refl;
+          modules = inl refl;
           answers = inl refl;
+          orderly = λ orderly. orderly;
           owed = (record { caller = caller; address = address; call = call; is = refl; kept = there.0; there = there.1; same = there.3 }, tt);
         }
 
     looked_call : (blocks : List ℕ) (which : Operation) (reported : Looked) → operation_of call.header.operation ≡ Some which → call.blocks ≡ Some blocks
         → looked call.header.activity call.header.sequence live.rest.calls ≡ reported
-        → IsPlannedAs rules station.real call.header.sequence blocks (Some which) → Comes_to heard (handled_looked station live caller call blocks which reported)
+        → IsPlannedAs rules live.rest.real call.header.sequence blocks (Some which) → Comes_to heard (handled_looked station live caller call blocks which reported)
     looked_call blocks which new asks counted reported plan = new_call blocks counted reported which asks plan
     looked_call blocks which (again frame) asks counted reported plan = repeats frame reported
     looked_call blocks which old asks counted reported plan = refuses heard note.OldCall
 
     counted_call : (which : Operation) (counted : Option (List ℕ)) (blocks : List ℕ) → operation_of call.header.operation ≡ Some which → call.blocks ≡ counted → counted ≡ Some blocks
-        → IsPlannedAs rules station.real call.header.sequence blocks (Some which) → Comes_to heard (handled_blocks station live caller call which counted)
+        → IsPlannedAs rules live.rest.real call.header.sequence blocks (Some which) → Comes_to heard (handled_blocks station live caller call which counted)
     counted_call which None blocks asks counted there plan = absurd cc
     counted_call which (Some found) blocks asks counted there plan =
         looked_call found which (looked call.header.activity call.header.sequence live.rest.calls) asks counted refl
-        (subst (λ (b : List ℕ). IsPlannedAs rules station.real call.header.sequence b (Some which)) (sym (some_is found blocks there)) plan)
+        (subst (λ (b : List ℕ). IsPlannedAs rules live.rest.real call.header.sequence b (Some which)) (sym (some_is found blocks there)) plan)
 
     called : (which : Option Operation) (blocks : List ℕ) → operation_of call.header.operation ≡ which → call.blocks ≡ Some blocks
-        → IsPlannedAs rules station.real call.header.sequence blocks which → Comes_to heard (handled_call station live caller call which)
+        → IsPlannedAs rules live.rest.real call.header.sequence blocks which → Comes_to heard (handled_call station live caller call which)
     called None blocks asks there plan = absurd plan
     called (Some which) blocks asks there plan = counted_call which call.blocks blocks asks refl there plan
 
-  says : (caller : Caller) (address : List ℕ) (said : Said) → IsPlannedIn rules activity station.real said
+  says : (caller : Caller) (address : List ℕ) (said : Said) → IsPlannedIn rules activity live.rest.real said
       → Comes_to (Reported caller address said) (handled_said station live caller said)
   says caller address (Calls call) plan = called caller address call (operation_of call.header.operation) plan.blocks refl plan.counted plan.asks
-  says caller address (Responds response) plan = answers_as caller address response (ready_answer response before) (meaning response before)
+  says caller address (Responds response) plan = responds caller address response (is_in_exchange before)
   says caller address Garbled plan = refuses (Reported caller address Garbled) note.Fault
 
-  reported : (caller : Caller) (address : List ℕ) (said : Said) (b : Bool) → IsPlannedIn rules activity station.real said
+  reported : (caller : Caller) (address : List ℕ) (said : Said) (b : Bool) → IsPlannedIn rules activity live.rest.real said
       → Comes_to (Reported caller address said) (cond b (handled_said station live caller said) (Refuses note.NotMine))
   reported caller address said true plan = says caller address said plan
   reported caller address said false plan = refuses (Reported caller address said) note.NotMine
 
-  turns : (heard : Heard) → IsPlanned rules activity station.real heard → Comes_to heard (handled station live heard)
+  turns : (heard : Heard) → IsPlanned rules activity live.rest.real heard → Comes_to heard (handled station live heard)
   turns (Asks asker request) plan = requests asker request.service request
   turns (Resolves asker packet) plan = resolves asker packet (is_request packet.operation && is_running live.values.running packet.target.address)
   turns (Reported caller address said) plan = reported caller address said (is_running live.values.running address) plan
   turns (Alarms source header message) plan =
-      alarms (Alarms source header message) source header (λ planned. refl) message (is_alarm_of source header.destination header.source before) (inl refl)
-  turns (LowReplies source header message) plan = low_replies source header message (has_sent_low before)
-  turns (LowConfirms source header message) plan = low_confirms source header message (has_sent_low before)
+      alarms (Alarms source header message) source header (λ planned. tt) message (is_alarm_of source header.destination header.source before) (inl refl)
+  turns (LowReplies source header message) plan = low_replies source header message (has_sent_low before) refl
+  turns (LowConfirms source header message) plan = low_confirms source header message (has_sent_low before) refl
   turns (Applied (local.Diagnosis slot subslot channel error appears)) plan =
       let change = change_of slot subslot channel error appears in
-      diagnoses_as change (is_some (submodule_ident station.real.modules.items change.diagnosis.slot change.diagnosis.subslot)) (is_full_in before) refl
+      diagnoses_as change (is_some (submodule_ident live.rest.real.modules.items change.diagnosis.slot change.diagnosis.subslot)) (is_full_in before) refl
   turns (Cyclic source frame_id body) plan = receives source frame_id body before refl
   turns (Applied (local.Input slot subslot value)) plan = gives slot subslot value.items (given_to slot subslot value.items before) refl
-  turns (Applied (local.Alarm slot subslot octets)) plan = raises slot subslot octets.items (raised_to station.real.modules.items slot subslot octets.items before) refl
+  turns (Applied (local.Alarm slot subslot octets)) plan = raises slot subslot octets.items (raised_to live.rest.real.modules.items slot subslot octets.items before) refl
   turns (Applied (local.Status slot subslot is_good)) plan =
-      rates slot subslot is_good (statuses_at station.real.modules.items (record { slot = slot; subslot = subslot; is_good = is_good }) live.rest.statuses)
+      rates slot subslot is_good (statuses_at live.rest.real.modules.items (record { slot = slot; subslot = subslot; is_good = is_good }) live.rest.statuses)
+  turns (Applied (local.Pull slot subslot)) plan =
+      modules_as (Applied (local.Pull slot subslot)) (λ planned. tt) (pull_of real slot subslot) refl (outside slot (pulled slot subslot real)) refl
+  turns (Applied (local.PullModule slot)) plan =
+      modules_as (Applied (local.PullModule slot)) (λ planned. tt) (slot_pull_of real slot) refl (outside slot (slot_pulled slot real)) refl
+  turns (Applied (local.Plug slot ident part)) plan =
+      modules_as (Applied (local.Plug slot ident part)) (λ planned. tt) (plug_of slot ident part) refl (plugged_with slot ident part real) refl
+  turns (Applied (local.ReadyAt slot subslot)) plan = readied_as slot subslot (is_readied_in slot subslot before)
   turns (Met peer) plan = meets peer
   turns (Applied local.Ready) plan = readies before refl
   turns (Applied (local.ProviderState is_running)) plan = turns_so is_running
@@ -1057,21 +1423,21 @@ module _ (rules : Rules TakenRecord Request) (activity : List ℕ) (station : St
 
 -- a step, whatever the flash did
 pub step_turns : (rules : Rules TakenRecord Request) (activity : List ℕ) (outcomes : List Outcome) (station : Station) (live : Live) (heard : Heard)
-    → IsPlanned rules activity station.real heard → Turn station live heard (heard_step outcomes station live heard).live.rest (heard_step outcomes station live heard).sent
+    → IsPlanned rules activity live.rest.real heard → Turn station live heard (heard_step outcomes station live heard).live.rest (heard_step outcomes station live heard).sent
 unfolding heard_step handled_step
 step_turns rules activity outcomes station live heard plan =
     turns rules activity station live heard plan (carried outcomes live.values (items_in (handled station live heard))).answers
 
 pub step_numbers : (rules : Rules TakenRecord Request) (activity : List ℕ) (outcomes : List Outcome) (station : Station) (live : Live) (heard : Heard)
-    → IsPlanned rules activity station.real heard → BeginsNumbered station.options live.rest.link (heard_step outcomes station live heard).live.rest.link
+    → IsPlanned rules activity live.rest.real heard → BeginsNumbered station.options live.rest.link (heard_step outcomes station live heard).live.rest.link
 step_numbers rules activity outcomes station live heard plan =
     does_numbered station live heard (heard_step outcomes station live heard).live.rest (heard_step outcomes station live heard).sent
     (step_turns rules activity outcomes station live heard plan).does
 
 pub step_raises : (outcomes : List Outcome) (station : Station) (live : Live) (slot subslot : ℕ) (octets : List ℕ)
-    → IsRaise station.real.modules.items live.rest.link slot subslot octets (heard_step outcomes station live (alarm_heard slot subslot octets)).live.rest.link
+    → IsRaise live.rest.real.modules.items live.rest.link slot subslot octets (heard_step outcomes station live (alarm_heard slot subslot octets)).live.rest.link
     (heard_step outcomes station live (alarm_heard slot subslot octets)).sent
 unfolding heard_step handled_step
 step_raises outcomes station live slot subslot octets =
-    raise_as station live slot subslot octets (raised_to station.real.modules.items slot subslot octets live.rest.link)
+    raise_as station live slot subslot octets (raised_to live.rest.real.modules.items slot subslot octets live.rest.link)
     (carried outcomes live.values (items_in (handled station live (alarm_heard slot subslot octets)))).answers refl

@@ -1,5 +1,5 @@
 -- Calls and responses, from one end to the other.
-use Rattle.std.proofs.Common.{◌≡◌, ◌≤◌, ◌<◌, ℕ, List, length, None, Result, Ok, Err, refl, ◌∙◌, arith}
+use Rattle.std.proofs.Common.{◌≡◌, ◌≤◌, ◌<◌, ℕ, List, [], length, None, Result, Ok, Err, refl, ◌∙◌, arith}
 use Rattle.pn_values.specs.declared.identity.Identity.{Identity}
 use Rattle.pn_values.specs.declared.mac.Mac.{Mac}
 use Rattle.frame_codec.specs.declared.udp.Caller.{Caller}
@@ -14,16 +14,22 @@ use Rattle.rpc_core.specs.Call.{Asked as Call, call_bytes}
 use Rattle.rpc_core.specs.Response.{Answered, response_bytes}
 use Rattle.cyclic_data.specs.exchange.Frames.{plain_frame}
 use Rattle.plans.specs.declared.parts.Controller.{Controller}
+use Rattle.relations.specs.declared.phase.Partner.{Partner}
+use Rattle.relations.specs.declared.plugging.PlugReady.{PlugReady}
 use Rattle.relations.specs.declared.ready.Ready.{Ready}
+use Rattle.rpc_core.specs.declared.header.CallHeader.{CallHeader}
+use Rattle.block_codec.specs.declared.block.Block.TheVariants as is_block
+use Rattle.block_codec.specs.Block.{block_bytes}
+use Rattle.connect_blocks.specs.PlugControl.{plug_control}
 use Rattle.device_frames.specs.Heard.{Calls, Garbled, Responds, Unreadable, heard_frame, heard_of as device_hears}
-use Rattle.device_frames.specs.Sent.{ready_frame, response_frame}
+use Rattle.device_frames.specs.Sent.{call_frame as device_call, plug_ready_frame, ready_frame, response_frame}
 use Rattle.controller_messages.specs.declared.setup.Setup.{Setup}
 use Rattle.controller_messages.specs.Heard.{Calls as Called, Nothing, Responds as Responded, heard_of as controller_hears, heard_read}
 use Rattle.controller_messages.specs.Sent.{answer_frame, call_frame, calls_at}
 use Rattle.frame_codec.specs.Sendable.{CanBeSent, IsEndpoint, IsMac, carrying}
 use Rattle.rpc_core.specs.Sendable.{CanBeAnswered, CanBeCalled, IsHeader}
 use Rattle.end_laws.specs.hearing.Hearing.{comes, mine_reported, own_reported}
-use Rattle.end_laws.specs.hearing.Stations.{IsAddress, IsCaller, IsDevice, IsSetup, ready_call}
+use Rattle.end_laws.specs.hearing.Stations.{IsAddress, IsCaller, IsDevice, IsSetup, own_call, plug_ready_call, ready_call}
 use Rattle.end_laws.proofs.HearingGiven.{CallsAreNoRefusals, CallsAreNoResponses, CallsAreRead, CallsAreShort, ControllerIsMeant, DatagramsAreRead, DeviceIsMeant, LongDatagramsAreLost, ResponsesAreLong, ResponsesAreNoCalls, ResponsesAreRead, ResponsesAreShort}
 use Rattle.end_laws.proofs.HearingDevice.{call_said, ready_said, response_said, reported_heard}
 use Rattle.end_laws.proofs.HearingController.{body_heard, call_is, nothing_reported, other_is, response_is}
@@ -58,28 +64,56 @@ module _ (datagrams : DatagramsAreRead) (reads : CallsAreRead) (short : CallsAre
       (call_sent setup to call is mac can) (other_is reads differ unrefused meant _ call can)
       ∙ nothing_reported mine to (calls_at setup.plan.station.suite.address)
 
-  -- ---- ApplicationReady
+  -- ---- calls of a device
 
-  ready_sent : (identity : Identity) (address : List ℕ) (ready : Ready)
-      → IsDevice identity → IsMac ready.partner.mac → IsAddress ready.partner.address → IsAddress address → CanBeCalled controllers (ready_call ready)
-      → CanBeSent (carrying ready.partner.mac identity.mac None (UdpDatagram (calls_at address) (calls_at ready.partner.address) (call_bytes controllers (ready_call ready))))
-  ready_sent identity address ready is mac to from can = sent _ _ _ _ _ mac is (at_port _ from) (at_port _ to) (short controllers (ready_call ready) can)
+  module _ (identity : Identity) (address : List ℕ) (partner : Partner) (header : CallHeader) (blocks : List ℕ) (is : IsDevice identity) (mac : IsMac partner.mac)
+      (to : IsAddress partner.address) (from : IsAddress address) (can : CanBeCalled controllers (own_call header blocks)) where
+    own_sent : CanBeSent (carrying partner.mac identity.mac None (UdpDatagram (calls_at address) (calls_at partner.address) (call_bytes controllers (own_call header blocks))))
+    own_sent = sent _ _ _ _ _ mac is (at_port _ from) (at_port _ to) (short controllers (own_call header blocks) can)
+
+    own_at_controller : (mine : Controller)
+        → controller_hears mine (device_call identity address partner header blocks)
+        ≡ mine_reported mine partner.mac (calls_at partner.address) (Called (record { mac = identity.mac; endpoint = calls_at address }) (own_call header blocks))
+    own_at_controller mine =
+        body_heard datagrams mine partner.mac identity.mac (calls_at address) (calls_at partner.address) (call_bytes controllers (own_call header blocks)) _
+        own_sent (call_is reads _ (own_call header blocks) can)
+
+    own_at_device : CallsAreNoResponses → ControllerIsMeant → (other : Identity)
+        → device_hears other (comes (device_call identity address partner header blocks))
+        ≡ own_reported other identity.mac partner.mac (calls_at address) (calls_at partner.address) Garbled
+    own_at_device differ meant other =
+        reported_heard datagrams other partner.mac identity.mac (calls_at address) (calls_at partner.address) (call_bytes controllers (own_call header blocks)) Garbled
+        own_sent (ready_said reads differ meant (own_call header blocks) can)
+
+  -- ---- ApplicationReady, and that of a plug
 
   pub ready_at_controller : (mine : Controller) (identity : Identity) (address : List ℕ) (ready : Ready)
       → IsDevice identity → IsMac ready.partner.mac → IsAddress ready.partner.address → IsAddress address → CanBeCalled controllers (ready_call ready)
       → controller_hears mine (ready_frame identity address ready)
       ≡ mine_reported mine ready.partner.mac (calls_at ready.partner.address) (Called (record { mac = identity.mac; endpoint = calls_at address }) (ready_call ready))
   ready_at_controller mine identity address ready is mac to from can =
-      body_heard datagrams mine ready.partner.mac identity.mac (calls_at address) (calls_at ready.partner.address) (call_bytes controllers (ready_call ready)) _
-      (ready_sent identity address ready is mac to from can) (call_is reads _ (ready_call ready) can)
+      own_at_controller identity address ready.partner ready.header (block_bytes (is_block.ApplicationReady ready.block)) is mac to from can mine
+
+  pub plug_at_controller : (mine : Controller) (identity : Identity) (address : List ℕ) (ready : PlugReady)
+      → IsDevice identity → IsMac ready.partner.mac → IsAddress ready.partner.address → IsAddress address → CanBeCalled controllers (plug_ready_call ready)
+      → controller_hears mine (plug_ready_frame identity address ready)
+      ≡ mine_reported mine ready.partner.mac (calls_at ready.partner.address) (Called (record { mac = identity.mac; endpoint = calls_at address }) (plug_ready_call ready))
+  plug_at_controller mine identity address ready is mac to from can =
+      own_at_controller identity address ready.partner ready.header ((plug_control 0x0113).write ready.block []) is mac to from can mine
 
   pub ready_at_device : CallsAreNoResponses → ControllerIsMeant → (other identity : Identity) (address : List ℕ) (ready : Ready)
       → IsDevice identity → IsMac ready.partner.mac → IsAddress ready.partner.address → IsAddress address → CanBeCalled controllers (ready_call ready)
       → device_hears other (comes (ready_frame identity address ready))
       ≡ own_reported other identity.mac ready.partner.mac (calls_at address) (calls_at ready.partner.address) Garbled
   ready_at_device differ meant other identity address ready is mac to from can =
-      reported_heard datagrams other ready.partner.mac identity.mac (calls_at address) (calls_at ready.partner.address) (call_bytes controllers (ready_call ready)) Garbled
-      (ready_sent identity address ready is mac to from can) (ready_said reads differ meant (ready_call ready) can)
+      own_at_device identity address ready.partner ready.header (block_bytes (is_block.ApplicationReady ready.block)) is mac to from can differ meant other
+
+  pub plug_at_device : CallsAreNoResponses → ControllerIsMeant → (other identity : Identity) (address : List ℕ) (ready : PlugReady)
+      → IsDevice identity → IsMac ready.partner.mac → IsAddress ready.partner.address → IsAddress address → CanBeCalled controllers (plug_ready_call ready)
+      → device_hears other (comes (plug_ready_frame identity address ready))
+      ≡ own_reported other identity.mac ready.partner.mac (calls_at address) (calls_at ready.partner.address) Garbled
+  plug_at_device differ meant other identity address ready is mac to from can =
+      own_at_device identity address ready.partner ready.header ((plug_control 0x0113).write ready.block []) is mac to from can differ meant other
 
 -- ---- responses of either end
 

@@ -1,5 +1,5 @@
 -- What a relation exchanges, from one end to the other.
-use Rattle.std.proofs.Common.{◌≡◌, ◌⊎◌, inl, inr, ◌≤◌, ◌<◌, ℕ, Bool, false, cond, nat_eq, List, ◌++◌, length, Some, Result, Ok, refl, ap, ◌∙◌, arith}
+use Rattle.std.proofs.Common.{◌≡◌, ◌⊎◌, inl, inr, ◌≤◌, ◌<◌, ◌+◌, ◌==◌, ℕ, Bool, true, false, cond, nat_eq, List, [], ◌++◌, length, Some, Result, Ok, refl, ap, ◌∙◌, arith}
 use Rattle.pn_values.specs.declared.identity.Identity.{Identity}
 use Rattle.pn_values.specs.declared.mac.Mac.{Mac}
 use Rattle.frame_codec.specs.Meaning.{RealTime}
@@ -16,6 +16,8 @@ use Rattle.pn_alarms.specs.Message.{ToDevice, message_of}
 use Rattle.diagnosis.specs.reports.Message.{ToController, alarm_of, low_message_of}
 use Rattle.pn_alarms.specs.declared.message.Notice.TheVariants as notice
 use Rattle.record_blocks.specs.declared.alarm_ack.AlarmAck.{AlarmAck}
+use Rattle.record_blocks.specs.declared.alarm_notification.AlarmNotification.{AlarmNotification}
+use Rattle.diagnosis.specs.reports.Report.{bare, diagnosed, low_report, report}
 use Rattle.diagnosis.specs.reports.Priority.{frame_id_at, priority_of}
 use Rattle.cyclic_data.specs.declared.exchange.route.Route.{Route}
 use Rattle.cyclic_data.specs.exchange.Frames.{body_at, tagged_frame}
@@ -116,6 +118,16 @@ module _ (reads : DataIsRead) (long : PdusAreLong) where
       ≡ mine_hears mine destination (Alarmed source (priority_of (frame_id_at priority kind)) header reported)
   pdu_at_controller mine destination source tag priority kind said header reported one other tagged few says =
       controller.alarm_heard reads mine destination source (Some tag) priority kind (pdu_bytes said) header reported (pdu_sent destination source tag priority kind said one other tagged few) says
+
+-- an alarm of low priority fits a frame: that of a pull or a plug, and that of a change of diagnosis
+pub low_few : ((alarm : AlarmNotification) → length (report.write (bare alarm) []) ≡ 26 + length alarm.alarm_data)
+    → ((alarm : AlarmNotification) → length (report.write (diagnosed alarm) []) ≡ 28 + length alarm.alarm_data)
+    → (alarm : AlarmNotification) → length alarm.alarm_data ≤ 1458 → length (report.write (low_report alarm) []) ≤ 1486
+low_few bare_long long alarm few = by_empty (length alarm.alarm_data == 0)
+  where
+    by_empty : (b : Bool) → length (report.write (cond b (bare alarm) (diagnosed alarm)) []) ≤ 1486
+    by_empty true = omega (arith, bare_long alarm, few)
+    by_empty false = omega (arith, long alarm, few)
 
 -- ---- replies
 

@@ -1,5 +1,5 @@
--- A device cannot read an AlarmAck of low priority.
-use Rattle.std.proofs.Common.{◌≡◌, ◌++◌, ℕ, Bool, true, false, List, [], length, nat_lt, drop, Result, Ok, Err, if◌then◌else◌, refl, ap, subst, sym, arith}
+-- A device cannot read an AlarmAck of low priority, and no end reads the block of a plug as one of a start-up.
+use Rattle.std.proofs.Common.{◌≡◌, ◌==◌, ◌++◌, ℕ, Bool, true, false, List, [], length, nat_lt, drop, Option, None, Result, Ok, Err, if◌then◌else◌, refl, ap, subst, sym, arith}
 use Rattle.std.specs.Prelude.{IsErr}
 use Rattle.std.proofs.lemmas.Bool.{false≢true}
 use Rattle.wire.specs.Codec.{◌>>=◌}
@@ -24,6 +24,12 @@ use Rattle.pn_alarms.specs.Message.{ToDevice, message_of, notice_in}
 use Rattle.diagnosis.specs.reports.Report.{low_ack}
 use Rattle.controller_messages.specs.Sent.{ack_pdu}
 use Rattle.diagnosis.specs.Sendable.{CanBeSaid, IsHeader}
+use Rattle.connect_blocks.specs.declared.control.ControlBlock.{ControlBlock}
+use Rattle.connect_blocks.specs.declared.plug_control.PlugControlBlock.{PlugControlBlock}
+use Rattle.connect_blocks.specs.PlugControl.{plug_control}
+use Rattle.relations.specs.declared.plugging.PlugReady.{PlugReady}
+use Rattle.controller_core.specs.start_up.Answers.{ready_block, ready_in}
+use Rattle.end_laws.specs.hearing.Stations.{plug_ready_call}
 
 -- a written PDU is read back
 abbrev pub PdusAreRead : Type 0
@@ -40,6 +46,10 @@ fails (Ok value) next each = each value refl
 fails (Err fault) next each = refl
 
 -- what BlockLength counts of a block of an unknown type is refused
+plug_fails : (bytes : List ℕ) → IsErr ((framed (number Truncated 2) Truncated (body_of (type_of 0x0113))).read bytes)
+unfolding body_of type_of
+plug_fails bytes = fails ((number Truncated 2).read bytes) _ (λ size e. fails ((raw Truncated size.0).read size.1) _ (λ cut f. refl))
+
 framed_fails : (bytes : List ℕ) → IsErr ((framed (number Truncated 2) Truncated (body_of (type_of 0x8002))).read bytes)
 unfolding body_of type_of
 framed_fails bytes = fails ((number Truncated 2).read bytes) _ (λ size e. fails ((raw Truncated size.0).read size.1) _ (λ cut f. refl))
@@ -83,3 +93,31 @@ low_unread reads header ack more kind good =
     (subst (λ (k : PduType). IsErr {T = Header × ToDevice} (notice_in ack_of k said >>= λ notice. Ok (header, notice))) (sym kind)
     (faults (ack_of said.body >>= λ carried. Ok (notice.Data header.send_number carried)) _
     (faults (ack_of said.body) _ (wanted_fails (block_of (low_ack.write ack [])) (block_fails ack)))))
+
+-- ---- the block of a plug
+
+plug_is : (one : PlugControlBlock) (read : ℕ × List ℕ) → (number Truncated 2).read ((plug_control 0x0113).write one []) ≡ Ok read → read.0 ≡ 0x0113
+unfolding plug_control number_bytes
+plug_is one read e = number_is (nat_lt (length ((plug_control 0x0113).write one [])) 2) 0x0113 (drop 2 ((plug_control 0x0113).write one [])) read e
+
+plug_block_fails : (one : PlugControlBlock) → IsErr (block_of ((plug_control 0x0113).write one []))
+unfolding block_of block
+plug_block_fails one =
+    faults ((number Truncated 2).read ((plug_control 0x0113).write one []) >>= λ x. (framed (number Truncated 2) Truncated (body_of (type_of x.0))).read x.1 >>= λ y. Ok ((x.0, y.0), y.1)) _
+    (fails ((number Truncated 2).read ((plug_control 0x0113).write one [])) _
+    (λ x e. faults ((framed (number Truncated 2) Truncated (body_of (type_of x.0))).read x.1) _
+    (subst (λ (n : ℕ). IsErr ((framed (number Truncated 2) Truncated (body_of (type_of n))).read x.1)) (sym (plug_is one x e)) (plug_fails x.1))))
+
+none_ready : (read : Result (Block × List ℕ) BlockFault) → IsErr read → ready_block read ≡ None
+none_ready (Ok x) none = absurd (false≢true none)
+none_ready (Err fault) none = refl
+
+unready_if : (b : Bool) (found : Option ControlBlock) → found ≡ None → (if b then found else None) ≡ None
+unready_if true found none = none
+unready_if false found none = refl
+
+-- it is no ApplicationReady of a relation
+pub plug_unready : (ready : PlugReady) → ready_in (plug_ready_call ready) ≡ None
+plug_unready ready =
+    unready_if (ready.header.operation == 4) (ready_block (block_of ((plug_control 0x0113).write ready.block [])))
+    (none_ready (block_of ((plug_control 0x0113).write ready.block [])) (plug_block_fails ready.block))

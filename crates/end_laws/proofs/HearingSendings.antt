@@ -4,7 +4,7 @@ use Rattle.std.specs.List.{AllByRecursion, slice_get}
 use Rattle.std.specs.Prelude.{replicate}
 use Rattle.std.proofs.lemmas.Bool.{leb-true}
 use Rattle.std.proofs.lemmas.List.{length-append}
-use Rattle.wire.specs.blocks.Fields.{body, version}
+use Rattle.wire.specs.blocks.Fields.{body, number_bytes, octet_bytes, version, zeros}
 use Rattle.connect_blocks.specs.Control.{command, control}
 use Rattle.connect_blocks.specs.ArBlock.{ar_block_req, ar_uuid, initiator_mac}
 use Rattle.connect_blocks.specs.declared.control.ControlBlock.{ControlBlock}
@@ -31,11 +31,14 @@ use Rattle.controller_messages.specs.declared.request.Request.TheVariants as ask
 use Rattle.controller_messages.specs.declared.setup.Setup.{Setup}
 use Rattle.controller_messages.specs.RecordRequests.{read_of, record_blocks, record_call, service_operation, written_of}
 use Rattle.controller_messages.specs.Requests.{blocks_of as blocks_for, call_for, control_of, entries_bytes, entry_bytes, first_of, group_of, header_of, list_blocks, list_of, object_of, operation_of, padding_of, per_call, sequence_of, write_blocks, write_of}
+use Rattle.relations.specs.declared.plugging.PlugReady.{PlugReady}
 use Rattle.relations.specs.declared.ready.Ready.{Ready}
+use Rattle.connect_blocks.specs.declared.plug_control.PlugControlBlock.{PlugControlBlock}
+use Rattle.connect_blocks.specs.PlugControl.{plug_control}
 use Rattle.rpc_core.specs.Call.{Asked as Call}
 use Rattle.controller_messages.specs.Sent.{ready_answer, ready_done}
 use Rattle.rpc_core.specs.Sendable.{CanBeAnswered, CanBeCalled, IsHeader, IsUuid}
-use Rattle.end_laws.specs.hearing.Stations.{IsCalled, IsNumbered, IsRecordCall, IsSetup, ready_call}
+use Rattle.end_laws.specs.hearing.Stations.{IsCalled, IsNumbered, IsRecordCall, IsSetup, plug_ready_call, ready_call}
 use Rattle.end_laws.proofs.HearingGiven.{BlocksAreLong}
 use Rattle.end_laws.proofs.SendingSizes.{count_few}
 
@@ -88,6 +91,13 @@ release_size block sixteen = omega (arith, sixteen)
 ready_size : (block : ControlBlock) → length block.ar_uuid ≡ 16 → block_size (is.ApplicationReady block) ≡ 32
 unfolding block_size fields_of body version control command
 ready_size block sixteen = omega (arith, sixteen)
+
+plug_size : (block : PlugControlBlock) → length block.ar_uuid ≡ 16 → length ((plug_control 0x0113).write block []) ≡ 32
+unfolding plug_control number_bytes octet_bytes zeros
+plug_size block sixteen =
+    let behind = number_bytes 2 block.session_key
+    (number_bytes 2 block.alarm_sequence_number (number_bytes 2 block.control_command (number_bytes 2 block.control_block_properties []))) in
+    omega (arith, sixteen, length-append block.ar_uuid behind)
 
 done_size : (block : ControlBlock) → length block.ar_uuid ≡ 16 → block_size (is.ApplicationReadyRes block) ≡ 32
 unfolding block_size fields_of body version control command
@@ -259,3 +269,13 @@ module _ (long : BlocksAreLong) where
     maximum = maximum;
     few = omega (arith, long (is.ApplicationReadyRes (ready_done block)), done_size (ready_done block) sixteen);
   }
+
+pub plug_can : (ready : PlugReady) → IsHeader ready.header → ready.header.interface ≡ interface_uuid Controller → IsUuid ready.block.ar_uuid → CanBeCalled Controller (plug_ready_call ready)
+plug_can ready header named sixteen = record {
+  header = header;
+  named = named;
+  maximum = omega arith;
+  blocks = (plug_control 0x0113).write ready.block [];
+  whole = refl;
+  few = omega (arith, plug_size ready.block sixteen);
+}

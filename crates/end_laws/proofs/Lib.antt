@@ -25,12 +25,17 @@ pub mod BothLaw
 pub mod BothGiven
 pub mod DeviceTurns
 mod DeviceConnects
+pub mod DeviceOrderly
+pub mod DeviceInputs
 pub mod DeviceOwing
 pub mod DeviceLists
 pub mod DeviceNumbers
 pub mod DeviceWalk
 pub mod DeviceExchange
 pub mod DeviceExchangeLaws
+pub mod DeviceMoments
+pub mod DeviceGoes
+pub mod DeviceOpenLaws
 pub mod ControllerTurns
 pub mod TurnsPatience
 pub mod TurnsBelongs

@@ -1,4 +1,5 @@
 pub mod Small
+pub mod Orderly
 pub mod Owed
 pub mod Does
 pub mod Exchange

@@ -12,8 +12,8 @@ mod stations;
 
 pub use alarms::{alarms_are_heard, confirmations_are_heard, ends_are_heard};
 pub use calls::{
-    calls_are_heard, calls_can_be_sent, datagrams_alone_are_calls, ready_answers_are_heard,
-    ready_calls_are_heard, responses_are_heard,
+    calls_are_heard, calls_can_be_sent, datagrams_alone_are_calls, plug_calls_are_heard,
+    ready_answers_are_heard, ready_calls_are_heard, responses_are_heard,
 };
 pub use cyclic::inputs_are_heard;
 pub use discovery::{answers_are_heard, packets_are_heard, requests_are_heard};

@@ -23,8 +23,8 @@ pub use device::{
 pub use hearing::{
     alarms_are_heard, answers_are_heard, calls_are_heard, calls_can_be_sent,
     confirmations_are_heard, datagrams_alone_are_calls, ends_are_heard, inputs_are_heard,
-    packets_are_heard, ready_answers_are_heard, ready_calls_are_heard, requests_are_heard,
-    responses_are_heard, stations_are_real,
+    packets_are_heard, plug_calls_are_heard, ready_answers_are_heard, ready_calls_are_heard,
+    requests_are_heard, responses_are_heard, stations_are_real,
 };
 pub use log_data::log_data_is_read_back;
 pub use sending::{frames_are_messages, messages_are_addressed, messages_can_be_sent};

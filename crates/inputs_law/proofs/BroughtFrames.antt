@@ -45,7 +45,7 @@ use Rattle.diagnosis.specs.reports.Message.{ToController, alarm_of}
 use Rattle.diagnosis.specs.reports.Priority.{frame_id_at}
 use Rattle.relations.specs.exchange.Frames.{Inputs, Notifies, Replies, Reports, RepliesLow, body_of}
 use Rattle.plans.specs.Connect.{alarm_block}
-use Rattle.device_frames.specs.Sent.{Sent, IdentifyAnswer, GetAnswer, SetAnswer, ArpReply, CallAnswer, Again, ReadyCall, Ends, Exchanges, bytes_of, ready_content, reply_content}
+use Rattle.device_frames.specs.Sent.{Sent, IdentifyAnswer, GetAnswer, SetAnswer, ArpReply, CallAnswer, Again, ReadyCall, PlugReadyCall, Ends, Exchanges, bytes_of, plug_ready_content, ready_content, reply_content}
 use Rattle.device_frames.specs.Sendable.{AreSendable, IsSendable}
 use Rattle.controller_messages.specs.declared.refusal.Refusal.{Refusal}
 use Rattle.controller_messages.specs.declared.request.Request.{Request}
@@ -356,6 +356,9 @@ module _ (setup : Setup) (identity : Identity) where
     message_brings shown size (Again frame) can known = inl known
     message_brings shown size (ReadyCall from ready) can known =
         inl (reply_silent ready.partner.mac (ready_content from ready) tt (λ found read. datagram_other (rest_of (carrying ready.partner.mac identity.mac None (ready_content from ready))) found read) can)
+    message_brings shown size (PlugReadyCall from ready) can known =
+        inl (reply_silent ready.partner.mac (plug_ready_content from ready) tt
+        (λ found read. datagram_other (rest_of (carrying ready.partner.mac identity.mac None (plug_ready_content from ready))) found read) can)
     message_brings shown size (Ends farewell) can known = inl (data_silent farewell.initiator (Some farewell.tag) (frame_id_of pdu.Error) _ can refl)
     message_brings shown size (Exchanges route (Inputs state inputs counter)) can known =
         subst (λ (image : Image). BringsNow image (bytes_of identity (Exchanges route (Inputs state inputs counter)))) known

@@ -27,8 +27,11 @@ use Rattle.relations.specs.Diagnosed.{diagnose_one}
 use Rattle.relations.specs.Phases.{made_of, passing_by, updated}
 use Rattle.relations.specs.RelationState.{RelationState, flow_of}
 use Rattle.relations.specs.Timers.{due_by, ending_of, unit_later}
+use Rattle.expected_places.specs.Machine.{opened as plugs_opened}
+use Rattle.relations.specs.declared.plugging.PlugReady.{PlugReady}
+use Rattle.relations.specs.Plugging.{is_alarmed_by, plug_ready_of}
 use Rattle.device_frames.specs.Heard.{Heard, Ticks}
-use Rattle.device_frames.specs.Relation.{alarms_of, due_frames, frames_in, inputs_of, low_alarms_of, ready_calls, where_due}
+use Rattle.device_frames.specs.Relation.{alarms_of, due_frames, frames_in, inputs_of, low_alarms_of, plug_call_in, plug_calls, ready_calls, where_due}
 use Rattle.device_frames.specs.Sent.{Sent, Exchanges}
 use Rattle.device_frames.specs.declared.note.Note.TheVariants as note
 use Rattle.settings_journal.specs.settings_store.Machine.{Outcome, carried}
@@ -36,7 +39,7 @@ use Rattle.device_core.specs.State.{Station, Live, counter_of, units_after}
 use Rattle.device_core.specs.Handled.{Handled, Refuses, handled, handled_blocks, handled_call, handled_looked, handled_new, is_running, partner_of, starting_of}
 use Rattle.device_core.specs.Machine.{Stepped, finished, handled_step, heard_step, items_in}
 use Rattle.end_laws.specs.device.Exchange.{is_inputs, sends_inputs}
-use Rattle.end_laws.specs.device.Turn.{AreCalm, Diagnoses, IsCalm, IsTurn, Makes, Stays, standing_of}
+use Rattle.end_laws.specs.device.Turn.{AreCalm, Changes, Diagnoses, IsCalm, IsTurn, Makes, Stays, standing_of}
 use Rattle.end_laws.proofs.DeviceExchange.{step_does}
 use Rattle.inputs_law.proofs.GivenCells.{provided_in}
 
@@ -100,6 +103,13 @@ module _ (none : Image) (address : List ℕ) (counter : ℕ) (link : RelationSta
   ready_silent : (shown : Image) (now : RelationState) → AreOfImage shown (ready_calls address (Some now))
   ready_silent shown now = (tt, tt)
 
+  plug_silent : (shown : Image) (now : RelationState) → AreOfImage shown (plug_calls address (Some now))
+  plug_silent shown now = by_ready (plug_ready_of (Some now))
+    where
+      by_ready : (ready : Option PlugReady) → AreOfImage shown (plug_call_in address ready)
+      by_ready None = tt
+      by_ready (Some one) = (tt, tt)
+
   inputs_same : (now : Flow) → AreOfImage now.cyclic.shown (inputs_of counter (Some now))
   inputs_same now = (refl, tt)
 
@@ -109,13 +119,19 @@ module _ (none : Image) (address : List ℕ) (counter : ℕ) (link : RelationSta
       let shown = link.flow.cyclic.shown in
       let later = unit_later link in
       let due = due_by link None in
-      both shown (where_due due.is_alarm (alarms_of (Some later.flow))) (where_due due.is_low (low_alarms_of (Some later.flow)) ++ (where_due due.is_ready (ready_calls address (Some later)) ++ where_due due.is_cyclic (inputs_of counter (Some later.flow))))
+      let inputs = where_due due.is_cyclic (inputs_of counter (Some later.flow)) in
+      let plugs = where_due due.is_plug_ready (plug_calls address (Some later)) in
+      let readies = where_due due.is_ready (ready_calls address (Some later)) in
+      let lows = where_due due.is_low (low_alarms_of (Some later.flow)) in
+      both shown (where_due due.is_alarm (alarms_of (Some later.flow))) (lows ++ (readies ++ (plugs ++ inputs)))
       (if_due shown due.is_alarm (alarms_of (Some later.flow)) (alarms_silent shown later.flow))
-      (both shown (where_due due.is_low (low_alarms_of (Some later.flow))) (where_due due.is_ready (ready_calls address (Some later)) ++ where_due due.is_cyclic (inputs_of counter (Some later.flow)))
+      (both shown lows (readies ++ (plugs ++ inputs))
       (if_due shown due.is_low (low_alarms_of (Some later.flow)) (lows_silent shown later.flow))
-      (both shown (where_due due.is_ready (ready_calls address (Some later))) (where_due due.is_cyclic (inputs_of counter (Some later.flow)))
+      (both shown readies (plugs ++ inputs)
       (if_due shown due.is_ready (ready_calls address (Some later)) (ready_silent shown later))
-      (if_due shown due.is_cyclic (inputs_of counter (Some later.flow)) (inputs_same later.flow))))
+      (both shown plugs inputs
+      (if_due shown due.is_plug_ready (plug_calls address (Some later)) (plug_silent shown later))
+      (if_due shown due.is_cyclic (inputs_of counter (Some later.flow)) (inputs_same later.flow)))))
 
 -- ---- a device with a relation
 
@@ -159,26 +175,35 @@ all_calm shown [] calm = tt
 all_calm shown (message ∷ sent) calm = (calm_silent shown message calm.0, all_calm shown sent calm.1)
 
 -- a relation is made, or none exists afterwards; and no inputs are sent
-record Alone (real : List RealModule) (calls : List Answer) (heard : Heard) (after : Option RelationState) (sent : List Sent) : Type 0 where
+record Alone (calls : List Answer) (heard : Heard) (after : Option RelationState) (sent : List Sent) : Type 0 where
   silent : (shown : Image) → AreOfImage shown sent
   makes : (next : RelationState) → after ≡ Some next → Makes calls None heard after sent
 
-module _ (real : List RealModule) (calls : List Answer) (diagnoses later : List Diagnosis) (heard : Heard) (after : Option RelationState) (sent : List Sent) where
-  stays_alone : Stays None after sent → Alone real calls heard after sent
+module _ (real now : List RealModule) (calls : List Answer) (diagnoses later : List Diagnosis) (heard : Heard) (after : Option RelationState) (sent : List Sent) where
+  stays_alone : Stays None after sent → Alone calls heard after sent
   stays_alone stays = record { silent = λ shown. all_calm shown sent stays.calm; makes = λ next is. by_same stays.link next is }
     where
       by_same : (option_map standing_of after ≡ None) ⊎ (after ≡ None) → (next : RelationState) → after ≡ Some next → Makes calls None heard after sent
       by_same (inl same) next is = some_none (standing_of next) (sym (ap (λ (l : Option RelationState). option_map standing_of l) is) ∙ same)
       by_same (inr none) next is = none_some next (sym none ∙ is)
 
-  changes_alone : Diagnoses real diagnoses later None heard after sent → Alone real calls heard after sent
-  changes_alone changes = record {
+  diagnoses_alone : Diagnoses real diagnoses later None heard after sent → Alone calls heard after sent
+  diagnoses_alone changes = record {
     silent = λ shown. subst (λ (messages : List Sent). AreOfImage shown messages) (sym changes.sends)
         (subst (λ (l : Option RelationState). AreOfImage shown (where_due (diagnose_one real changes.change later None) (low_alarms_of (flow_of l)))) (sym changes.becomes) (if_due shown (diagnose_one real changes.change later None) [] tt));
     makes = λ next is. none_some next (sym changes.becomes ∙ is);
   }
 
-  alone : IsTurn real calls diagnoses later None heard after sent → Alone real calls heard after sent
+  changes_alone : Changes real now diagnoses later None heard after sent → Alone calls heard after sent
+  changes_alone changes = record {
+    silent = λ shown. subst (λ (messages : List Sent). AreOfImage shown messages) (sym changes.sends)
+        (both shown (where_due (is_alarmed_by now changes.made later None) (low_alarms_of (flow_of after))) changes.others
+        (subst (λ (l : Option RelationState). AreOfImage shown (where_due (is_alarmed_by now changes.made later None) (low_alarms_of (flow_of l)))) (sym changes.becomes)
+        (if_due shown (is_alarmed_by now changes.made later None) [] tt)) (all_calm shown changes.others changes.calm));
+    makes = λ next is. none_some next (sym changes.becomes ∙ is);
+  }
+
+  alone : IsTurn real now calls diagnoses later None heard after sent → Alone calls heard after sent
   alone (inl stays) = stays_alone stays
   alone (inr (inl makes)) = record { silent = λ shown. all_calm shown sent makes.calm; makes = λ next is. makes }
   alone (inr (inr (inl raises))) = none_some raises.link raises.was
@@ -189,25 +214,28 @@ module _ (real : List RealModule) (calls : List Answer) (diagnoses later : List 
   alone (inr (inr (inr (inr (inr (inr (inr (inl acked)))))))) = none_some acked.link acked.was
   alone (inr (inr (inr (inr (inr (inr (inr (inr (inl came))))))))) = none_some came.link came.was
   alone (inr (inr (inr (inr (inr (inr (inr (inr (inr (inl begins)))))))))) = none_some begins.link begins.was
-  alone (inr (inr (inr (inr (inr (inr (inr (inr (inr (inr changes)))))))))) = changes_alone changes
+  alone (inr (inr (inr (inr (inr (inr (inr (inr (inr (inr (inl changes))))))))))) = diagnoses_alone changes
+  alone (inr (inr (inr (inr (inr (inr (inr (inr (inr (inr (inr changes))))))))))) = changes_alone changes
 
-pub turn_alone : (real : List RealModule) (calls : List Answer) (diagnoses later : List Diagnosis) (heard : Heard) (before after : Option RelationState) (sent : List Sent) → before ≡ None
-    → IsTurn real calls diagnoses later before heard after sent → ((shown : Image) → AreOfImage shown sent) × ((next : RelationState) → after ≡ Some next → Makes calls before heard after sent)
-turn_alone real calls diagnoses later heard before after sent is turn =
-    let so = alone real calls diagnoses later heard after sent (subst (λ (l : Option RelationState). IsTurn real calls diagnoses later l heard after sent) is turn) in
+pub turn_alone : (real now : List RealModule) (calls : List Answer) (diagnoses later : List Diagnosis) (heard : Heard) (before after : Option RelationState) (sent : List Sent) → before ≡ None
+    → IsTurn real now calls diagnoses later before heard after sent → ((shown : Image) → AreOfImage shown sent) × ((next : RelationState) → after ≡ Some next → Makes calls before heard after sent)
+turn_alone real now calls diagnoses later heard before after sent is turn =
+    let so = alone real now calls diagnoses later heard after sent (subst (λ (l : Option RelationState). IsTurn real now calls diagnoses later l heard after sent) is turn) in
     (so.silent, λ next e. subst (λ (l : Option RelationState). Makes calls l heard after sent) (sym is) (so.makes next e))
 
 -- ---- a Connect
 
--- what is sent first
-abbrev pub IsOpened : Station → Live → RelationState → Type 0
-IsOpened station live next = provided_in next.flow ≡ provided_in (opened next.request (rows_of next.request station.real) (starting_of station live))
+-- What is sent first, how inputs begin, and which places there are.
+pub record IsOpened (station : Station) (live : Live) (next : RelationState) : Type 0 where
+  pub sends : provided_in next.flow ≡ provided_in (opened next.request (rows_of next.request live.rest.real) (starting_of station live))
+  pub options : next.options ≡ station.options
+  pub plugs : next.plugs ≡ plugs_opened next.request.expected (rows_of next.request live.rest.real)
 
 module _ (station : Station) (live : Live) (unrelated : live.rest.link ≡ None) (next : RelationState) where
-  opens_as : (caller : Caller) (read : Result Request CallFault) → updated (making station.real (partner_of caller) station.options (starting_of station live) read) live.rest.link ≡ Some next → IsOpened station live next
+  opens_as : (caller : Caller) (read : Result Request CallFault) → updated (making live.rest.real (partner_of caller) station.options (starting_of station live) read) live.rest.link ≡ Some next → IsOpened station live next
   opens_as caller (Ok request) e =
-      let made = made_of request (partner_of caller) (rows_of request station.real) station.options (starting_of station live) in
-      subst (λ (l : RelationState). IsOpened station live l) (same made next e) refl
+      let made = made_of request (partner_of caller) (rows_of request live.rest.real) station.options (starting_of station live) in
+      subst (λ (l : RelationState). IsOpened station live l) (same made next e) (record { sends = refl; options = refl; plugs = refl })
     where
       same : (x y : RelationState) → Some x ≡ Some y → x ≡ y
       same x y f = cc

@@ -2,21 +2,18 @@
 use Rattle.std.proofs.Common.{◌≡◌, ◌==◌, ◌&&◌, ◌+◌, ◌≤◌, ℕ, Bool, true, false, cond, List, [], ◌∷◌, length, map, Option, Some, None, refl, sym, ap, subst, ◌∙◌}
 use Rattle.std.specs.Prelude.{is_none, nat_lt, option_map, unwrap_or, if◌then◌else◌}
 use Rattle.std.specs.List.{AllByRecursion}
-use Rattle.wire.specs.blocks.modules.Lists.{Listed}
-use Rattle.connect_blocks.specs.declared.module_diff.DiffModule.{DiffModule}
-use Rattle.connect_blocks.specs.declared.module_diff.DiffSubmodule.{DiffSubmodule}
-use Rattle.module_diff.specs.Diff.{is_listed}
+use Rattle.expected_places.specs.Machine.{PlugState, differs_at, is_touched_at}
 use Rattle.cyclic_data.specs.declared.place.Place.{Place}
 use Rattle.cyclic_data.specs.declared.place.PlaceKind.{PlaceKind}
 use Rattle.cyclic_data.specs.declared.place.PlaceKind.TheVariants.{Data, Iocs}
 use Rattle.cyclic_data.specs.Layout.{is_same_kind, times_listed}
-use Rattle.cyclic_data.specs.Image.{Cell, Shown as Image, cell_at, changed, changed_in, has_size, place_at, with_status, with_value}
+use Rattle.cyclic_data.specs.Image.{Cell, Shown as Image, cell_at, changed, changed_in, good, has_size, place_at, with_status, with_value}
 use Rattle.cyclic_data.specs.exchange.Cyclic.{Cyclic}
 use Rattle.relations.specs.declared.exchange.marks.Mark.{Mark}
 use Rattle.relations.specs.declared.exchange.statuses.InputStatus.{InputStatus}
 use Rattle.relations.specs.exchange.Flow.{Flow}
 use Rattle.relations.specs.exchange.Marks.{awaits, change_by, iops_by, iops_of, is_awaited_in, mark_at, marked}
-use Rattle.relations.specs.exchange.Opening.{status_of}
+use Rattle.relations.specs.exchange.Modules.{is_shut}
 use Rattle.relations.specs.exchange.Process.{given_at, rated_at, remarked, with_cyclic, with_input}
 use Rattle.relations.specs.exchange.Statuses.{is_bad}
 use Rattle.both_ends.specs.exchange.Given.{value_or_zeros, zeros_at}
@@ -115,21 +112,28 @@ pub record Values : Type 0 where
 abbrev pub with_given : ℕ → ℕ → List ℕ → Values → Values
 with_given slot subslot value values = record { given = now_given slot subslot value values.given; statuses = values.statuses }
 
--- what differs, whether inputs begin bad, and the statuses with which the relation began
-module _ (rows : Listed DiffModule DiffSubmodule) (begin_bad : Bool) (early : List InputStatus) where
+-- the places of the relation, whether inputs begin bad, and the marks of places without data that are bad, which nothing is sent of
+module _ (plugs : PlugState) (begin_bad : Bool) (others : Place → Bool) where
   abbrev pub mark_of_kind : PlaceKind → Place → Option (List ℕ) → Bool → Mark
   mark_of_kind Data place given bad =
-      record { place = place; differs = is_listed place.slot place.subslot rows; is_awaited = is_none given && (begin_bad && nat_lt 1 place.size); is_bad = bad }
+      record {
+        place = place;
+        differs = differs_at place.slot place.subslot plugs;
+        is_touched = is_touched_at place.slot place.subslot plugs;
+        is_awaited = is_none given && (begin_bad && nat_lt 1 place.size);
+        is_bad = bad;
+      }
   mark_of_kind Iocs place given bad = record {
     place = place;
-    differs = is_listed place.slot place.subslot rows;
+    differs = differs_at place.slot place.subslot plugs;
+    is_touched = is_touched_at place.slot place.subslot plugs;
     is_awaited = begin_bad && nat_lt 1 place.size;
-    is_bad = is_bad place.slot place.subslot early;
+    is_bad = others place;
   }
 
   abbrev pub cell_of_kind : PlaceKind → Place → Option (List ℕ) → ℕ → Cell
   cell_of_kind Data place given iops = record { place = place; value = value_or_zeros place given; status = iops }
-  cell_of_kind Iocs place given iops = record { place = place; value = zeros_at place; status = status_of rows place.slot place.subslot }
+  cell_of_kind Iocs place given iops = record { place = place; value = zeros_at place; status = if is_shut plugs place.slot place.subslot then 0 else good }
 
   abbrev pub mark_with : Values → Place → Mark
   mark_with values place = mark_of_kind place.kind place (values.given place) (is_bad place.slot place.subslot values.statuses)
@@ -274,7 +278,13 @@ module _ (rows : Listed DiffModule DiffSubmodule) (begin_bad : Bool) (early : Li
       kept_mark : (kind : PlaceKind) (place : Place) (given : Option (List ℕ)) (bad at : Bool) → (is_same_kind Data kind && at) ≡ true → (mark_of_kind kind place given bad).is_awaited ≡ false
           → mark_of_kind kind place given bad ≡ mark_of_kind kind place (cond (at && true) (Some value) given) bad
       kept_mark Data place given bad true e none =
-          ap (λ (b : Bool). let m : Mark = record { place = place; differs = is_listed place.slot place.subslot rows; is_awaited = b; is_bad = bad } in m) none
+          ap (λ (b : Bool). let m : Mark = record {
+            place = place;
+            differs = differs_at place.slot place.subslot plugs;
+            is_touched = is_touched_at place.slot place.subslot plugs;
+            is_awaited = b;
+            is_bad = bad;
+          } in m) none
       kept_mark Data place given bad false e none = absurd cc
       kept_mark Iocs place given bad at e none = absurd cc
 

@@ -4,9 +4,7 @@ use Rattle.std.specs.Prelude.{not, nat_lt, is_some, option_map, if◌then◌else
 use Rattle.std.specs.List.{AllByRecursion, list_any}
 use Rattle.std.proofs.lemmas.Bool.{and_parts, eqb-true, eq-eqb, true≢false}
 use Rattle.pn_values.specs.declared.real.RealModule.{RealModule}
-use Rattle.wire.specs.blocks.modules.Lists.{Listed}
-use Rattle.connect_blocks.specs.declared.module_diff.DiffModule.{DiffModule}
-use Rattle.connect_blocks.specs.declared.module_diff.DiffSubmodule.{DiffSubmodule}
+use Rattle.expected_places.specs.Machine.{PlugState}
 use Rattle.module_diff.specs.Plugged.{submodule_ident}
 use Rattle.cyclic_data.specs.declared.place.Place.{Place}
 use Rattle.cyclic_data.specs.declared.place.PlaceKind.{PlaceKind}
@@ -140,7 +138,7 @@ module _ (slot subslot : ℕ) (is_good : Bool) where
 
   -- ---- the cells and the marks after it
 
-  module _ (rows : Listed DiffModule DiffSubmodule) (begin_bad : Bool) (early : List InputStatus) (real : List RealModule) (values : Values) (later : List InputStatus)
+  module _ (plugs : PlugState) (begin_bad : Bool) (others : Place → Bool) (real : List RealModule) (values : Values) (later : List InputStatus)
       (is : statuses_at real said values.statuses ≡ Some later) where
     abbrev stated : Values
     stated = record { given = values.given; statuses = later }
@@ -170,19 +168,19 @@ module _ (slot subslot : ℕ) (is_good : Bool) where
         ∙ ap (λ (c : Bool). cond ((place.slot == slot) && c) (not is_good) (bad_before place)) (swapped subslot place.subslot))
 
     abbrev marks_as : Place → Mark
-    marks_as place = mark_with rows begin_bad early values place
+    marks_as place = mark_with plugs begin_bad others values place
 
     abbrev marks_now : Place → Mark
-    marks_now place = mark_with rows begin_bad early stated place
+    marks_now place = mark_with plugs begin_bad others stated place
 
     this_mark : (kind : PlaceKind) (place : Place) (given : Option (List ℕ)) (before at : Bool) → (is_same_kind Data kind && at) ≡ true
-        → change_by (Some is_good) (mark_of_kind rows begin_bad early kind place given before) ≡ mark_of_kind rows begin_bad early kind place given (cond at (not is_good) before)
+        → change_by (Some is_good) (mark_of_kind plugs begin_bad others kind place given before) ≡ mark_of_kind plugs begin_bad others kind place given (cond at (not is_good) before)
     this_mark Data place given before true e = refl
     this_mark Data place given before false e = absurd cc
     this_mark Iocs place given before at e = absurd cc
 
     that_mark : (kind : PlaceKind) (place : Place) (given : Option (List ℕ)) (before at : Bool) → (is_same_kind Data kind && at) ≡ false
-        → mark_of_kind rows begin_bad early kind place given before ≡ mark_of_kind rows begin_bad early kind place given (cond at (not is_good) before)
+        → mark_of_kind plugs begin_bad others kind place given before ≡ mark_of_kind plugs begin_bad others kind place given (cond at (not is_good) before)
     that_mark Data place given before true e = absurd cc
     that_mark Data place given before false e = refl
     that_mark Iocs place given before at e = refl
@@ -190,12 +188,12 @@ module _ (slot subslot : ℕ) (is_good : Bool) where
     mark_there : (place : Place) → is_there slot subslot place ≡ true → change_by (Some is_good) (marks_as place) ≡ marks_now place
     mark_there place t =
         this_mark place.kind place (values.given place) (bad_before place) (at_it place) t
-        ∙ ap (λ (b : Bool). mark_of_kind rows begin_bad early place.kind place (values.given place) b) (sym (bad_is place))
+        ∙ ap (λ (b : Bool). mark_of_kind plugs begin_bad others place.kind place (values.given place) b) (sym (bad_is place))
 
     mark_beside : (place : Place) → is_there slot subslot place ≡ false → marks_as place ≡ marks_now place
     mark_beside place t =
         that_mark place.kind place (values.given place) (bad_before place) (at_it place) t
-        ∙ ap (λ (b : Bool). mark_of_kind rows begin_bad early place.kind place (values.given place) b) (sym (bad_is place))
+        ∙ ap (λ (b : Bool). mark_of_kind plugs begin_bad others place.kind place (values.given place) b) (sym (bad_is place))
 
     abbrev MarkBecomes : Place → Type 0
     MarkBecomes place = Becomes (λ (m : Mark). m.place) slot subslot (change_by (Some is_good)) marks_as marks_now place
@@ -205,19 +203,19 @@ module _ (slot subslot : ℕ) (is_good : Bool) where
     marks_become (place ∷ places) =
         (becomes (λ (m : Mark). m.place) slot subslot (change_by (Some is_good)) marks_as marks_now place (mark_there place) (mark_beside place), marks_become places)
 
-    marks_stated : (places : List Place) → marked slot subslot (change_by (Some is_good)) (marks_of rows begin_bad early values places) ≡ marks_of rows begin_bad early stated places
+    marks_stated : (places : List Place) → marked slot subslot (change_by (Some is_good)) (marks_of plugs begin_bad others values places) ≡ marks_of plugs begin_bad others stated places
     marks_stated places =
-        all_turned (λ (m : Mark). m.place) slot subslot (change_by (Some is_good)) marks_as marks_now (mark_place rows begin_bad early values) places (marks_become places)
+        all_turned (λ (m : Mark). m.place) slot subslot (change_by (Some is_good)) marks_as marks_now (mark_place plugs begin_bad others values) places (marks_become places)
 
     abbrev cells_as : Place → Cell
-    cells_as place = cell_with rows begin_bad early values place
+    cells_as place = cell_with plugs begin_bad others values place
 
     abbrev cells_now : Place → Cell
-    cells_now place = cell_with rows begin_bad early stated place
+    cells_now place = cell_with plugs begin_bad others stated place
 
     -- the IOPS of the only place
     this_cell : (kind : PlaceKind) (place : Place) (given : Option (List ℕ)) (before after : ℕ) (at : Bool) → (is_same_kind Data kind && at) ≡ true
-        → with_status after (cell_of_kind rows begin_bad early kind place given before) ≡ cell_of_kind rows begin_bad early kind place given after
+        → with_status after (cell_of_kind plugs begin_bad others kind place given before) ≡ cell_of_kind plugs begin_bad others kind place given after
     this_cell Data place given before after true e = refl
     this_cell Data place given before after false e = absurd cc
     this_cell Iocs place given before after at e = absurd cc
@@ -231,23 +229,23 @@ module _ (slot subslot : ℕ) (is_good : Bool) where
     cell_becomes : (found : Option Place) (place : Place) → (is_there slot subslot place ≡ true → found ≡ Some place) → CellBecomes found place
     cell_becomes found place only = becomes (λ (c : Cell). c.place) slot subslot (with_status (iops_in found)) cells_as cells_now place
         (λ t. this_cell place.kind place (values.given place) (iops_by (marks_as place)) (iops_in found) (at_it place) t
-        ∙ ap (λ (f : Option Place). cell_of_kind rows begin_bad early place.kind place (values.given place) (iops_in f)) (only t))
-        (λ t. ap (λ (m : Mark). cell_of_kind rows begin_bad early place.kind place (values.given place) (iops_by m)) (mark_beside place t))
+        ∙ ap (λ (f : Option Place). cell_of_kind plugs begin_bad others place.kind place (values.given place) (iops_in f)) (only t))
+        (λ t. ap (λ (m : Mark). cell_of_kind plugs begin_bad others place.kind place (values.given place) (iops_by m)) (mark_beside place t))
 
     module _ (many : ℕ) (places : List Place) (once : times_listed Data slot subslot places ≤ 1) where
       abbrev having : List Cell → List Mark → Provided
       having cells marks = record { shown = record { data_length = many; cells = cells }; marks = marks }
 
-      cells_stated : map (changed_in Data slot subslot (with_status (iops_in (place_at Data slot subslot places)))) (cells_of rows begin_bad early values places) ≡ cells_of rows begin_bad early stated places
+      cells_stated : map (changed_in Data slot subslot (with_status (iops_in (place_at Data slot subslot places)))) (cells_of plugs begin_bad others values places) ≡ cells_of plugs begin_bad others stated places
       cells_stated =
           let found = place_at Data slot subslot places in
-          all_turned (λ (c : Cell). c.place) slot subslot (with_status (iops_in found)) cells_as cells_now (cell_place rows begin_bad early values) places
+          all_turned (λ (c : Cell). c.place) slot subslot (with_status (iops_in found)) cells_as cells_now (cell_place plugs begin_bad others values) places
           (each (λ place. is_there slot subslot place ≡ true → found ≡ Some place) (CellBecomes found) (cell_becomes found) places (only_one slot subslot places once))
 
-      pub stated_values : restate slot subslot (Some is_good) (having (cells_of rows begin_bad early values places) (marks_of rows begin_bad early values places))
-          ≡ having (cells_of rows begin_bad early stated places) (marks_of rows begin_bad early stated places)
+      pub stated_values : restate slot subslot (Some is_good) (having (cells_of plugs begin_bad others values places) (marks_of plugs begin_bad others values places))
+          ≡ having (cells_of plugs begin_bad others stated places) (marks_of plugs begin_bad others stated places)
       stated_values =
-          ap (λ (ms : List Mark). having (map (changed_in Data slot subslot (with_status (iops_of (mark_at slot subslot ms)))) (cells_of rows begin_bad early values places)) ms) (marks_stated places)
-          ∙ (ap (λ (m : Option Mark). having (map (changed_in Data slot subslot (with_status (iops_of m))) (cells_of rows begin_bad early values places)) (marks_of rows begin_bad early stated places))
-          (mark_found rows begin_bad early slot subslot marks_now (mark_place rows begin_bad early stated) places)
-          ∙ ap (λ (cs : List Cell). having cs (marks_of rows begin_bad early stated places)) cells_stated)
+          ap (λ (ms : List Mark). having (map (changed_in Data slot subslot (with_status (iops_of (mark_at slot subslot ms)))) (cells_of plugs begin_bad others values places)) ms) (marks_stated places)
+          ∙ (ap (λ (m : Option Mark). having (map (changed_in Data slot subslot (with_status (iops_of m))) (cells_of plugs begin_bad others values places)) (marks_of plugs begin_bad others stated places))
+          (mark_found plugs begin_bad others slot subslot marks_now (mark_place plugs begin_bad others stated) places)
+          ∙ ap (λ (cs : List Cell). having cs (marks_of plugs begin_bad others stated places)) cells_stated)

@@ -1,7 +1,9 @@
+pub mod PlacesShut
 pub mod GivenCells
 pub mod GivenStatuses
 pub mod DeviceProvides
 pub mod GivenValues
+pub mod GivenChanges
 pub mod DeviceSends
 pub mod BroughtFrames
 pub mod ControllerGoes

@@ -35,6 +35,7 @@ use Rattle.end_laws.specs.turns.Runs.{behind_all}
 use Rattle.both_ends.specs.startup.Played.{AreMeant, Begins, CanMeet}
 use Rattle.both_ends.specs.startup.View.{IsMeant, move_of}
 use Rattle.both_ends.specs.exchange.Sized.{AreSizedModules}
+use Rattle.both_ends.specs.exchange.Told.{AreSizedMoves, IsSizedMove}
 use Rattle.both_ends.proofs.ExchangeLaw.{DeviceSo, first_follows}
 use Rattle.both_ends.proofs.ExchangeMessages.{HearsSo}
 use Rattle.both_ends.proofs.ExchangeOutputsOneFrame.{other_mac}
@@ -42,13 +43,13 @@ use Rattle.both_ends.proofs.ExchangeOutputsTurns.{IsKept, KindsSo}
 use Rattle.both_ends.proofs.ExchangeOutputsWorlds.{TurnsSo, first_same, rest_same}
 use Rattle.both_ends.proofs.StartupRuns.{delivered}
 use Rattle.inputs_law.specs.Shown.{brought_by, has_accepted, zeros_for}
-use Rattle.inputs_law.specs.Given.{AreOfOneFrame, image_given, in_relation, input_by, last_input, said_by, statuses_after, zero_for}
+use Rattle.inputs_law.specs.Given.{AreOfOneFrame, heard_with, image_given, in_relation, input_by, last_input, left_input, plugs_of, renewed_in, statuses_after, zero_for}
 use Rattle.inputs_law.proofs.BroughtFrames.{request_silent}
 use Rattle.inputs_law.proofs.ControllerShows.{IsShowing, fresh_showing, inputs_of, taken_if, zeros_taken}
 use Rattle.inputs_law.proofs.GivenCells.{Values}
 use Rattle.inputs_law.proofs.InputsPlaced.{ArePlaced}
-use Rattle.inputs_law.proofs.RunShows.{IsUnmade, image_shown, input_more, iops_shown, reported_iops, said_more, values_given, values_shown, values_statuses, zeros_shown}
-use Rattle.inputs_law.proofs.WorldSteps.{Holds, Provides, heard_with, image_with, images_same, mirrored, none_silent, provides_same, rules_for, seen, seen_as, step_holds, unmade_by, values_after}
+use Rattle.inputs_law.proofs.RunShows.{IsUnmade, image_shown, input_more, iops_shown, reported_iops, said_after, said_more, values_given, values_shown, values_statuses, zeros_shown}
+use Rattle.inputs_law.proofs.WorldSteps.{Holds, Provides, image_with, images_same, mirrored, none_silent, provides_same, rules_for, seen, seen_as, step_holds, unmade_by, values_after}
 
 -- ---- moves, with the ends exchanged
 
@@ -112,15 +113,16 @@ module _ (turns : TurnsSo) (kinds : KindsSo) (so : DeviceSo) (hears : HearsSo) (
     {F : Type 0} (first : World F) where
   -- what was given and said over a run
   abbrev values_now : List (Move × World F) → Values
-  values_now run = record { given = λ place. last_input place None run; statuses = statuses_after first run }
+  values_now run = record { given = λ place. last_input place first None run; statuses = statuses_after first run }
 
   -- a world after these moves
   record At (so_far : List (Move × World F)) (w : World F) : Type 0 where
+    ends : last_world first so_far ≡ w
     setup_is : w.controller.setup ≡ first.controller.setup
     station_is : w.device.station ≡ first.device.station
     holds : Holds turns kinds so hears sound whole there w
     provides : Provides w.controller.setup w.device.station (values_now so_far) w.device.live.rest
-    unrelated : w.device.live.rest.link ≡ None → (place : Place) → last_input place None so_far ≡ None
+    unrelated : w.device.live.rest.link ≡ None → (place : Place) → last_input place first None so_far ≡ None
 
   abbrev rules : Outputs Image Image
   rules = rules_for first.controller.setup first.device.station.identity
@@ -129,6 +131,19 @@ module _ (turns : TurnsSo) (kinds : KindsSo) (so : DeviceSo) (hears : HearsSo) (
   abbrev shown_from : List (Move × World F) → List (Move × World F) → List (small.Move × Shown Image Image)
   shown_from so_far [] = []
   shown_from so_far (one ∷ run) = (mirrored (move_of one.0), seen one.1 (values_now (so_far ++ one ∷ []))) ∷ shown_from (so_far ++ one ∷ []) run
+
+  -- the world after one more move
+  last_more : (w : World F) (so_far : List (Move × World F)) (one : Move × World F) → last_world w (so_far ++ one ∷ []) ≡ one.1
+  last_more w [] one = refl
+  last_more w (other ∷ so_far) one = last_more other.1 so_far one
+
+  -- what was given last then
+  input_then : (place : Place) (so_far : List (Move × World F)) (before : World F) (one : Move × World F) → At so_far before
+      → last_input place first None (so_far ++ one ∷ [])
+      ≡ in_relation one.1.device.live.rest.link (left_input (renewed_in before.device.live.rest (heard_with one.0)) place (input_by place one.0 (last_input place first None so_far)))
+  input_then place so_far before one at =
+      input_more place first None so_far one
+      ∙ ap (λ (w : World F). in_relation one.1.device.live.rest.link (left_input (renewed_in w.device.live.rest (heard_with one.0)) place (input_by place one.0 (last_input place first None so_far)))) at.ends
 
   module _ {S : ℕ} (as_flash : Flash F S) where
     unmade_at : (before after : World F) (so_far : List (Move × World F)) → At so_far before → (one : Move) → IsMeant before one → Happens as_flash before one after
@@ -141,59 +156,62 @@ module _ (turns : TurnsSo) (kinds : KindsSo) (so : DeviceSo) (hears : HearsSo) (
       is : ShowsBehind rules (seen before (values_now so_far)) (mirrored (move_of one.0)) (seen one.1 (values_now (so_far ++ one ∷ [])))
       at : At (so_far ++ one ∷ []) one.1
 
-    step_at : (so_far : List (Move × World F)) (before : World F) (one : Move × World F) → At so_far before → IsMeant before one.0 → Happens as_flash before one.0 one.1 → StepsTo so_far before one
-    step_at so_far before one at meant happens =
-        let both = step_holds turns kinds so hears sound whole there before one.1 at.holds (values_now so_far) at.provides at.unrelated as_flash one.0 meant happens in
+    step_at : (so_far : List (Move × World F)) (before : World F) (one : Move × World F) → At so_far before → IsMeant before one.0 → IsSizedMove one.0 → Happens as_flash before one.0 one.1 → StepsTo so_far before one
+    step_at so_far before one at meant sized happens =
+        let both = step_holds turns kinds so hears sound whole there before one.1 at.holds (values_now so_far) at.provides at.unrelated as_flash one.0 meant sized happens in
         let step = both.0 in
-        let real = before.device.station.real.modules.items in
+        let rest = before.device.live.rest in
+        let affected = renewed_in rest (heard_with one.0) in
         let next = one.1.device.live.rest.link in
         let was = before.device.live.rest.link in
-        let to = values_after next was real (heard_with one.0) (values_now so_far) in
+        let to = values_after next was rest (heard_with one.0) (values_now so_far) in
         let now = values_now (so_far ++ one ∷ []) in
         let given_is : (place : Place) → to.given place ≡ now.given place = λ place.
-        values_given next was real one.0 (values_now so_far) place (unmade_at before one.1 so_far at one.0 meant happens) (λ none. at.unrelated none place) ∙ sym (input_more place None so_far one) in
+        values_given next was rest one.0 (values_now so_far) place (unmade_at before one.1 so_far at one.0 meant happens) (λ none. at.unrelated none place) ∙ sym (input_then place so_far before one at) in
         let statuses_are : to.statuses ≡ now.statuses =
-        values_statuses next was real one.0 (values_now so_far)
-        ∙ (ap (λ (s : Station). said_by s.real.modules.items one.0 (statuses_after first so_far)) at.station_is ∙ sym (said_more first.device.station.real.modules.items first.device.live.rest.statuses so_far one)) in
+        values_statuses next was rest one.0 (values_now so_far)
+        ∙ (ap (λ (w : World F). said_after w.device.live.rest one.0 (statuses_after first so_far)) (sym at.ends) ∙ sym (said_more first first.device.live.rest.statuses so_far one)) in
         let rules_are : rules_for before.controller.setup before.device.station.identity ≡ rules =
         ap (λ (s : Setup). rules_for s before.device.station.identity) at.setup_is ∙ ap (λ (s : Station). rules_for first.controller.setup s.identity) at.station_is in
         record {
           is = subst (λ (r : Outputs Image Image). ShowsBehind r (seen before (values_now so_far)) (mirrored (move_of one.0)) (seen one.1 now)) rules_are
               (subst (λ (i : Image). ShowsBehind (rules_for before.controller.setup before.device.station.identity) (seen before (values_now so_far)) (mirrored (move_of one.0)) (seen_as one.1.controller.setup one.1.controller.live i one.1.sent))
-              (images_same one.1.controller.setup one.1.device.station to now given_is statuses_are) step.is);
+              (images_same one.1.controller.setup one.1.device.station (plugs_of next) to now given_is statuses_are) step.is);
           at = record {
+            ends = last_more first so_far one;
             setup_is = step.setup ∙ at.setup_is;
             station_is = step.station ∙ at.station_is;
             holds = both.1;
             provides = provides_same one.1.controller.setup one.1.device.station to now one.1.device.live.rest given_is statuses_are step.provides;
-            unrelated = λ none place. input_more place None so_far one ∙ ap (λ (l : Option RelationState). in_relation l (input_by place one.0 (last_input place None so_far))) none;
+            unrelated = λ none place. input_then place so_far before one at
+                ∙ ap (λ (l : Option RelationState). in_relation l (left_input affected place (input_by place one.0 (last_input place first None so_far)))) none;
           };
         }
 
-    runs : (so_far : List (Move × World F)) (before : World F) (run : List (Move × World F)) → At so_far before → AreMade as_flash before run → AreMeant before run
+    runs : (so_far : List (Move × World F)) (before : World F) (run : List (Move × World F)) → At so_far before → AreMade as_flash before run → AreSizedMoves run → AreMeant before run
         → IsShownRun rules (seen before (values_now so_far)) (shown_from so_far run)
-    runs so_far before [] at made meant = tt
-    runs so_far before (one ∷ run) at made meant =
-        let step = step_at so_far before one at meant.0 made.0 in (step.is, runs (so_far ++ one ∷ []) one.1 run step.at made.1 meant.1)
+    runs so_far before [] at made sized meant = tt
+    runs so_far before (one ∷ run) at made sized meant =
+        let step = step_at so_far before one at meant.0 sized.0 made.0 in (step.is, runs (so_far ++ one ∷ []) one.1 run step.at made.1 sized.1 meant.1)
 
     -- each point of a run
-    at_point : (so_far : List (Move × World F)) (before : World F) (run : List (Move × World F)) → At so_far before → AreMade as_flash before run → AreMeant before run
+    at_point : (so_far : List (Move × World F)) (before : World F) (run : List (Move × World F)) → At so_far before → AreMade as_flash before run → AreSizedMoves run → AreMeant before run
         → (front : List (Move × World F)) (one : Move × World F) (rest : List (Move × World F)) → run ≡ front ++ one ∷ rest → At (so_far ++ (front ++ one ∷ [])) one.1
-    at_point so_far before [] at made meant [] one rest e = absurd cc
-    at_point so_far before [] at made meant (other ∷ front) one rest e = absurd cc
-    at_point so_far before (next ∷ run) at made meant [] one rest e =
-        subst (λ (x : Move × World F). At (so_far ++ x ∷ []) x.1) (first_same next one run rest e) (step_at so_far before next at meant.0 made.0).at
-    at_point so_far before (next ∷ run) at made meant (other ∷ front) one rest e =
+    at_point so_far before [] at made sized meant [] one rest e = absurd cc
+    at_point so_far before [] at made sized meant (other ∷ front) one rest e = absurd cc
+    at_point so_far before (next ∷ run) at made sized meant [] one rest e =
+        subst (λ (x : Move × World F). At (so_far ++ x ∷ []) x.1) (first_same next one run rest e) (step_at so_far before next at meant.0 sized.0 made.0).at
+    at_point so_far before (next ∷ run) at made sized meant (other ∷ front) one rest e =
         let same = first_same next other run (front ++ one ∷ rest) e in
         subst (λ (x : Move × World F). At (so_far ++ x ∷ (front ++ one ∷ [])) one.1) same
         (subst (λ (xs : List (Move × World F)). At xs one.1) (append_assoc so_far (next ∷ []) (front ++ one ∷ []))
-        (at_point (so_far ++ next ∷ []) next.1 run (step_at so_far before next at meant.0 made.0).at made.1 meant.1 front one rest (rest_same next other run (front ++ one ∷ rest) e)))
+        (at_point (so_far ++ next ∷ []) next.1 run (step_at so_far before next at meant.0 sized.0 made.0).at made.1 sized.1 meant.1 front one rest (rest_same next other run (front ++ one ∷ rest) e)))
 
     -- the end of a run
-    at_end : (so_far : List (Move × World F)) (before : World F) (run : List (Move × World F)) → At so_far before → AreMade as_flash before run → AreMeant before run
+    at_end : (so_far : List (Move × World F)) (before : World F) (run : List (Move × World F)) → At so_far before → AreMade as_flash before run → AreSizedMoves run → AreMeant before run
         → (all : List (Move × World F)) × At all (last_world before run)
-    at_end so_far before [] at made meant = (so_far, at)
-    at_end so_far before (one ∷ run) at made meant = at_end (so_far ++ one ∷ []) one.1 run (step_at so_far before one at meant.0 made.0).at made.1 meant.1
+    at_end so_far before [] at made sized meant = (so_far, at)
+    at_end so_far before (one ∷ run) at made sized meant = at_end (so_far ++ one ∷ []) one.1 run (step_at so_far before one at meant.0 sized.0 made.0).at made.1 sized.1 meant.1
 
   last_seen : (so_far : List (Move × World F)) (w : World F) (run : List (Move × World F)) → (values : Values) × (shown_last (seen w (values_now so_far)) (shown_from so_far run) ≡ seen (last_world w run) values)
   last_seen so_far w [] = (values_now so_far, refl)
@@ -238,7 +256,7 @@ module _ (turns : TurnsSo) (kinds : KindsSo) (so : DeviceSo) (hears : HearsSo) (
 
   -- ---- the start
 
-  module _ (setup : Setup) (identity : Identity) (good : IsSetup setup) (can : CanMeet setup identity) (begins : Begins setup identity first) (real : AreSizedModules first.device.station.real.modules.items) where
+  module _ (setup : Setup) (identity : Identity) (good : IsSetup setup) (can : CanMeet setup identity) (begins : Begins setup identity first) (real : AreSizedModules first.device.live.rest.real.modules.items) where
     own : IsSetup first.controller.setup
     own = subst (λ (s : Setup). IsSetup s) (sym begins.of_setup) good
 
@@ -256,6 +274,7 @@ module _ (turns : TurnsSo) (kinds : KindsSo) (so : DeviceSo) (hears : HearsSo) (
 
     at_first : At [] first
     at_first = record {
+      ends = refl;
       setup_is = refl;
       station_is = refl;
       holds = record {
@@ -288,12 +307,12 @@ module _ (turns : TurnsSo) (kinds : KindsSo) (so : DeviceSo) (hears : HearsSo) (
 
     -- ---- the law
 
-    module _ {S : ℕ} (as_flash : Flash F S) (run : List (Move × World F)) (made : AreMade as_flash first run) (meant : AreMeant first run) where
+    module _ {S : ℕ} (as_flash : Flash F S) (run : List (Move × World F)) (made : AreMade as_flash first run) (sized : AreSizedMoves run) (meant : AreMeant first run) where
       abbrev last : ControllerLive
       last = (last_world first run).controller.live
 
       abbrev at_last : (all : List (Move × World F)) × At all (last_world first run)
-      at_last = at_end as_flash [] first run at_first made meant
+      at_last = at_end as_flash [] first run at_first made sized meant
 
       setup_last : (last_world first run).controller.setup ≡ setup
       setup_last = at_last.1.setup_is ∙ begins.of_setup
@@ -303,10 +322,12 @@ module _ (turns : TurnsSo) (kinds : KindsSo) (so : DeviceSo) (hears : HearsSo) (
           let cut : Divides [] run came.before (came.move, came.point) came.later = divides [] run came.before (came.move, came.point) came.later came.all in
           let moves = cut.front ++ cut.one ∷ [] in
           let point_is : seen cut.one.1 (values_now moves) ≡ came.point = ap (λ (x : small.Move × Shown Image Image). x.1) cut.one_is in
-          let at = at_point as_flash [] first run at_first made meant cut.front cut.one cut.rest cut.all in
+          let at = at_point as_flash [] first run at_first made sized meant cut.front cut.one cut.rest cut.all in
           let given_is : came.point.given ≡ image_given setup first moves =
           ap (λ (s : Shown Image Image). s.given) (sym point_is)
-          ∙ (ap (λ (s : Setup). image_with s cut.one.1.device.station (values_now moves)) (at.setup_is ∙ begins.of_setup) ∙ ap (λ (s : Station). image_with setup s (values_now moves)) at.station_is) in
+          ∙ (ap (λ (s : Setup). image_with s cut.one.1.device.station (plugs_of cut.one.1.device.live.rest.link) (values_now moves)) (at.setup_is ∙ begins.of_setup)
+          ∙ (ap (λ (s : Station). image_with setup s (plugs_of cut.one.1.device.live.rest.link) (values_now moves)) at.station_is
+          ∙ ap (λ (w : World F). image_with setup first.device.station (plugs_of w.device.live.rest.link) (values_now moves)) (sym at.ends))) in
           let taken : last.cyclic.taken ≡ image_given setup first moves =
           sym (taken_if (last_world first run).controller.setup last has)
           ∙ (came.shown ∙ (ap (λ (s : Setup). with_frame (octets_of came.point.given) (zeros_for s)) begins.of_setup
@@ -353,7 +374,7 @@ module _ (turns : TurnsSo) (kinds : KindsSo) (so : DeviceSo) (hears : HearsSo) (
       as_given : LawSo → AreAsGiven rules (seen first (values_now [])) (shown_from [] run) (has_accepted last) (inputs_of (last_world first run).controller.setup last)
       as_given law =
           subst (λ (s : Shown Image Image). AreAsGiven rules (seen first (values_now [])) (shown_from [] run) s.accepted s.outputs) (last_seen [] first run).1
-          (law rules (seen first (values_now [])) (shown_from [] run) shows_none (runs as_flash [] first run at_first made meant))
+          (law rules (seen first (values_now [])) (shown_from [] run) shows_none (runs as_flash [] first run at_first made sized meant))
 
       one_if : (accepted : Bool) (outputs : Image) → AreAsGiven rules (seen first (values_now [])) (shown_from [] run) accepted outputs → accepted ≡ true → ComesFromOne rules (seen first (values_now [])) (shown_from [] run) outputs
       one_if false outputs so e = absurd cc

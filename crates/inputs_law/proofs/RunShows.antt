@@ -4,7 +4,9 @@ use Rattle.std.specs.Prelude.{is_some, if◌then◌else◌}
 use Rattle.std.specs.List.{AllByRecursion}
 use Rattle.std.proofs.lemmas.Bool.{eqb-true}
 use Rattle.std.proofs.lemmas.List.{length-replicate, length-take-le, length-drop}
-use Rattle.pn_values.specs.declared.real.RealModule.{RealModule}
+use Rattle.module_diff.specs.declared.changes.Affected.{Affected}
+use Rattle.module_diff.specs.Changes.{covers}
+use Rattle.expected_places.specs.Machine.{PlugState}
 use Rattle.cyclic_data.specs.declared.place.Place.{Place}
 use Rattle.cyclic_data.specs.declared.place.PlaceKind.{PlaceKind}
 use Rattle.cyclic_data.specs.declared.place.PlaceKind.TheVariants.{Data, Iocs}
@@ -14,39 +16,48 @@ use Rattle.cyclic_data.specs.exchange.Process.{status_with}
 use Rattle.relations.specs.declared.exchange.statuses.InputStatus.{InputStatus}
 use Rattle.relations.specs.exchange.Marks.{iops_by}
 use Rattle.relations.specs.RelationState.{RelationState}
-use Rattle.device_core.specs.State.{Station}
+use Rattle.device_core.specs.State.{Rest, Station}
 use Rattle.controller_messages.specs.declared.setup.Setup.{Setup}
 use Rattle.controller_core.specs.Machine.{provider_of}
 use Rattle.controller_core.specs.stored.State.{Live as ControllerLive}
 use Rattle.device_frames.specs.declared.local.Local.TheVariants as local
+use Rattle.device_frames.specs.Heard.{Applied}
 use Rattle.network_world.specs.declared.moves.Move.{Move}
 use Rattle.network_world.specs.declared.moves.Move.TheVariants as move
-use Rattle.network_world.specs.World.{World}
-use Rattle.both_ends.specs.startup.Played.{moves_of}
+use Rattle.network_world.specs.World.{last_world, World}
 use Rattle.both_ends.specs.exchange.Given.{value_or_zeros, zeros_at}
 use Rattle.both_ends.proofs.ExchangeOutputsHeld.{IsFull, image_held}
 use Rattle.inputs_law.specs.Shown.{has_accepted, zeros_for}
-use Rattle.inputs_law.specs.Given.{cell_for, given_for, image_given, in_relation, input_by, iops_for, iops_in, last_input, last_said, mark_for, places_for, said_by, statuses_after, value_given, zero_for}
-use Rattle.inputs_law.proofs.DeviceProvides.{said_in}
+use Rattle.inputs_law.specs.Given.{cell_for, given_for, heard_with, image_given, in_relation, input_by, iops_for, iops_in, last_input, last_said, left_input, left_statuses, mark_for, places_for, plugs_after, renewed_in, said_by, statuses_after, value_given, zero_for}
+use Rattle.inputs_law.proofs.GivenValues.{said_in}
 use Rattle.inputs_law.proofs.GivenCells.{Values}
 use Rattle.inputs_law.proofs.InputsPlaced.{ArePlaced}
-use Rattle.inputs_law.proofs.WorldSteps.{heard_with, values_after}
+use Rattle.inputs_law.proofs.WorldSteps.{values_after}
 
 -- ---- one more move
 
-pub input_more : {F : Type 0} (place : Place) (last : Option (List ℕ)) (so_far : List (Move × World F)) (one : Move × World F)
-    → last_input place last (so_far ++ one ∷ []) ≡ in_relation one.1.device.live.rest.link (input_by place one.0 (last_input place last so_far))
-input_more place last [] one = refl
-input_more place last (other ∷ so_far) one = input_more place (in_relation other.1.device.live.rest.link (input_by place other.0 last)) so_far one
+pub input_more : {F : Type 0} (place : Place) (first : World F) (last : Option (List ℕ)) (so_far : List (Move × World F)) (one : Move × World F)
+    → last_input place first last (so_far ++ one ∷ [])
+    ≡ in_relation one.1.device.live.rest.link
+    (left_input (renewed_in (last_world first so_far).device.live.rest (heard_with one.0)) place (input_by place one.0 (last_input place first last so_far)))
+input_more place first last [] one = refl
+input_more place first last (other ∷ so_far) one =
+    input_more place other.1
+    (in_relation other.1.device.live.rest.link (left_input (renewed_in first.device.live.rest (heard_with other.0)) place (input_by place other.0 last))) so_far one
 
-pub said_more : {F : Type 0} (real : List RealModule) (statuses : List InputStatus) (so_far : List (Move × World F)) (one : Move × World F)
-    → last_said real statuses (moves_of (so_far ++ one ∷ [])) ≡ said_by real one.0 (last_said real statuses (moves_of so_far))
-said_more real statuses [] one = refl
-said_more real statuses (other ∷ so_far) one = said_more real (said_by real other.0 statuses) so_far one
+-- the statuses after a move
+abbrev pub said_after : Rest → Move → List InputStatus → List InputStatus
+said_after rest one statuses = left_statuses (renewed_in rest (heard_with one)) (said_by rest.real.modules.items one statuses)
 
-said_as : (real : List RealModule) (one : Move) (statuses : List InputStatus) → said_in real (heard_with one) statuses ≡ said_by real one statuses
-said_as real (move.Application (local.Status slot subslot is_good)) statuses = refl
-said_as real other statuses = refl
+pub said_more : {F : Type 0} (first : World F) (statuses : List InputStatus) (so_far : List (Move × World F)) (one : Move × World F)
+    → last_said first statuses (so_far ++ one ∷ []) ≡ said_after (last_world first so_far).device.live.rest one.0 (last_said first statuses so_far)
+said_more first statuses [] one = refl
+said_more first statuses (other ∷ so_far) one = said_more other.1 (said_after first.device.live.rest other.0 statuses) so_far one
+
+said_as : (rest : Rest) (one : Move) (statuses : List InputStatus) → said_in rest (heard_with one) statuses ≡ said_after rest one statuses
+said_as rest (move.Application (local.Status slot subslot is_good)) statuses = refl
+said_as rest (move.Application other) statuses = refl
+said_as rest other statuses = refl
 
 none_related : (link : Option RelationState) → in_relation link None ≡ None
 none_related None = refl
@@ -59,34 +70,50 @@ none_some y e = absurd (no_some e)
     no_some e = cc
 
 -- the values after a move
-pub values_statuses : (next before : Option RelationState) (real : List RealModule) (one : Move) (values : Values) → (values_after next before real (heard_with one) values).statuses ≡ said_by real one values.statuses
-values_statuses None before real one values = said_as real one values.statuses
-values_statuses (Some next) None real one values = said_as real one values.statuses
-values_statuses (Some next) (Some link) real (move.Application (local.Status slot subslot is_good)) values = refl
-values_statuses (Some next) (Some link) real other values = refl
+pub values_statuses : (next before : Option RelationState) (rest : Rest) (one : Move) (values : Values)
+    → (values_after next before rest (heard_with one) values).statuses ≡ said_after rest one values.statuses
+values_statuses None before rest one values = said_as rest one values.statuses
+values_statuses (Some next) None rest one values = said_as rest one values.statuses
+values_statuses (Some next) (Some link) rest (move.Application (local.Status slot subslot is_good)) values = refl
+values_statuses (Some next) (Some link) rest (move.Application (local.Input slot subslot value)) values = refl
+values_statuses (Some next) (Some link) rest (move.Application other) values = refl
+values_statuses (Some next) (Some link) rest other values = refl
 
 -- an input without a relation makes none
 abbrev pub IsUnmade : Option RelationState → Option RelationState → Move → Type 0
 IsUnmade next before (move.Application (local.Input slot subslot value)) = before ≡ None → next ≡ None
 IsUnmade next before other = Unit {0}
 
-given_first : (next : Option RelationState) (now : RelationState) (place : Place) (one : Move) (g : Option (List ℕ)) → next ≡ Some now → IsUnmade next None one → g ≡ None → None ≡ in_relation (Some now) (input_by place one g)
-given_first next now place (move.Application (local.Input slot subslot value)) g is unmade none = none_some now (sym (unmade refl) ∙ is)
-given_first next now place other g is unmade none = sym none
+left_none : (affected : Option Affected) (place : Place) → left_input affected place None ≡ None
+left_none None place = refl
+left_none (Some affected) place = by_covered (covers affected place.slot place.subslot)
+  where
+    by_covered : (b : Bool) → ◌≡◌ {A = Option (List ℕ)} (if b then None else None) None
+    by_covered true = refl
+    by_covered false = refl
 
-pub values_given : (next before : Option RelationState) (real : List RealModule) (one : Move) (values : Values) (place : Place) → IsUnmade next before one → (before ≡ None → values.given place ≡ None)
-    → (values_after next before real (heard_with one) values).given place ≡ in_relation next (input_by place one (values.given place))
-values_given None before real one values place unmade unrelated = refl
-values_given (Some next) None real one values place unmade unrelated = given_first (Some next) next place one (values.given place) refl unmade (unrelated refl)
-values_given (Some next) (Some link) real (move.Application (local.Input slot subslot value)) values place unmade unrelated = refl
-values_given (Some next) (Some link) real other values place unmade unrelated = refl
+given_first : (next : Option RelationState) (now : RelationState) (rest : Rest) (place : Place) (one : Move) (g : Option (List ℕ)) → next ≡ Some now → IsUnmade next None one → g ≡ None
+    → None ≡ in_relation (Some now) (left_input (renewed_in rest (heard_with one)) place (input_by place one g))
+given_first next now rest place (move.Application (local.Input slot subslot value)) g is unmade none = none_some now (sym (unmade refl) ∙ is)
+given_first next now rest place (move.Application other) g is unmade none =
+    sym (ap (λ (v : Option (List ℕ)). left_input (renewed_in rest (Applied other)) place v) none ∙ left_none (renewed_in rest (Applied other)) place)
+given_first next now rest place other g is unmade none = sym none
+
+pub values_given : (next before : Option RelationState) (rest : Rest) (one : Move) (values : Values) (place : Place) → IsUnmade next before one → (before ≡ None → values.given place ≡ None)
+    → (values_after next before rest (heard_with one) values).given place ≡ in_relation next (left_input (renewed_in rest (heard_with one)) place (input_by place one (values.given place)))
+values_given None before rest one values place unmade unrelated = refl
+values_given (Some next) None rest one values place unmade unrelated = given_first (Some next) next rest place one (values.given place) refl unmade (unrelated refl)
+values_given (Some next) (Some link) rest (move.Application (local.Input slot subslot value)) values place unmade unrelated = refl
+values_given (Some next) (Some link) rest (move.Application (local.Status slot subslot is_good)) values place unmade unrelated = refl
+values_given (Some next) (Some link) rest (move.Application other) values place unmade unrelated = refl
+values_given (Some next) (Some link) rest other values place unmade unrelated = refl
 
 -- ---- what is read of images
 
 -- the first place of an input, and its cell
-cell_place : (kind : PlaceKind) (setup : Setup) (station : Station) (statuses : List InputStatus) (place : Place) (given : Option (List ℕ)) → (cell_for kind setup station statuses place given).place ≡ place
-cell_place Data setup station statuses place given = refl
-cell_place Iocs setup station statuses place given = refl
+cell_place : (kind : PlaceKind) (station : Station) (plugs : PlugState) (statuses : List InputStatus) (place : Place) (given : Option (List ℕ)) → (cell_for kind station plugs statuses place given).place ≡ place
+cell_place Data station plugs statuses place given = refl
+cell_place Iocs station plugs statuses place given = refl
 
 module _ {A : Type 0} (slot subslot : ℕ) (read : Cell → A) (f : Place → Cell) (said : Place → A) (at : (place : Place) → (f place).place ≡ place) where
   -- what is read of the cell of an input is what is said of its place
@@ -129,18 +156,30 @@ fit_related : (place : Place) (link : Option RelationState) (last : Option (List
 fit_related place None last fit = tt
 fit_related place (Some link) last fit = fit
 
-all_fit : {F : Type 0} (place : Place) (last : Option (List ℕ)) (run : List (Move × World F)) → IsFit place last → IsFit place (last_input place last run)
-all_fit place last [] fit = fit
-all_fit place last (one ∷ run) fit =
-    all_fit place (in_relation one.1.device.live.rest.link (input_by place one.0 last)) run (fit_related place one.1.device.live.rest.link (input_by place one.0 last) (fit_by place one.0 last fit))
+-- what was pulled or plugged has no input
+fit_left : (affected : Option Affected) (place : Place) (last : Option (List ℕ)) → IsFit place last → IsFit place (left_input affected place last)
+fit_left None place last fit = fit
+fit_left (Some affected) place last fit = by_covered (covers affected place.slot place.subslot)
+  where
+    by_covered : (b : Bool) → IsFit place (if b then None else last)
+    by_covered true = tt
+    by_covered false = fit
+
+all_fit : {F : Type 0} (place : Place) (first : World F) (last : Option (List ℕ)) (run : List (Move × World F)) → IsFit place last → IsFit place (last_input place first last run)
+all_fit place first last [] fit = fit
+all_fit place first last (one ∷ run) fit =
+    let affected = renewed_in first.device.live.rest (heard_with one.0) in
+    let given = left_input affected place (input_by place one.0 last) in
+    all_fit place one.1 (in_relation one.1.device.live.rest.link given) run
+    (fit_related place one.1.device.live.rest.link given (fit_left affected place (input_by place one.0 last) (fit_by place one.0 last fit)))
 
 long_value : (place : Place) (given : Option (List ℕ)) → IsFit place given → length (value_or_zeros place given) ≡ place.size - 1
 long_value place None fit = length-replicate {A = ℕ} (place.size - 1) 0
 long_value place (Some value) fit = let size = eqb-true place.size (length value + 1) fit in omega (arith, size)
 
-full_cell : (kind : PlaceKind) (setup : Setup) (station : Station) (statuses : List InputStatus) (place : Place) (given : Option (List ℕ)) → IsFit place given → IsFull (cell_for kind setup station statuses place given)
-full_cell Data setup station statuses place given fit = long_value place given fit
-full_cell Iocs setup station statuses place given fit = length-replicate {A = ℕ} (place.size - 1) 0
+full_cell : (kind : PlaceKind) (station : Station) (plugs : PlugState) (statuses : List InputStatus) (place : Place) (given : Option (List ℕ)) → IsFit place given → IsFull (cell_for kind station plugs statuses place given)
+full_cell Data station plugs statuses place given fit = long_value place given fit
+full_cell Iocs station plugs statuses place given fit = length-replicate {A = ℕ} (place.size - 1) 0
 
 -- ---- inputs that are zeros
 
@@ -187,10 +226,10 @@ zeros_shown setup placed taken (inr same) slot subslot =
 
 module _ (setup : Setup) (placed : ArePlaced setup) {F : Type 0} (first : World F) (run : List (Move × World F)) where
   abbrev cell_then : Place → Cell
-  cell_then place = cell_for place.kind setup first.device.station (statuses_after first run) place (last_input place None run)
+  cell_then place = cell_for place.kind first.device.station (plugs_after first run) (statuses_after first run) place (last_input place first None run)
 
   then_place : (place : Place) → (cell_then place).place ≡ place
-  then_place place = cell_place place.kind setup first.device.station (statuses_after first run) place (last_input place None run)
+  then_place place = cell_place place.kind first.device.station (plugs_after first run) (statuses_after first run) place (last_input place first None run)
 
   then_places : (places : List Place) → map (λ (cell : Cell). cell.place) (map cell_then places) ≡ places
   then_places [] = refl
@@ -199,7 +238,7 @@ module _ (setup : Setup) (placed : ArePlaced setup) {F : Type 0} (first : World 
   full_then : (places : List Place) → AllByRecursion IsFull (map cell_then places)
   full_then [] = tt
   full_then (place ∷ places) =
-      (full_cell place.kind setup first.device.station (statuses_after first run) place (last_input place None run) (all_fit place None run tt), full_then places)
+      (full_cell place.kind first.device.station (plugs_after first run) (statuses_after first run) place (last_input place first None run) (all_fit place first None run tt), full_then places)
 
   held_then : (octets : List ℕ) (places : List Place) → map (λ (cell : Cell). cell_of octets cell.place) (map zero_cell places) ≡ map (λ (cell : Cell). cell_of octets cell.place) (map cell_then places)
   held_then octets [] = refl
@@ -221,18 +260,18 @@ module _ (setup : Setup) (placed : ArePlaced setup) {F : Type 0} (first : World 
 
   -- what is read of it
   iops_then : Place → ℕ
-  iops_then place = iops_by (mark_for setup first.device.station (statuses_after first run) place (last_input place None run))
+  iops_then place = iops_by (mark_for first.device.station (plugs_after first run) (statuses_after first run) place (last_input place first None run))
 
   value_as : (kind : PlaceKind) (place : Place) (at : Bool) → (is_same_kind Data kind && at) ≡ true
-      → output_of (cell_for kind setup first.device.station (statuses_after first run) place (last_input place None run)) ≡ value_given setup first run place
+      → output_of (cell_for kind first.device.station (plugs_after first run) (statuses_after first run) place (last_input place first None run)) ≡ value_given setup first run place
   value_as Data place at e =
-      ap (λ (n : ℕ). if iops_by (mark_for setup first.device.station (statuses_after first run) place (last_input place None run)) == good then value_or_zeros place (last_input place None run) else replicate n 0)
-      (long_value place (last_input place None run) (all_fit place None run tt))
+      ap (λ (n : ℕ). if iops_by (mark_for first.device.station (plugs_after first run) (statuses_after first run) place (last_input place first None run)) == good then value_or_zeros place (last_input place first None run) else replicate n 0)
+      (long_value place (last_input place first None run) (all_fit place first None run tt))
   value_as Iocs place at e = absurd cc
 
   iops_as : (kind : PlaceKind) (place : Place) (at : Bool) → (is_same_kind Data kind && at) ≡ true
-      → (cell_for kind setup first.device.station (statuses_after first run) place (last_input place None run)).status
-      ≡ iops_by (mark_for setup first.device.station (statuses_after first run) place (last_input place None run))
+      → (cell_for kind first.device.station (plugs_after first run) (statuses_after first run) place (last_input place first None run)).status
+      ≡ iops_by (mark_for first.device.station (plugs_after first run) (statuses_after first run) place (last_input place first None run))
   iops_as Data place at e = refl
   iops_as Iocs place at e = absurd cc
 
@@ -243,8 +282,8 @@ module _ (setup : Setup) (placed : ArePlaced setup) {F : Type 0} (first : World 
 
   pub iops_shown : (slot subslot : ℕ) → option_map (λ (cell : Cell). cell.status) (cell_at Data slot subslot (image_given setup first run).cells) ≡ iops_for setup first run slot subslot
   iops_shown slot subslot =
-      read_at slot subslot (λ (cell : Cell). cell.status) cell_then (λ place. iops_by (mark_for setup first.device.station (statuses_after first run) place (last_input place None run))) then_place (places_for setup)
-      (each_place (λ place. is_of Data slot subslot place ≡ true → (cell_then place).status ≡ iops_by (mark_for setup first.device.station (statuses_after first run) place (last_input place None run)))
+      read_at slot subslot (λ (cell : Cell). cell.status) cell_then (λ place. iops_by (mark_for first.device.station (plugs_after first run) (statuses_after first run) place (last_input place first None run))) then_place (places_for setup)
+      (each_place (λ place. is_of Data slot subslot place ≡ true → (cell_then place).status ≡ iops_by (mark_for first.device.station (plugs_after first run) (statuses_after first run) place (last_input place first None run)))
       (λ place e. iops_as place.kind place ((place.slot == slot) && (place.subslot == subslot)) e) (places_for setup))
 
 -- the IOPS that a controller reports

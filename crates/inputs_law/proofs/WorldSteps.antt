@@ -1,5 +1,5 @@
 -- Each move of a world gives and shows inputs as the small machines do, with the ends exchanged.
-use Rattle.std.proofs.Common.{◌≡◌, ◌⊎◌, inl, inr, ◌==◌, ◌&&◌, ◌||◌, ◌++◌, ℕ, false, List, [], ◌∷◌, map, Option, Some, None, option_map, Result, Ok, Err, refl, sym, ap, subst, ◌∙◌}
+use Rattle.std.proofs.Common.{◌≡◌, ◌⊎◌, inl, inr, ◌==◌, ◌&&◌, ◌||◌, ◌++◌, ℕ, Bool, false, List, [], ◌∷◌, map, Option, Some, None, option_map, Result, Ok, Err, refl, sym, ap, subst, ◌∙◌}
 use Rattle.std.specs.Prelude.{slice_get, nat_eq}
 use Rattle.std.specs.Cmp.Lexicographic.{pointwise}
 use Rattle.std.specs.List.{AllByRecursion}
@@ -8,7 +8,6 @@ use Rattle.flash_model.specs.declared.flash.Flash.{Ghosts as Flash}
 use Rattle.wire.specs.Codec.{IsSound, IsSoundWhole}
 use Rattle.pn_values.specs.declared.identity.Identity.{Identity}
 use Rattle.pn_values.specs.declared.mac.Mac.{Mac}
-use Rattle.pn_values.specs.declared.real.RealModule.{RealModule}
 use Rattle.frame_codec.specs.declared.fault.FrameFault.{FrameFault}
 use Rattle.frame_codec.specs.FrameId.{is_alarm, is_cyclic}
 use Rattle.frame_codec.specs.Meaning.{Content, RealTime, ArpPacket, UdpDatagram, Meaning}
@@ -34,9 +33,13 @@ use Rattle.connects.specs.requests.Request.{Request}
 use Rattle.relations.specs.declared.exchange.statuses.InputStatus.{InputStatus}
 use Rattle.relations.specs.exchange.Frames.{Inputs, Notifies, Replies, Reports, RepliesLow}
 use Rattle.relations.specs.exchange.Marks.{iops_by}
-use Rattle.relations.specs.exchange.Opening.{opened}
 use Rattle.relations.specs.exchange.Statuses.{is_bad}
 use Rattle.relations.specs.Connect.{connect_of, rows_of}
+use Rattle.relations.specs.declared.options.DeviceOptions.{DeviceOptions}
+use Rattle.module_diff.specs.declared.changes.Affected.{Affected}
+use Rattle.module_diff.specs.Diff.{wanted_in}
+use Rattle.expected_places.specs.Machine.{PlugState, opened as plugs_opened}
+use Rattle.expected_places.specs.Places.{opened_places}
 use Rattle.relations.specs.RelationState.{RelationState}
 use Rattle.settings_journal.specs.settings_store.Machine.{Outcome}
 use Rattle.device_frames.specs.declared.event.Event.TheVariants.{Frame}
@@ -64,8 +67,9 @@ use Rattle.end_laws.specs.hearing.Stations.{IsSetup}
 use Rattle.end_laws.specs.device.Small.{IsPlanned, IsPlannedAs, IsPlannedCall}
 use Rattle.end_laws.specs.device.Turn.{Answers, Makes, Turn, input_heard}
 use Rattle.end_laws.specs.turns.Turns.{came_by}
-use Rattle.both_ends.specs.startup.request.Request.{request_for}
+use Rattle.both_ends.specs.startup.request.Request.{expected_of, request_for}
 use Rattle.both_ends.specs.startup.View.{IsMeant, IsMeantAtDevice, move_of, rules_of}
+use Rattle.both_ends.specs.exchange.Told.{IsSizedMove}
 use Rattle.both_ends.proofs.ExchangeHeardAlarm.{alarm_holds}
 use Rattle.both_ends.proofs.ExchangeLaw.{DeviceSo, FollowsAt, one_follows}
 use Rattle.both_ends.proofs.ExchangeLists.{holds_if}
@@ -78,14 +82,16 @@ use Rattle.both_ends.proofs.ExchangeOutputsTurns.{IsKept, IsSaid, KindsSo, turn_
 use Rattle.both_ends.proofs.ExchangeOutputsWorlds.{TurnsSo}
 use Rattle.both_ends.proofs.StartupRuns.{controller_is, delivered}
 use Rattle.inputs_law.specs.Shown.{brought_by, has_accepted, zeros_for}
-use Rattle.inputs_law.specs.Given.{cell_for, places_for, rows_for}
+use Rattle.inputs_law.specs.Given.{cell_for, heard_with, places_for, plugs_of, renewed_in}
 use Rattle.inputs_law.proofs.BroughtFrames.{BringsNow, IsKnown, all_bring, all_said_silent, answer_silent}
 use Rattle.inputs_law.proofs.ControllerShows.{IsShowing, ShowsIn, brought_with, inputs_of, turn_shows}
-use Rattle.inputs_law.proofs.DeviceProvides.{provided_by, said_in, step_provides, step_said}
+use Rattle.inputs_law.proofs.DeviceProvides.{IsStep as IsDeviceStep, step_provides, step_said}
 use Rattle.inputs_law.proofs.DeviceSends.{AreOfImage, IsOfImage, image_in, link_sent, step_opens, turn_alone}
 use Rattle.inputs_law.proofs.GivenCells.{Provided, Values, all_same, cell_of_kind, cells_of, mark_of_kind, provided_in}
-use Rattle.inputs_law.proofs.GivenValues.{first_values, sends_by, sends_first, sends_of, values_by, values_same}
-use Rattle.inputs_law.proofs.InputsPlaced.{ArePlaced}
+use Rattle.inputs_law.proofs.GivenChanges.{changed_sends, left_others, renew_if, restate_all, restated_sends, shut_sends}
+use Rattle.inputs_law.proofs.GivenValues.{IsFresh, first_others, first_values, own_all, provided_by, renewed_values, said_in, sends_by, sends_first, sends_of, values_by, values_same}
+use Rattle.inputs_law.proofs.InputsPlaced.{ArePlaced, all_settled}
+use Rattle.inputs_law.proofs.PlacesShut.{AreEven, even_settled}
 
 frames_are : (old : Controlling) (event : Event) → (step_of old event).frames ≡ map (bytes_of old.setup) (turn_of old.setup old.live event).sent
 unfolding step_of
@@ -138,32 +144,29 @@ of_frame identity octets = framed_read identity (frame_of octets)
 -- ---- what was given and said after a move
 
 -- of a device with this relation afterwards, and with this one before: without a relation there are no inputs
-abbrev pub values_after : Option RelationState → Option RelationState → List RealModule → Heard → Values → Values
-values_after None before real heard values = first_values (said_in real heard values.statuses)
-values_after (Some next) None real heard values = first_values (said_in real heard values.statuses)
-values_after (Some next) (Some link) real heard values = values_by real heard values
+abbrev pub values_after : Option RelationState → Option RelationState → Rest → Heard → Values → Values
+values_after None before rest heard values = first_values (said_in rest heard values.statuses)
+values_after (Some next) None rest heard values = first_values (said_in rest heard values.statuses)
+values_after (Some next) (Some link) rest heard values = values_by rest heard values
 
-abbrev pub heard_with : Move → Heard
-heard_with (move.Application local) = Applied local
-heard_with other = Elsewhere
+said_same : (rest : Rest) (heard : Heard) (values : Values) → (values_by rest heard values).statuses ≡ said_in rest heard values.statuses
+said_same rest (Applied (local.Input slot subslot value)) values = refl
+said_same rest (Applied (local.Status slot subslot is_good)) values = refl
+said_same rest other values = refl
 
-said_same : (real : List RealModule) (heard : Heard) (values : Values) → (values_by real heard values).statuses ≡ said_in real heard values.statuses
-said_same real (Applied (local.Input slot subslot value)) values = refl
-said_same real other values = refl
+frame_said : (rest : Rest) (heard : Heard) (statuses : List InputStatus) → IsOfFrame heard → said_in rest heard statuses ≡ statuses
+frame_said rest (Applied local) statuses is = absurd is
+frame_said rest other statuses is = refl
 
-frame_said : (real : List RealModule) (heard : Heard) (statuses : List InputStatus) → IsOfFrame heard → said_in real heard statuses ≡ statuses
-frame_said real (Applied local) statuses is = absurd is
-frame_said real other statuses is = refl
+frame_values : (rest : Rest) (heard : Heard) (values : Values) → IsOfFrame heard → values_by rest heard values ≡ values_by rest Elsewhere values
+frame_values rest (Applied local) values is = absurd is
+frame_values rest other values is = refl
 
-frame_values : (real : List RealModule) (heard : Heard) (values : Values) → IsOfFrame heard → values_by real heard values ≡ values
-frame_values real (Applied local) values is = absurd is
-frame_values real other values is = refl
-
-pub frame_after : (next before : Option RelationState) (real : List RealModule) (heard : Heard) (values : Values) → IsOfFrame heard
-    → values_after next before real heard values ≡ values_after next before real Elsewhere values
-frame_after None before real heard values is = ap (λ (s : List InputStatus). first_values s) (frame_said real heard values.statuses is)
-frame_after (Some next) None real heard values is = ap (λ (s : List InputStatus). first_values s) (frame_said real heard values.statuses is)
-frame_after (Some next) (Some link) real heard values is = frame_values real heard values is
+pub frame_after : (next before : Option RelationState) (rest : Rest) (heard : Heard) (values : Values) → IsOfFrame heard
+    → values_after next before rest heard values ≡ values_after next before rest Elsewhere values
+frame_after None before rest heard values is = ap (λ (s : List InputStatus). first_values s) (frame_said rest heard values.statuses is)
+frame_after (Some next) None rest heard values is = ap (λ (s : List InputStatus). first_values s) (frame_said rest heard values.statuses is)
+frame_after (Some next) (Some link) rest heard values is = frame_values rest heard values is
 
 -- ---- a device
 
@@ -178,34 +181,44 @@ module _ (setup : Setup) (station : Station) where
   pub none_silent : (calls : List Answer) → kept_of setup.activity calls ≡ None → AreKeptSilent calls
   none_silent calls none = none_kept BringsNothing setup.activity calls none
 
-  -- a relation sends what was given in it
-  abbrev pub Sends : Values → RelationState → Type 0
-  Sends values link = (early : List InputStatus) × (provided_in link.flow ≡ sends_of (rows_for setup station) station.options.inputs_begin_bad (zeros_for setup).data_length (places_for setup) early values)
+  abbrev begins_bad : Bool
+  begins_bad = station.options.inputs_begin_bad
 
-  -- the image of what was given and said
-  abbrev pub image_with : Values → Image
-  image_with values = record { data_length = (zeros_for setup).data_length; cells = map (λ place. cell_for place.kind setup station values.statuses place (values.given place)) (places_for setup) }
+  -- A relation sends what was given in it, and its places that are listed twice are touched as the first of them.
+  pub record Sends (values : Values) (link : RelationState) : Type 0 where
+    pub others : Place → Bool
+    pub is : provided_in link.flow ≡ sends_of link.plugs station.options.inputs_begin_bad (zeros_for setup).data_length (places_for setup) others values
+    pub begin_bad : link.options.inputs_begin_bad ≡ station.options.inputs_begin_bad
+    pub even : AreEven link.plugs.places
 
-  cell_as : (early : List InputStatus) (kind : PlaceKind) (place : Place) (given : Option (List ℕ)) (statuses : List InputStatus)
-      → cell_of_kind (rows_for setup station) station.options.inputs_begin_bad early kind place given (iops_by (mark_of_kind (rows_for setup station) station.options.inputs_begin_bad early kind place given (is_bad place.slot place.subslot statuses)))
-      ≡ cell_for kind setup station statuses place given
-  cell_as early Data place given statuses = refl
-  cell_as early Iocs place given statuses = refl
+  -- The image of what was given and said, in a relation with these places.
+  abbrev pub image_with : PlugState → Values → Image
+  image_with plugs values = record {
+    data_length = (zeros_for setup).data_length;
+    cells = map (λ place. cell_for place.kind station plugs values.statuses place (values.given place)) (places_for setup);
+  }
 
-  cells_as : (early : List InputStatus) (values : Values) (places : List Place)
-      → cells_of (rows_for setup station) station.options.inputs_begin_bad early values places ≡ map (λ place. cell_for place.kind setup station values.statuses place (values.given place)) places
-  cells_as early values [] = refl
-  cells_as early values (place ∷ places) =
-      ap (λ (c : Cell). c ∷ cells_of (rows_for setup station) station.options.inputs_begin_bad early values places) (cell_as early place.kind place (values.given place) values.statuses)
-      ∙ ap (λ (cs : List Cell). cell_for place.kind setup station values.statuses place (values.given place) ∷ cs) (cells_as early values places)
+  cell_as : (plugs : PlugState) (others : Place → Bool) (kind : PlaceKind) (place : Place) (given : Option (List ℕ)) (statuses : List InputStatus)
+      → cell_of_kind plugs begins_bad others kind place given (iops_by (mark_of_kind plugs begins_bad others kind place given (is_bad place.slot place.subslot statuses)))
+      ≡ cell_for kind station plugs statuses place given
+  cell_as plugs others Data place given statuses = refl
+  cell_as plugs others Iocs place given statuses = refl
 
-  pub images_same : (values other : Values) → ((place : Place) → values.given place ≡ other.given place) → values.statuses ≡ other.statuses → image_with values ≡ image_with other
-  images_same values other given statuses = ap (λ (cs : List Cell). let i : Image = record { data_length = (zeros_for setup).data_length; cells = cs } in i) (all_same _ _ (places_for setup) (each_is (places_for setup)))
+  cells_as : (plugs : PlugState) (others : Place → Bool) (values : Values) (places : List Place)
+      → cells_of plugs begins_bad others values places ≡ map (λ place. cell_for place.kind station plugs values.statuses place (values.given place)) places
+  cells_as plugs others values [] = refl
+  cells_as plugs others values (place ∷ places) =
+      ap (λ (c : Cell). c ∷ cells_of plugs begins_bad others values places) (cell_as plugs others place.kind place (values.given place) values.statuses)
+      ∙ ap (λ (cs : List Cell). cell_for place.kind station plugs values.statuses place (values.given place) ∷ cs) (cells_as plugs others values places)
+
+  pub images_same : (plugs : PlugState) (values other : Values) → ((place : Place) → values.given place ≡ other.given place) → values.statuses ≡ other.statuses
+      → image_with plugs values ≡ image_with plugs other
+  images_same plugs values other given statuses = ap (λ (cs : List Cell). let i : Image = record { data_length = (zeros_for setup).data_length; cells = cs } in i) (all_same _ _ (places_for setup) (each_is (places_for setup)))
     where
-      each_is : (places : List Place) → AllByRecursion (λ (place : Place). cell_for place.kind setup station values.statuses place (values.given place) ≡ cell_for place.kind setup station other.statuses place (other.given place)) places
+      each_is : (places : List Place) → AllByRecursion (λ (place : Place). cell_for place.kind station plugs values.statuses place (values.given place) ≡ cell_for place.kind station plugs other.statuses place (other.given place)) places
       each_is [] = tt
       each_is (place ∷ places) = (
-        ap (λ (g : Option (List ℕ)). cell_for place.kind setup station values.statuses place g) (given place) ∙ ap (λ (s : List InputStatus). cell_for place.kind setup station s place (other.given place)) statuses,
+        ap (λ (g : Option (List ℕ)). cell_for place.kind station plugs values.statuses place g) (given place) ∙ ap (λ (s : List InputStatus). cell_for place.kind station plugs s place (other.given place)) statuses,
         each_is places,
       )
 
@@ -214,49 +227,50 @@ module _ (setup : Setup) (station : Station) where
     pub sends : (link : RelationState) → rest.link ≡ Some link → Sends values link
 
   -- the relation, if there is one, sends this image
-  pub image_fits : (values : Values) (rest : Rest) → Provides values rest → image_in (image_with values) rest.link ≡ image_with values
+  pub image_fits : (values : Values) (rest : Rest) → Provides values rest → image_in (image_with (plugs_of rest.link) values) rest.link ≡ image_with (plugs_of rest.link) values
   image_fits values rest provides = by_link rest.link refl
     where
-      by_link : (link : Option RelationState) → rest.link ≡ link → image_in (image_with values) link ≡ image_with values
+      by_link : (link : Option RelationState) → rest.link ≡ link → image_in (image_with (plugs_of link) values) link ≡ image_with (plugs_of link) values
       by_link None none = refl
       by_link (Some link) is =
           let sends = provides.sends link is in
-          ap (λ (p : Provided). p.shown) sends.1
-          ∙ ap (λ (cs : List Cell). let i : Image = record { data_length = (zeros_for setup).data_length; cells = cs } in i) (cells_as sends.0 values (places_for setup))
+          ap (λ (p : Provided). p.shown) sends.is
+          ∙ ap (λ (cs : List Cell). let i : Image = record { data_length = (zeros_for setup).data_length; cells = cs } in i) (cells_as link.plugs sends.others values (places_for setup))
 
   -- without a relation no value is given
   abbrev pub IsUnrelated : Values → Rest → Type 0
   IsUnrelated values rest = rest.link ≡ None → (place : Place) → values.given place ≡ None
 
-  pub image_still : (values : Values) (rest : Rest) → IsUnrelated values rest → image_with (values_after rest.link rest.link station.real.modules.items Elsewhere values) ≡ image_with values
-  image_still values rest unrelated = by_link rest.link refl
+  pub image_still : (plugs : PlugState) (values : Values) (rest : Rest) → IsUnrelated values rest → image_with plugs (values_after rest.link rest.link rest Elsewhere values) ≡ image_with plugs values
+  image_still plugs values rest unrelated = by_link rest.link refl
     where
-      by_link : (link : Option RelationState) → rest.link ≡ link → image_with (values_after link link station.real.modules.items Elsewhere values) ≡ image_with values
-      by_link None none = images_same (first_values values.statuses) values (λ place. sym (unrelated none place)) refl
-      by_link (Some link) is = refl
+      by_link : (link : Option RelationState) → rest.link ≡ link → image_with plugs (values_after link link rest Elsewhere values) ≡ image_with plugs values
+      by_link None none = images_same plugs (first_values values.statuses) values (λ place. sym (unrelated none place)) refl
+      by_link (Some link) is = images_same plugs (values_by rest Elsewhere values) values (λ place. refl) refl
 
   pub provides_same : (values other : Values) (rest : Rest) → ((place : Place) → values.given place ≡ other.given place) → values.statuses ≡ other.statuses → Provides values rest → Provides other rest
   provides_same values other rest given statuses provides = record {
     statuses = provides.statuses ∙ statuses;
     sends = λ link is.
-        let sends = provides.sends link is in
-        (sends.0, sends.1 ∙ values_same (rows_for setup station) station.options.inputs_begin_bad (zeros_for setup).data_length (places_for setup) sends.0 values other given statuses);
+        let sends = provides.sends link is in record {
+          others = sends.others;
+          is = sends.is ∙ values_same link.plugs begins_bad (zeros_for setup).data_length (places_for setup) sends.others values other given statuses;
+          begin_bad = sends.begin_bad;
+          even = sends.even;
+        };
   }
 
   -- nothing happens at the device
-  pub provides_still : (values : Values) (rest : Rest) → Provides values rest → Provides (values_after rest.link rest.link station.real.modules.items Elsewhere values) rest
+  pub provides_still : (values : Values) (rest : Rest) → Provides values rest → Provides (values_after rest.link rest.link rest Elsewhere values) rest
   provides_still values rest provides = by_link rest.link refl
     where
-      by_link : (link : Option RelationState) → rest.link ≡ link → Provides (values_after link link station.real.modules.items Elsewhere values) rest
+      by_link : (link : Option RelationState) → rest.link ≡ link → Provides (values_after link link rest Elsewhere values) rest
       by_link None none = record { statuses = provides.statuses; sends = λ link is. none_some link (sym none ∙ is) }
-      by_link (Some link) was = provides
+      by_link (Some link) was = provides_same values (values_by rest Elsewhere values) rest (λ place. refl) refl provides
 
 module _ (sound : IsSound ethernet) (setup : Setup) (station : Station) (there : ArePlaced setup) where
-  abbrev real : List RealModule
-  real = station.real.modules.items
-
   module _ (live : Live) (values : Values) (provides : Provides setup station values live.rest) (heard : Heard)
-      (planned : IsPlanned (rules_of setup station) setup.activity station.real heard) (outcomes : List Outcome)
+      (planned : IsPlanned (rules_of setup station) setup.activity live.rest.real heard) (outcomes : List Outcome)
       (turn : Turn station live heard (heard_step outcomes station live heard).live.rest (heard_step outcomes station live heard).sent) where
     abbrev after : Rest
     after = (heard_step outcomes station live heard).live.rest
@@ -264,24 +278,70 @@ module _ (sound : IsSound ethernet) (setup : Setup) (station : Station) (there :
     abbrev sent : List Sent
     sent = (heard_step outcomes station live heard).sent
 
+    abbrev begin_bad : Bool
+    begin_bad = station.options.inputs_begin_bad
+
+    abbrev many : ℕ
+    many = (zeros_for setup).data_length
+
+    abbrev places : List Place
+    places = places_for setup
+
+    -- what a relation with these places sends
+    abbrev sends : PlugState → (Place → Bool) → Values → Provided
+    sends plugs others now = sends_of plugs begin_bad many places others now
+
+    -- something is pulled or plugged, or a place is released
+    renewed_sends : (link : RelationState) (plugs : PlugState) (others : Place → Bool) (affected : Option Affected)
+        → (later : Place → Bool) × (restate_all plugs (renew_if affected begin_bad (sends link.plugs others values)) ≡ sends plugs later (renewed_values affected values))
+    renewed_sends link plugs others None = (
+      others,
+      restated_sends begin_bad many places (own_all link.plugs begin_bad many places there.once) link.plugs plugs others values
+          ∙ values_same plugs begin_bad many places others values (renewed_values None values) (λ place. refl) refl,
+    )
+    renewed_sends link plugs others (Some affected) = (
+      left_others begin_bad many places (own_all link.plugs begin_bad many places there.once) (Some affected) others,
+      changed_sends begin_bad many places (own_all link.plugs begin_bad many places there.once) affected link.plugs plugs others values,
+    )
+
     -- a relation that goes on
-    goes_on : (link next : RelationState) → live.rest.link ≡ Some link → after.link ≡ Some next → Sends setup station (values_by real heard values) next
-    goes_on link next was is =
-        let before = provides.sends link was in (
-          before.0,
-          step_provides outcomes station live link heard next was is
-              ∙ (ap (λ (s : List InputStatus). provided_by real s heard (provided_in link.flow)) provides.statuses
-              ∙ (ap (λ (p : _). provided_by real values.statuses heard p) before.1
-              ∙ sends_by (rows_for setup station) station.options.inputs_begin_bad (zeros_for setup).data_length (places_for setup) there.once real before.0 values heard)),
-        )
+    sends_on : (link next : RelationState) → Sends setup station values link → IsDeviceStep live.rest heard link next → Sends setup station (values_by live.rest heard values) next
+    sends_on link next before (inl gives) =
+        let goes = gives.goes before.even in record {
+          others = before.others;
+          is = gives.is
+              ∙ (ap (λ (s : List InputStatus). provided_by live.rest.real.modules.items s heard (provided_in link.flow)) provides.statuses
+              ∙ (ap (λ (p : Provided). provided_by live.rest.real.modules.items values.statuses heard p) before.is
+              ∙ (sends_by link.plugs begin_bad many places there.once live.rest before.others values heard gives.none
+              ∙ shut_sends begin_bad many places (own_all link.plugs begin_bad many places there.once) link.plugs next.plugs before.others (values_by live.rest heard values) goes.shut)));
+          begin_bad = ap (λ (o : DeviceOptions). o.inputs_begin_bad) gives.options ∙ before.begin_bad;
+          even = goes.even;
+        }
+    sends_on link next before (inr restates) =
+        let goes = restates.goes (restates.even before.even) in
+        let affected = renewed_in live.rest heard in
+        let renewed = renewed_sends link restates.plugs before.others affected in record {
+          others = renewed.0;
+          is = restates.is
+              ∙ (ap (λ (b : Bool). restate_all restates.plugs (renew_if affected b (provided_in link.flow))) before.begin_bad
+              ∙ (ap (λ (p : Provided). restate_all restates.plugs (renew_if affected begin_bad p)) before.is
+              ∙ (renewed.1
+              ∙ (ap (λ (v : Values). sends restates.plugs renewed.0 v) (sym (restates.values values))
+              ∙ shut_sends begin_bad many places (own_all link.plugs begin_bad many places there.once) restates.plugs next.plugs renewed.0 (values_by live.rest heard values) goes.shut))));
+          begin_bad = ap (λ (o : DeviceOptions). o.inputs_begin_bad) restates.options ∙ before.begin_bad;
+          even = goes.even;
+        }
+
+    goes_on : (link next : RelationState) → live.rest.link ≡ Some link → after.link ≡ Some next → Sends setup station (values_by live.rest heard values) next
+    goes_on link next was is = sends_on link next (provides.sends link was) (step_provides outcomes station live link heard next was is)
 
     -- a relation that begins is that of the plan
     asked_of : Makes live.rest.calls live.rest.link heard after.link sent → live.rest.link ≡ None → (next : RelationState) → after.link ≡ Some next → next.request ≡ request_for setup.plan setup.ar
     asked_of makes none next is =
-        let plan : IsPlannedCall (rules_of setup station) setup.activity station.real makes.call =
-        subst (λ (h : Heard). IsPlanned (rules_of setup station) setup.activity station.real h) makes.is planned in
-        let asks : IsPlannedAs (rules_of setup station) station.real makes.call.header.sequence plan.blocks (Some operation.Connect) =
-        subst (λ (o : Option Operation). IsPlannedAs (rules_of setup station) station.real makes.call.header.sequence plan.blocks o) makes.connects plan.asks in
+        let plan : IsPlannedCall (rules_of setup station) setup.activity live.rest.real makes.call =
+        subst (λ (h : Heard). IsPlanned (rules_of setup station) setup.activity live.rest.real h) makes.is planned in
+        let asks : IsPlannedAs (rules_of setup station) live.rest.real makes.call.header.sequence plan.blocks (Some operation.Connect) =
+        subst (λ (o : Option Operation). IsPlannedAs (rules_of setup station) live.rest.real makes.call.header.sequence plan.blocks o) makes.connects plan.asks in
         let same : plan.blocks ≡ makes.blocks = some_is plan.blocks makes.blocks (sym plan.counted ∙ makes.counted) in
         ap (λ (l : RelationState). l.request) (sym (some_is _ next (sym makes.made ∙ is)))
         ∙ same_ok makes.request (request_for setup.plan setup.ar)
@@ -290,34 +350,46 @@ module _ (sound : IsSound ethernet) (setup : Setup) (station : Station) (there :
         same_ok : (x y : Request) → ◌≡◌ {A = Result Request CallFault} (Ok x) (Ok y) → x ≡ y
         same_ok x y e = cc
 
-    begins : (next : RelationState) → live.rest.link ≡ None → after.link ≡ Some next → Sends setup station (first_values (said_in real heard values.statuses)) next
+    -- this turn, if no relation exists before it
+    abbrev alone : live.rest.link ≡ None → ((shown : Image) → AreOfImage shown sent) × ((next : RelationState) → after.link ≡ Some next → Makes live.rest.calls live.rest.link heard after.link sent)
+    alone none = turn_alone live.rest.real.modules.items after.real.modules.items live.rest.calls live.rest.diagnoses after.diagnoses heard live.rest.link after.link sent none turn.is
+
+    begins : (next : RelationState) → live.rest.link ≡ None → after.link ≡ Some next → Sends setup station (first_values (said_in live.rest heard values.statuses)) next
     begins next none is =
-        let makes = (turn_alone real live.rest.calls live.rest.diagnoses after.diagnoses heard live.rest.link after.link sent none turn.is).1 next is in
+        let makes = (alone none).1 next is in
         let starting = starting_of station live in
         let asked = asked_of makes none next is in
-        let said : said_in real heard values.statuses ≡ live.rest.statuses = ap (λ (h : Heard). said_in real h values.statuses) makes.is ∙ sym provides.statuses in
-        subst (λ (s : List InputStatus). Sends setup station (first_values s) next) (sym said) (
-          live.rest.statuses,
-          step_opens outcomes station live heard next after.link sent none is makes
-              ∙ (ap (λ (r : Request). provided_in (opened r (rows_of r station.real) starting)) asked
-              ∙ sends_first (rows_for setup station) station.options.inputs_begin_bad (zeros_for setup).data_length (places_for setup) there.once starting refl (request_for setup.plan setup.ar) refl refl),
-        )
+        let rows = rows_of next.request live.rest.real in
+        let opens = step_opens outcomes station live heard next after.link sent none is makes in
+        let plugs_are : next.plugs ≡ plugs_opened (expected_of setup.plan.real.modules.items) rows = opens.plugs ∙ ap (λ (r : Request). plugs_opened r.expected rows) asked in
+        let fresh : IsFresh next.plugs begin_bad many places there.once rows places =
+        subst (λ (p : PlugState). IsFresh p begin_bad many places there.once rows places) (sym plugs_are) (there.fresh rows) in
+        let said : said_in live.rest heard values.statuses ≡ live.rest.statuses = ap (λ (h : Heard). said_in live.rest h values.statuses) makes.is ∙ sym provides.statuses in
+        subst (λ (s : List InputStatus). Sends setup station (first_values s) next) (sym said) (record {
+          others = first_others next.plugs begin_bad many places there.once rows starting refl fresh;
+          is = opens.sends
+              ∙ sends_first next.plugs begin_bad many places there.once rows starting refl fresh next.request
+              (ap (λ (r : Request). r.input.layout.data_length) asked) (ap (λ (r : Request). r.input.layout.places) asked);
+          begin_bad = ap (λ (o : DeviceOptions). o.inputs_begin_bad) opens.options;
+          even = subst (λ (p : PlugState). AreEven p.places) (sym opens.plugs)
+              (even_settled (opened_places next.request.expected rows) (all_settled rows (wanted_in next.request.expected.modules.items next.request.expected.submodules.items)));
+        })
 
-    pub provides_on : Provides setup station (values_after after.link live.rest.link real heard values) after
+    pub provides_on : Provides setup station (values_after after.link live.rest.link live.rest heard values) after
     provides_on = by_links after.link live.rest.link refl refl
       where
-        said : after.statuses ≡ said_in real heard values.statuses
-        said = step_said outcomes station live heard ∙ ap (λ (s : List InputStatus). said_in real heard s) provides.statuses
+        said : after.statuses ≡ said_in live.rest heard values.statuses
+        said = step_said outcomes station live heard ∙ ap (λ (s : List InputStatus). said_in live.rest heard s) provides.statuses
 
-        by_links : (next link : Option RelationState) → after.link ≡ next → live.rest.link ≡ link → Provides setup station (values_after next link real heard values) after
+        by_links : (next link : Option RelationState) → after.link ≡ next → live.rest.link ≡ link → Provides setup station (values_after next link live.rest heard values) after
         by_links None link gone was = record { statuses = said; sends = λ next is. none_some next (sym gone ∙ is) }
         by_links (Some now) None there none = record { statuses = said; sends = λ next is. begins next none is }
-        by_links (Some now) (Some link) there was = record { statuses = said ∙ sym (said_same real heard values); sends = λ next is. goes_on link next was is }
+        by_links (Some now) (Some link) there was = record { statuses = said ∙ sym (said_same live.rest heard values); sends = λ next is. goes_on link next was is }
 
     -- an input makes no relation
     pub input_makes_none : (slot subslot : ℕ) (value : List ℕ) → heard ≡ input_heard slot subslot value → live.rest.link ≡ None → (next : RelationState) → after.link ≡ Some next → ⊥
     input_makes_none slot subslot value given none next is =
-        let makes = (turn_alone real live.rest.calls live.rest.diagnoses after.diagnoses heard live.rest.link after.link sent none turn.is).1 next is in
+        let makes = (alone none).1 next is in
         apart makes.caller makes.address makes.call (sym given ∙ makes.is)
       where
         apart : (caller : _) (address : _) (call : _) → input_heard slot subslot value ≡ Reported caller address (Calls call) → ⊥
@@ -326,21 +398,21 @@ module _ (sound : IsSound ethernet) (setup : Setup) (station : Station) (there :
     -- ---- what is sent
 
     abbrev shown_then : Image
-    shown_then = image_with setup station (values_after after.link live.rest.link real heard values)
+    shown_then = image_with setup station (plugs_of after.link) (values_after after.link live.rest.link live.rest heard values)
 
     images : AreOfImage shown_then sent
     images = by_link live.rest.link refl
       where
         by_link : (link : Option RelationState) → live.rest.link ≡ link → AreOfImage shown_then sent
-        by_link None none = (turn_alone real live.rest.calls live.rest.diagnoses after.diagnoses heard live.rest.link after.link sent none turn.is).0 shown_then
+        by_link None none = (alone none).0 shown_then
         by_link (Some link) was =
-            subst (λ (i : Image). AreOfImage i sent) (image_fits setup station (values_after after.link live.rest.link real heard values) after provides_on) (link_sent shown_then outcomes station live link heard was)
+            subst (λ (i : Image). AreOfImage i sent) (image_fits setup station (values_after after.link live.rest.link live.rest heard values) after provides_on) (link_sent shown_then outcomes station live link heard was)
 
     one_known : AreKeptSilent setup station live.rest.calls → (shown : Image) (message : Sent) → IsOfImage shown message → IsOwed heard live message → IsKnown setup station.identity sound shown message
     one_known silent shown (Exchanges route (Inputs state inputs counter)) is owed = is
     one_known silent shown (Again frame) is owed =
-        let plan : IsPlannedCall (rules_of setup station) setup.activity station.real owed.call =
-        subst (λ (h : Heard). IsPlanned (rules_of setup station) setup.activity station.real h) owed.is planned in
+        let plan : IsPlannedCall (rules_of setup station) setup.activity live.rest.real owed.call =
+        subst (λ (h : Heard). IsPlanned (rules_of setup station) setup.activity live.rest.real h) owed.is planned in
         subst (λ (f : List ℕ). BringsNothing setup station f) owed.same
         (kept_at (BringsNothing setup station) setup.activity live.rest.calls silent owed.kept (ap (λ (a : List ℕ). kept_of a live.rest.calls) (sym plan.own) ∙ owed.there))
     one_known silent shown (Exchanges route (Notifies header alarm)) is owed = tt
@@ -392,7 +464,7 @@ abbrev pub seen_as : Setup → ControllerLive → Image → List (List ℕ) → 
 seen_as setup live given sent = record { accepted = has_accepted live; outputs = inputs_of setup live; given = given; sent = sent }
 
 abbrev pub seen : {F : Type 0} → World F → Values → Shown Image Image
-seen w values = seen_as w.controller.setup w.controller.live (image_with w.controller.setup w.device.station values) w.sent
+seen w values = seen_as w.controller.setup w.controller.live (image_with w.controller.setup w.device.station (plugs_of w.device.live.rest.link) values) w.sent
 
 shows_as : (setup : Setup) (identity : Identity) (brought : Option (List ℕ)) (before next : ControllerLive) (given now : Image) (frames all : List (List ℕ)) → ShowsIn setup brought before next
     → Shows (rules_for setup identity) brought (seen_as setup before given frames) (seen_as setup next now all)
@@ -428,7 +500,7 @@ module _ (turns : TurnsSo) (kinds : KindsSo) (so : DeviceSo) (hears : HearsSo) (
     pub is : steps
     pub setup : after.controller.setup ≡ before.controller.setup
     pub station : after.device.station ≡ before.device.station
-    pub provides : ProvidesAt after (values_after after.device.live.rest.link before.device.live.rest.link before.device.station.real.modules.items heard values)
+    pub provides : ProvidesAt after (values_after after.device.live.rest.link before.device.live.rest.link before.device.live.rest heard values)
     pub silent : AreKeptSilent after.controller.setup after.device.station after.device.live.rest.calls
     pub many : ℕ
     pub kept : IsKept many after.controller.live
@@ -447,7 +519,11 @@ module _ (turns : TurnsSo) (kinds : KindsSo) (so : DeviceSo) (hears : HearsSo) (
 
     -- what was given and said in a world that comes next
     abbrev values_to : World F → Heard → Values
-    values_to w heard = values_after w.device.live.rest.link before.device.live.rest.link station.real.modules.items heard values
+    values_to w heard = values_after w.device.live.rest.link before.device.live.rest.link before.device.live.rest heard values
+
+    -- the places of the relation before
+    abbrev plugs : PlugState
+    plugs = plugs_of before.device.live.rest.link
 
     apart : pointwise nat_eq setup.plan.controller.mac.octets station.identity.mac.octets ≡ false
     apart = other_mac setup.plan.controller.mac station.identity.mac (λ e. holds.follows.apart (sym e))
@@ -468,8 +544,8 @@ module _ (turns : TurnsSo) (kinds : KindsSo) (so : DeviceSo) (hears : HearsSo) (
         let brought = brought_with setup kinds station.identity live holds.follows.placed.partner (came_by setup event) in
         subst (λ (w : World F). Refines before w Elsewhere values (ShowsAtDevice rules brought (seen before values) (seen w (values_to w Elsewhere)))) (sym becomes) (record {
           is = record {
-            shows = shows_as setup station.identity brought live turn.live (image_with setup station values) (image_with setup station (values_to before Elsewhere)) before.sent (before.sent ++ map (bytes_of setup) turn.sent) shows.shows;
-            given = image_still setup station values before.device.live.rest unrelated;
+            shows = shows_as setup station.identity brought live turn.live (image_with setup station plugs values) (image_with setup station plugs (values_to before Elsewhere)) before.sent (before.sent ++ map (bytes_of setup) turn.sent) shows.shows;
+            given = image_still setup station plugs values before.device.live.rest unrelated;
             frames = map (bytes_of setup) turn.sent;
             none = all_said_silent setup station.identity sound apart holds.follows.good.mac turn.sent (all_addressed turn.live.cyclic.shown turn.sent tells.reported);
             behind = refl;
@@ -492,23 +568,23 @@ module _ (turns : TurnsSo) (kinds : KindsSo) (so : DeviceSo) (hears : HearsSo) (
         let outcomes = hears_it.steps.outcomes in
         let live = before.device.live in
         let turn = turns (rules_of setup station) setup.activity outcomes station live heard meant.planned in
-        let brings = subst (λ (l : Live). AllByRecursion (BringsNow setup station.identity (image_with setup station (values_after l.rest.link live.rest.link station.real.modules.items heard values))) (heard_step outcomes station live heard).frames) (sym hears_it.steps.live)
+        let brings = subst (λ (l : Live). AllByRecursion (BringsNow setup station.identity (image_with setup station (plugs_of l.rest.link) (values_after l.rest.link live.rest.link live.rest heard values))) (heard_step outcomes station live heard).frames) (sym hears_it.steps.live)
         (frames_bring sound setup station (there setup holds.follows.good) live values provides heard meant.planned outcomes turn holds.silent hears_it.steps.sendable) in
         record {
           is = record {
             accepted = ap (λ (c : Controlling). has_accepted c.live) made.controller;
             outputs = ap (λ (c : Controlling). inputs_of c.setup c.live) made.controller;
             frames = hears_it.frames;
-            brings = subst (λ (c : Controlling). AllByRecursion (λ frame. BringsNone rules frame ⊎ (rules.brought_by frame ≡ Some (octets_of (image_with c.setup after.device.station (values_to after heard))))) hears_it.frames) (sym made.controller)
-                (subst (λ (s : Station). AllByRecursion (λ frame. BringsNone rules frame ⊎ (rules.brought_by frame ≡ Some (octets_of (image_with setup s (values_to after heard))))) hears_it.frames) (sym hears_it.steps.same)
-                (subst (λ (frames : List (List ℕ)). AllByRecursion (BringsNow setup station.identity (image_with setup station (values_to after heard))) frames) (sym hears_it.steps.frames) brings));
+            brings = subst (λ (c : Controlling). AllByRecursion (λ frame. BringsNone rules frame ⊎ (rules.brought_by frame ≡ Some (octets_of (image_with c.setup after.device.station (plugs_of after.device.live.rest.link) (values_to after heard))))) hears_it.frames) (sym made.controller)
+                (subst (λ (s : Station). AllByRecursion (λ frame. BringsNone rules frame ⊎ (rules.brought_by frame ≡ Some (octets_of (image_with setup s (plugs_of after.device.live.rest.link) (values_to after heard))))) hears_it.frames) (sym hears_it.steps.same)
+                (subst (λ (frames : List (List ℕ)). AllByRecursion (BringsNow setup station.identity (image_with setup station (plugs_of after.device.live.rest.link) (values_to after heard))) frames) (sym hears_it.steps.frames) brings));
             behind = hears_it.behind;
           };
           setup = ap (λ (c : Controlling). c.setup) made.controller;
           station = hears_it.steps.same;
           provides = subst (λ (c : Controlling). Provides c.setup after.device.station (values_to after heard) after.device.live.rest) (sym made.controller)
               (subst (λ (s : Station). Provides setup s (values_to after heard) after.device.live.rest) (sym hears_it.steps.same)
-              (subst (λ (l : Live). Provides setup station (values_after l.rest.link live.rest.link station.real.modules.items heard values) l.rest) (sym hears_it.steps.live)
+              (subst (λ (l : Live). Provides setup station (values_after l.rest.link live.rest.link live.rest heard values) l.rest) (sym hears_it.steps.live)
               (provides_on sound setup station (there setup holds.follows.good) live values provides heard meant.planned outcomes turn)));
           silent = subst (λ (c : Controlling). AreKeptSilent c.setup after.device.station after.device.live.rest.calls) (sym made.controller)
               (subst (λ (s : Station). AreKeptSilent setup s after.device.live.rest.calls) (sym hears_it.steps.same)
@@ -538,7 +614,7 @@ module _ (turns : TurnsSo) (kinds : KindsSo) (so : DeviceSo) (hears : HearsSo) (
 
     rests : (Does : Type 0) → after ≡ before → Refines before after Elsewhere values ((seen after (values_to after Elsewhere) ≡ seen before values) ⊎ Does)
     rests Does same = subst (λ (w : World F). Refines before w Elsewhere values ((seen w (values_to w Elsewhere) ≡ seen before values) ⊎ Does)) (sym same) (record {
-      is = inl (ap (λ (i : Image). seen_as setup before.controller.live i before.sent) (image_still setup station values before.device.live.rest unrelated));
+      is = inl (ap (λ (i : Image). seen_as setup before.controller.live i before.sent) (image_still setup station plugs values before.device.live.rest unrelated));
       setup = refl;
       station = refl;
       provides = provides_still setup station values before.device.live.rest provides;
@@ -564,10 +640,10 @@ module _ (turns : TurnsSo) (kinds : KindsSo) (so : DeviceSo) (hears : HearsSo) (
     framed : (heard : Heard) → IsOfFrame heard → Refines before after heard values (GivesAtController rules (seen before values) (seen after (values_to after heard)))
         → Refines before after Elsewhere values (GivesAtController rules (seen before values) (seen after (values_to after Elsewhere)))
     framed heard is refines = record {
-      is = subst (λ (v : Values). GivesAtController rules (seen before values) (seen after v)) (frame_after after.device.live.rest.link before.device.live.rest.link station.real.modules.items heard values is) refines.is;
+      is = subst (λ (v : Values). GivesAtController rules (seen before values) (seen after v)) (frame_after after.device.live.rest.link before.device.live.rest.link before.device.live.rest heard values is) refines.is;
       setup = refines.setup;
       station = refines.station;
-      provides = subst (λ (v : Values). ProvidesAt after v) (frame_after after.device.live.rest.link before.device.live.rest.link station.real.modules.items heard values is) refines.provides;
+      provides = subst (λ (v : Values). ProvidesAt after v) (frame_after after.device.live.rest.link before.device.live.rest.link before.device.live.rest heard values is) refines.provides;
       silent = refines.silent;
       many = refines.many;
       kept = refines.kept;
@@ -612,8 +688,8 @@ module _ (turns : TurnsSo) (kinds : KindsSo) (so : DeviceSo) (hears : HearsSo) (
       happens_shows move.Stop meant happens = at_controller_so controller.Stop happens refl
 
       -- a move, and what holds after it
-      pub step_holds : (one : Move) → IsMeant before one → Happens as_flash before one after → IsStep one × Holds after
-      step_holds one meant happens =
+      pub step_holds : (one : Move) → IsMeant before one → IsSizedMove one → Happens as_flash before one after → IsStep one × Holds after
+      step_holds one meant sized happens =
           let step = happens_shows one meant happens in (
             step,
             record {
@@ -623,6 +699,6 @@ module _ (turns : TurnsSo) (kinds : KindsSo) (so : DeviceSo) (hears : HearsSo) (
               showing = step.showing;
               raised = _;
               taken = _;
-              follows = one_follows High so hears as_flash before after holds.raised holds.taken holds.follows one happens meant;
+              follows = one_follows High so hears as_flash before after holds.raised holds.taken holds.follows one happens meant sized;
             },
           )

@@ -194,6 +194,10 @@ fn borrowed(local: &Local<Bytes>) -> Local<Octets<'_, 1519>>
         Local::Diagnosis(slot, subslot, channel, error, appears) => {
             Local::Diagnosis(*slot, *subslot, *channel, *error, *appears)
         }
+        Local::Pull(slot, subslot) => Local::Pull(*slot, *subslot),
+        Local::PullModule(slot) => Local::PullModule(*slot),
+        Local::Plug(slot, ident, submodule) => Local::Plug(*slot, *ident, submodule.copy()),
+        Local::ReadyAt(slot, subslot) => Local::ReadyAt(*slot, *subslot),
         Local::Ready => Local::Ready,
         Local::ProviderState(is_running) => Local::ProviderState(*is_running),
     }

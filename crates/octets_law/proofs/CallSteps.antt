@@ -21,7 +21,7 @@ use Rattle.octets_law.proofs.CallPlaces.{IsCallRead}
 use Rattle.octets_law.proofs.CallReads.{tested}
 use Rattle.octets_law.proofs.CallCounts.{IsCallCounted}
 use Rattle.octets_law.proofs.FrameSteps.{IsSaid, silent_said, still_bridged}
-use Rattle.octets_law.proofs.Items.{IsStill}
+use Rattle.octets_law.proofs.Items.{IsStill, control_still}
 use Rattle.octets_law.proofs.Quiet.{again_bridged, asks_nothing}
 use Rattle.octets_law.proofs.Tracks.{Tracks, again_tracked, new_tracked, uncounted_tracked}
 
@@ -115,7 +115,7 @@ module _ (names : List (List ℕ)) (outcomes : List Outcome) (station : Station)
   by_operation writes (Some Release) is what = no_write Release is (λ e. absurd cc) (λ blocks. refl) call.blocks refl what
   by_operation writes (Some Read) is what = no_write Read is (λ e. absurd cc) (λ blocks. refl) call.blocks refl what
   by_operation writes (Some Write) is what = write writes is call.blocks refl what
-  by_operation writes (Some Control) is what = no_write Control is (λ e. absurd cc) (λ blocks. refl) call.blocks refl what
+  by_operation writes (Some Control) is what = no_write Control is (λ e. absurd cc) (control_still station live caller call) call.blocks refl what
   by_operation writes (Some ReadImplicit) is what = no_write ReadImplicit is (λ e. absurd cc) (λ blocks. refl) call.blocks refl what
 
   by_running : WritesAreBridged names outcomes station live event octets asks caller address call read heard → (b : Bool)

@@ -28,7 +28,6 @@ use Rattle.device_frames.specs.Sendable.{AreSendable}
 use Rattle.device_core.specs.State.{Live, Station}
 use Rattle.device_core.specs.Handled.{Refuses, handled, is_running}
 use Rattle.device_core.specs.Machine.{step_of}
-use Rattle.relations.specs.Ready.{answer_of as ready_answer}
 use Rattle.octets_law.specs.Bridge.{repeats}
 use Rattle.octets_law.specs.Turns.{IsSmall}
 use Rattle.octets_law.specs.Octets.{Call as Calling, Nothing, asking_in, asking_of, calling, is_dcp, number, untagged}
@@ -38,7 +37,7 @@ use Rattle.octets_law.proofs.CallPlaces.{IsCallRead, call_placed, skip}
 use Rattle.octets_law.proofs.CallSteps.{WritesAreBridged, call_step}
 use Rattle.octets_law.proofs.Datagrams.{IsArp, IsInternet, IsRealTime, Kind, body_behind, kind_under}
 use Rattle.octets_law.proofs.FrameSteps.{IsSaid, frame_timely, frame_to, is_to, nothing_said, other_said, real_step, silent_said}
-use Rattle.octets_law.proofs.Items.{IsStill, answer_still}
+use Rattle.octets_law.proofs.Items.{IsStill, response_still}
 use Rattle.octets_law.proofs.Responses.{response_kind}
 use Rattle.octets_law.proofs.SetReads.{two_octets}
 use Rattle.octets_law.proofs.WriteBridged.{writes_bridged}
@@ -114,7 +113,7 @@ module _ (names : List (List ℕ)) (outcomes : List Outcome) (station : Station)
       by_response (Err fault) is heard = garbled heard
       by_response (Ok response) is heard =
           nothing_said names outcomes station live event (Reported caller address (Responds response)) heard
-          (cond_both (is_running live.values.running address) _ _ IsStill (λ _. answer_still station live (ready_answer response live.rest.link)) (λ _. refl)) tt
+          (cond_both (is_running live.values.running address) _ _ IsStill (λ _. response_still station live response) (λ _. refl)) tt
           (asks ∙ response_nothing (body ++ more) (response_kind (body ++ more) response (response_behind body more response (response_takes body response is))))
 
       by_call : (read : Result Called RpcFault) → call_of Device body ≡ read → heard_of station.identity event ≡ Reported caller address (said_first read (response_of body)) → Goal event

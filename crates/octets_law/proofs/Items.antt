@@ -1,10 +1,14 @@
 -- Nothing is asked of the settings but by a Set and by a Write.
-use Rattle.std.proofs.Common.{◌≡◌, ◌&&◌, [], Option, refl}
+use Rattle.std.proofs.Common.{◌≡◌, ◌&&◌, ℕ, List, [], Option, refl}
 use Rattle.std.proofs.lemmas.Bool.{cond_both}
 use Rattle.dcp_core.specs.declared.request.Service.TheVariants as service
 use Rattle.dcp_core.specs.Request.{Asked}
 use Rattle.dcp_core.specs.Identify.{matches}
 use Rattle.pn_values.specs.declared.mac.Mac.{Mac}
+use Rattle.frame_codec.specs.declared.udp.Caller.{Caller}
+use Rattle.rpc_core.specs.Call.{Asked as Called}
+use Rattle.rpc_core.specs.Response.{Answered}
+use Rattle.records.specs.declared.status.operation.Operation.TheVariants.{Control}
 use Rattle.pn_alarms.specs.declared.device.PduFate.{PduFate}
 use Rattle.pn_alarms.specs.declared.device.PduFate.TheVariants as fate
 use Rattle.pn_alarms.specs.declared.pdu.Header.{Header}
@@ -14,12 +18,16 @@ use Rattle.cyclic_data.specs.declared.exchange.received.Received.TheVariants as 
 use Rattle.relations.specs.Exchanged.{heard_by, hearing, received_by, receiving}
 use Rattle.relations.specs.declared.hearing.ReadyAnswer.{ReadyAnswer}
 use Rattle.relations.specs.declared.hearing.ReadyAnswer.TheVariants as to_ready
+use Rattle.relations.specs.declared.plugging.PlugAnswer.{PlugAnswer}
+use Rattle.relations.specs.declared.plugging.PlugAnswer.TheVariants as to_plug
+use Rattle.relations.specs.Plugging.{is_plug_control, plug_answer_in}
+use Rattle.relations.specs.Ready.{answer_of as ready_answer}
 use Rattle.device_frames.specs.Heard.{Heard, Ticks, Unreadable, Elsewhere, Asks, Resolves, Reported, Cyclic, Alarms, LowReplies, LowConfirms, Met, Applied}
-use Rattle.relations.specs.RelationState.{RelationState, is_alarm_of}
+use Rattle.relations.specs.RelationState.{RelationState, is_alarm_of, is_in_exchange}
 use Rattle.relations.specs.Phases.{updated}
 use Rattle.relations.specs.Diagnosed.{has_sent_low, heard_low, hearing_low}
 use Rattle.device_core.specs.State.{Station, Live, alias_in}
-use Rattle.device_core.specs.Handled.{Handled, is_running, is_request, handled_request, handled_answer, handled_pdu, handled_received, handled, handled_alarm, handled_low, handled_low_pdu}
+use Rattle.device_core.specs.Handled.{Handled, is_running, is_request, handled_request, handled_answer, handled_new, handled_pdu, handled_plug_answer, handled_received, handled_response, handled, handled_alarm, handled_low, handled_low_pdu}
 use Rattle.device_core.specs.Machine.{items_in}
 use Rattle.device_core.proofs.Applied.{local_is}
 
@@ -27,11 +35,26 @@ abbrev pub IsStill : Handled → Type 0
 IsStill what = items_in what ≡ []
 
 module _ (station : Station) (live : Live) where
-  pub answer_still : (answer : ReadyAnswer) → IsStill (handled_answer station live answer)
+  answer_still : (answer : ReadyAnswer) → IsStill (handled_answer station live answer)
   answer_still to_ready.NotWanted = refl
   answer_still to_ready.Garbled = refl
   answer_still to_ready.Confirmed = refl
   answer_still (to_ready.Refused farewell) = refl
+
+  plug_answer_still : (response : Answered) (answer : PlugAnswer) → IsStill (handled_plug_answer live response answer)
+  plug_answer_still response to_plug.NotWanted = refl
+  plug_answer_still response to_plug.Garbled = refl
+  plug_answer_still response to_plug.Confirmed = refl
+  plug_answer_still response to_plug.Refused = refl
+
+  pub response_still : (response : Answered) → IsStill (handled_response station live response)
+  response_still response =
+      cond_both (is_in_exchange live.rest.link) _ _ IsStill (λ _. plug_answer_still response (plug_answer_in response live.rest.link))
+      (λ _. answer_still (ready_answer response live.rest.link))
+
+  -- A PrmEnd, also one after a plug.
+  pub control_still : (caller : Caller) (call : Called) (blocks : List ℕ) → IsStill (handled_new station live caller call blocks Control)
+  control_still caller call blocks = cond_both (is_plug_control blocks live.rest.link) _ _ IsStill (λ _. refl) (λ _. refl)
 
   pdu_still : (came : PduFate) (link : Option RelationState) → IsStill (handled_pdu live came link)
   pdu_still (fate.Data taken) link = refl

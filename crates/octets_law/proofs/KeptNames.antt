@@ -9,6 +9,7 @@ use Rattle.dcp_core.specs.declared.request.Service.TheVariants as service
 use Rattle.dcp_core.specs.Request.{Asked}
 use Rattle.dcp_core.specs.Identify.{matches}
 use Rattle.rpc_core.specs.Call.{Asked as Called}
+use Rattle.rpc_core.specs.Response.{Answered}
 use Rattle.records.specs.declared.status.operation.Operation.{Operation}
 use Rattle.records.specs.declared.status.operation.Operation.TheVariants.{Connect, Release, Read, Write, Control, ReadImplicit}
 use Rattle.records.specs.declared.status.call_fault.CallFault.{CallFault}
@@ -32,11 +33,14 @@ use Rattle.pn_alarms.specs.declared.pdu.Header.{Header}
 use Rattle.pn_alarms.specs.Message.{ToDevice}
 use Rattle.device_frames.specs.Heard.{Heard, Ticks, Unreadable, Elsewhere, Asks, Resolves, Reported, Cyclic, Alarms, LowReplies, LowConfirms, Met, Applied, Said, Calls, Responds, Garbled}
 use Rattle.rpc_core.specs.Cache.{Kept, Reported as Looked, new, again, old, looked, kept_more}
-use Rattle.relations.specs.RelationState.{RelationState, uuid_of, is_alarm_of}
+use Rattle.relations.specs.RelationState.{RelationState, uuid_of, is_alarm_of, is_in_exchange}
+use Rattle.relations.specs.declared.plugging.PlugAnswer.{PlugAnswer}
+use Rattle.relations.specs.declared.plugging.PlugAnswer.TheVariants as to_plug
+use Rattle.relations.specs.Plugging.{is_plug_control, plug_answer_in}
 use Rattle.relations.specs.Phases.{updated}
 use Rattle.relations.specs.Diagnosed.{has_sent_low, heard_low, hearing_low}
 use Rattle.device_core.specs.State.{Station, Rest, Live, alias_in}
-use Rattle.device_core.specs.Handled.{Handled, is_running, is_request, handled_request, handled_effect, handled_write, handled_new, handled_looked, handled_blocks, handled_call, handled_answer, handled_said, handled_pdu, handled_received, handled, handled_alarm, handled_low, handled_low_pdu}
+use Rattle.device_core.specs.Handled.{Handled, is_running, is_request, handled_request, handled_effect, handled_write, handled_new, handled_looked, handled_blocks, handled_call, handled_answer, handled_plug_answer, handled_response, handled_said, handled_pdu, handled_received, handled, handled_alarm, handled_low, handled_low_pdu}
 use Rattle.device_core.specs.Machine.{items_in, finished, heard_step, handled_step}
 use Rattle.device_core.proofs.Applied.{local_is}
 
@@ -71,12 +75,12 @@ module _ (Q : List Kept → Type 0) where
     write_stays caller call (Err fault) fresh all = fresh _ all
 
     new_stays : (caller : Caller) (call : Called) (blocks : List ℕ) (operation : Operation) → Fresh call → Stays (handled_new station live caller call blocks operation)
-    new_stays caller call blocks Connect fresh all = fresh _ all
-    new_stays caller call blocks Release fresh all = fresh _ all
-    new_stays caller call blocks Read fresh all = fresh _ all
-    new_stays caller call blocks Write fresh all = write_stays caller call (writing_of (uuid_of live.rest.link) station.real blocks) fresh all
-    new_stays caller call blocks Control fresh all = fresh _ all
-    new_stays caller call blocks ReadImplicit fresh all = fresh _ all
+    new_stays caller call blocks Connect fresh = λ all. fresh _ all
+    new_stays caller call blocks Release fresh = λ all. fresh _ all
+    new_stays caller call blocks Read fresh = λ all. fresh _ all
+    new_stays caller call blocks Write fresh = write_stays caller call (writing_of (uuid_of live.rest.link) live.rest.real blocks) fresh
+    new_stays caller call blocks Control fresh = cond_both (is_plug_control blocks live.rest.link) _ _ Stays (λ _ all. fresh _ all) (λ _ all. fresh _ all)
+    new_stays caller call blocks ReadImplicit fresh = λ all. fresh _ all
 
     looked_stays : (caller : Caller) (call : Called) (blocks : List ℕ) (operation : Operation) (reported : Looked) → Fresh call
         → Stays (handled_looked station live caller call blocks operation reported)
@@ -98,6 +102,17 @@ module _ (Q : List Kept → Type 0) where
     answer_stays to_ready.Confirmed = same
     answer_stays (to_ready.Refused farewell) = same
 
+    plug_answer_stays : (response : Answered) (answer : PlugAnswer) → Stays (handled_plug_answer live response answer)
+    plug_answer_stays response to_plug.NotWanted = same
+    plug_answer_stays response to_plug.Garbled = same
+    plug_answer_stays response to_plug.Confirmed = same
+    plug_answer_stays response to_plug.Refused = same
+
+    response_stays : (response : Answered) → Stays (handled_response station live response)
+    response_stays response =
+        cond_both (is_in_exchange live.rest.link) _ _ Stays (λ _. plug_answer_stays response (plug_answer_in response live.rest.link))
+        (λ _. answer_stays (ready_answer response live.rest.link))
+
     -- What is said is a call whose answer may be kept.
     abbrev FreshIn : Said → Type 0
     FreshIn (Calls call) = Fresh call
@@ -106,7 +121,7 @@ module _ (Q : List Kept → Type 0) where
 
     said_stays : (caller : Caller) (said : Said) → FreshIn said → Stays (handled_said station live caller said)
     said_stays caller (Calls call) fresh = call_stays caller call (operation_of call.header.operation) fresh
-    said_stays caller (Responds response) fresh = answer_stays (ready_answer response live.rest.link)
+    said_stays caller (Responds response) fresh = response_stays response
     said_stays caller Garbled fresh = same
 
     pdu_stays : (came : PduFate) (link : Option RelationState) → Stays (handled_pdu live came link)

@@ -22,17 +22,17 @@ use Rattle.octets_law.proofs.Turned.{cycle_more}
 use Rattle.octets_law.proofs.Split.{AreExact, all_answered, made_by_octets, settled, told_events}
 
 -- What is reported of a cycle is a cycle, read from octets.
-is_cycle : (outcomes : List (List Outcome)) (station : Station) (first settings : Settings) (room : ℕ) (events : List Event) → AreSent outcomes station (started first room) events
-    → IsMadeOf (run_of outcomes station (started first room) events).accepted first settings
-    → IsCycle station.identity.mac first (told_of outcomes station (started first room) events) settings
+is_cycle : (outcomes : List (List Outcome)) (station : Station) (first settings : Settings) (room : ℕ) (events : List Event) → AreSent outcomes station (started station.real first room) events
+    → IsMadeOf (run_of outcomes station (started station.real first room) events).accepted first settings
+    → IsCycle station.identity.mac first (told_of outcomes station (started station.real first room) events) settings
 is_cycle outcomes station first settings room events sent made =
-    let exact : AreExact station.identity.mac [] outcomes station (started first room) events =
-    all_exact [] outcomes station (started first room) events (λ _. refl) (λ lost. absurd (let e : false ≡ true = lost in cc)) sent in
+    let exact : AreExact station.identity.mac [] outcomes station (started station.real first room) events =
+    all_exact [] outcomes station (started station.real first room) events (λ _. refl) (λ lost. absurd (let e : false ≡ true = lost in cc)) sent in
     record {
-      made = made_by_octets station.identity.mac (told_of outcomes station (started first room) events) (run_of outcomes station (started first room) events).accepted first settings
-          (settled station.identity.mac [] outcomes station (started first room) events exact refl refl) made;
-      answered = all_answered station.identity.mac [] outcomes station (started first room) events exact refl;
-      identified = first_identified outcomes station (started first room) events refl sent;
+      made = made_by_octets station.identity.mac (told_of outcomes station (started station.real first room) events) (run_of outcomes station (started station.real first room) events).accepted first settings
+          (settled station.identity.mac [] outcomes station (started station.real first room) events exact refl refl) made;
+      answered = all_answered station.identity.mac [] outcomes station (started station.real first room) events exact refl;
+      identified = first_identified outcomes station (started station.real first room) events refl sent;
     }
 
 -- The settings that a start finds on a legal end.
@@ -54,25 +54,25 @@ ends_of image accepted first (inr less) = record {
 -- A cycle, and the start after it.
 lives_from : {F : Type 0} {S : ℕ} (as_flash : Flash F S) (station : Station) (begun ran : State F) (flash : F) (first : Settings) (events : List Event) (before now : List Told) (again : State F)
     → IsReady as_flash station first begun → TurnsAll as_flash begun events before now ran → as_flash.image flash ≡ as_flash.image ran.flash
-    → again.station ≡ station → ((settings : Settings) (room : ℕ) → StartsWith (as_flash.image flash) settings room → again.live ≡ started settings room)
+    → again.station ≡ station → ((settings : Settings) (room : ℕ) → StartsWith (as_flash.image flash) settings room → again.live ≡ started station.real settings room)
     → as_flash.image again.flash ≡ as_flash.image flash → Lives as_flash station first events before now again
 lives_from as_flash station begun ran flash first events before now again ready all same is known kept =
     let accepted : List Accepted = (run_of all.outcomes begun.station begun.live events).accepted in
     let legal : LegalEnd (as_flash.image ran.flash) accepted first =
     subst (LegalEnd (as_flash.image ran.flash) accepted) (ap (λ (l : Live). l.values.stored) ready.fresh) (all.stretch.safe.legal (ap (λ (l : Live). l.values.has_failed) ready.fresh) ready.left) in
     let ends = ends_of (as_flash.image ran.flash) accepted first legal in
-    let begun_as : told_of all.outcomes begun.station begun.live events ≡ told_of all.outcomes station (started first ready.room) events =
+    let begun_as : told_of all.outcomes begun.station begun.live events ≡ told_of all.outcomes station (started station.real first ready.room) events =
     ap (λ s. told_of all.outcomes s begun.live events) ready.station_is ∙ ap (λ l. told_of all.outcomes station l events) ready.fresh in
-    let made : IsMadeOf (run_of all.outcomes station (started first ready.room) events).accepted first ends.settings =
+    let made : IsMadeOf (run_of all.outcomes station (started station.real first ready.room) events).accepted first ends.settings =
     subst (λ (l : Live). IsMadeOf (run_of all.outcomes station l events).accepted first ends.settings) ready.fresh
     (subst (λ (s : Station). IsMadeOf (run_of all.outcomes s begun.live events).accepted first ends.settings) ready.station_is ends.made) in
-    let sent : AreSent all.outcomes station (started first ready.room) events =
+    let sent : AreSent all.outcomes station (started station.real first ready.room) events =
     subst (λ (l : Live). AreSent all.outcomes station l events) ready.fresh (subst (λ (s : Station). AreSent all.outcomes s begun.live events) ready.station_is all.sent) in
     record {
-      transcript = told_of all.outcomes station (started first ready.room) events;
+      transcript = told_of all.outcomes station (started station.real first ready.room) events;
       settings = ends.settings;
       told = all.told ∙ ap (λ l. before ++ l) begun_as;
-      events_are = told_events all.outcomes station (started first ready.room) events;
+      events_are = told_events all.outcomes station (started station.real first ready.room) events;
       is = is_cycle all.outcomes station first ends.settings ready.room events sent made;
       ready = record {
         room = ends.room;
@@ -86,7 +86,7 @@ lives_from as_flash station begun ran flash first events before now again ready 
 pub lives_if : {F : Type 0} {S : ℕ} (as_flash : Flash F S) (station : Station) (begun ran : State F) (flash : F) (first : Settings) (events : List Event) (before now : List Told)
     (again : Result (State F) (BootFault × F)) → IsReady as_flash station first begun → TurnsAll as_flash begun events before now ran → as_flash.image flash ≡ as_flash.image ran.flash
     → IfOk again (λ device. device.station ≡ station)
-    → ((settings : Settings) (room : ℕ) → StartsWith (as_flash.image flash) settings room → MatchResult again (λ device. device.live ≡ started settings room) (λ refused. refused.0 ≡ FlashFault))
+    → ((settings : Settings) (room : ℕ) → StartsWith (as_flash.image flash) settings room → MatchResult again (λ device. device.live ≡ started station.real settings room) (λ refused. refused.0 ≡ FlashFault))
     → MatchResult again (λ device. as_flash.image device.flash ≡ as_flash.image flash) (λ refused. as_flash.image refused.1 ≡ as_flash.image flash)
     → IfOk again (Lives as_flash station first events before now)
 lives_if as_flash station begun ran flash first events before now (Ok again) ready all same is known kept =
@@ -101,7 +101,7 @@ map_more f (one ∷ front) last = ap (λ l. f one ∷ l) (map_more f front last)
 
 -- A device that starts on a blank chip.
 pub ready_blank : {F : Type 0} {S : ℕ} (as_flash : Flash F S) (made station : Station) (device : State F) (image : Image) (room : ℕ) → device.station ≡ made → made ≡ station
-    → LeftByDevice image × StartsWith image factory_settings room → ((settings : Settings) (room : ℕ) → StartsWith image settings room → device.live ≡ started settings room)
+    → LeftByDevice image × StartsWith image factory_settings room → ((settings : Settings) (room : ℕ) → StartsWith image settings room → device.live ≡ started station.real settings room)
     → as_flash.image device.flash ≡ image → IsReady as_flash station factory_settings device
 ready_blank as_flash made station device image room is same blank known kept = record {
   room = room;

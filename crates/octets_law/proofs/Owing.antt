@@ -71,7 +71,7 @@ module _ (outcomes : List Outcome) (station : Station) (live : Live) (octets : L
   unfolding handled_step
   by_writing (Ok (One write)) can = by_effect write.request write.effect can
   by_writing (Ok (Each header entries)) can =
-      let judged = judged_each (uuid_of live.rest.link) station.real entries in
+      let judged = judged_each (uuid_of live.rest.link) live.rest.real entries in
       told (outcome_of Writing (Ok (several_answer header judged (carried outcomes live.values (texts_in judged)).answers live.rest.link))) can.0
   by_writing (Err why) can = told (outcome_of Writing (Err why)) can.0
 
@@ -82,10 +82,10 @@ module _ (outcomes : List Outcome) (station : Station) (live : Live) (octets : L
   unfolding heard_step operation_of
   write_answered address blocks running three counted fresh =
       let writes : operation_of call.header.operation ≡ Some Writing = ap operation_of (sym read.operation ∙ three) in
-      let what : handled station live (Reported caller address (Calls call)) ≡ handled_write station live caller call (writing_of (uuid_of live.rest.link) station.real blocks) =
+      let what : handled station live (Reported caller address (Calls call)) ≡ handled_write station live caller call (writing_of (uuid_of live.rest.link) live.rest.real blocks) =
       cond-true (is_running live.values.running address) _ _ running
       ∙ rw (writes, counted, fresh) refl in
-      subst IsAnswered (sym what) (by_writing (writing_of (uuid_of live.rest.link) station.real blocks))
+      subst IsAnswered (sym what) (by_writing (writing_of (uuid_of live.rest.link) live.rest.real blocks))
 
 -- ---- a step
 

@@ -1,5 +1,6 @@
 -- What a step leaves of the stored answers, and what is sent again.
 use Rattle.std.proofs.Common.{◌≡◌, ◌⊎◌, ◌&&◌, ℕ, Bool, true, false, not, nat_lt, length, List, [], ◌∷◌, Some, None, is_some, Result, Ok, Err, refl, sym, ap, subst, ◌∙◌, inl, inr}
+use Rattle.std.proofs.lemmas.Bool.{cond_both}
 use Rattle.pn_values.specs.declared.mac.Mac.{Mac}
 use Rattle.frame_codec.specs.declared.udp.Caller.{Caller}
 use Rattle.rpc_core.specs.Cache.{Reported as Looked, again, kept_more, looked, new}
@@ -14,6 +15,7 @@ use Rattle.records.specs.declared.writes.writing.Writing.{Writing}
 use Rattle.records.specs.declared.writes.writing.Writing.TheVariants.{Each, One}
 use Rattle.records.specs.writes.Asked.{writing_of}
 use Rattle.relations.specs.RelationState.{uuid_of}
+use Rattle.relations.specs.Plugging.{is_plug_control}
 use Rattle.settings_journal.specs.settings_store.Machine.{Outcome}
 use Rattle.device_frames.specs.declared.event.Event.{Event}
 use Rattle.device_frames.specs.declared.note.Note.{Note}
@@ -97,8 +99,8 @@ module _ (mac : Mac) (event : Event) (outcomes : List Outcome) (station : Statio
   new_kept blocks Connect = (_, _, refl, refl)
   new_kept blocks Release = (_, _, refl, refl)
   new_kept blocks Read = (_, _, refl, refl)
-  new_kept blocks Write = write_kept (writing_of (uuid_of live.rest.link) station.real blocks)
-  new_kept blocks Control = (_, _, refl, refl)
+  new_kept blocks Write = write_kept (writing_of (uuid_of live.rest.link) live.rest.real blocks)
+  new_kept blocks Control = cond_both (is_plug_control blocks live.rest.link) _ _ IsKept (λ _. (_, _, refl, refl)) (λ _. (_, _, refl, refl))
   new_kept blocks ReadImplicit = (_, _, refl, refl)
 
   again_by : (reported : Looked) → looked call.header.activity call.header.sequence live.rest.calls ≡ reported → again_for (Call octets) (view live.rest.calls) ≡ frames_by reported

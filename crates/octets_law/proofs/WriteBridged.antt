@@ -100,30 +100,30 @@ module _ (names : List (List ℕ)) (outcomes : List Outcome) (station : Station)
         ap commands_in asked ∙ cond-true (in_order 68 2 octets == 3) _ _ (holds _ 3 (read.operation ∙ operation_three call.header.operation is_write)) ∙ ap written_by (read.blocks blocks counted)
 
     -- One record, by what it does.
-    by_effect : (write : Write) (effect : Effect) → write.effect ≡ effect → writing_of (uuid_of live.rest.link) station.real blocks ≡ Ok (One write)
+    by_effect : (write : Write) (effect : Effect) → write.effect ≡ effect → writing_of (uuid_of live.rest.link) live.rest.real blocks ≡ Ok (One write)
         → handled station live (heard_of station.identity event) ≡ handled_effect station live caller call write.request effect → Goal
     unfolding handled_step
     by_effect write (Stores value) effect is what =
         let address : List ℕ = live.values.running.suite.address in
         stepped (handled_effect station live caller call write.request (Stores value)) what (λ sent.
-        write_step station.identity.mac names outcomes station live event caller address call write value (uuid_of live.rest.link) station.real blocks is effect reads
+        write_step station.identity.mac names outcomes station live event caller address call write value (uuid_of live.rest.link) live.rest.real blocks is effect reads
         (told (outcome_of Writing (written_as write.request (first_answer (carried outcomes live.values (Ask (SetIm value) ∷ [])).answers))) sent.0))
     by_effect write (Keeps parameter) effect is what =
         let heeded : Handled = handled_effect station live caller call write.request (Keeps parameter) in
         stepped heeded what (λ sent.
-        kept_step station.identity.mac names event live (handled_step outcomes station live heeded) write parameter (keeping parameter live.rest.link) (uuid_of live.rest.link) station.real blocks
+        kept_step station.identity.mac names event live (handled_step outcomes station live heeded) write parameter (keeping parameter live.rest.link) (uuid_of live.rest.link) live.rest.real blocks
         is effect refl reads (told (outcome_of Writing (kept_answer write.request (keeping parameter live.rest.link))) sent.0))
 
-    by_writing : (writing : Result Asking CallFault) → writing_of (uuid_of live.rest.link) station.real blocks ≡ writing
+    by_writing : (writing : Result Asking CallFault) → writing_of (uuid_of live.rest.link) live.rest.real blocks ≡ writing
         → handled station live (heard_of station.identity event) ≡ handled_write station live caller call writing → Goal
     unfolding handled_step
     by_writing (Ok (One write)) is what = by_effect write write.effect refl is what
     by_writing (Ok (Each header entries)) is what =
         let address : List ℕ = live.values.running.suite.address in
-        let judged : List Judged = judged_each (uuid_of live.rest.link) station.real entries in
+        let judged : List Judged = judged_each (uuid_of live.rest.link) live.rest.real entries in
         let answers : List BlockError = (carried outcomes live.values (texts_in judged)).answers in
-        let it = each_asked (uuid_of live.rest.link) station.real blocks header entries is in
-        let list = each_listed (uuid_of live.rest.link) station.real blocks header entries is in
+        let it = each_asked (uuid_of live.rest.link) live.rest.real blocks header entries is in
+        let list = each_listed (uuid_of live.rest.link) live.rest.real blocks header entries is in
         stepped (WritesEach caller address call header judged) what (λ sent.
         written_each station.identity.mac names outcomes station live event caller address call header judged it.0 (reads ∙ it.1) it.2
         (told (outcome_of Writing (Ok (several_answer header judged answers live.rest.link))) sent.0
@@ -131,12 +131,12 @@ module _ (names : List (List ℕ)) (outcomes : List Outcome) (station : Station)
     by_writing (Err why) is what =
         let refused : Handled = handled_write station live caller call (Err why) in
         stepped refused what (λ sent.
-        refused_step station.identity.mac names event live (handled_step outcomes station live refused) (uuid_of live.rest.link) station.real blocks why is refl
+        refused_step station.identity.mac names event live (handled_step outcomes station live refused) (uuid_of live.rest.link) live.rest.real blocks why is refl
         (told (outcome_of Writing (Err why)) sent.0))
 
   -- A Write is bridged, if what the device sends at it can be sent.
   pub writes_bridged : WritesAreBridged names outcomes station live event octets asks caller address call read heard
   writes_bridged is = (
     λ _ what. by_none what,
-    λ blocks counted _ what. by_writing blocks counted is (writing_of (uuid_of live.rest.link) station.real blocks) refl what,
+    λ blocks counted _ what. by_writing blocks counted is (writing_of (uuid_of live.rest.link) live.rest.real blocks) refl what,
   )

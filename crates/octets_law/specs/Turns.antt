@@ -58,7 +58,7 @@ pub record TurnsAll {F : Type 0} {S : ℕ} (as_flash : Flash F S) (old : State F
 pub record IsReady {F : Type 0} {S : ℕ} (as_flash : Flash F S) (station : Station) (settings : Settings) (device : State F) : Type 0 where
   pub room : ℕ
   pub station_is : device.station ≡ station
-  pub fresh : device.live ≡ started settings room
+  pub fresh : device.live ≡ started station.real settings room
   pub left : LeftByDevice (as_flash.image device.flash)
 
 -- A cycle from the first settings to a device that has started again.

@@ -1,6 +1,6 @@
 -- What is due comes nearer by one unit with each unit that passes, and by no more.
-use Rattle.std.specs.Prelude.{max, min}
-use Rattle.std.proofs.Common.{◌≡◌, ◌+◌, ◌-◌, ◌*◌, ◌%◌, ◌<◌, ◌≤◌, ◌==◌, ℕ, zero, suc, Bool, true, false, Option, Some, None, if◌then◌else◌, sym, ◌∙◌, arith}
+use Rattle.std.specs.Prelude.{min}
+use Rattle.std.proofs.Common.{◌≡◌, ◌+◌, ◌%◌, ◌<◌, ◌≤◌, ◌==◌, ℕ, zero, suc, Bool, true, false, Option, Some, None, if◌then◌else◌, sym, ◌∙◌, arith}
 use Rattle.std.proofs.Math.Nat.{mod-add-mod, mod-eq_of_lt}
 use Rattle.std.proofs.lemmas.Bool.{ne_eqb}
 use Rattle.pn_alarms.specs.Leaps.{after, never, waiting_due_in}
@@ -50,11 +50,11 @@ units_nearer flow (suc units) below =
     let one = unit_nearer (after flow_later units flow) (omega (arith, earlier, below)) in
     omega (arith, earlier, one)
 
--- The timers of a relation beside its exchange, from what is due of that.
-pub timers_nearer : (phase : Phase) (limit inactive waited units old new : ℕ) → old ≤ new + units
-    → min old (min (inactive_in phase limit inactive) (ready_in phase waited))
-    ≤ min new (min (inactive_in phase limit (inactive_by phase units inactive)) (ready_in phase (waited_by phase units waited))) + units
-timers_nearer Started limit inactive waited units old new nearer = omega (arith, nearer)
-timers_nearer Preparing limit inactive waited units old new nearer = omega (arith, nearer)
-timers_nearer Awaiting limit inactive waited units old new nearer = omega (arith, nearer)
-timers_nearer Exchanging limit inactive waited units old new nearer = omega (arith, nearer)
+-- The timers of a relation beside its exchange, from what is due of that, and of the ApplicationReady of a plug.
+pub timers_nearer : (phase : Phase) (limit inactive waited units old new own next : ℕ) → old ≤ new + units → own ≤ next + units
+    → min old (min own (min (inactive_in phase limit inactive) (ready_in phase waited)))
+    ≤ min new (min next (min (inactive_in phase limit (inactive_by phase units inactive)) (ready_in phase (waited_by phase units waited)))) + units
+timers_nearer Started limit inactive waited units old new own next nearer plug = omega (arith, nearer, plug)
+timers_nearer Preparing limit inactive waited units old new own next nearer plug = omega (arith, nearer, plug)
+timers_nearer Awaiting limit inactive waited units old new own next nearer plug = omega (arith, nearer, plug)
+timers_nearer Exchanging limit inactive waited units old new own next nearer plug = omega (arith, nearer, plug)

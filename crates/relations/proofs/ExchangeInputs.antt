@@ -24,27 +24,27 @@ use Rattle.relations.proofs.ExchangeKept.{cyclic_raised, shown_behind}
 -- ---- the cell and the mark of a submodule, if those of a submodule change
 
 -- The slot and subslot of a place.
-of_parts : (kind : PlaceKind) (slot subslot : ℕ) (place : Place) → is_of kind slot subslot place ≡ true
+pub of_parts : (kind : PlaceKind) (slot subslot : ℕ) (place : Place) → is_of kind slot subslot place ≡ true
     → (is_same_kind kind place.kind ≡ true) × (place.slot ≡ slot) × (place.subslot ≡ subslot)
 of_parts kind slot subslot place h =
     let all = and_parts (is_same_kind kind place.kind) ((place.slot == slot) && (place.subslot == subslot)) h in
     let two = and_parts (place.slot == slot) (place.subslot == subslot) all.1 in
     (all.0, eqb-true place.slot slot two.0, eqb-true place.subslot subslot two.1)
 
-same_data : (kind : PlaceKind) → is_same_kind Data kind ≡ true → kind ≡ Data
+pub same_data : (kind : PlaceKind) → is_same_kind Data kind ≡ true → kind ≡ Data
 same_data Data e = refl
 same_data Iocs e = absurd (false≢true e)
 
-same_iocs : (kind : PlaceKind) → is_same_kind Iocs kind ≡ true → kind ≡ Iocs
+pub same_iocs : (kind : PlaceKind) → is_same_kind Iocs kind ≡ true → kind ≡ Iocs
 same_iocs Data e = absurd (false≢true e)
 same_iocs Iocs e = refl
 
 -- The place of a cell, and a value of it.
-abbrev placed : (Cell → List ℕ) → Cell → Place × List ℕ
+abbrev pub placed : (Cell → List ℕ) → Cell → Place × List ℕ
 placed value cell = (cell.place, value cell)
 
 module _ (slot subslot : ℕ) where
-  abbrev is_same : ℕ → ℕ → Bool
+  abbrev pub is_same : ℕ → ℕ → Bool
   is_same to_slot to_subslot = (slot == to_slot) && (subslot == to_subslot)
 
   -- A place of the submodule is one of another submodule if they are the same.
@@ -54,7 +54,7 @@ module _ (slot subslot : ℕ) where
       ap (λ (b : Bool). b && ((place.slot == to_slot) && (place.subslot == to_subslot))) parts.0
       ∙ (ap (λ (n : ℕ). (n == to_slot) && (place.subslot == to_subslot)) parts.1 ∙ ap (λ (n : ℕ). (slot == to_slot) && (n == to_subslot)) parts.2)
 
-  abbrev ChangeCells : ℕ → ℕ → (Cell → Cell) → List Cell → Type 0
+  abbrev pub ChangeCells : ℕ → ℕ → (Cell → Cell) → List Cell → Type 0
   ChangeCells to_slot to_subslot change cells =
       cell_at Data slot subslot (map (changed_in Data to_slot to_subslot change) cells)
       ≡ option_map (λ (cell : Cell). cond (is_same to_slot to_subslot) (change cell) cell) (cell_at Data slot subslot cells)
@@ -83,7 +83,7 @@ module _ (slot subslot : ℕ) where
       by_other true e = by_place (change cell) (keeps cell) (λ own. ap (λ (b : Bool). cond b (change cell) cell) (sym e ∙ of_other to_slot to_subslot cell.place own))
       by_other false e = by_place cell refl (λ own. ap (λ (b : Bool). cond b (change cell) cell) (sym e ∙ of_other to_slot to_subslot cell.place own))
 
-  cells_changed : (to_slot to_subslot : ℕ) (change : Cell → Cell) → ((cell : Cell) → (change cell).place ≡ cell.place) → (cells : List Cell)
+  pub cells_changed : (to_slot to_subslot : ℕ) (change : Cell → Cell) → ((cell : Cell) → (change cell).place ≡ cell.place) → (cells : List Cell)
       → ChangeCells to_slot to_subslot change cells
   cells_changed to_slot to_subslot change keeps [] = refl
   cells_changed to_slot to_subslot change keeps (cell ∷ cells) =
@@ -126,34 +126,34 @@ module _ (slot subslot : ℕ) where
 
   -- ---- an event
 
-  abbrev cell_in : Flow → Option Cell
+  abbrev pub cell_in : Flow → Option Cell
   cell_in flow = cell_at Data slot subslot flow.cyclic.shown.cells
 
-  abbrev mark_in : Flow → Option Mark
+  abbrev pub mark_in : Flow → Option Mark
   mark_in flow = mark_at slot subslot flow.marks
 
   -- The cell and the mark are of one place, and the status of the cell is by the mark.
-  abbrev AreTied : Option Cell → Option Mark → Type 0
+  abbrev pub AreTied : Option Cell → Option Mark → Type 0
   AreTied None None = Unit {0}
   AreTied None (Some mark) = ⊥
   AreTied (Some cell) None = ⊥
   AreTied (Some cell) (Some mark) = (cell.place ≡ mark.place) × (cell.status ≡ iops_by mark)
 
   -- The value and the mark after an event.
-  abbrev value_with : Event → Cell → List ℕ
+  abbrev pub value_with : Event → Cell → List ℕ
   value_with event cell = unwrap_or (given_with slot subslot cell.place.size event) cell.value
 
-  abbrev mark_with : Event → Mark → Mark
+  abbrev pub mark_with : Event → Mark → Mark
   mark_with event mark = record mark {
     is_awaited = is_none (given_with slot subslot mark.place.size event) && mark.is_awaited;
     is_bad = unwrap_or (rated_with slot subslot event) mark.is_bad;
   }
 
   -- What an event does to the cell and the mark of the submodule.
-  record Goes (event : Event) (cell after : Option Cell) (mark marked_so : Option Mark) : Type 0 where
-    value : option_map (placed (λ (c : Cell). c.value)) after ≡ option_map (placed (value_with event)) cell
-    mark_is : marked_so ≡ option_map (mark_with event) mark
-    tied : AreTied after marked_so
+  pub record Goes (event : Event) (cell after : Option Cell) (mark marked_so : Option Mark) : Type 0 where
+    pub value : option_map (placed (λ (c : Cell). c.value)) after ≡ option_map (placed (value_with event)) cell
+    pub mark_is : marked_so ≡ option_map (mark_with event) mark
+    pub tied : AreTied after marked_so
 
   -- An event that gives nothing, and says nothing.
   rests : (event : Event) → ((size : ℕ) → given_with slot subslot size event ≡ None) → rated_with slot subslot event ≡ None
@@ -366,7 +366,7 @@ module _ (slot subslot : ℕ) where
   marks_raised flow of_slot of_subslot octets (Some ident) None = refl
   marks_raised flow of_slot of_subslot octets None part = refl
 
-  goes : (event : Event) (flow : Flow) → AreTied (cell_in flow) (mark_in flow) → Goes event (cell_in flow) (cell_in (behind event flow)) (mark_in flow) (mark_in (behind event flow))
+  pub goes : (event : Event) (flow : Flow) → AreTied (cell_in flow) (mark_in flow) → Goes event (cell_in flow) (cell_in (behind event flow)) (mark_in flow) (mark_in (behind event flow))
   goes Begins flow tied = same_inputs Begins (λ size. refl) refl flow (behind Begins flow) refl refl tied
   goes Passes flow tied = same_inputs Passes (λ size. refl) refl flow (behind Passes flow) refl refl tied
   goes (Comes source frame_id body) flow tied =
@@ -451,13 +451,13 @@ module _ (slot subslot : ℕ) where
   -- ---- from the opening on
 
   module _ (rows : Listed DiffModule DiffSubmodule) (starting : Starting) where
-    first_cell_at : (kind : PlaceKind) (marks : List Mark) (places : List Place)
+    pub first_cell_at : (kind : PlaceKind) (marks : List Mark) (places : List Place)
         → cell_at kind slot subslot (map (first_cell rows marks) places) ≡ option_map (first_cell rows marks) (place_at kind slot subslot places)
     first_cell_at kind marks [] = refl
     first_cell_at kind marks (place ∷ places) =
         elim (cases_Bool (is_of kind slot subslot place)) [ inl t ↦ rw t refl | inr t ↦ rw t (first_cell_at kind marks places) ]
 
-    first_mark_at : (places : List Place) → mark_at slot subslot (map (first_mark starting rows) places) ≡ option_map (first_mark starting rows) (place_at Data slot subslot places)
+    pub first_mark_at : (places : List Place) → mark_at slot subslot (map (first_mark starting rows) places) ≡ option_map (first_mark starting rows) (place_at Data slot subslot places)
     first_mark_at [] = refl
     first_mark_at (place ∷ places) = elim (cases_Bool (is_of Data slot subslot place)) [ inl t ↦ rw t refl | inr t ↦ rw t (first_mark_at places) ]
 
@@ -470,7 +470,7 @@ module _ (slot subslot : ℕ) where
     found_first kind one places place later true t f = subst (λ (p : Place). is_of kind slot subslot p ≡ true) (some_place one place f) t
     found_first kind one places place later false t f = later f
 
-    found_is : (kind : PlaceKind) (places : List Place) (place : Place) → place_at kind slot subslot places ≡ Some place → is_of kind slot subslot place ≡ true
+    pub found_is : (kind : PlaceKind) (places : List Place) (place : Place) → place_at kind slot subslot places ≡ Some place → is_of kind slot subslot place ≡ true
     found_is kind [] place e = absurd cc
     found_is kind (one ∷ places) place e = found_first kind one places place (found_is kind places place) (is_of kind slot subslot one) refl e
 
@@ -487,7 +487,7 @@ module _ (slot subslot : ℕ) where
         status_is kind s ss k e f =
             ap (λ (x : PlaceKind). statuses_of rows marks x s ss) k ∙ (ap (λ (n : ℕ). iops_of (mark_at n ss marks)) e ∙ (ap (λ (n : ℕ). iops_of (mark_at slot n marks)) f ∙ ap iops_of is))
 
-    opened_tied : (marks : List Mark) (places : List Place) → marks ≡ map (first_mark starting rows) places
+    pub opened_tied : (marks : List Mark) (places : List Place) → marks ≡ map (first_mark starting rows) places
         → AreTied (cell_at Data slot subslot (map (first_cell rows marks) places)) (mark_at slot subslot marks)
     opened_tied marks places e =
         let mark : mark_at slot subslot marks ≡ option_map (first_mark starting rows) (place_at Data slot subslot places) = ap (mark_at slot subslot) e ∙ first_mark_at places in
@@ -521,7 +521,7 @@ module _ (slot subslot : ℕ) where
   only_after events None = refl
   only_after events (Some cell) = refl
 
-  status_tied : (cell : Option Cell) (mark : Option Mark) → AreTied cell mark → option_map (λ (c : Cell). c.status) cell ≡ option_map iops_by mark
+  pub status_tied : (cell : Option Cell) (mark : Option Mark) → AreTied cell mark → option_map (λ (c : Cell). c.status) cell ≡ option_map iops_by mark
   status_tied None None tied = refl
   status_tied None (Some mark) tied = absurd tied
   status_tied (Some cell) None tied = absurd tied
@@ -533,7 +533,7 @@ module _ (slot subslot : ℕ) where
   not_both to_slot to_subslot place h =
       ap (λ (kind : PlaceKind). is_same_kind Iocs kind && ((place.slot == slot) && (place.subslot == subslot))) (same_data place.kind (of_parts Data to_slot to_subslot place h).0)
 
-  abbrev KeepIocs : ℕ → ℕ → (Cell → Cell) → List Cell → Type 0
+  abbrev pub KeepIocs : ℕ → ℕ → (Cell → Cell) → List Cell → Type 0
   KeepIocs to_slot to_subslot change cells = cell_at Iocs slot subslot (map (changed_in Data to_slot to_subslot change) cells) ≡ cell_at Iocs slot subslot cells
 
   one_more_iocs : (to_slot to_subslot : ℕ) (change : Cell → Cell) → ((cell : Cell) → (change cell).place ≡ cell.place) → (cell : Cell) (cells : List Cell)
@@ -554,13 +554,13 @@ module _ (slot subslot : ℕ) where
           ∙ (rest ∙ sym (ap (λ (b : Bool). cond b (Some cell) (cell_at Iocs slot subslot cells)) none)))
       by_other false t = by_own (is_of Iocs slot subslot cell.place)
 
-  iocs_changed : (to_slot to_subslot : ℕ) (change : Cell → Cell) → ((cell : Cell) → (change cell).place ≡ cell.place) → (cells : List Cell)
+  pub iocs_changed : (to_slot to_subslot : ℕ) (change : Cell → Cell) → ((cell : Cell) → (change cell).place ≡ cell.place) → (cells : List Cell)
       → KeepIocs to_slot to_subslot change cells
   iocs_changed to_slot to_subslot change keeps [] = refl
   iocs_changed to_slot to_subslot change keeps (cell ∷ cells) =
       one_more_iocs to_slot to_subslot change keeps cell cells (iocs_changed to_slot to_subslot change keeps cells)
 
-  abbrev iocs_in : Flow → Option Cell
+  abbrev pub iocs_in : Flow → Option Cell
   iocs_in flow = cell_at Iocs slot subslot flow.cyclic.shown.cells
 
   iocs_given : (to_slot to_subslot : ℕ) (value : List ℕ) (flow : Flow) → iocs_in (unwrap_or (given_at flow to_slot to_subslot value) flow) ≡ iocs_in flow
@@ -579,7 +579,7 @@ module _ (slot subslot : ℕ) where
       by_size true = by_first (awaits to_slot to_subslot flow.marks)
       by_size false = refl
 
-  iocs_with : (event : Event) (flow : Flow) → iocs_in (behind event flow) ≡ iocs_in flow
+  pub iocs_with : (event : Event) (flow : Flow) → iocs_in (behind event flow) ≡ iocs_in flow
   iocs_with Begins flow = refl
   iocs_with Passes flow = refl
   iocs_with (Comes source frame_id body) flow = ap (λ (s : Shown). cell_at Iocs slot subslot s.cells) (shown_behind flow.cyclic source frame_id body)

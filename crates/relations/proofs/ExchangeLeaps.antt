@@ -1,6 +1,5 @@
 -- Several units of time at once, before the next one that brings something to an exchange.
-use Rattle.std.proofs.Common.{◌≡◌, ◌<◌, ℕ, zero, suc, arith, Bool, false, refl, ap, ◌∙◌, Option, Some, None, if◌then◌else◌}
-use Rattle.pn_alarms.specs.declared.abort.Abort.{Abort}
+use Rattle.std.proofs.Common.{◌≡◌, ◌<◌, ℕ, zero, suc, arith, Bool, false, refl, ap, ◌∙◌, Some, None, if◌then◌else◌}
 use Rattle.pn_alarms.specs.declared.abort.Abort.TheVariants.{DataHold}
 use Rattle.pn_alarms.specs.declared.repeats.Due.{Due as AlarmDue}
 use Rattle.pn_alarms.specs.declared.repeats.Due.TheVariants.{Nothing}

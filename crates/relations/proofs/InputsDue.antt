@@ -1,5 +1,5 @@
 -- An input changes nothing that is due.
-use Rattle.std.proofs.Common.{◌≡◌, ℕ, Bool, true, false, List, length, Option, Some, None, option_map, unwrap_or, if◌then◌else◌, refl, ap, ◌∙◌}
+use Rattle.std.proofs.Common.{◌≡◌, ℕ, Bool, true, false, List, length, Some, None, option_map, unwrap_or, if◌then◌else◌, refl, ap, ◌∙◌}
 use Rattle.cyclic_data.specs.declared.place.PlaceKind.TheVariants.{Data}
 use Rattle.cyclic_data.specs.Image.{Shown, cell_at, changed, has_size, with_value}
 use Rattle.cyclic_data.specs.exchange.Cyclic.{Cyclic}

@@ -8,6 +8,9 @@ mod ExchangeAwaited
 pub mod ExchangeKept
 pub mod ExchangeRuns
 pub mod ExchangeInputs
+mod ExchangeShut
 pub mod ExchangeLeaps
 mod DueLater
+mod DueReceived
+mod Changed
 mod InputsDue

@@ -4,7 +4,7 @@ use Rattle.std.specs.Prelude.{Bool, if◌then◌else◌}
 use Rattle.relations.specs.declared.phase.Phase.{Phase}
 use Rattle.relations.specs.declared.phase.Phase.TheVariants.{Started, Preparing, Awaiting, Exchanging}
 use Rattle.relations.specs.RelationState.{RelationState, is_preparing, phase_of}
-use Rattle.relations.specs.Phases.{Handled, Made, Parameterized, Prepared, Confirmed, Named, Took, Exchanged, Passed, Ended, Unmoved, updated}
+use Rattle.relations.specs.Phases.{Handled, Made, Parameterized, Prepared, Confirmed, Named, Took, Exchanged, Reported, Passed, Ended, Unmoved, updated}
 use Rattle.relations.specs.Runs.{IsByApplication, IsByPrmEnd, IsByReady}
 
 -- The phase after the application said that it is ready: only a relation that waits for that moves.
@@ -48,6 +48,8 @@ to_awaiting (Took records) None was is = cc was
 to_awaiting (Took records) (Some link) was is = cc (was, is)
 to_awaiting (Exchanged flow) None was is = cc was
 to_awaiting (Exchanged flow) (Some link) was is = cc (was, is)
+to_awaiting (Reported flow taken plugs) None was is = cc was
+to_awaiting (Reported flow taken plugs) (Some link) was is = cc (was, is)
 to_awaiting Passed None was is = cc was
 to_awaiting Passed (Some link) was is = cc (was, is)
 to_awaiting Ended None was is = cc was
@@ -71,6 +73,8 @@ to_preparing (Took records) None was is = cc was
 to_preparing (Took records) (Some link) was is = cc (was, is)
 to_preparing (Exchanged flow) None was is = cc was
 to_preparing (Exchanged flow) (Some link) was is = cc (was, is)
+to_preparing (Reported flow taken plugs) None was is = cc was
+to_preparing (Reported flow taken plugs) (Some link) was is = cc (was, is)
 to_preparing Passed None was is = cc was
 to_preparing Passed (Some link) was is = cc (was, is)
 to_preparing Ended None was is = cc was
@@ -98,6 +102,8 @@ is_by_application (Took records) None was is = absurd (cc was)
 is_by_application (Took records) (Some link) was is = absurd (cc (was, is))
 is_by_application (Exchanged flow) None was is = absurd (cc was)
 is_by_application (Exchanged flow) (Some link) was is = absurd (cc (was, is))
+is_by_application (Reported flow taken plugs) None was is = absurd (cc was)
+is_by_application (Reported flow taken plugs) (Some link) was is = absurd (cc (was, is))
 is_by_application Passed None was is = absurd (cc was)
 is_by_application Passed (Some link) was is = absurd (cc (was, is))
 is_by_application Ended None was is = absurd (cc was)
@@ -122,6 +128,8 @@ is_by_ready (Took records) None was is = cc was
 is_by_ready (Took records) (Some link) was is = cc (was, is)
 is_by_ready (Exchanged flow) None was is = cc was
 is_by_ready (Exchanged flow) (Some link) was is = cc (was, is)
+is_by_ready (Reported flow taken plugs) None was is = cc was
+is_by_ready (Reported flow taken plugs) (Some link) was is = cc (was, is)
 is_by_ready Passed None was is = cc was
 is_by_ready Passed (Some link) was is = cc (was, is)
 is_by_ready Ended None was is = cc was

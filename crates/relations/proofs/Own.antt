@@ -1,14 +1,13 @@
 -- What other stations call does not restart the activity timer, if only its own controller holds a relation.
-use Rattle.std.proofs.Common.{◌≡◌, ◌+◌, ℕ, Bool, true, false, not, List, [], ◌∷◌, Option, Some, refl, ap, arith, subst, sym, ◌∙◌}
+use Rattle.std.proofs.Common.{◌≡◌, ◌+◌, ℕ, Bool, true, false, not, [], ◌∷◌, Some, refl, ap, arith, subst, sym, ◌∙◌}
 use Rattle.std.specs.Prelude.{if◌then◌else◌, ◌||◌}
 use Rattle.relations.specs.declared.options.DeviceOptions.{DeviceOptions}
-use Rattle.relations.specs.declared.phase.Phase.{Phase}
-use Rattle.relations.specs.declared.phase.Phase.TheVariants.{Started, Preparing, Awaiting, Exchanging}
+use Rattle.relations.specs.declared.phase.Phase.TheVariants.{Awaiting}
 use Rattle.relations.specs.declared.phase.Partner.{Partner}
 use Rattle.relations.specs.RelationState.{RelationState, is_alive, is_from, is_preparing}
-use Rattle.relations.specs.Phases.{Handled, Made, Parameterized, Prepared, Confirmed, Named, Took, Exchanged, Passed, Ended, Unmoved, parameterized_from, phase_behind, prepared_from, restarted, with_flow, with_records, updated}
-use Rattle.relations.specs.Timers.{inactive_later, is_timed, unit_later}
-use Rattle.relations.specs.Runs.{AreOfOthers, IsHeldByItsOwn, all_updated, leaves_timer, units_in, units_of}
+use Rattle.relations.specs.Phases.{Handled, Made, Parameterized, Prepared, Confirmed, Named, Took, Exchanged, Reported, Passed, Ended, Unmoved, parameterized_from, phase_behind, prepared_from, restarted, with_flow, with_records, with_reported, updated}
+use Rattle.relations.specs.Timers.{is_timed, unit_later}
+use Rattle.relations.specs.Runs.{AreOfOthers, IsHeldByItsOwn, all_updated, leaves_timer, units_in}
 
 -- The next relation: it has the same options and the same partner, its timer still runs, and has run for these units more.
 record IsOn (link : RelationState) (units : ℕ) (next : RelationState) : Type 0 where
@@ -55,6 +54,9 @@ goes link (Named source) own timed leaves =
     record { next = restarted source link; becomes = refl; on = stays link (restarted source link) refl refl timed (not_restarted link (is_alive source link) none) }
 goes link (Took records) own timed leaves = record { next = with_records records link; becomes = refl; on = stays link (with_records records link) refl refl timed refl }
 goes link (Exchanged flow) own timed leaves = record { next = with_flow flow link; becomes = refl; on = stays link (with_flow flow link) refl refl timed refl }
+goes link (Reported flow taken plugs) own timed leaves =
+    let next = with_reported flow taken plugs link in
+    record { next = next; becomes = refl; on = stays link next refl refl timed refl }
 goes link Passed own timed leaves = record {
   next = unit_later link;
   becomes = refl;

@@ -1,7 +1,7 @@
 -- For any events while a relation waits for the answer to ApplicationReady.
 use Rattle.std.proofs.Common.{◌≡◌, ◌+◌, ◌%◌, ℕ, true, List, [], ◌∷◌, Some, ap, arith, subst, ◌∙◌}
 use Rattle.relations.specs.RelationState.{RelationState, is_awaiting}
-use Rattle.relations.specs.Phases.{Handled, Made, Parameterized, Prepared, Confirmed, Named, Took, Exchanged, Passed, Ended, Unmoved, restarted, with_flow, with_records}
+use Rattle.relations.specs.Phases.{Handled, Made, Parameterized, Prepared, Confirmed, Named, Took, Exchanged, Reported, Passed, Ended, Unmoved, restarted, with_flow, with_records, with_reported}
 use Rattle.relations.specs.Timers.{unit_later}
 use Rattle.relations.specs.Runs.{AreWaiting, IsDueWhateverComes, all_updated, units_of}
 use Rattle.relations.proofs.Kept.{again_with, waited_next}
@@ -29,6 +29,10 @@ waits_on (Took records ∷ more) link now units waits so still e =
 waits_on (Exchanged flow ∷ more) link now units waits so still e =
     let on = waits_on more (with_flow flow link) now units waits so still.1 e in
     let count : units_of more + units ≡ units_of (Exchanged flow ∷ more) + units = omega arith in
+    (on.0, on.1 ∙ ap (λ (n : ℕ). n % 32000) count)
+waits_on (Reported flow taken plugs ∷ more) link now units waits so still e =
+    let on = waits_on more (with_reported flow taken plugs link) now units waits so still.1 e in
+    let count : units_of more + units ≡ units_of (Reported flow taken plugs ∷ more) + units = omega arith in
     (on.0, on.1 ∙ ap (λ (n : ℕ). n % 32000) count)
 waits_on (Passed ∷ more) link now units waits so still e =
     let on = waits_on more (unit_later link) now (units + 1) waits (waited_next link units waits so) still.1 e in

@@ -7,16 +7,24 @@ use Rattle.pn_alarms.specs.declared.device.PduFate.{PduFate}
 use Rattle.pn_alarms.specs.declared.device.PduFate.TheVariants.{Ignored}
 use Rattle.pn_alarms.specs.Device.{heard_as}
 use Rattle.pn_alarms.specs.Message.{ToDevice}
-use Rattle.diagnosis.specs.alarms.Alarms.{is_next}
+use Rattle.diagnosis.specs.Queue.{is_next}
 use Rattle.diagnosis.specs.alarms.Own.{is_own}
 use Rattle.relations.specs.exchange.Diagnosis.{begins_with_one, behind_low, diagnosed, diagnoses_begun, is_diagnosed, is_full, next_reported}
 use Rattle.relations.specs.RelationState.{RelationState}
-use Rattle.relations.specs.Phases.{Handled, Exchanged, Unmoved}
+use Rattle.relations.specs.exchange.Flow.{Flow}
+use Rattle.relations.specs.Phases.{Handled, Exchanged, Reported, Unmoved}
+use Rattle.relations.specs.Plugging.{first_sent, plugs_after, taken_after}
+
+-- The exchange became this. If an alarm of low priority was first sent with it, what follows from that alarm follows.
+abbrev pub sent_as : Bool → Flow → RelationState → Handled
+sent_as is_sent flow link =
+    let sent = first_sent is_sent flow.low in
+    Reported flow (taken_after sent link.plugs.places link.taken) (plugs_after sent flow.low.waiting link.plugs)
 
 -- Data exchange begins, and these diagnoses exist; whether an alarm of low priority must be sent.
 abbrev pub beginning : List RealModule → List Diagnosis → Option RelationState → Handled
 beginning real diagnoses None = Unmoved
-beginning real diagnoses (Some link) = Exchanged (diagnoses_begun real diagnoses link.flow)
+beginning real diagnoses (Some link) = sent_as (begins_with_one real diagnoses link.flow) (diagnoses_begun real diagnoses link.flow) link
 
 -- Whether an alarm of a diagnosis is sent when data exchange begins.
 abbrev pub begin_one : List RealModule → List Diagnosis → Option RelationState → Bool
@@ -26,7 +34,8 @@ begin_one real diagnoses (Some link) = begins_with_one real diagnoses link.flow
 -- What a change of diagnosis does to the relation, after which these exist.
 abbrev pub diagnosing : List RealModule → Change → List Diagnosis → Option RelationState → Handled
 diagnosing real change diagnoses None = Unmoved
-diagnosing real change diagnoses (Some link) = Exchanged (diagnosed real change diagnoses link.flow)
+diagnosing real change diagnoses (Some link) =
+    sent_as (is_diagnosed real change diagnoses link.flow) (diagnosed real change diagnoses link.flow) link
 
 -- Whether the alarm of a change is sent at once.
 abbrev pub diagnose_one : List RealModule → Change → List Diagnosis → Option RelationState → Bool
@@ -34,14 +43,14 @@ diagnose_one real change diagnoses None = false
 diagnose_one real change diagnoses (Some link) = is_diagnosed real change diagnoses link.flow
 
 -- And of the next change that waits.
-abbrev pub reporting : List RealModule → Option RelationState → Handled
-reporting real None = Unmoved
-reporting real (Some link) = Exchanged (next_reported real link.flow)
+abbrev pub reporting : Option RelationState → Handled
+reporting None = Unmoved
+reporting (Some link) = sent_as (is_next link.flow.low) (next_reported link.flow) link
 
 -- Whether a change that waits can be reported now.
-abbrev pub report_one : List RealModule → Option RelationState → Bool
-report_one real None = false
-report_one real (Some link) = is_next real link.flow.low
+abbrev pub report_one : Option RelationState → Bool
+report_one None = false
+report_one (Some link) = is_next link.flow.low
 
 -- Whether no further change can wait, and whether an alarm of low priority was sent.
 abbrev pub is_full_in : Option RelationState → Bool

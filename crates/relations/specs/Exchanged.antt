@@ -1,5 +1,5 @@
 -- What a relation exchanges: cyclic frames, inputs, alarms, and the PDUs of its partner.
-use Rattle.std.specs.Prelude.{ℕ, Bool, List, Option, Some, None}
+use Rattle.std.specs.Prelude.{ℕ, Bool, List, length, replicate, Option, Some, None, option_map, if◌then◌else◌}
 use Rattle.pn_values.specs.declared.mac.Mac.{Mac}
 use Rattle.pn_values.specs.declared.real.RealModule.{RealModule}
 use Rattle.pn_alarms.specs.declared.device.PduFate.{PduFate}
@@ -10,6 +10,7 @@ use Rattle.cyclic_data.specs.declared.exchange.exchange.ProviderStatus.{Provider
 use Rattle.cyclic_data.specs.exchange.Process.{provider_at}
 use Rattle.cyclic_data.specs.declared.exchange.received.Received.{Received}
 use Rattle.cyclic_data.specs.declared.exchange.received.Received.TheVariants.{Foreign, Short, Stale, Taken}
+use Rattle.expected_places.specs.Machine.{is_touched_at}
 use Rattle.relations.specs.exchange.Flow.{Flow}
 use Rattle.relations.specs.exchange.Received.{behind_frame, received_as}
 use Rattle.relations.specs.exchange.Process.{given_at, output_at, rated_at, turned}
@@ -60,10 +61,14 @@ abbrev pub raised_to : List RealModule → ℕ → ℕ → List ℕ → Option R
 raised_to real slot subslot octets None = None
 raised_to real slot subslot octets (Some link) = raised_at link.flow real slot subslot octets
 
+-- Zeros of a touched place: the controller's values are for what was plugged there before, or not for it yet.
+abbrev pub shown_as : Bool → List ℕ → List ℕ
+shown_as is_touched value = if is_touched then replicate (length value) 0 else value
+
 -- The output of a submodule, if it has a place.
 abbrev pub output_in : ℕ → ℕ → Option RelationState → Option (List ℕ)
 output_in slot subslot None = None
-output_in slot subslot (Some link) = output_at link.flow slot subslot
+output_in slot subslot (Some link) = option_map (shown_as (is_touched_at slot subslot link.plugs)) (output_at link.flow slot subslot)
 
 -- What the controller says of the output of a submodule in its last accepted frame.
 abbrev pub provider_in : ℕ → ℕ → Option RelationState → Option ProviderStatus

@@ -11,6 +11,7 @@ pub mod Ready
 pub mod Runs
 pub mod Leaps
 pub mod Exchanged
+pub mod Plugging
 pub mod Diagnosed
 pub mod Outputs
 pub mod exchange

@@ -1,5 +1,7 @@
 -- The phases of a relation: what moves it, and where to.
 use Rattle.std.specs.Prelude.{◌==◌, ℕ, Bool, List, [], length, Option, Some, None, Result, Ok, Err, option_map, if◌then◌else◌}
+use Rattle.pn_values.specs.declared.real.RealModule.{RealModule}
+use Rattle.module_diff.specs.Diff.{diff_of}
 use Rattle.wire.specs.blocks.modules.Lists.{Listed}
 use Rattle.connect_blocks.specs.declared.module_diff.DiffModule.{DiffModule}
 use Rattle.connect_blocks.specs.declared.module_diff.DiffSubmodule.{DiffSubmodule}
@@ -11,6 +13,7 @@ use Rattle.records.specs.declared.status.call_fault.CallFault.TheVariants as fau
 use Rattle.records.specs.declared.writes.taken.TakenRecord.{TakenRecord}
 use Rattle.records.specs.writes.Taken.{keep_of}
 use Rattle.pn_alarms.specs.declared.abort.Abort.{Abort}
+use Rattle.expected_places.specs.Machine.{PlugState, opened as plugs_opened}
 use Rattle.relations.specs.exchange.Flow.{Flow}
 use Rattle.relations.specs.exchange.Marks.{Starting}
 use Rattle.relations.specs.exchange.Opening.{begun_of, opened}
@@ -29,8 +32,9 @@ pub record Records : Type 0 where
 
 -- The outcome of an event. A Connect is accepted; PrmEnd is accepted, and the application says when it is ready or not;
 -- the application says that it is ready; ApplicationReady was confirmed; a call of this station that names the relation is answered
--- positively; one more parameter record is accepted, after which the records are these; the exchange became this; a unit of time is
--- over and ends nothing; the relation ended, by Release, a timeout, a reset, the ERR of the controller, or because
+-- positively; one more parameter record is accepted, after which the records are these; the exchange became this; alarms of low
+-- priority wait or were sent, after which the exchange, the records and the places are these; a unit of time is over and ends nothing;
+-- the relation ended, by Release, a timeout, a reset, the ERR of the controller, or because
 -- ApplicationReady was refused; or none of these.
 pub data Handled : Type 0 where
   Made : (request : Request) → (partner : Partner) → (rows : Listed DiffModule DiffSubmodule) → (options : DeviceOptions) → (starting : Starting) → Handled
@@ -40,6 +44,7 @@ pub data Handled : Type 0 where
   Named : (source : Partner) → Handled
   Took : (records : Records) → Handled
   Exchanged : (flow : Flow) → Handled
+  Reported : (flow : Flow) → (taken : List TakenRecord) → (plugs : PlugState) → Handled
   Passed : Handled
   Ended : Handled
   Unmoved : Handled
@@ -47,6 +52,15 @@ pub data Handled : Type 0 where
 -- The ModuleDiffBlock with these rows, which exists exactly if there is a row.
 abbrev pub differing_octets : Listed DiffModule DiffSubmodule → List ℕ
 differing_octets rows = if length rows.modules == 0 then [] else block_bytes (is.ModuleDiffBlock (record { api = 0; modules = rows }))
+
+-- The ModuleDiffBlock of a relation with these modules: it is made of what its Connect expects and of what is real now.
+abbrev pub differing_now : List RealModule → RelationState → List ℕ
+differing_now real link = differing_octets (diff_of link.request.expected real)
+
+-- None without a relation.
+abbrev pub differing_in : List RealModule → Option RelationState → List ℕ
+differing_in real None = []
+differing_in real (Some link) = differing_now real link
 
 -- A relation that is established now, if these modules differ, at a device with these options, and if the application says this
 -- of its inputs.
@@ -61,7 +75,7 @@ made_of request partner rows options starting = record {
   waited = 0;
   taken = [];
   passed = none_passed;
-  differing = differing_octets rows;
+  plugs = plugs_opened request.expected rows;
   flow = opened request rows starting;
 }
 
@@ -93,6 +107,10 @@ with_records records link = record link { taken = records.taken; passed = record
 abbrev pub with_flow : Flow → RelationState → RelationState
 with_flow flow link = record link { flow = flow }
 
+-- Its exchange became this, and these records and places follow from an alarm that was sent.
+abbrev pub with_reported : Flow → List TakenRecord → PlugState → RelationState → RelationState
+with_reported flow taken plugs link = record link { flow = flow; taken = taken; plugs = plugs }
+
 -- The outcome moves the relation.
 abbrev pub updated : Handled → Option RelationState → Option RelationState
 updated (Made request partner rows options starting) link = Some (made_of request partner rows options starting)
@@ -102,6 +120,7 @@ updated Confirmed link = option_map exchanging_from link
 updated (Named source) link = option_map (restarted source) link
 updated (Took records) link = option_map (with_records records) link
 updated (Exchanged flow) link = option_map (with_flow flow) link
+updated (Reported flow taken plugs) link = option_map (with_reported flow taken plugs) link
 updated Passed link = option_map unit_later link
 updated Ended link = None
 updated Unmoved link = link

@@ -7,6 +7,7 @@ use Rattle.connects.specs.requests.Request.{Request}
 use Rattle.records.specs.declared.writes.taken.TakenRecord.{TakenRecord}
 use Rattle.cyclic_data.specs.declared.status.StationState.{StationState}
 use Rattle.cyclic_data.specs.exchange.Cyclic.{Cyclic}
+use Rattle.expected_places.specs.Machine.{PlugState}
 use Rattle.relations.specs.exchange.Flow.{Flow}
 use Rattle.relations.specs.declared.options.DeviceOptions.{DeviceOptions}
 use Rattle.relations.specs.declared.phase.Phase.{Phase}
@@ -16,8 +17,8 @@ use Rattle.relations.specs.Passed.{PassedOn, none_passed}
 
 -- A relation: its phase, what its Connect asked for and who sent that, the options of the device, the units from the start of
 -- the device to the answer to the Connect, how many units the activity timer has run, how many units have passed since
--- ApplicationReady was sent, the parameter records that were accepted and are kept, those that were passed on, the octets of its
--- ModuleDiffBlock, none if no module differs, and its exchange.
+-- ApplicationReady was sent, the parameter records that were accepted and are kept, those that were passed on, what pulls and
+-- plugs did to its places, and its exchange.
 pub record RelationState : Type 0 where
   pub phase : Phase
   pub request : Request
@@ -28,7 +29,7 @@ pub record RelationState : Type 0 where
   pub waited : ℕ
   pub taken : List TakenRecord
   pub passed : PassedOn
-  pub differing : List ℕ
+  pub plugs : PlugState
   pub flow : Flow
 
 -- A relation in a phase, if there is one.
@@ -49,7 +50,7 @@ uuid_of link = option_map (λ l. l.request.ar.uuid) link
 abbrev pub parts_of : Option RelationState → Option (Request × Cyclic × ℕ × StationState × ℕ)
 parts_of link = option_map (λ l. (l.request, l.flow.cyclic, l.began, l.flow.state_sent, l.flow.endpoint)) link
 
--- The records that it accepted and keeps, those that it passed on, and its ModuleDiffBlock.
+-- The records that it accepted and keeps, and those that it passed on.
 abbrev pub taken_of : Option RelationState → List TakenRecord
 taken_of None = []
 taken_of (Some link) = link.taken
@@ -58,11 +59,6 @@ taken_of (Some link) = link.taken
 abbrev pub passed_of : Option RelationState → PassedOn
 passed_of None = none_passed
 passed_of (Some link) = link.passed
-
--- The ModuleDiffBlock of the relation, as octets.
-abbrev pub differing_in : Option RelationState → List ℕ
-differing_in None = []
-differing_in (Some link) = link.differing
 
 -- What it exchanges.
 abbrev pub flow_of : Option RelationState → Option Flow
@@ -114,6 +110,11 @@ is_exchanging Started = false
 is_exchanging Preparing = false
 is_exchanging Awaiting = false
 is_exchanging Exchanging = true
+
+-- Whether it is, in a relation or in none.
+abbrev pub is_in_exchange : Option RelationState → Bool
+is_in_exchange None = false
+is_in_exchange (Some link) = is_exchanging link.phase
 
 -- If there is a relation in a phase, its exchange has begun exactly if data is exchanged in that phase.
 abbrev pub HasBegunIn : Option Phase → Flow → Type 0

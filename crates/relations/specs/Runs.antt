@@ -9,7 +9,7 @@ use Rattle.relations.specs.declared.phase.Partner.{Partner}
 use Rattle.relations.specs.RelationState.{RelationState, phase_of, is_awaiting, is_from}
 use Rattle.relations.specs.Farewells.{farewell_of}
 use Rattle.relations.specs.Timers.{due_of, is_again, is_timed, limit_of}
-use Rattle.relations.specs.Phases.{Handled, Made, Parameterized, Prepared, Confirmed, Named, Took, Exchanged, Passed, Ended, Unmoved, updated, passing}
+use Rattle.relations.specs.Phases.{Handled, Made, Parameterized, Prepared, Confirmed, Named, Took, Exchanged, Reported, Passed, Ended, Unmoved, updated, passing}
 
 -- The relation one unit later, and several units later, without other events.
 abbrev pub unit_over : Option RelationState → Option RelationState
@@ -48,6 +48,7 @@ leaves_waiting Confirmed = false
 leaves_waiting (Named source) = true
 leaves_waiting (Took records) = true
 leaves_waiting (Exchanged flow) = true
+leaves_waiting (Reported flow taken plugs) = true
 leaves_waiting Passed = true
 leaves_waiting Ended = false
 leaves_waiting Unmoved = true
@@ -90,6 +91,7 @@ leaves_timer own Confirmed = false
 leaves_timer own (Named source) = not (is_from source own)
 leaves_timer own (Took records) = true
 leaves_timer own (Exchanged flow) = true
+leaves_timer own (Reported flow taken plugs) = true
 leaves_timer own Passed = true
 leaves_timer own Ended = false
 leaves_timer own Unmoved = true

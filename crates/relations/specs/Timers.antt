@@ -9,6 +9,8 @@ use Rattle.pn_alarms.specs.declared.abort.Abort.TheVariants.{Activity, DataHold,
 use Rattle.cyclic_data.specs.Timing.{held_on}
 use Rattle.relations.specs.declared.farewell.Farewell.{Farewell}
 use Rattle.relations.specs.declared.time.Elapsed.{Elapsed}
+use Rattle.expected_places.specs.Calls.{counted, is_again as is_call_again}
+use Rattle.expected_places.specs.Machine.{PlugState}
 use Rattle.relations.specs.RelationState.{RelationState, is_awaiting}
 use Rattle.relations.specs.Farewells.{farewell_of}
 
@@ -47,6 +49,14 @@ is_unheard link = (held_on link.flow.cyclic.hearing).held == link.flow.cyclic.he
 abbrev pub is_again : RelationState → Bool
 is_again link = is_awaiting link.phase && (link.waited + 1 == 32000)
 
+-- The ApplicationReady of a plug is sent again each second too. It is counted while data is exchanged.
+abbrev pub is_plug_again : RelationState → Bool
+is_plug_again link = not (is_timed link.phase) && is_call_again link.plugs.calls
+
+-- The calls of plugs after a unit of time.
+abbrev pub plugs_later : RelationState → PlugState
+plugs_later link = if is_timed link.phase then link.plugs else record link.plugs { calls = counted link.plugs.calls }
+
 -- The state after a unit of time.
 abbrev pub inactive_later : RelationState → ℕ
 inactive_later link = if is_timed link.phase then link.inactive + 1 else link.inactive
@@ -57,7 +67,8 @@ waited_later link = if is_again link then 0 else (if is_awaiting link.phase then
 
 -- The relation after a unit of time with which it does not end.
 abbrev pub unit_later : RelationState → RelationState
-unit_later link = record link { inactive = inactive_later link; waited = waited_later link; flow = flow_later link.flow }
+unit_later link =
+    record link { inactive = inactive_later link; waited = waited_later link; plugs = plugs_later link; flow = flow_later link.flow }
 
 -- What is due with a unit.
 pub record Due : Type 0 where
@@ -65,18 +76,20 @@ pub record Due : Type 0 where
   pub is_alarm : Bool
   pub is_low : Bool
   pub is_ready : Bool
+  pub is_plug_ready : Bool
   pub is_cyclic : Bool
 
 -- What a unit brings: if a timeout ends the relation, nothing more is done. Otherwise the active alarm may be due
--- again, then that of low priority, then ApplicationReady, and then a frame of inputs.
+-- again, then that of low priority, then ApplicationReady or that of a plug, and then a frame of inputs.
 abbrev pub due_by : RelationState → Option Abort → Due
-due_by link (Some reason) = record { farewell = Some (farewell_of reason link); is_alarm = false; is_low = false; is_ready = false; is_cyclic = false }
+due_by link (Some reason) = record { farewell = Some (farewell_of reason link); is_alarm = false; is_low = false; is_ready = false; is_plug_ready = false; is_cyclic = false }
 due_by link None =
     record {
       farewell = None;
       is_alarm = (tick_of link.flow).is_alarm && (repeated_of link.flow).high;
       is_low = (tick_of link.flow).is_alarm && (repeated_of link.flow).low;
       is_ready = is_again link;
+      is_plug_ready = is_plug_again link;
       is_cyclic = (tick_of link.flow).is_cyclic;
     }
 
@@ -86,7 +99,7 @@ due_in link = due_by link (ending_of link)
 
 -- Nothing is due.
 abbrev pub nothing : Due
-nothing = record { farewell = None; is_alarm = false; is_low = false; is_ready = false; is_cyclic = false }
+nothing = record { farewell = None; is_alarm = false; is_low = false; is_ready = false; is_plug_ready = false; is_cyclic = false }
 
 -- What is due with the next unit, nothing without a relation.
 abbrev pub due_of : Option RelationState → Due
@@ -110,16 +123,17 @@ due_behind elapsed link = record {
   is_alarm = elapsed.tick.is_alarm && (repeated_by link).high;
   is_low = elapsed.tick.is_alarm && (repeated_by link).low;
   is_ready = elapsed.is_ready;
+  is_plug_ready = elapsed.is_plug_ready;
   is_cyclic = elapsed.tick.is_cyclic;
 }
 
 -- Whether nothing is due.
 abbrev pub brings_nothing : Elapsed → Bool
-brings_nothing elapsed = is_none elapsed.tick.ending && (not elapsed.tick.is_alarm && (not elapsed.is_ready && not elapsed.tick.is_cyclic))
+brings_nothing elapsed = is_none elapsed.tick.ending && (not elapsed.tick.is_alarm && (not elapsed.is_ready && (not elapsed.is_plug_ready && not elapsed.tick.is_cyclic)))
 
 -- Whether only inputs are due.
 abbrev pub brings_inputs : Elapsed → Bool
-brings_inputs elapsed = is_none elapsed.tick.ending && (not elapsed.tick.is_alarm && (not elapsed.is_ready && elapsed.tick.is_cyclic))
+brings_inputs elapsed = is_none elapsed.tick.ending && (not elapsed.tick.is_alarm && (not elapsed.is_ready && (not elapsed.is_plug_ready && elapsed.tick.is_cyclic)))
 
 -- The relation after it has ended for this reason, if it must end.
 abbrev pub left_behind : Option Abort → Option RelationState → Option RelationState

@@ -10,3 +10,5 @@ pub mod Notices
 pub mod Diagnosis
 pub mod Frames
 pub mod Runs
+pub mod Modules
+pub mod Shut

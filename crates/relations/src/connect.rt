@@ -16,7 +16,6 @@ use connects::{AlarmRelation, ConnectRequest, Iocr, asked_initiator, put_alarm_r
 use module_diff::{DiffRows, diff};
 use pn_values::{Identity, Mac, Real};
 use records::CallFault;
-use wire::append;
 
 /// IOCRType of inputs.
 const INPUT: u16 = 1;
@@ -43,12 +42,12 @@ fn is_foreign(options: &DeviceOptions, source: &Mac, blocks: &[u8]) -> bool
     options.only_own_controller && is_other(source, blocks)
 }
 
-/// Replaces the ModuleDiffBlock by one with these rows; it is empty if no module differs.
+/// Appends the ModuleDiffBlock with these rows, or nothing if no module differs. There must be room for 1,166 octets.
 #[tactic(auto, unfolding(block_codec::specs::Block::block_size, block_codec::specs::Block::fields_of, wire::specs::blocks::Fields::body, wire::specs::blocks::Fields::version))]
-fn put_differing(octets: &mut ArrayVec<u8, 1166>, rows: &DiffRows)
-    ensures { octets.new.items ≡ differing_octets rows.now }
+pub(crate) fn put_differing<const N: usize>(octets: &mut ArrayVec<u8, N>, rows: &DiffRows)
+    requires { array_vec_len octets.old + 1166 ≤ N }
+    ensures { octets.new.items ≡ octets.old.items ++ differing_octets rows.now }
 {
-    octets.clear();
     if rows.is_empty() {
         return;
     }
@@ -112,20 +111,20 @@ fn put_alarm<const N: usize>(answer: &mut ArrayVec<u8, N>, number: u16)
     put_alarm_relation(answer, &block);
 }
 
-/// Writes the blocks of the answer to a Connect into an empty list: ARBlockRes, both IOCRBlockRes, AlarmCRBlockRes, and
-/// `differing`.
+/// Writes the blocks of the answer to a Connect into an empty list: ARBlockRes, both IOCRBlockRes, AlarmCRBlockRes, and the
+/// ModuleDiffBlock with these rows, if a module differs.
 #[tactic(auto, unfolding(crate::specs::Connect::connect_blocks, block_codec::specs::Block::block_size, block_codec::specs::Block::fields_of, wire::specs::blocks::Fields::body, wire::specs::blocks::Fields::version))]
 fn put_answer<const N: usize>(
     answer: &mut ArrayVec<u8, N>,
     identity: &Identity,
     number: u16,
     request: &ConnectRequest,
-    differing: &[u8],
+    rows: &DiffRows,
 )
     requires empty { answer.old.items ≡ [] }
-    requires room { 70 + length differing.now ≤ N }
+    requires room { 1236 ≤ N }
     requires numbered { number < 14336 }
-    ensures { answer.new.items ≡ connect_blocks identity.now number request.now differing.now }
+    ensures { answer.new.items ≡ connect_blocks identity.now number request.now (differing_octets rows.now) }
 {
     let ar = request.ar();
     let relation = ArBlockRes {
@@ -137,7 +136,7 @@ fn put_answer<const N: usize>(
     write_block(answer, &Block::ArBlockRes(relation));
     put_iocrs(answer, number, request);
     put_alarm(answer, number);
-    append(answer, differing);
+    put_differing(answer, rows);
 }
 
 impl Relation {
@@ -176,7 +175,6 @@ impl Relation {
         self.request
             .read(application.options.smallest_interval, blocks)?;
         let rows = diff(self.request.expected(), real);
-        put_differing(&mut self.differing, &rows);
         let number = number_of(application.options.numbers_from, application.made);
         let starting = Starting {
             begin_bad: application.options.inputs_begin_bad,
@@ -187,6 +185,7 @@ impl Relation {
             number,
         };
         self.exchange.open(&self.request, &rows, starting);
+        self.plugs.open(self.request.expected(), &rows);
         // Parameters of an earlier relation do not belong to this one.
         self.taken.clear();
         self.passed.clear();
@@ -196,13 +195,7 @@ impl Relation {
         self.inactive = 0;
         self.waited = 0;
         self.phase = Some(Phase::Started);
-        put_answer(
-            answer,
-            identity,
-            number,
-            &self.request,
-            self.differing.as_slice(),
-        );
+        put_answer(answer, identity, number, &self.request, &rows);
         Ok(())
     }
 }

@@ -18,4 +18,4 @@ pub use cyclic::Repeated;
 pub use data_exchange::DataExchange;
 pub use laws::exchange_is_kept;
 pub use marks::{Mark, Starting};
-pub use statuses::{InputStatus, is_bad, is_plugged, put_status};
+pub use statuses::{InputStatus, forget_statuses, is_bad, is_plugged, put_status};

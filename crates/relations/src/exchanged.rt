@@ -1,7 +1,7 @@
 //! What a relation exchanges.
 ghost use Rattle.std.specs.Prelude.{◌≡◌, ◌≤◌, IfSome, Some, is_some, length, option_map, true};
 ghost use Rattle.relations.specs.declared.phase.Phase.TheVariants.{Exchanging};
-ghost use Rattle.relations.specs.Exchanged.{becoming, given_to, heard_by, hearing, output_in, provider_in, raised_to, rating, received_by, receiving, turning};
+ghost use Rattle.relations.specs.Exchanged.{becoming, given_to, heard_by, hearing, output_in, provider_in, raised_to, rating, received_by, receiving, shown_as, turning};
 ghost use Rattle.relations.specs.Leaps.{due_within};
 ghost use Rattle.relations.specs.RelationState.{flow_of, phase_of};
 ghost use Rattle.relations.specs.Phases.{updated};
@@ -9,10 +9,53 @@ ghost use Rattle.relations.specs.Diagnosed.{begin_one, beginning, diagnose_one, 
 
 use crate::Relation;
 use crate::exchange::DataExchange;
-use cyclic_data::{ProviderStatus, Received, ReceivedValue};
+use crate::plugging::follow;
+use cyclic_data::{ProviderStatus, Received, ReceivedValue, zeros};
 use diagnosis::{Change, Diagnoses};
 use pn_alarms::{Message, PduFate};
 use pn_values::{Mac, Real};
+
+/// The output of a place, or zeros if it is touched: then the controller's values are for what was plugged there before, or not
+/// for what is plugged yet.
+fn shown(value: &[u8], is_touched: bool) -> &[u8]
+    requires { length value.now ≤ 1440 }
+    ensures value { result.now ≡ shown_as is_touched value.now }
+    ensures short { length result.now ≤ 1440 }
+{
+    if is_touched {
+        zeros(value.len())
+    } else {
+        value
+    }
+}
+
+/// The same of an output that may have no place.
+fn shown_output(value: Option<&[u8]>, is_touched: bool) -> Option<&[u8]>
+    requires { IfSome value (λ value. length value.now ≤ 1440) }
+    ensures value { option_map (λ value. value.now) result ≡ option_map (shown_as is_touched) (option_map (λ value. value.now) value.entry) }
+    ensures short { IfSome result (λ value. length value.now ≤ 1440) }
+{
+    match value {
+        Some(value) => Some(shown(value, is_touched)),
+        None => None,
+    }
+}
+
+/// The same of an output with what the controller says of it.
+fn shown_value(value: Option<ReceivedValue<'_>>, is_touched: bool) -> Option<ReceivedValue<'_>>
+    requires { IfSome value (λ value. length value.octets.now ≤ 1440) }
+    ensures status { option_map (λ value. value.status) result ≡ option_map (λ value. value.status) value.entry }
+    ensures octets { option_map (λ value. value.octets.now) result ≡ option_map (shown_as is_touched) (option_map (λ value. value.octets.now) value.entry) }
+    ensures short { IfSome result (λ value. length value.octets.now ≤ 1440) }
+{
+    match value {
+        Some(value) => Some(ReceivedValue {
+            octets: shown(value.octets, is_touched),
+            status: value.status,
+        }),
+        None => None,
+    }
+}
 
 impl Relation {
     /// The data exchange, if there is a relation. Frames to be sent are built from it.
@@ -78,7 +121,10 @@ impl Relation {
         ensures short { IfSome result (λ value. length value.now ≤ 1440) }
     {
         match self.phase {
-            Some(_) => self.exchange.output(slot, subslot),
+            Some(_) => shown_output(
+                self.exchange.output(slot, subslot),
+                self.plugs.is_touched(slot, subslot),
+            ),
             None => None,
         }
     }
@@ -102,7 +148,10 @@ impl Relation {
         ensures short { IfSome result (λ value. length value.octets.now ≤ 1440) }
     {
         match self.phase {
-            Some(_) => self.exchange.cyclic().received_value(slot, subslot),
+            Some(_) => shown_value(
+                self.exchange.cyclic().received_value(slot, subslot),
+                self.plugs.is_touched(slot, subslot),
+            ),
             None => None,
         }
     }
@@ -121,15 +170,17 @@ impl Relation {
         }
     }
 
-    /// Data exchange begins: the diagnoses that exist are reported. Returns whether an alarm of low priority must be sent.
+    /// Data exchange begins: the pulls and plugs that wait are reported, and then the diagnoses that exist. Returns whether an alarm of low priority must be sent.
     pub fn begin_diagnosis(&mut self, real: &Real, diagnoses: &Diagnoses) -> bool
         ensures sent { result ≡ begin_one real.now.modules.items diagnoses.now self.old }
         ensures state { self.new ≡ updated (beginning real.now.modules.items diagnoses.now self.old) self.old }
     {
-        match self.phase {
-            Some(_) => self.exchange.begin_diagnosis(real, diagnoses),
-            None => false,
+        if self.phase.is_none() {
+            return false;
         }
+        let is_sent = self.exchange.begin_diagnosis(real, diagnoses);
+        follow(is_sent, &self.exchange, &mut self.plugs, &mut self.taken);
+        is_sent
     }
 
     /// Whether no further change of diagnosis can wait for its alarm.
@@ -144,22 +195,26 @@ impl Relation {
         ensures sent { result ≡ diagnose_one real.now.modules.items change.now diagnoses.now self.old }
         ensures state { self.new ≡ updated (diagnosing real.now.modules.items change.now diagnoses.now self.old) self.old }
     {
-        match self.phase {
-            Some(_) => self.exchange.diagnose(real, change, diagnoses),
-            None => false,
+        if self.phase.is_none() {
+            return false;
         }
+        let is_sent = self.exchange.diagnose(real, change, diagnoses);
+        follow(is_sent, &self.exchange, &mut self.plugs, &mut self.taken);
+        is_sent
     }
 
-    /// The first change of diagnosis that waits is reported, if no alarm of low priority is active. Returns whether an alarm
+    /// The first change that waits is reported, if no alarm of low priority is active. Returns whether an alarm
     /// must be sent.
-    pub fn report_next(&mut self, real: &Real) -> bool
-        ensures sent { result ≡ report_one real.now.modules.items self.old }
-        ensures state { self.new ≡ updated (reporting real.now.modules.items self.old) self.old }
+    pub fn report_next(&mut self) -> bool
+        ensures sent { result ≡ report_one self.old }
+        ensures state { self.new ≡ updated (reporting self.old) self.old }
     {
-        match self.phase {
-            Some(_) => self.exchange.report_next(real),
-            None => false,
+        if self.phase.is_none() {
+            return false;
         }
+        let is_sent = self.exchange.report_next();
+        follow(is_sent, &self.exchange, &mut self.plugs, &mut self.taken);
+        is_sent
     }
 
     /// Whether a submodule belongs to the relation: its Connect expects it, and it does not differ.

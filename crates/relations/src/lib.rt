@@ -17,14 +17,15 @@ mod options;
 mod output;
 mod passed;
 mod phase;
+mod plugging;
 mod ready;
 mod relation;
 mod time;
 
 pub use cyclic_data::{ProviderStatus, ReceivedValue};
 pub use exchange::{
-    DataExchange, InputStatus, Mark, Repeated, Starting, exchange_is_kept, is_bad, is_plugged,
-    put_status,
+    DataExchange, InputStatus, Mark, Repeated, Starting, exchange_is_kept, forget_statuses, is_bad,
+    is_plugged, put_status,
 };
 pub use farewell::Farewell;
 pub use hearing::ReadyAnswer;
@@ -32,6 +33,7 @@ pub use laws::{phases_are_kept, time_is_kept};
 pub use numbers::{NUMBERS, made_after, number_of};
 pub use options::{Application, DeviceOptions};
 pub use phase::{Partner, Phase};
+pub use plugging::{Outgoing, PlugAnswer, PlugReady};
 pub use pn_alarms::Abort;
 pub use ready::Ready;
 pub use relation::{Relation, RelationParts};

@@ -1,17 +1,21 @@
 //! The relation.
-ghost use Rattle.std.specs.Prelude.{◌≡◌, ◌≤◌, Err, IfErr, IsOk, None, OnOk, if◌then◌else◌, length, option_map};
+ghost use Rattle.std.specs.Prelude.{◌≡◌, ◌≤◌, [], Err, IfErr, IsOk, None, OnOk, if◌then◌else◌, length, option_map};
 ghost use Rattle.relations.specs.Phases.{Ended, Named, Unmoved, answered, keeping, updated, taking};
 ghost use Rattle.relations.specs.Farewells.{farewell_of};
-ghost use Rattle.relations.specs.RelationState.{IsInStep, differing_in, is_alarm_of, is_alive_by, is_named, is_parameterized, parts_of, passed_of, passes_on_in, phase_of, taken_of, uuid_of};
+ghost use Rattle.relations.specs.Phases.{differing_in};
+ghost use Rattle.relations.specs.RelationState.{IsInStep, is_alarm_of, is_alive_by, is_named, is_parameterized, parts_of, passed_of, passes_on_in, phase_of, taken_of, uuid_of};
 
+use crate::connect::put_differing;
 use crate::exchange::DataExchange;
 use crate::passed::PassedRecords;
 use crate::{DeviceOptions, Farewell, Partner, Phase};
 use arrayvec::ArrayVec;
 use connects::ConnectRequest;
 use cyclic_data::{CyclicExchange, StationState};
+use expected_places::Plugs;
+use module_diff::diff;
 use pn_alarms::{Abort, PduType};
-use pn_values::Mac;
+use pn_values::{Mac, Real};
 use records::{CallFault, TakenRecord, TakenRecords, is_relation};
 use std::marker::Model;
 use uuid::Uuid;
@@ -34,8 +38,8 @@ pub struct Relation {
     pub(crate) taken: TakenRecords,
     /// The parameter records that are passed on.
     pub(crate) passed: PassedRecords,
-    /// The ModuleDiffBlock, if there is one.
-    pub(crate) differing: ArrayVec<u8, 1166>,
+    /// What pulls and plugs did to its places.
+    pub(crate) plugs: Plugs,
     /// The data exchange.
     pub(crate) exchange: DataExchange,
 }
@@ -60,7 +64,7 @@ impl Model for Relation {
       waited = relation.waited;
       taken = relation.taken;
       passed = relation.passed;
-      differing = relation.differing.items;
+      plugs = relation.plugs;
       flow = relation.exchange;
     }) };
 
@@ -101,7 +105,7 @@ impl Relation {
             waited: 0,
             taken: TakenRecords::new(),
             passed: PassedRecords::new(),
-            differing: ArrayVec::new(),
+            plugs: Plugs::new(),
             exchange: DataExchange::new(),
         }
     }
@@ -182,15 +186,16 @@ impl Relation {
         }
     }
 
-    /// The octets of the ModuleDiffBlock of the relation, which are its record 0xE002. Empty if no module differs, or
-    /// if there is no relation.
-    pub fn differing(&self) -> &[u8]
-        ensures value { result.now ≡ differing_in self.now }
-        ensures few { length result.now ≤ 1166 }
+    /// Puts the octets of the ModuleDiffBlock of the relation with these modules, which are its record 0xE002, into an empty
+    /// list. None if no module differs now, or if there is no relation.
+    // Its rows need a stack of their own, which the callers of other records do not.
+    #[inline(never)]
+    pub fn put_differing(&self, real: &Real, octets: &mut ArrayVec<u8, 1166>)
+        requires { octets.old.items ≡ [] }
+        ensures { octets.new.items ≡ differing_in real.now.modules.items self.now }
     {
-        match self.phase {
-            Some(_) => self.differing.as_slice(),
-            None => &[],
+        if self.phase.is_some() {
+            put_differing(octets, &diff(self.request.expected(), real));
         }
     }
 

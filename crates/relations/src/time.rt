@@ -12,12 +12,13 @@ ghost use Rattle.relations.specs.Timers.{left_behind, nothing};
 ghost use Rattle.relations.specs.Phases.{updated, passing};
 ghost use Rattle.relations.specs.Ready.{ready_of};
 ghost use Rattle.relations.specs.Runs.{units_over};
-ghost use Rattle.relations.specs.Leaps.{NothingDueFor, due_within, inactive_by, inactive_in, ready_in, waited_by};
+ghost use Rattle.relations.specs.Leaps.{NoPlugDueFor, NothingDueFor, due_within, inactive_by, inactive_in, plug_again_in, plugs_by, ready_in, waited_by};
 
 use crate::exchange::Repeated;
 use crate::{Phase, Relation};
 use connects::ConnectRequest;
 use cyclic_data::Tick;
+use expected_places::Plugs;
 use pn_alarms::{Abort, NEVER};
 
 /// 100 ms, in units of 31.25 microseconds: what CMInitiatorActivityTimeoutFactor counts.
@@ -34,6 +35,8 @@ pub struct Elapsed {
     pub tick: Tick,
     /// Whether ApplicationReady is due again.
     pub is_ready: bool,
+    /// Whether the ApplicationReady of a plug is due again.
+    pub is_plug_ready: bool,
 }
 
 impl Elapsed {
@@ -44,8 +47,8 @@ impl Elapsed {
         ensures nothing { (link : Option RelationState) → result ≡ true → due_behind self.now link ≡ nothing }
         ensures left { (link : Option RelationState) → result ≡ true → left_behind self.now.tick.ending link ≡ link }
     {
-        // While data is exchanged ApplicationReady is never due, so this is checked first.
-        !self.is_ready && self.tick.is_nothing()
+        // ApplicationReady is rarely due, so this is checked first.
+        !self.is_ready && !self.is_plug_ready && self.tick.is_nothing()
     }
 
     /// Whether only inputs are due.
@@ -55,17 +58,18 @@ impl Elapsed {
         ensures due { (link : Option RelationState) → result ≡ true → due_behind self.now link ≡ record nothing { is_cyclic = true } }
         ensures left { (link : Option RelationState) → result ≡ true → left_behind self.now.tick.ending link ≡ link }
     {
-        !self.is_ready && self.tick.is_cyclic_alone()
+        !self.is_ready && !self.is_plug_ready && self.tick.is_cyclic_alone()
     }
 
     /// What is due of the exchange, and nothing else.
     #[inline(always)]
     fn of(tick: Tick) -> Elapsed
-        ensures { result ≡ record { tick = tick; is_ready = false } }
+        ensures { result ≡ record { tick = tick; is_ready = false; is_plug_ready = false } }
     {
         Elapsed {
             tick,
             is_ready: false,
+            is_plug_ready: false,
         }
     }
 }
@@ -110,6 +114,8 @@ impl Relation {
         // Once data is exchanged, the relation always ends when the data hold time is over.
         ensures hold { (old : RelationState) → self.old ≡ Some old → old.phase ≡ Exchanging → is_unheard old ≡ true →
             farewell_for result.tick.ending self.new ≡ Some (farewell_of DataHold old) }
+        // ApplicationReady is due only before data is exchanged, and that of a plug only from then on.
+        ensures apart { result.is_ready ≡ true → result.is_plug_ready ≡ false }
         // ApplicationReady is repeated unchanged.
         ensures same { (old new : RelationState) → self.old ≡ Some old → self.new ≡ Some new → ready_of new ≡ ready_of old }
     {
@@ -119,7 +125,12 @@ impl Relation {
         // This is done in each phase: inputs are sent from the answer to the Connect on.
         let tick = self.exchange.tick();
         if !is_timed(phase) {
-            return Elapsed::of(tick);
+            return Elapsed {
+                is_ready: false,
+                // A unit that ends the relation brings nothing else.
+                is_plug_ready: self.plugs.tick() && tick.ending().is_none(),
+                tick,
+            };
         }
         let limit = u32::from(self.request.ar().timeout_factor) * TENTH_OF_A_SECOND;
         if let Some(reason) = unit_inactive(&mut self.inactive, limit) {
@@ -128,6 +139,7 @@ impl Relation {
         Elapsed {
             tick: tick.without_end(),
             is_ready: is_awaiting(phase) && unit_waited(&mut self.waited),
+            is_plug_ready: false,
         }
     }
 
@@ -157,9 +169,9 @@ impl Relation {
             return NEVER;
         };
         let due = self.exchange.due_in();
-        // While data is exchanged the relation has no timers of its own.
+        // While data is exchanged the relation has no timer of its own but that of the ApplicationReady of a plug.
         if matches!(phase, Phase::Exchanging) {
-            return due;
+            return due.min(self.plugs.due_in());
         }
         let inactive = inactive_in(phase, limit_of(&self.request), self.inactive);
         let timers = inactive.min(ready_in(phase, self.waited));
@@ -178,8 +190,23 @@ impl Relation {
             return;
         };
         self.exchange.pass(units);
+        pass_plugs(phase, units, &mut self.plugs);
         let limit = limit_of(&self.request);
         pass_timers(phase, limit, units, &mut self.inactive, &mut self.waited);
+    }
+}
+
+/// Lets several units pass at the ApplicationReady of a plug, which may not be due again with any of them.
+fn pass_plugs(phase: Phase, units: u32, plugs: &mut Plugs)
+    requires { units < plug_again_in phase plugs.old }
+    ensures state { plugs.new ≡ plugs_by phase units plugs.old }
+    ensures nothing { NoPlugDueFor units phase plugs.old }
+    // What is due comes nearer by these units, and by no more.
+    ensures due { plug_again_in phase plugs.old ≤ plug_again_in phase plugs.new + units }
+{
+    // It is counted while data is exchanged.
+    if !is_timed(phase) {
+        plugs.pass(units);
     }
 }
 

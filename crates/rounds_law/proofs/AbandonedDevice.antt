@@ -31,6 +31,7 @@ use Rattle.records.specs.writes.Several.{is_several}
 use Rattle.block_codec.specs.declared.block_type.BlockType.TheVariants as kind
 use Rattle.settings_journal.specs.settings_store.Machine.{Outcome}
 use Rattle.relations.specs.Calls.{control_block, done_of, in_started, named_of, prm_end_of, release_of}
+use Rattle.relations.specs.Plugging.{is_plug_control}
 use Rattle.relations.specs.Phases.{Ended, Named, Parameterized, answered, updated}
 use Rattle.relations.specs.RelationState.{RelationState, uuid_of}
 use Rattle.device_frames.specs.declared.note.Note.TheVariants as note
@@ -40,7 +41,7 @@ use Rattle.device_frames.specs.Sent.{Sent, bytes_of}
 use Rattle.device_core.specs.State.{Live, Rest, Station}
 use Rattle.device_core.specs.Log.{but_rest, release_log, with_log}
 use Rattle.device_core.specs.Handled.{Handled, Moves, Refuses, answer_from, handled_call, handled_looked, handled_new, handled_said, handled_write}
-use Rattle.device_core.specs.Handled.{is_running, kept_behind, kept_for, partner_of, ready_behind, served}
+use Rattle.device_core.specs.Handled.{handled_plug_end, is_running, kept_behind, kept_for, partner_of, ready_behind, served}
 use Rattle.device_core.specs.Machine.{Stepped, handled_step, heard_step}
 use Rattle.controller_messages.specs.declared.setup.Setup.{Setup}
 use Rattle.controller_messages.specs.declared.request.Request.{Request}
@@ -122,12 +123,12 @@ record IsRefusedAt (station : Station) (live : Live) (caller : Caller) (call : C
 write_refused : (station : Station) (live : Live) (caller : Caller) (call : Call) (blocks : List ℕ) → live.rest.link ≡ None
     → IsRefusedAt station live caller call Write (handled_new station live caller call blocks Write)
 write_refused station live caller call blocks none =
-    let fails = write_fails station.real blocks in
+    let fails = write_fails live.rest.real blocks in
     record {
       why = fails.0;
       rest = live.rest;
       calls = refl;
-      moves = ap (λ (l : Option RelationState). handled_write station live caller call (writing_of (uuid_of l) station.real blocks)) none
+      moves = ap (λ (l : Option RelationState). handled_write station live caller call (writing_of (uuid_of l) live.rest.real blocks)) none
           ∙ (ap (λ (r : Result Writing CallFault). handled_write station live caller call r) fails.1
           ∙ ap (λ (l : Option RelationState). served station live caller call Write (Err fails.0) l []) none);
     }
@@ -148,7 +149,8 @@ ended_refused station live caller call blocks none =
       why = fails.0;
       rest = live.rest;
       calls = refl;
-      moves = ap (λ (l : Option RelationState). ended_with station live caller call blocks l (prm_end_of l blocks)) none
+      moves = ap (λ (l : Option RelationState). if is_plug_control blocks l then handled_plug_end station live caller call blocks
+          else ended_with station live caller call blocks l (prm_end_of l blocks)) none
           ∙ ap (λ (r : Result ControlBlock CallFault). ended_with station live caller call blocks None r) fails.1;
     }
 

@@ -26,6 +26,7 @@ use Rattle.rounds_law.proofs.AgainLaw.{AgainLaws, EndedLaws, Stands, at_most, be
 use Rattle.rounds_law.proofs.AgainLaw.{sum, sum_is}
 use Rattle.rounds_law.proofs.CompositionLaws.{Laws}
 use Rattle.rounds_law.proofs.CompositionLists.{Went, arrives_as, went_on}
+use Rattle.rounds_law.proofs.PlanKept.{plan_moved}
 
 module _ {F : Type 0} {S : ℕ} (as_flash : Flash F S) (setup next : Setup) (identity : Identity) (laws : Laws setup identity) (again : AgainLaws setup identity)
     (again_next : AgainLaws next identity) (ends : EndedLaws setup identity) (can : CanStart setup identity) (starts : AreStarts setup next)
@@ -42,7 +43,7 @@ module _ {F : Type 0} {S : ℕ} (as_flash : Flash F S) (setup next : Setup) (ide
     ignored = stands.ignored;
     ignored_next = stands.ignored_next;
     of_device = ap (λ (s : Station). s.identity) same ∙ stands.of_device;
-    of_plan = subst (λ (s : Station). IsOfPlan setup s) (sym same) stands.of_plan;
+    of_plan = plan_moved as_flash laws.modules setup net.device device same (ap (λ (l : Live). l.rest.real) still) stands.of_plan;
     named = subst (λ (l : Live). IsNamed setup l) (sym still) stands.named;
     sized = subst (λ (l : Live). IsSized l.values.running.suite) (sym still) stands.sized;
     addressed = subst (λ (l : Live). IsAddressed setup l ⊎ CanBeAddressed l) (sym still) stands.addressed;

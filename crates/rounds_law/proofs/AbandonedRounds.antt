@@ -174,7 +174,7 @@ module _ {F : Type 0} {S : ℕ} (as_flash : Flash F S) (setup next : Setup) (ide
       let step = controller_step net.controller its.octets in
       record {
         bare = record {
-          stands = stays_on as_flash setup next identity laws again again_next ends can starts net after 0 round.device all.0.is.values all.0.is.uncalled
+          stands = stays_on as_flash setup next identity laws again again_next ends can starts net after round 0 round.device all.0.is.values all.0.is.uncalled
               bare.stands unit;
           silent = (went_at as_flash round.device station Ticks after.to_controller after.device all.0.of_station round.unit).sent
               ∙ (again.unrelated [] station round.device.live all.0.is.unrelated).0;

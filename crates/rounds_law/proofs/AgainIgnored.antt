@@ -25,11 +25,12 @@ use Rattle.pn_alarms.specs.declared.fault.AlarmFault.{AlarmFault}
 use Rattle.pn_alarms.specs.declared.pdu.Header.{Header}
 use Rattle.diagnosis.specs.reports.Message.{ToController, alarm_of}
 use Rattle.cyclic_data.specs.exchange.Received.{behind_frame}
+use Rattle.relations.specs.declared.plugging.PlugReady.{PlugReady}
 use Rattle.relations.specs.declared.ready.Ready.{Ready}
 use Rattle.relations.specs.exchange.Frames.{Inputs, Notifies, Reports}
 use Rattle.plans.specs.declared.parts.Controller.{Controller}
 use Rattle.device_frames.specs.Sendable.{IsSendable}
-use Rattle.device_frames.specs.Sent.{Sent, ReadyCall, Ends, Exchanges, bytes_of, ready_frame}
+use Rattle.device_frames.specs.Sent.{Sent, ReadyCall, PlugReadyCall, Ends, Exchanges, bytes_of, plug_ready_frame, ready_frame}
 use Rattle.controller_messages.specs.declared.setup.Setup.{Setup}
 use Rattle.controller_messages.specs.Heard.{Heard, Alarms, Answers, Calls, Cyclic, Nothing, Refuses, Responds}
 use Rattle.controller_messages.specs.Heard.{heard_alarm, heard_content, heard_of, heard_read, heard_real_time}
@@ -39,7 +40,7 @@ use Rattle.controller_core.specs.stored.Alarms.{is_alarm}
 use Rattle.controller_core.specs.stored.State.{Live}
 use Rattle.controller_core.specs.Machine.{called, noticed, readied, step_of, stepped, stays, turned}
 use Rattle.end_laws.specs.hearing.Hearing.{mine_reported}
-use Rattle.end_laws.specs.hearing.Stations.{IsAddress, IsDevice, ready_call}
+use Rattle.end_laws.specs.hearing.Stations.{IsAddress, IsDevice, plug_ready_call, ready_call}
 use Rattle.rounds_law.specs.Path.{IsIgnored}
 use Rattle.rounds_law.proofs.Choices.{where_not, where_so}
 
@@ -51,12 +52,16 @@ pub record IsOther (setup : Setup) (call : Call) : Type 0 where
   pub is : ready_in call ≡ Some block
   pub other : block.ar_uuid ≡ setup.ar → ⊥
 
+-- Or it is no ApplicationReady at all.
+abbrev pub IsNotReady : Setup → Call → Type 0
+IsNotReady setup call = IsOther setup call ⊎ (ready_in call ≡ None)
+
 abbrev pub IsQuiet : Setup → Heard → Type 0
 IsQuiet setup Nothing = Unit {0}
 IsQuiet setup (Answers source answer) = ⊥
 IsQuiet setup (Responds response) = ⊥
 IsQuiet setup (Refuses refusal) = ⊥
-IsQuiet setup (Calls caller call) = IsOther setup call
+IsQuiet setup (Calls caller call) = IsNotReady setup call
 IsQuiet setup (Cyclic source frame_id body) = Unit {0}
 IsQuiet setup (Alarms source under header notice) = Unit {0}
 
@@ -67,14 +72,19 @@ not_ready setup block other = by_test (pointwise nat_eq block.ar_uuid setup.ar) 
     by_test true e = absurd (other (same_text block.ar_uuid setup.ar (sym e)))
     by_test false e = ap (λ (b : Bool). b && block.session_key == 1) e
 
+called_quiet : (setup : Setup) (live : Live) (caller : Caller) (call : Call) → IsNotReady setup call
+    → called setup live caller call (ready_in call) ≡ stays live
+called_quiet setup live caller call (inl other) =
+    ap (λ (o : Option ControlBlock). called setup live caller call o) other.is
+    ∙ ap (λ (b : Bool). if b then readied live caller call other.block live.phase else stays live) (not_ready setup other.block other.other)
+called_quiet setup live caller call (inr none) = ap (λ (o : Option ControlBlock). called setup live caller call o) none
+
 turned_quiet : (setup : Setup) (live : Live) (heard : Heard) → live.stands ≡ false → IsQuiet setup heard → turned setup live heard ≡ stays live
 turned_quiet setup live Nothing unrelated quiet = refl
 turned_quiet setup live (Answers source answer) unrelated quiet = absurd quiet
 turned_quiet setup live (Responds response) unrelated quiet = absurd quiet
 turned_quiet setup live (Refuses refusal) unrelated quiet = absurd quiet
-turned_quiet setup live (Calls caller call) unrelated quiet =
-    ap (λ (o : Option ControlBlock). called setup live caller call o) quiet.is
-    ∙ ap (λ (b : Bool). if b then readied live caller call quiet.block live.phase else stays live) (not_ready setup quiet.block quiet.other)
+turned_quiet setup live (Calls caller call) unrelated quiet = called_quiet setup live caller call quiet
 turned_quiet setup live (Cyclic source frame_id body) unrelated quiet =
     ap (λ (b : Bool). stays (if b then record live { cyclic = behind_frame live.cyclic source frame_id body } else live)) unrelated
 turned_quiet setup live (Alarms source under header notice) unrelated quiet =
@@ -141,6 +151,14 @@ pub record HeardLaws : Type 0 where
       (Calls (record { mac = identity.mac; endpoint = calls_at address }) (ready_call ready))
   pub ready_can : (ready : Ready) → IsHeader ready.header → ready.header.interface ≡ interface_uuid controllers
       → IsUuid ready.block.ar_uuid → CanBeCalled controllers (ready_call ready)
+  pub plug : (mine : Controller) (identity : Identity) (address : List ℕ) (ready : PlugReady)
+      → IsDevice identity → IsMac ready.partner.mac → IsAddress ready.partner.address → IsAddress address → CanBeCalled controllers (plug_ready_call ready)
+      → heard_of mine (plug_ready_frame identity address ready)
+      ≡ mine_reported mine ready.partner.mac (calls_at ready.partner.address)
+      (Calls (record { mac = identity.mac; endpoint = calls_at address }) (plug_ready_call ready))
+  pub plug_can : (ready : PlugReady) → IsHeader ready.header → ready.header.interface ≡ interface_uuid controllers
+      → IsUuid ready.block.ar_uuid → CanBeCalled controllers (plug_ready_call ready)
+  pub plug_other : (ready : PlugReady) → ready_in (plug_ready_call ready) ≡ None
   pub block_read : (block : Block) → CanBeWritten block → block_of (block_bytes block) ≡ Ok (block, [])
 
 -- What is known of it.
@@ -154,7 +172,15 @@ pub record IsReadyOfOther (setup : Setup) (ready : Ready) : Type 0 where
   pub uuid : IsUuid ready.block.ar_uuid
   pub other : ready.block.ar_uuid ≡ setup.ar → ⊥
 
-reported_quiet : (setup : Setup) (destination : Mac) (address : List ℕ) (caller : Caller) (call : Call) → IsOther setup call
+-- What is known of one for a plug.
+pub record IsPlugCall (ready : PlugReady) : Type 0 where
+  pub mac : IsMac ready.partner.mac
+  pub address : IsAddress ready.partner.address
+  pub header : IsHeader ready.header
+  pub interface : ready.header.interface ≡ interface_uuid controllers
+  pub uuid : IsUuid ready.block.ar_uuid
+
+reported_quiet : (setup : Setup) (destination : Mac) (address : List ℕ) (caller : Caller) (call : Call) → IsNotReady setup call
     → IsQuiet setup (mine_reported setup.plan.controller destination (calls_at address) (Calls caller call))
 reported_quiet setup destination address caller call other =
     outer (pointwise nat_eq destination.octets setup.plan.controller.mac.octets) (pointwise nat_eq address setup.plan.controller.address && true)
@@ -170,22 +196,32 @@ ready_quiet : HeardLaws → (setup : Setup) (identity : Identity) (address : Lis
 ready_quiet laws setup identity address ready device sized known =
     subst (IsQuiet setup) (sym (laws.ready setup.plan.controller identity address ready device known.mac known.address sized
     (laws.ready_can ready known.header known.interface known.uuid)))
-    (reported_quiet setup ready.partner.mac ready.partner.address (record { mac = identity.mac; endpoint = calls_at address }) (ready_call ready) (record {
+    (reported_quiet setup ready.partner.mac ready.partner.address (record { mac = identity.mac; endpoint = calls_at address }) (ready_call ready) (inl (record {
       block = ready.block;
       is = ap (λ (n : ℕ). if n == 4 then ready_block (block_of (block_bytes (is.ApplicationReady ready.block))) else None) known.operation
           ∙ ap (λ (r : Result (Block × List ℕ) BlockFault). ready_block r) (laws.block_read (is.ApplicationReady ready.block) known.block);
       other = known.other;
-    }))
+    })))
+
+plug_quiet : HeardLaws → (setup : Setup) (identity : Identity) (address : List ℕ) (ready : PlugReady)
+    → IsDevice identity → IsAddress address → IsPlugCall ready
+    → IsQuiet setup (heard_of setup.plan.controller (plug_ready_frame identity address ready))
+plug_quiet laws setup identity address ready device sized known =
+    subst (IsQuiet setup) (sym (laws.plug setup.plan.controller identity address ready device known.mac known.address sized
+    (laws.plug_can ready known.header known.interface known.uuid)))
+    (reported_quiet setup ready.partner.mac ready.partner.address (record { mac = identity.mac; endpoint = calls_at address }) (plug_ready_call ready)
+    (inr (laws.plug_other ready)))
 
 -- ---- all messages of a unit
 
--- A message of a unit for an earlier relation: its ERR, an alarm again, ApplicationReady again, or inputs.
+-- A message of a unit for an earlier relation: its ERR, an alarm again, ApplicationReady again, also that of a plug, or inputs.
 abbrev pub IsOfUnit : Setup → Sent → Type 0
 IsOfUnit setup (Ends farewell) = Unit {0}
 IsOfUnit setup (Exchanges route (Inputs state inputs counter)) = is_cyclic route.sent_id ≡ true
 IsOfUnit setup (Exchanges route (Notifies header alarm)) = Unit {0}
 IsOfUnit setup (Exchanges route (Reports tag header alarm)) = Unit {0}
 IsOfUnit setup (ReadyCall address ready) = IsReadyOfOther setup ready
+IsOfUnit setup (PlugReadyCall address ready) = IsPlugCall ready
 IsOfUnit setup message = ⊥
 
 pub unit_ignored : HeardLaws → (setup : Setup) (identity : Identity) (message : Sent) → IsDevice identity → IsOfUnit setup message → IsSendable identity message
@@ -204,4 +240,6 @@ unit_ignored laws setup identity (Exchanges route (Reports tag header alarm)) de
     (exchange_quiet laws.real_time setup route.partner identity.mac tag _ _ (inr (refl, refl)) can)
 unit_ignored laws setup identity (ReadyCall address ready) device of can =
     ignored setup (bytes_of identity (ReadyCall address ready)) (ready_quiet laws setup identity address ready device can.content.0.0 of)
+unit_ignored laws setup identity (PlugReadyCall address ready) device of can =
+    ignored setup (bytes_of identity (PlugReadyCall address ready)) (plug_quiet laws setup identity address ready device can.content.0.0 of)
 unit_ignored laws setup identity message device of can = absurd of

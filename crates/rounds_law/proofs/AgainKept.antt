@@ -111,13 +111,13 @@ module _ (setup : Setup) (identity : Identity) (station : Station) (live : Live)
   blocks = blocks_of setup asks.Connect
 
   abbrev outcome : Option RelationState → Result (List ℕ) CallFault
-  outcome link = connect_answer station.identity station.real station.options (number_now station live) caller.mac link blocks
+  outcome link = connect_answer station.identity live.rest.real station.options (number_now station live) caller.mac link blocks
 
   abbrev sent : Sent
   sent = answer_from live.values.running.suite.address caller call Connect (outcome live.rest.link)
 
   abbrev link_by : Result Request CallFault → Option RelationState
-  link_by asked = updated (making station.real (partner_of caller) station.options (starting_of station live) asked) live.rest.link
+  link_by asked = updated (making live.rest.real (partner_of caller) station.options (starting_of station live) asked) live.rest.link
 
   abbrev rest : Rest
   rest = kept_behind station.identity (counted_by (outcome live.rest.link) (with_log (connect_log blocks (outcome live.rest.link)) live.rest)) call sent
@@ -147,7 +147,7 @@ module _ (setup : Setup) (identity : Identity) (station : Station) (live : Live)
       (is_handled uncalled) in
       let because = refused_by link has in
       let message = ap (λ (asked : Result Request CallFault). answer_from live.values.running.suite.address caller call Connect
-      (asked >>= λ request. Ok (connect_blocks station.identity (number_now station live) request (differing_of request station.real)))) because.1
+      (asked >>= λ request. Ok (connect_blocks station.identity (number_now station live) request (differing_of request live.rest.real)))) because.1
       ∙ ap (λ suite. answer_from suite.address caller call Connect (Err because.0)) addressed.suite in
       subst (λ (step : Stepped). IsRefused setup identity live step) (sym stepped) (
         bytes_of station.identity sent,

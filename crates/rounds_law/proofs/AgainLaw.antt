@@ -5,6 +5,7 @@ use Rattle.std.specs.List.{AllByRecursion}
 use Rattle.std.proofs.lemmas.Bool.Decides.{nat_tests}
 use Rattle.flash_model.specs.declared.flash.Flash.{Ghosts as Flash}
 use Rattle.pn_values.specs.declared.identity.Identity.{Identity}
+use Rattle.pn_values.specs.declared.real.Real.{Real}
 use Rattle.settings_journal.specs.settings_store.Machine.{Outcome}
 use Rattle.settings_journal.specs.settings_store.State.{Values}
 use Rattle.rpc_core.specs.Cache.{kept_of}
@@ -38,6 +39,7 @@ use Rattle.rounds_law.proofs.CompositionEnds.{Passed, addressed_by, asked_after,
 use Rattle.rounds_law.proofs.CompositionLaws.{Laws}
 use Rattle.rounds_law.proofs.CompositionLists.{arrive, arrive_first, arrives_as, hears_one, never, went_at}
 use Rattle.rounds_law.proofs.CompositionRounds.{opening_is, two_more}
+use Rattle.rounds_law.proofs.PlanKept.{round_of_plan}
 
 -- ---- more rounds
 
@@ -145,7 +147,7 @@ pub record Stands {F : Type 0} (setup next : Setup) (identity : Identity) (net :
   pub ignored : AllByRecursion (IsIgnored setup) net.to_controller
   pub ignored_next : AllByRecursion (IsIgnored next) net.to_controller
   pub of_device : net.device.station.identity ≡ identity
-  pub of_plan : IsOfPlan setup net.device.station
+  pub of_plan : IsOfPlan setup net.device.station net.device.live.rest.real
   pub named : IsNamed setup net.device.live
   pub sized : IsSized net.device.live.values.running.suite
   pub addressed : IsAddressed setup net.device.live ⊎ CanBeAddressed net.device.live
@@ -189,6 +191,7 @@ moved_to setup left before after same earlier = record {
   few = earlier.few;
   route = earlier.route;
   begun = earlier.begun;
+  called = earlier.called;
   time = earlier.time;
 }
 
@@ -210,6 +213,7 @@ longer setup left live earlier = record {
   few = earlier.few;
   route = earlier.route;
   begun = earlier.begun;
+  called = earlier.called;
   time = omega (arith, earlier.time);
 }
 
@@ -299,16 +303,16 @@ module _ {F : Type 0} {S : ℕ} (as_flash : Flash F S) (setup next : Setup) (ide
   stays_addressed net after values (inl has) = inl (addressed_by setup net.device.live after.device.live values has)
   stays_addressed net after values (inr can) = inr (can_by net.device.live after.device.live values can)
 
-  pub stays_on : (net after : Net F) (left : ℕ) (between : State F) → between.live.values ≡ net.device.live.values
+  pub stays_on : (net after : Net F) → Round as_flash net after → (left : ℕ) (between : State F) → between.live.values ≡ net.device.live.values
       → kept_of next.activity between.live.rest.calls ≡ None → Stands setup next identity net
       → Aged setup next net.device.station between.live left after.to_controller after.device → Stands setup next identity after
-  stays_on net after left between kept uncalled stands unit =
+  stays_on net after round left between kept uncalled stands unit =
       let values : after.device.live.values ≡ net.device.live.values = unit.values ∙ kept in
       record {
         ignored = unit.ignored;
         ignored_next = unit.ignored_next;
         of_device = ap (λ (s : Station). s.identity) unit.of_station ∙ stands.of_device;
-        of_plan = subst (λ (s : Station). IsOfPlan setup s) (sym unit.of_station) stands.of_plan;
+        of_plan = round_of_plan as_flash laws.modules setup net after round stands.of_plan;
         named = named_by setup net.device.live after.device.live values stands.named;
         sized = subst (λ (v : Values). IsSized v.running.suite) (sym values) stands.sized;
         addressed = stays_addressed net after values stands.addressed;
@@ -407,7 +411,7 @@ module _ {F : Type 0} {S : ℕ} (as_flash : Flash F S) (setup next : Setup) (ide
       (arrives_as as_flash net after round (request_to setup identity wants.Identify ∷ []) opened) in
       let unit = has_aged round.device station left after.to_controller after.device all.0.of_station stands.of_device round.unit
       (subst (λ (live : Live). Has setup next (suc left) live) (sym all.0.is) has) in
-      let stood = stays_on net after left round.device (ap (λ (live : Live). live.values) all.0.is)
+      let stood = stays_on net after round left round.device (ap (λ (live : Live). live.values) all.0.is)
       (ap (λ (live : Live). kept_of next.activity live.rest.calls) all.0.is ∙ stands.uncalled_next) stands unit in
       let kept = ignore setup (λ (c : Controlling). (c.setup ≡ setup) × (c.live ≡ first_live setup.plan)) (λ c is. (is.0, ap (λ l. l.stands) is.1))
       net.controller net.to_controller (found_frame setup identity settings ∷ []) stands.ignored (of_setup, made) in
@@ -466,7 +470,7 @@ module _ {F : Type 0} {S : ℕ} (as_flash : Flash F S) (setup next : Setup) (ide
       let over = over_after Refused step after ended.0 ended.1
       (passed as_flash net after round (its.0 ∷ []) step (all.0.sent ∙ its.1) (kept.goes_on ∙ hears_one kept.between its.0)) in
       record {
-        stands = stays_on net after left round.device all.0.is.values all.0.is.uncalled stands unit;
+        stands = stays_on net after round left round.device all.0.is.values all.0.is.uncalled stands unit;
         ended = over.0;
         nothing = over.1;
         cause = Refused;
@@ -495,7 +499,7 @@ module _ {F : Type 0} {S : ℕ} (as_flash : Flash F S) (setup next : Setup) (ide
       (passed as_flash net after round (unset_frame setup identity ∷ []) step (all.0.sent ∙ law.0)
       (kept.goes_on ∙ hears_one kept.between (unset_frame setup identity))) in
       record {
-        stands = stays_on net after left round.device (ap (λ (live : Live). live.values) all.0.is)
+        stands = stays_on net after round left round.device (ap (λ (live : Live). live.values) all.0.is)
             (ap (λ (live : Live). kept_of next.activity live.rest.calls) all.0.is ∙ stands.uncalled_next) stands unit;
         ended = over.0;
         nothing = over.1;
@@ -514,7 +518,7 @@ module _ {F : Type 0} {S : ℕ} (as_flash : Flash F S) (setup next : Setup) (ide
       let step : Stepped = record { controller = kept.between; frames = [] } in
       let done = over_after over.cause step after refl kept.is (passed as_flash net after round [] step silent kept.goes_on) in
       record {
-        stands = stays_on net after later round.device (ap (λ (d : State F). d.live.values) still)
+        stands = stays_on net after round later round.device (ap (λ (d : State F). d.live.values) still)
             (ap (λ (d : State F). kept_of next.activity d.live.rest.calls) still ∙ stands.uncalled_next) stands unit;
         ended = done.0;
         nothing = done.1;
@@ -581,7 +585,7 @@ module _ {F : Type 0} {S : ℕ} (as_flash : Flash F S) (setup next : Setup) (ide
       let unit = free_aged round.device station 0 after.to_controller after.device all.of_station round.unit still in
       let step : Stepped = record { controller = net.controller; frames = [] } in
       record {
-        stands = stays_on net after 0 round.device (ap (λ (live : Live). live.values) all.is)
+        stands = stays_on net after round 0 round.device (ap (λ (live : Live). live.values) all.is)
             (ap (λ (live : Live). kept_of next.activity live.rest.calls) all.is ∙ stands.uncalled_next) stands unit;
         silent = (went_at as_flash round.device station Ticks after.to_controller after.device all.of_station round.unit).sent
             ∙ (again.unrelated [] station round.device.live still).0;
@@ -651,8 +655,8 @@ module _ {F : Type 0} {S : ℕ} (as_flash : Flash F S) (setup next : Setup) (ide
 
   -- ---- the next start
 
-  of_plan_next : (station : Station) → IsOfPlan setup station → IsOfPlan next station
-  of_plan_next station plan = record {
+  of_plan_next : (station : Station) (real : Real) → IsOfPlan setup station real → IsOfPlan next station real
+  of_plan_next station real plan = record {
     vendor = plan.vendor ∙ ap (λ p. p.station.vendor_id) (sym starts.plan);
     device = plan.device ∙ ap (λ p. p.station.device_id) (sym starts.plan);
     plugged = plan.plugged ∙ ap (λ p. p.real) (sym starts.plan);
@@ -672,7 +676,7 @@ module _ {F : Type 0} {S : ℕ} (as_flash : Flash F S) (setup next : Setup) (ide
     opened = ap (λ (fs : List (List ℕ)). fs ++ opening_of (made next) ∷ []) nothing;
     ignored = stands.ignored_next;
     of_device = stands.of_device;
-    of_plan = of_plan_next net.device.station stands.of_plan;
+    of_plan = of_plan_next net.device.station net.device.live.rest.real stands.of_plan;
     named = record { name = stands.named.name ∙ ap (λ p. p.station.name) (sym starts.plan) };
     free = record { unrelated = none; uncalled = stands.uncalled_next };
     sized = stands.sized;

@@ -1,7 +1,7 @@
 -- What a unit does at a device with an earlier relation.
 use Rattle.std.proofs.Common.{◌≡◌, ◌⊎◌, inl, inr, ◌+◌, ◌-◌, ◌≤◌, ◌==◌, ◌&&◌, ◌++◌, ℕ, suc, Bool, true, false, nat_le}
 use Rattle.std.proofs.Common.{List, [], ◌∷◌, map, Option, Some, None, refl, sym, ap, subst, ◌∙◌, arith}
-use Rattle.std.specs.Prelude.{min, option_map, if◌then◌else◌}
+use Rattle.std.specs.Prelude.{◌<◌, min, option_map, if◌then◌else◌}
 use Rattle.std.specs.List.{AllByRecursion}
 use Rattle.std.proofs.lemmas.Bool.Decides.{nat_tests}
 use Rattle.pn_values.specs.declared.identity.Identity.{Identity}
@@ -20,8 +20,10 @@ use Rattle.cyclic_data.specs.declared.exchange.route.Route.{Route}
 use Rattle.cyclic_data.specs.exchange.Cyclic.{Cyclic}
 use Rattle.cyclic_data.specs.exchange.Units.{ending_by, ending_of as cyclic_ending, tick_by}
 use Rattle.record_blocks.specs.declared.alarm_notification.AlarmNotification.{AlarmNotification}
+use Rattle.expected_places.specs.declared.calls.PlugCall.{PlugCall}
 use Rattle.relations.specs.declared.farewell.Farewell.{Farewell}
 use Rattle.relations.specs.declared.phase.Partner.{Partner}
+use Rattle.relations.specs.declared.plugging.PlugReady.{PlugReady}
 use Rattle.relations.specs.declared.ready.Ready.{Ready}
 use Rattle.relations.specs.exchange.Flow.{Flow}
 use Rattle.relations.specs.exchange.Frames.{Notifies, Reports}
@@ -30,10 +32,11 @@ use Rattle.relations.specs.exchange.Diagnosis.{low_header_of}
 use Rattle.relations.specs.exchange.Opening.{route_of as inputs_route}
 use Rattle.relations.specs.exchange.Units.{alarm_due}
 use Rattle.relations.specs.Phases.{passing, passing_by, updated}
+use Rattle.relations.specs.Plugging.{ready_for}
 use Rattle.relations.specs.RelationState.{RelationState}
 use Rattle.relations.specs.Timers.{Due, due_by, due_of, ending_of, is_timed, limit_of, unit_later}
 use Rattle.device_frames.specs.Heard.{Ticks}
-use Rattle.device_frames.specs.Relation.{alarms_of, due_frames, farewells_in, frames_in, inputs_of, low_alarms_of, ready_calls, where_due}
+use Rattle.device_frames.specs.Relation.{alarms_of, due_frames, farewells_in, frames_in, inputs_of, low_alarms_of, plug_call_in, plug_calls, ready_calls, where_due}
 use Rattle.device_frames.specs.Sendable.{AreSendable}
 use Rattle.device_frames.specs.Sent.{Sent, bytes_of}
 use Rattle.device_core.specs.State.{Live, Station, counter_of, units_after}
@@ -41,12 +44,14 @@ use Rattle.device_core.specs.Log.{err_log, with_log}
 use Rattle.device_core.specs.Handled.{Handled, Moves, partner_of}
 use Rattle.device_core.specs.Machine.{Stepped, handled_step, heard_step}
 use Rattle.controller_messages.specs.declared.setup.Setup.{Setup}
+use Rattle.end_laws.specs.device.Orderly.{AreNumbered, IsNumberedCall}
 use Rattle.end_laws.specs.hearing.Stations.{IsDevice, IsSetup}
 use Rattle.both_ends.specs.startup.request.Request.{request_for}
 use Rattle.both_ends.specs.startup.answer.Answer.{caller_of}
 use Rattle.rounds_law.specs.Path.{IsIgnored}
 use Rattle.rounds_law.specs.Again.{HasEarlier, units_left}
-use Rattle.rounds_law.proofs.AgainIgnored.{HeardLaws, IsOfUnit, IsReadyOfOther, unit_ignored}
+use Rattle.rounds_law.proofs.AgainIgnored.{HeardLaws, IsOfUnit, IsPlugCall, IsReadyOfOther, unit_ignored}
+use Rattle.rounds_law.proofs.AnywherePlugs.{later_numbered}
 use Rattle.rounds_law.proofs.DevicePassingTimers.{tick_ending}
 
 -- ---- what is sent
@@ -94,12 +99,55 @@ ready_other setup ar good sized other = record {
   other = other;
 }
 
+-- ApplicationReady of a plug in a relation with this ARUUID, for this call
+abbrev plug_made : Partner → Request → PlugCall → PlugReady
+plug_made partner request call = record {
+  partner = partner;
+  header = record {
+    object = request.ar.object;
+    interface = interface_uuid controllers;
+    activity = request.ar.uuid;
+    sequence = call.sequence;
+    operation = 4;
+  };
+  block = record {
+    ar_uuid = request.ar.uuid;
+    session_key = request.ar.session_key;
+    alarm_sequence_number = call.number;
+    control_command = 2;
+    control_block_properties = 0;
+  };
+}
+
+plug_known : (setup : Setup) (ar : List ℕ) (call : PlugCall) → IsSetup setup → IsUuid ar → call.sequence < 4294967296
+    → IsPlugCall (plug_made (partner_of (caller_of setup.plan.controller)) (request_for setup.plan ar) call)
+plug_known setup ar call good sized few = record {
+  mac = good.mac;
+  address = good.address;
+  header = record { object = refl; interface = refl; activity = sized; sequence = few; operation = omega arith };
+  interface = refl;
+  uuid = sized;
+}
+
 module _ (setup : Setup) (good : IsSetup setup) where
+  plugs_all : (address : List ℕ) (link : RelationState) (ar : List ℕ) → IsUuid ar
+      → link.request ≡ request_for setup.plan ar → link.partner ≡ partner_of (caller_of setup.plan.controller)
+      → (standing : Option PlugCall) → IsNumberedCall standing
+      → AllByRecursion (IsOfUnit setup) (plug_call_in address (option_map (ready_for link) standing))
+  plugs_all address link ar sized request partner None few = tt
+  plugs_all address link ar sized request partner (Some call) few = (
+    subst IsPlugCall
+        (sym (ap (λ (p : Partner). plug_made p link.request call) partner
+        ∙ ap (λ (r : Request). plug_made (partner_of (caller_of setup.plan.controller)) r call) request))
+        (plug_known setup ar call good sized few),
+    tt,
+  )
+
   sent_all : (serial : ℕ) (address : List ℕ) (counter : ℕ) (due : Due) (link : RelationState) (ar : List ℕ) → IsUuid ar → (ar ≡ setup.ar → ⊥)
       → link.request ≡ request_for setup.plan ar → link.partner ≡ partner_of (caller_of setup.plan.controller)
-      → link.flow.cyclic.route ≡ inputs_route serial (request_for setup.plan ar)
+      → link.flow.cyclic.route ≡ inputs_route serial (request_for setup.plan ar) → AreNumbered link.plugs.calls
       → AllByRecursion (IsOfUnit setup) (due_frames address counter due (Some link))
-  sent_all serial address counter due link ar sized other request partner route =
+  sent_all serial address counter due link ar sized other request partner route called =
       let P = IsOfUnit setup in
       let calls = subst (IsReadyOfOther setup)
       (sym (ap (λ (p : Partner). ready_made p link.request) partner
@@ -111,7 +159,9 @@ module _ (setup : Setup) (good : IsSetup setup) where
       (all_both P (where_due due.is_low (low_alarms_of (Some link.flow))) _
       (all_due P due.is_low _ (low_all setup link.flow link.flow.low.alarms.sender.standing))
       (all_both P (where_due due.is_ready (ready_calls address (Some link))) _ (all_due P due.is_ready _ (calls, tt))
-      (all_due P due.is_cyclic (inputs_of counter (Some link.flow)) (ap (λ (r : Route). is_cyclic r.sent_id) route, tt)))))
+      (all_both P (where_due due.is_plug_ready (plug_calls address (Some link))) _
+      (all_due P due.is_plug_ready _ (plugs_all address link ar sized request partner link.plugs.calls.standing called.1))
+      (all_due P due.is_cyclic (inputs_of counter (Some link.flow)) (ap (λ (r : Route). is_cyclic r.sent_id) route, tt))))))
 
   all_ignored : HeardLaws → (identity : Identity) → IsDevice identity → (sent : List Sent) → AllByRecursion (IsOfUnit setup) sent → AreSendable identity sent
       → AllByRecursion (IsIgnored setup) (map (bytes_of identity) sent)
@@ -204,10 +254,11 @@ module _ (setup : Setup) (good : IsSetup setup) (outcomes : List Outcome) (stati
   goes_by left earlier (Some reason) = ((tt, tt), refl, refl, inl refl)
   goes_by left earlier None =
       let link = earlier.link in
-      let later = unit_later link in (
+      let later = unit_later link in
+      let called = later_numbered (is_timed link.phase) link.plugs earlier.called in (
         sent_all setup good earlier.serial live.values.running.suite.address (counter_of (units_after 1 live.rest.units))
             (due_by link None) later earlier.ar earlier.ar_sized earlier.other
-            earlier.request earlier.partner earlier.route,
+            earlier.request earlier.partner earlier.route called,
         refl,
         refl,
         inr (record {
@@ -222,6 +273,7 @@ module _ (setup : Setup) (good : IsSetup setup) (outcomes : List Outcome) (stati
           few = earlier.few;
           route = earlier.route;
           begun = earlier.begun;
+          called = called;
           time = left_later link left earlier.begun earlier.time;
         }),
       )

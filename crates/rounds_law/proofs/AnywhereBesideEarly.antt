@@ -21,11 +21,12 @@ use Rattle.pn_alarms.specs.declared.fault.AlarmFault.{AlarmFault}
 use Rattle.pn_alarms.specs.declared.pdu.Header.{Header}
 use Rattle.diagnosis.specs.reports.Message.{ToController, alarm_of}
 use Rattle.cyclic_data.specs.exchange.Received.{behind_frame}
+use Rattle.relations.specs.declared.plugging.PlugReady.{PlugReady}
 use Rattle.relations.specs.declared.ready.Ready.{Ready}
 use Rattle.relations.specs.exchange.Frames.{Inputs, Notifies, Reports}
 use Rattle.plans.specs.declared.parts.Controller.{Controller}
 use Rattle.device_frames.specs.Sendable.{AreSendable, IsSendable}
-use Rattle.device_frames.specs.Sent.{Sent, ReadyCall, Ends, Exchanges, bytes_of, ready_frame}
+use Rattle.device_frames.specs.Sent.{Sent, ReadyCall, PlugReadyCall, Ends, Exchanges, bytes_of, plug_ready_frame, ready_frame}
 use Rattle.controller_messages.specs.declared.setup.Setup.{Setup}
 use Rattle.controller_messages.specs.Heard.{Heard, Alarms, Answers, Calls, Cyclic, Nothing, Refuses, Responds}
 use Rattle.controller_messages.specs.Heard.{heard_alarm, heard_content, heard_of, heard_read, heard_real_time}
@@ -37,10 +38,10 @@ use Rattle.controller_core.specs.stored.Alarms.{is_alarm}
 use Rattle.controller_core.specs.stored.State.{Controlling, Live}
 use Rattle.controller_core.specs.Machine.{Stepped, called, noticed, readied, step_of, stepped, stays, turned}
 use Rattle.end_laws.specs.hearing.Hearing.{mine_reported}
-use Rattle.end_laws.specs.hearing.Stations.{IsAddress, IsDevice, ready_call}
+use Rattle.end_laws.specs.hearing.Stations.{IsAddress, IsDevice, plug_ready_call, ready_call}
 use Rattle.rounds_law.specs.Path.{IsIgnored, controller_step}
 use Rattle.rounds_law.proofs.AgainIgnored as again
-use Rattle.rounds_law.proofs.AnywhereDeviceSays.{IsSizedReady}
+use Rattle.rounds_law.proofs.AnywhereDeviceSays.{IsSizedPlug, IsSizedReady}
 use Rattle.rounds_law.proofs.Choices.{where_not, where_so}
 use Rattle.rounds_law.proofs.CompositionLists.{Kept, keep}
 
@@ -149,6 +150,13 @@ pub record UnitLaws : Type 0 where
       (Calls (record { mac = identity.mac; endpoint = calls_at address }) (ready_call ready))
   pub ready_can : (ready : Ready) → IsHeader ready.header → ready.header.interface ≡ interface_uuid controllers
       → IsUuid ready.block.ar_uuid → CanBeCalled controllers (ready_call ready)
+  pub plug : (mine : Controller) (identity : Identity) (address : List ℕ) (ready : PlugReady)
+      → IsDevice identity → IsMac ready.partner.mac → IsAddress ready.partner.address → IsAddress address → CanBeCalled controllers (plug_ready_call ready)
+      → heard_of mine (plug_ready_frame identity address ready)
+      ≡ mine_reported mine ready.partner.mac (calls_at ready.partner.address)
+      (Calls (record { mac = identity.mac; endpoint = calls_at address }) (plug_ready_call ready))
+  pub plug_can : (ready : PlugReady) → IsHeader ready.header → ready.header.interface ≡ interface_uuid controllers
+      → IsUuid ready.block.ar_uuid → CanBeCalled controllers (plug_ready_call ready)
 
 module _ (laws : UnitLaws) (setup : Setup) (identity : Identity) where
   exchange_quiet : (destination : Mac) (tag : ℕ) (frame_id : ℕ) (body : List ℕ) → IsExchanged frame_id
@@ -186,15 +194,23 @@ module _ (laws : UnitLaws) (setup : Setup) (identity : Identity) where
       (laws.ready_can ready sized.header sized.interface sized.uuid)))
       (reported_quiet ready.partner.mac ready.partner.address (record { mac = identity.mac; endpoint = calls_at address }) (ready_call ready))
 
+  plug_quiet : (address : List ℕ) (ready : PlugReady) → IsDevice identity → IsSizedPlug ready → IsSendable identity (PlugReadyCall address ready)
+      → IsQuiet (heard_of setup.plan.controller (plug_ready_frame identity address ready))
+  plug_quiet address ready device sized can =
+      subst IsQuiet (sym (laws.plug setup.plan.controller identity address ready device can.destination can.content.1.0 can.content.0.0
+      (laws.plug_can ready sized.header sized.interface sized.uuid)))
+      (reported_quiet ready.partner.mac ready.partner.address (record { mac = identity.mac; endpoint = calls_at address }) (plug_ready_call ready))
+
   -- ---- all messages of a unit
 
-  -- A message of a unit: its ERR, an alarm again, ApplicationReady again, or inputs.
+  -- A message of a unit: its ERR, an alarm again, ApplicationReady again, also that of a plug, or inputs.
   abbrev pub IsOfUnit : Sent → Type 0
   IsOfUnit (Ends farewell) = Unit {0}
   IsOfUnit (Exchanges route (Inputs state inputs counter)) = is_cyclic route.sent_id ≡ true
   IsOfUnit (Exchanges route (Notifies header alarm)) = Unit {0}
   IsOfUnit (Exchanges route (Reports tag header alarm)) = Unit {0}
   IsOfUnit (ReadyCall address ready) = IsSizedReady ready
+  IsOfUnit (PlugReadyCall address ready) = IsSizedPlug ready
   IsOfUnit message = ⊥
 
   message_early : (message : Sent) → IsDevice identity → IsOfUnit message → IsSendable identity message → IsIgnoredEarly setup (bytes_of identity message)
@@ -211,6 +227,8 @@ module _ (laws : UnitLaws) (setup : Setup) (identity : Identity) where
       (exchange_quiet route.partner tag _ _ (inr (refl, refl)) can)
   message_early (ReadyCall address ready) device of can =
       ignored_early setup (bytes_of identity (ReadyCall address ready)) (ready_quiet address ready device of can)
+  message_early (PlugReadyCall address ready) device of can =
+      ignored_early setup (bytes_of identity (PlugReadyCall address ready)) (plug_quiet address ready device of can)
   message_early message device of can = absurd of
 
   pub messages_early : (sent : List Sent) → IsDevice identity → AllByRecursion IsOfUnit sent → AreSendable identity sent

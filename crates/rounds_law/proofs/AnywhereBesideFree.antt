@@ -37,7 +37,7 @@ module _ {F : Type 0} {S : ℕ} (as_flash : Flash F S) (identity : Identity) (si
     under_way = at.under_way;
     ignored = at.over none;
     of_device = at.device.of_device;
-    of_plan = of_plan_next as_flash identity silence before setup net.device.station pairs.0.long.starts at.device.of_plan;
+    of_plan = of_plan_next as_flash identity silence before setup net.device.station net.device.live.rest.real pairs.0.long.starts at.device.of_plan;
     addressed = addressed;
     free = record { unrelated = none; uncalled = at.device.uncalled_next };
   }
@@ -50,7 +50,7 @@ module _ {F : Type 0} {S : ℕ} (as_flash : Flash F S) (identity : Identity) (si
     under_way = at.under_way;
     ignored = at.over none;
     of_device = at.device.of_device;
-    of_plan = of_plan_next as_flash identity silence before setup net.device.station pairs.0.long.starts at.device.of_plan;
+    of_plan = of_plan_next as_flash identity silence before setup net.device.station net.device.live.rest.real pairs.0.long.starts at.device.of_plan;
     named = record { name = at.device.named.name ∙ ap (λ p. p.station.name) (sym pairs.0.long.starts.plan) };
     free = record { unrelated = none; uncalled = at.device.uncalled_next };
     can = able;

@@ -10,10 +10,10 @@ use Rattle.rounds_law.specs.Again.{Plant}
 use Rattle.rounds_law.specs.Anywhere.{HasStored, IsAnyDevice, IsLate}
 use Rattle.rounds_law.specs.AnywhereAgain.{IsAnywhereAmong}
 use Rattle.rounds_law.specs.Power.{powered}
-use Rattle.rounds_law.proofs.AnywherePower.{any_again}
+use Rattle.rounds_law.proofs.AnywherePower.{any_again, of_given}
 
 module _ {F : Type 0} {S : ℕ} (as_flash : Flash F S) (setup : Setup) (identity : Identity) (silence : ℕ) (plant : Plant F) (device : State F)
-    (stored : HasStored as_flash setup plant.net.device.flash)
+    (given : plant.net.device.station.real ≡ setup.plan.real) (stored : HasStored as_flash setup plant.net.device.flash)
     (is : IsStartedFrom as_flash plant.net.device.station plant.net.device.flash device) where
   unrelated : device.live.rest.link ≡ None
   unrelated = ap (λ (live : Live). live.rest.link) (is.known stored.settings stored.room stored.starts)
@@ -23,7 +23,8 @@ module _ {F : Type 0} {S : ℕ} (as_flash : Flash F S) (setup : Setup) (identity
       → AllByRecursion (λ start. IsAnyDevice setup start identity silence device.station device.live) starts
   devices_again [] all = tt
   devices_again (start ∷ starts) all = (
-    any_again as_flash setup start identity silence plant.net.device.station plant.net.device.flash device all.0.of_device all.0.of_plan stored is,
+    any_again as_flash setup start identity silence plant.net.device.station plant.net.device.flash device all.0.of_device
+        (of_given setup plant.net.device.station plant.net.device.live.rest.real all.0.of_plan given) stored is,
     devices_again starts all.1,
   )
 

@@ -3,6 +3,7 @@ use Rattle.std.proofs.Common.{◌≡◌, ◌⊎◌, inl, inr, ◌≤◌, ℕ, su
 use Rattle.std.specs.List.{AllByRecursion}
 use Rattle.flash_model.specs.declared.flash.Flash.{Ghosts as Flash}
 use Rattle.pn_values.specs.declared.identity.Identity.{Identity}
+use Rattle.pn_values.specs.declared.real.Real.{Real}
 use Rattle.rpc_core.specs.Cache.{Kept as Stored, kept_of}
 use Rattle.relations.specs.RelationState.{RelationState}
 use Rattle.device_frames.specs.Heard.{Ticks}
@@ -115,8 +116,8 @@ module _ {F : Type 0} {S : ℕ} (as_flash : Flash F S) (identity : Identity) (si
 
   -- ---- the device, seen from the next start
 
-  pub of_plan_next : (setup next : Setup) (station : Station) → AreStarts setup next → IsOfPlan setup station → IsOfPlan next station
-  of_plan_next setup next station starts plan = record {
+  pub of_plan_next : (setup next : Setup) (station : Station) (real : Real) → AreStarts setup next → IsOfPlan setup station real → IsOfPlan next station real
+  of_plan_next setup next station real starts plan = record {
     vendor = plan.vendor ∙ ap (λ p. p.station.vendor_id) (sym starts.plan);
     device = plan.device ∙ ap (λ p. p.station.device_id) (sym starts.plan);
     plugged = plan.plugged ∙ ap (λ p. p.real) (sym starts.plan);
@@ -142,7 +143,7 @@ module _ {F : Type 0} {S : ℕ} (as_flash : Flash F S) (identity : Identity) (si
       → IsAnyDevice next later identity silence station live
   any_next setup next later station live starts one other = record {
     of_device = one.of_device;
-    of_plan = of_plan_next setup next station starts one.of_plan;
+    of_plan = of_plan_next setup next station live.rest.real starts one.of_plan;
     named = record { name = one.named.name ∙ ap (λ p. p.station.name) (sym starts.plan) };
     sized = one.sized;
     addressed = addressed_next setup next live starts one.addressed;

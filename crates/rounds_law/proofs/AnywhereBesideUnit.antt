@@ -9,20 +9,23 @@ use Rattle.settings_journal.specs.settings_store.Machine.{Outcome}
 use Rattle.pn_alarms.specs.declared.abort.Abort.{Abort}
 use Rattle.pn_alarms.specs.declared.pdu.PduType.TheVariants.{Data}
 use Rattle.record_blocks.specs.declared.alarm_notification.AlarmNotification.{AlarmNotification}
+use Rattle.expected_places.specs.declared.calls.PlugCall.{PlugCall}
 use Rattle.relations.specs.exchange.Flow.{Flow}
 use Rattle.relations.specs.exchange.Diagnosis.{low_header_of}
 use Rattle.relations.specs.exchange.Frames.{Notifies, Reports}
 use Rattle.relations.specs.exchange.Notices.{header_of}
+use Rattle.relations.specs.Plugging.{ready_for}
 use Rattle.relations.specs.Ready.{ready_of}
 use Rattle.relations.specs.RelationState.{RelationState}
-use Rattle.relations.specs.Timers.{due_by, ending_of, unit_later}
+use Rattle.relations.specs.Timers.{due_by, ending_of, is_timed, unit_later}
 use Rattle.device_frames.specs.Heard.{Ticks}
-use Rattle.device_frames.specs.Relation.{alarms_of, frames_in, inputs_of, low_alarms_of, ready_calls, where_due}
+use Rattle.device_frames.specs.Relation.{alarms_of, frames_in, inputs_of, low_alarms_of, plug_call_in, plug_calls, ready_calls, where_due}
 use Rattle.device_frames.specs.Sendable.{AreSendable}
 use Rattle.device_frames.specs.Sent.{Sent, bytes_of}
 use Rattle.device_core.specs.State.{Live, State, Station, counter_of, units_after}
 use Rattle.device_core.specs.Machine.{Stepped, handled_step, heard_step}
 use Rattle.controller_messages.specs.declared.setup.Setup.{Setup}
+use Rattle.end_laws.specs.device.Orderly.{IsNumberedCall}
 use Rattle.end_laws.specs.hearing.Stations.{IsDevice}
 use Rattle.rounds_law.specs.Anywhere.{AllLast, Lasts}
 use Rattle.rounds_law.specs.Path.{IsIgnored}
@@ -31,6 +34,7 @@ use Rattle.rounds_law.proofs.AgainUnits.{no_relation_unit}
 use Rattle.rounds_law.proofs.AnywhereBesideEarly.{IsFarewell, IsIgnoredEarly, IsOfUnit, UnitLaws, farewells_ignored, messages_early}
 use Rattle.rounds_law.proofs.AnywhereDeviceSays.{IsSizedReady}
 use Rattle.rounds_law.proofs.AnywhereParted.{there_or_not}
+use Rattle.rounds_law.proofs.AnywherePlugs.{later_numbered}
 use Rattle.rounds_law.proofs.DevicePassingUnits.{ticked_by, unit_goes}
 
 -- ---- what is sent
@@ -57,6 +61,18 @@ module _ (laws : UnitLaws) (setup : Setup) (identity : Identity) where
   low_said flow None = tt
   low_said flow (Some alarm) = (tt, tt)
 
+  calls_said : (address : List ℕ) (silence : ℕ) (link : RelationState) → Lasts silence link → (standing : Option PlugCall) → IsNumberedCall standing
+      → AllByRecursion IsSaid (plug_call_in address (option_map (ready_for link) standing))
+  calls_said address silence link lasts None few = tt
+  calls_said address silence link lasts (Some call) few = (
+    record {
+      header = record { object = lasts.object; interface = refl; activity = lasts.named; sequence = few; operation = omega arith };
+      interface = refl;
+      uuid = lasts.named;
+    },
+    tt,
+  )
+
   -- What it sends, and what stays. If the relation is over, its ERR is all that is sent.
   record Passes (live : Live) (step : Stepped) : Type 0 where
     said : AllByRecursion IsSaid step.sent
@@ -70,6 +86,7 @@ module _ (laws : UnitLaws) (setup : Setup) (identity : Identity) where
     passes_by (Some reason) = record { said = (tt, tt); values = refl; calls = refl; over = λ none. (tt, tt) }
     passes_by None =
         let later = unit_later link in
+        let called = later_numbered (is_timed link.phase) link.plugs lasts.called in
         let due = due_by link None in
         let address = live.values.running.suite.address in
         let counter = counter_of (units_after 1 live.rest.units) in
@@ -84,7 +101,9 @@ module _ (laws : UnitLaws) (setup : Setup) (identity : Identity) where
               (all_both (where_due due.is_low (low_alarms_of (Some later.flow))) _
               (all_due due.is_low _ (low_said later.flow later.flow.low.alarms.sender.standing))
               (all_both (where_due due.is_ready (ready_calls address (Some later))) _ (all_due due.is_ready _ (sized, tt))
-              (all_due due.is_cyclic (inputs_of counter (Some later.flow)) (lasts.inputs, tt))));
+              (all_both (where_due due.is_plug_ready (plug_calls address (Some later))) _
+              (all_due due.is_plug_ready _ (calls_said address silence link lasts later.plugs.calls.standing called.1))
+              (all_due due.is_cyclic (inputs_of counter (Some later.flow)) (lasts.inputs, tt)))));
           values = refl;
           calls = refl;
           over = λ none. absurd cc;

@@ -91,11 +91,10 @@ pub record CallLaws (setup next : Setup) (silence : ℕ) (station : Station) : T
   pub negative : (operation : Operation) (refusal : CallFault) → is_done (status_of operation refusal) ≡ false
   pub whole : (number : ℕ) → number < 14336
       → IsAllThere (connect_blocks station.identity number (request_for setup.plan setup.ar) []) (0xC000 + number) (endpoint_of number)
-  pub plugged : station.real ≡ setup.plan.real
   pub same : diff_of (request_for setup.plan setup.ar).expected setup.plan.real.modules.items ≡ no_rows
   pub accepted : connect_within station.options setup.plan.controller.mac None (blocks_of setup asks.Connect) ≡ Ok (request_for setup.plan setup.ar)
   pub quiet : (number : ℕ) → number < 65536 → (standing : Option (List ℕ))
-      → IsQuiet standing station.real (writing_of standing station.real (blocks_of setup (asks.Write number)))
+      → IsQuiet standing setup.plan.real (writing_of standing setup.plan.real (blocks_of setup (asks.Write number)))
   pub released : (link : Option RelationState) → (release_of link (blocks_of setup (asks.Release 0)) ≡ Ok (control_of setup 4))
       ⊎ ((refusal : CallFault) × (release_of link (blocks_of setup (asks.Release 0)) ≡ Err refusal))
   pub unchosen : chosen_in (block_bytes (is.ReleaseRes (done_of (control_of setup 4)))) ≡ None

@@ -35,6 +35,7 @@ use Rattle.connects.specs.requests.Request.{Request}
 use Rattle.relations.specs.Calls.{done_of, prm_end_of, release_of}
 use Rattle.relations.specs.Connect.{connect_blocks, connect_within, differing_of, making, rows_of}
 use Rattle.relations.specs.Numbers.{endpoint_of}
+use Rattle.relations.specs.Plugging.{is_plug_control}
 use Rattle.relations.specs.Phases.{Ended, Named, Parameterized, Records, Took, answered, differing_octets, keeping, made_of, taking, updated}
 use Rattle.relations.specs.RelationState.{RelationState, uuid_of}
 use Rattle.device_frames.specs.Heard.{Calls}
@@ -42,7 +43,7 @@ use Rattle.device_frames.specs.Relation.{ready_calls}
 use Rattle.device_core.specs.State.{Live, Station}
 use Rattle.device_core.specs.Log.{but_rest, connect_log, release_log, with_log}
 use Rattle.device_core.specs.Handled.{Handled, counted_by, handled_blocks, handled_call, handled_effect, handled_looked}
-use Rattle.device_core.specs.Handled.{handled_new, handled_said, handled_write, kept_answer}
+use Rattle.device_core.specs.Handled.{handled_new, handled_plug_end, handled_said, handled_write, kept_answer}
 use Rattle.device_core.specs.Handled.{number_now, partner_of, ready_behind, served, starting_of}
 use Rattle.device_core.specs.Machine.{effect_link, link_behind, one_link, several_answer}
 use Rattle.device_core.specs.Several.{Judged, judged_each}
@@ -56,6 +57,8 @@ use Rattle.rounds_law.proofs.AgainKept.{refused_within}
 use Rattle.rounds_law.proofs.AnywhereDeviceFine.{IsFine, parameterized_lasts, records_last, restarted_lasts, stored_before}
 use Rattle.rounds_law.proofs.AnywhereDeviceSays.{IsFitting}
 use Rattle.rounds_law.proofs.AnywhereDeviceWrites.{IsQuiet}
+use Rattle.rounds_law.proofs.Choices.{where_not}
+use Rattle.rounds_law.proofs.DeviceCallingBlocks.{not_of_plug}
 use Rattle.rounds_law.proofs.DeviceCallingConnected.{is_connect}
 use Rattle.rounds_law.proofs.Numbers.{number_few}
 use Rattle.rounds_law.proofs.AnywhereDeviceAnswers.{CallLaws, chosen_fit, fit_later, fit_no, served_move, unchosen_fit}
@@ -71,10 +74,10 @@ module _ (setup next : Setup) (identity : Identity) (silence : ℕ) (station : S
 
   abbrev connect_by : Live → Result Request CallFault → Handled
   connect_by live asked =
-      let answer = asked >>= λ request. Ok (connect_blocks station.identity (number_now station live) request (differing_of request station.real)) in
+      let answer = asked >>= λ request. Ok (connect_blocks station.identity (number_now station live) request (differing_of request live.rest.real)) in
       served station (but_rest live (counted_by answer (with_log (connect_log (blocks_of setup asks.Connect) answer) live.rest)))
       caller (call_for setup asks.Connect) Connect answer
-      (updated (making station.real (partner_of caller) station.options (starting_of station live) asked) live.rest.link) []
+      (updated (making live.rest.real (partner_of caller) station.options (starting_of station live) asked) live.rest.link) []
 
   connect_refused : (live : Live) → IsAnyDevice setup next identity silence station live → (refusal : CallFault) → Fine live (connect_by live (Err refusal))
   connect_refused live before refusal =
@@ -83,16 +86,16 @@ module _ (setup next : Setup) (identity : Identity) (silence : ℕ) (station : S
       refl (call_for setup asks.Connect) refl live.values.running.suite.address Connect (Err refusal)
       (fit_no setup next identity silence station laws (call_for setup asks.Connect) Connect refusal) live.rest.link before.lasts [] tt
 
-  no_difference : differing_of (request_for setup.plan setup.ar) station.real ≡ []
-  no_difference =
-      ap (λ (real : Real). differing_of (request_for setup.plan setup.ar) real) laws.plugged
+  no_difference : (live : Live) → IsAnyDevice setup next identity silence station live → differing_of (request_for setup.plan setup.ar) live.rest.real ≡ []
+  no_difference live before =
+      ap (λ (real : Real). differing_of (request_for setup.plan setup.ar) real) before.of_plan.plugged
       ∙ ap (λ (rows : Listed DiffModule DiffSubmodule). differing_octets rows) laws.same
 
   connect_taken : (live : Live) → IsAnyDevice setup next identity silence station live → Fine live (connect_by live (Ok (request_for setup.plan setup.ar)))
   connect_taken live before =
       let request = request_for setup.plan setup.ar in
       let number = number_now station live in
-      let blocks = connect_blocks station.identity number request (differing_of request station.real) in
+      let blocks = connect_blocks station.identity number request (differing_of request live.rest.real) in
       let answer : Result (List ℕ) CallFault = Ok blocks in
       let few = number_few station.options.numbers_from live.rest.made in
       served_move setup next identity silence station laws live before
@@ -100,9 +103,9 @@ module _ (setup next : Setup) (identity : Identity) (silence : ℕ) (station : S
       refl (call_for setup asks.Connect) refl live.values.running.suite.address Connect answer
       (chosen_fit setup (answer_to (call_for setup asks.Connect) done blocks) number few
       (subst (λ (differing : List ℕ). IsAllThere (connect_blocks station.identity number request differing) (0xC000 + number) (endpoint_of number))
-      (sym no_difference) (laws.whole number few)))
-      (Some (made_of request (partner_of caller) (rows_of request station.real) station.options (starting_of station live)))
-      (record { runs = λ untimed. absurd cc; active = laws.active; holds = laws.holds; named = laws.good.ar; object = refl; inputs = refl }) [] tt
+      (sym (no_difference live before)) (laws.whole number few)))
+      (Some (made_of request (partner_of caller) (rows_of request live.rest.real) station.options (starting_of station live)))
+      (record { runs = λ untimed. absurd cc; active = laws.active; holds = laws.holds; named = laws.good.ar; object = refl; called = (omega arith, tt); inputs = refl }) [] tt
 
   connect_fine : (live : Live) → IsAnyDevice setup next identity silence station live
       → Fine live (handled_new station live caller (call_for setup asks.Connect) (blocks_of setup asks.Connect) Connect)
@@ -182,7 +185,11 @@ module _ (setup next : Setup) (identity : Identity) (silence : ℕ) (station : S
 
   control_fine : (live : Live) → IsAnyDevice setup next identity silence station live
       → Fine live (handled_new station live caller (call_for setup asks.PrmEnd) (blocks_of setup asks.PrmEnd) Control)
-  control_fine live before = by_outcome (prm_end_of live.rest.link (blocks_of setup asks.PrmEnd))
+  control_fine live before =
+      let blocks = blocks_of setup asks.PrmEnd in
+      subst (Fine live) (sym (where_not (is_plug_control blocks live.rest.link)
+      (handled_plug_end station live caller (call_for setup asks.PrmEnd) blocks) (control_by live (prm_end_of live.rest.link blocks))
+      (not_of_plug live.rest.link (control_of setup 1)))) (by_outcome (prm_end_of live.rest.link blocks))
     where
       by_outcome : (ended : Result ControlBlock CallFault) → Fine live (control_by live ended)
       by_outcome (Ok block) =
@@ -239,7 +246,7 @@ module _ (setup next : Setup) (identity : Identity) (silence : ℕ) (station : S
       (fit_no setup next identity silence station laws (call_for setup (asks.Write number)) Write refusal) live.rest.link before.lasts [] tt
 
   writing_fine : (live : Live) → IsAnyDevice setup next identity silence station live → (number : ℕ) (writing : Result Writing CallFault)
-      → IsQuiet (uuid_of live.rest.link) station.real writing → Fine live (handled_write station live caller (call_for setup (asks.Write number)) writing)
+      → IsQuiet (uuid_of live.rest.link) live.rest.real writing → Fine live (handled_write station live caller (call_for setup (asks.Write number)) writing)
   writing_fine live before number (Err refusal) quiet =
       served_move setup next identity silence station laws live before
       live.rest refl (call_for setup (asks.Write number)) refl live.values.running.suite.address Write (Err refusal)
@@ -248,7 +255,7 @@ module _ (setup next : Setup) (identity : Identity) (silence : ℕ) (station : S
       subst (λ (effect : Effect). Fine live (handled_effect station live caller (call_for setup (asks.Write number)) write.request effect)) (sym quiet.1)
       (kept_fine live before number write.request (keeping quiet.0 live.rest.link))
   writing_fine live before number (Ok (Each header entries)) quiet =
-      let judged = judged_each (uuid_of live.rest.link) station.real entries in (
+      let judged = judged_each (uuid_of live.rest.link) live.rest.real entries in (
         quiet,
         served_move setup next identity silence station laws live before
             live.rest refl (call_for setup (asks.Write number)) refl live.values.running.suite.address Write
@@ -262,8 +269,9 @@ module _ (setup next : Setup) (identity : Identity) (silence : ℕ) (station : S
   write_fine : (live : Live) → IsAnyDevice setup next identity silence station live → (number : ℕ) → number < 65536
       → Fine live (handled_new station live caller (call_for setup (asks.Write number)) (blocks_of setup (asks.Write number)) Write)
   write_fine live before number small =
-      writing_fine live before number (writing_of (uuid_of live.rest.link) station.real (blocks_of setup (asks.Write number)))
-      (laws.quiet number small (uuid_of live.rest.link))
+      writing_fine live before number (writing_of (uuid_of live.rest.link) live.rest.real (blocks_of setup (asks.Write number)))
+      (subst (λ (real : Real). IsQuiet (uuid_of live.rest.link) real (writing_of (uuid_of live.rest.link) real (blocks_of setup (asks.Write number))))
+      (sym before.of_plan.plugged) (laws.quiet number small (uuid_of live.rest.link)))
 
   -- ---- a call, by what is stored
 

@@ -1,9 +1,15 @@
 -- What is exchanged, and units, at a device in any state.
 use Rattle.std.proofs.Common.{◌≡◌, ◌++◌, ℕ, Bool, true, false, List, [], ◌∷◌, Option, Some, None, refl, sym, subst, arith}
-use Rattle.std.specs.Prelude.{if◌then◌else◌}
+use Rattle.std.proofs.lemmas.Bool.{cond_both}
+use Rattle.std.specs.Prelude.{if◌then◌else◌, option_map}
 use Rattle.std.specs.List.{AllByRecursion}
 use Rattle.pn_values.specs.declared.identity.Identity.{Identity}
 use Rattle.pn_values.specs.declared.mac.Mac.{Mac}
+use Rattle.rpc_core.specs.Response.{Answered}
+use Rattle.rpc_core.specs.Sendable.{IsUuid}
+use Rattle.diagnosis.specs.Queue.{is_next}
+use Rattle.expected_places.specs.declared.calls.PlugCall.{PlugCall}
+use Rattle.expected_places.specs.Machine.{PlugState, next_called}
 use Rattle.pn_alarms.specs.Message.{ToDevice}
 use Rattle.pn_alarms.specs.Device.{heard_as}
 use Rattle.pn_alarms.specs.declared.abort.Abort.{Abort}
@@ -17,27 +23,34 @@ use Rattle.cyclic_data.specs.declared.exchange.received.Received.TheVariants as 
 use Rattle.relations.specs.declared.farewell.Farewell.{Farewell}
 use Rattle.relations.specs.declared.hearing.ReadyAnswer.{ReadyAnswer}
 use Rattle.relations.specs.declared.hearing.ReadyAnswer.TheVariants as to_ready
-use Rattle.relations.specs.Diagnosed.{begin_one, has_sent_low, heard_low, hearing_low, report_one}
+use Rattle.relations.specs.Diagnosed.{begin_one, has_sent_low, heard_low, hearing_low, report_one, reporting, sent_as}
 use Rattle.relations.specs.Exchanged.{heard_by, hearing, hearing_as, received_by, receiving, receiving_as}
-use Rattle.relations.specs.exchange.Diagnosis.{behind_low, diagnoses_begun, next_reported}
+use Rattle.relations.specs.exchange.Diagnosis.{begins_with_one, behind_low, diagnoses_begun, next_reported}
 use Rattle.relations.specs.exchange.Flow.{Flow}
 use Rattle.relations.specs.exchange.Frames.{Frame, alarm_frame, low_alarm_frame}
+use Rattle.relations.specs.exchange.Modules.{restated_flow}
 use Rattle.relations.specs.exchange.Notices.{behind_message}
 use Rattle.relations.specs.exchange.Received.{behind_frame, received_as}
 use Rattle.relations.specs.Phases.{Confirmed, exchanging_from, passing, passing_by, updated, with_flow}
-use Rattle.relations.specs.RelationState.{RelationState, flow_of, is_alarm_of}
+use Rattle.relations.specs.Plugging.{calling_next, first_sent, flow_answered, is_calling, plug_answer_in, plug_answering, plugs_answered, ready_for, taken_after}
+use Rattle.relations.specs.Ready.{answer_of as ready_answer}
+use Rattle.relations.specs.declared.plugging.PlugAnswer.{PlugAnswer}
+use Rattle.relations.specs.declared.plugging.PlugAnswer.TheVariants as to_plug
+use Rattle.relations.specs.RelationState.{RelationState, flow_of, is_alarm_of, is_in_exchange}
 use Rattle.relations.specs.Timers.{Due, due_of, ending_of}
 use Rattle.device_frames.specs.Relation.{alarms_of, due_frames, farewells_in, frames_in, inputs_of, low_alarms_of, low_replies_of, ready_calls}
-use Rattle.device_frames.specs.Relation.{replies_of, where_due}
+use Rattle.device_frames.specs.Relation.{plug_call_in, plug_calls, replies_of, where_due}
 use Rattle.device_frames.specs.Sent.{Sent}
 use Rattle.device_core.specs.State.{Live, Station, counter_of, units_after}
 use Rattle.device_frames.specs.declared.note.Note.TheVariants as note
 use Rattle.device_core.specs.Handled.{Handled, Refuses, goes_on_with, handled_alarm, handled_answer, handled_beginning, handled_cyclic, handled_low}
-use Rattle.device_core.specs.Handled.{handled_low_confirm, handled_low_message}
+use Rattle.device_core.specs.Handled.{handled_low_confirm, handled_low_message, handled_next_call, handled_plug_answer, handled_response}
 use Rattle.device_core.specs.Handled.{handled_low_pdu, handled_low_reply, handled_message, handled_pdu, handled_received, ticked}
 use Rattle.controller_messages.specs.declared.setup.Setup.{Setup}
+use Rattle.end_laws.specs.device.Orderly.{IsNumberedCall}
 use Rattle.rounds_law.specs.Anywhere.{AllLast, IsAnyDevice, Lasts}
-use Rattle.rounds_law.proofs.AnywhereDeviceFine.{IsFine, exchanging_lasts, flow_lasts, passed_lasts, stored_before}
+use Rattle.rounds_law.proofs.AnywhereDeviceFine.{IsFine, called_lasts, exchanging_lasts, flow_lasts, passed_lasts, reported_lasts, stored_before}
+use Rattle.rounds_law.proofs.AnywherePlugs.{heard_numbered, next_numbered}
 use Rattle.rounds_law.proofs.AnywhereDeviceSays.{IsFitting}
 use Rattle.rounds_law.proofs.DevicePassingLeft.{frame_left}
 
@@ -92,6 +105,26 @@ ready_fits setup silence address (Some link) lasts = (
   tt,
 )
 
+-- the call of a plug
+call_fits : (setup : Setup) (address : List ℕ) (link : RelationState) (standing : Option PlugCall) → IsUuid link.request.ar.uuid
+    → IsUuid link.request.ar.object → IsNumberedCall standing
+    → AllByRecursion (IsFitting setup) (plug_call_in address (option_map (ready_for link) standing))
+call_fits setup address link None named object called = tt
+call_fits setup address link (Some call) named object called = (
+  record {
+    header = record { object = object; interface = refl; activity = named; sequence = called; operation = omega arith };
+    interface = refl;
+    uuid = named;
+  },
+  tt,
+)
+
+plugs_fit : (setup : Setup) (silence : ℕ) (address : List ℕ) (link : Option RelationState) → AllLast silence link
+    → AllByRecursion (IsFitting setup) (plug_calls address link)
+plugs_fit setup silence address None lasts = tt
+plugs_fit setup silence address (Some link) lasts =
+    call_fits setup address link link.plugs.calls.standing lasts.named lasts.object lasts.called.1
+
 unit_fit : (setup : Setup) (silence : ℕ) (address : List ℕ) (counter : ℕ) (due : Due) (link : Option RelationState) → AllLast silence link
     → AllByRecursion (IsFitting setup) (due_frames address counter due link)
 unit_fit setup silence address counter due link lasts =
@@ -99,7 +132,8 @@ unit_fit setup silence address counter due link lasts =
     (both_fit setup (where_due due.is_alarm (alarms_of (flow_of link))) _ (due_fit setup due.is_alarm _ (alarms_fit setup (flow_of link)))
     (both_fit setup (where_due due.is_low (low_alarms_of (flow_of link))) _ (due_fit setup due.is_low _ (low_fit setup (flow_of link)))
     (both_fit setup (where_due due.is_ready (ready_calls address link)) _ (due_fit setup due.is_ready _ (ready_fits setup silence address link lasts))
-    (due_fit setup due.is_cyclic _ (inputs_fit setup counter (flow_of link))))))
+    (both_fit setup (where_due due.is_plug_ready (plug_calls address link)) _ (due_fit setup due.is_plug_ready _ (plugs_fit setup silence address link lasts))
+    (due_fit setup due.is_cyclic _ (inputs_fit setup counter (flow_of link)))))))
 
 -- ---- what is heard
 
@@ -173,15 +207,22 @@ module _ (setup next : Setup) (identity : Identity) (silence : ℕ) (station : S
       by_test true = message_fine live before message
       by_test false = tt
 
+  -- an alarm of low priority is sent, or not
+  sent_lasts : (link : RelationState) (is_sent : Bool) (flow : Flow) → Lasts silence (with_flow flow link)
+      → AllLast silence (updated (sent_as is_sent flow link) (Some link))
+  sent_lasts link is_sent flow lasts =
+      let sent = first_sent is_sent flow.low in
+      reported_lasts silence link flow (taken_after sent link.plugs.places link.taken) sent flow.low.waiting lasts
+
   low_pdu_fine : (live : Live) → Device live → (link : RelationState) → Lasts silence link → (one : PduFate)
       → Fine live (handled_low_pdu station live one (Some link))
   low_pdu_fine live before link lasts (fate.Data taken) =
-      let real = station.real.modules.items in
-      let later = with_flow (next_reported real link.flow) link in
-      gone_on live before (Some later) (flow_lasts silence link (next_reported real link.flow) refl refl refl lasts)
-      (low_replies_of taken (Some link.flow) ++ where_due (report_one real (Some link)) (low_alarms_of (Some later.flow)))
+      let flow = next_reported link.flow in
+      gone_on live before (updated (reporting (Some link)) (Some link))
+      (sent_lasts link (is_next link.flow.low) flow (flow_lasts silence link flow refl refl refl lasts))
+      (low_replies_of taken (Some link.flow) ++ where_due (report_one (Some link)) (low_alarms_of (Some flow)))
       (both_fit setup (low_replies_of taken (Some link.flow)) _ (low_replies_fit setup taken (Some link.flow))
-      (due_fit setup (report_one real (Some link)) _ (low_fit setup (Some later.flow))))
+      (due_fit setup (report_one (Some link)) _ (low_fit setup (Some flow))))
   low_pdu_fine live before link lasts fate.Done = gone_on live before (Some link) lasts [] tt
   low_pdu_fine live before link lasts fate.Ignored = tt
   low_pdu_fine live before link lasts (fate.Aborted status) = tt
@@ -226,19 +267,62 @@ module _ (setup next : Setup) (identity : Identity) (silence : ℕ) (station : S
       → Fine live (handled_beginning station live (updated Confirmed link))
   beginning_fine live before None lasts = (tt, λ can. stored_before setup next identity silence station live before, tt)
   beginning_fine live before (Some link) lasts =
-      let real = station.real.modules.items in
+      let real = live.rest.real.modules.items in
       let now = exchanging_from link in
       let told = diagnoses_begun real live.rest.diagnoses now.flow in (
-        flow_lasts silence now told refl refl refl (exchanging_lasts silence link lasts),
+        sent_lasts now (begins_with_one real live.rest.diagnoses now.flow) told
+            (flow_lasts silence now told refl refl refl (exchanging_lasts silence link lasts)),
         λ can. stored_before setup next identity silence station live before,
         due_fit setup (begin_one real live.rest.diagnoses (Some now)) _ (low_fit setup (Some told)),
       )
 
-  pub answer_fine : (live : Live) → Device live → (answer : ReadyAnswer) → Fine live (handled_answer station live answer)
+  answer_fine : (live : Live) → Device live → (answer : ReadyAnswer) → Fine live (handled_answer station live answer)
   answer_fine live before to_ready.NotWanted = tt
   answer_fine live before to_ready.Garbled = tt
   answer_fine live before to_ready.Confirmed = beginning_fine live before live.rest.link before.lasts
   answer_fine live before (to_ready.Refused farewell) = (tt, λ can. stored_before setup next identity silence station live before, (tt, tt))
+
+  -- the answer to the call of a plug, and the next call
+  calling_lasts : (link : Option RelationState) → AllLast silence link → AllLast silence (calling_next link)
+  calling_lasts None lasts = tt
+  calling_lasts (Some link) lasts =
+      called_lasts silence link link.flow (next_called link.plugs) (next_numbered link.plugs lasts.called) (flow_lasts silence link link.flow refl refl refl lasts)
+
+  answered_flow : (heard : PlugAnswer) (plugs : PlugState) (link : RelationState) → Lasts silence link
+      → Lasts silence (with_flow (flow_answered heard plugs link.flow) link)
+  answered_flow to_plug.NotWanted plugs link lasts = flow_lasts silence link link.flow refl refl refl lasts
+  answered_flow to_plug.Garbled plugs link lasts = flow_lasts silence link link.flow refl refl refl lasts
+  answered_flow to_plug.Confirmed plugs link lasts = flow_lasts silence link (restated_flow plugs link.flow) refl refl refl lasts
+  answered_flow to_plug.Refused plugs link lasts = flow_lasts silence link (restated_flow plugs link.flow) refl refl refl lasts
+
+  answering_lasts : (response : Answered) (link : Option RelationState) → AllLast silence link → AllLast silence (plug_answering response link)
+  answering_lasts response None lasts = tt
+  answering_lasts response (Some link) lasts =
+      let heard = plug_answer_in response (Some link) in
+      let plugs = plugs_answered heard link.plugs in
+      called_lasts silence link (flow_answered heard plugs link.flow) plugs (heard_numbered heard link.plugs lasts.called) (answered_flow heard plugs link lasts)
+
+  next_call_fine : (live : Live) → Device live → (link : Option RelationState) → AllLast silence link → Fine live (handled_next_call live link)
+  next_call_fine live before link lasts =
+      let later = calling_lasts link lasts in (
+        later,
+        λ can. stored_before setup next identity silence station live before,
+        due_fit setup (is_calling link) _ (plugs_fit setup silence live.values.running.suite.address (calling_next link) later),
+      )
+
+  plug_answer_fine : (live : Live) → Device live → (response : Answered) (heard : PlugAnswer) → Fine live (handled_plug_answer live response heard)
+  plug_answer_fine live before response to_plug.NotWanted = tt
+  plug_answer_fine live before response to_plug.Garbled = tt
+  plug_answer_fine live before response to_plug.Confirmed =
+      next_call_fine live before (plug_answering response live.rest.link) (answering_lasts response live.rest.link before.lasts)
+  plug_answer_fine live before response to_plug.Refused =
+      next_call_fine live before (plug_answering response live.rest.link) (answering_lasts response live.rest.link before.lasts)
+
+  pub response_fine : (live : Live) → Device live → (response : Answered) → Fine live (handled_response station live response)
+  response_fine live before response =
+      cond_both (is_in_exchange live.rest.link) _ _ (Fine live)
+      (λ _. plug_answer_fine live before response (plug_answer_in response live.rest.link))
+      (λ _. answer_fine live before (ready_answer response live.rest.link))
 
   -- ---- units
 

@@ -3,10 +3,15 @@ use Rattle.std.proofs.Common.{◌≡◌, ◌⊎◌, inl, inr, ◌≤◌, ℕ, Bo
 use Rattle.std.specs.Prelude.{if◌then◌else◌, unwrap_or}
 use Rattle.std.specs.List.{AllByRecursion}
 use Rattle.pn_values.specs.declared.identity.Identity.{Identity}
+use Rattle.pn_values.specs.declared.real.Real.{Real}
 use Rattle.pn_values.specs.declared.set_item.SetItem.{SetItem}
 use Rattle.settings_journal.specs.settings_store.Machine.{Carried, carried}
 use Rattle.record_blocks.specs.declared.write_record.IodWriteReq.{IodWriteReq}
 use Rattle.records.specs.declared.status.operation.Operation.TheVariants.{Write}
+use Rattle.records.specs.declared.writes.taken.TakenRecord.{TakenRecord}
+use Rattle.diagnosis.specs.declared.alarms.alarms.SentAlarm.{SentAlarm}
+use Rattle.diagnosis.specs.declared.queue.QueuedAlarm.{QueuedAlarm}
+use Rattle.expected_places.specs.Machine.{PlugState}
 use Rattle.rpc_core.specs.Cache.{Kept, kept_more, kept_of}
 use Rattle.rpc_core.specs.Call.{Asked as Call}
 use Rattle.frame_codec.specs.declared.udp.Caller.{Caller}
@@ -17,8 +22,9 @@ use Rattle.frame_codec.specs.FrameId.{is_cyclic}
 use Rattle.relations.specs.RelationState.{RelationState}
 use Rattle.relations.specs.declared.phase.Partner.{Partner}
 use Rattle.relations.specs.exchange.Flow.{Flow}
-use Rattle.relations.specs.Phases.{Named, Records, Took, Parameterized, parameterized_from, exchanging_from, updated, with_flow}
-use Rattle.relations.specs.Timers.{unit_later}
+use Rattle.relations.specs.Phases.{Named, Records, Took, Parameterized, parameterized_from, exchanging_from, updated, with_flow, with_reported}
+use Rattle.relations.specs.Plugging.{plugs_after}
+use Rattle.relations.specs.Timers.{is_timed, unit_later}
 use Rattle.device_frames.specs.Sendable.{AreSendable, IsSendable}
 use Rattle.device_frames.specs.Sent.{Sent, CallAnswer, bytes_of}
 use Rattle.device_core.specs.State.{Live, Rest, Station}
@@ -26,12 +32,14 @@ use Rattle.device_core.specs.Handled.{Handled, Refuses, Sets, Writes, WritesEach
 use Rattle.device_core.specs.Machine.{Stepped, finished, handled_step, link_behind, several_answer}
 use Rattle.device_core.specs.Several.{Judged, texts_in}
 use Rattle.controller_messages.specs.declared.setup.Setup.{Setup}
+use Rattle.end_laws.specs.device.Orderly.{AreNumbered}
 use Rattle.end_laws.specs.hearing.Stations.{IsDevice, IsSetup}
 use Rattle.rounds_law.specs.Anywhere.{AllLast, ChoosesWell, IsAnyDevice, Lasts}
 use Rattle.rounds_law.specs.Path.{IsAddressed, IsIgnored}
-use Rattle.rounds_law.specs.Start.{CanBeAddressed}
+use Rattle.rounds_law.specs.Start.{CanBeAddressed, IsOfPlan}
 use Rattle.rounds_law.proofs.AgainKept.{none_more}
-use Rattle.rounds_law.proofs.AnywhereDeviceSays.{IsFitting, SaysLaws, all_fit, message_fit}
+use Rattle.rounds_law.proofs.AnywherePlugs.{after_numbered, later_numbered}
+use Rattle.rounds_law.proofs.AnywhereDeviceSays.{IsFitting, IsSizedIfPlug, SaysLaws, all_fit, all_sized, message_fit}
 use Rattle.rounds_law.proofs.DeviceCallingSteps.{kept_first}
 
 -- ---- relations
@@ -46,24 +54,51 @@ module _ (silence : ℕ) where
     holds = subst (λ (n : ℕ). n ≤ silence) (sym limit) lasts.holds;
     named = lasts.named;
     object = lasts.object;
+    called = lasts.called;
     inputs = subst (λ (r : Route). is_cyclic r.sent_id ≡ true) (sym route) lasts.inputs;
+  }
+
+  -- with these records, and these places, whose calls are as before
+  pub reported_lasts : (link : RelationState) (flow : Flow) (taken : List TakenRecord) (sent : Option SentAlarm) (waiting : List QueuedAlarm)
+      → Lasts silence (with_flow flow link) → Lasts silence (with_reported flow taken (plugs_after sent waiting link.plugs) link)
+  reported_lasts link flow taken sent waiting lasts = record {
+    runs = lasts.runs;
+    active = lasts.active;
+    holds = lasts.holds;
+    named = lasts.named;
+    object = lasts.object;
+    called = after_numbered sent waiting link.plugs lasts.called;
+    inputs = lasts.inputs;
+  }
+
+  -- with other calls of plugs
+  pub called_lasts : (link : RelationState) (flow : Flow) (plugs : PlugState) → AreNumbered plugs.calls → Lasts silence (with_flow flow link)
+      → Lasts silence (record link { flow = flow; plugs = plugs })
+  called_lasts link flow plugs called lasts = record {
+    runs = lasts.runs;
+    active = lasts.active;
+    holds = lasts.holds;
+    named = lasts.named;
+    object = lasts.object;
+    called = called;
+    inputs = lasts.inputs;
   }
 
   pub restarted_lasts : (source : Partner) (link : Option RelationState) → AllLast silence link → AllLast silence (updated (Named source) link)
   restarted_lasts source None lasts = lasts
   restarted_lasts source (Some link) lasts =
-      record { runs = lasts.runs; active = lasts.active; holds = lasts.holds; named = lasts.named; object = lasts.object; inputs = lasts.inputs }
+      record { runs = lasts.runs; active = lasts.active; holds = lasts.holds; named = lasts.named; object = lasts.object; called = lasts.called; inputs = lasts.inputs }
 
   pub records_last : (records : Records) (link : Option RelationState) → AllLast silence link → AllLast silence (updated (Took records) link)
   records_last records None lasts = lasts
   records_last records (Some link) lasts =
-      record { runs = lasts.runs; active = lasts.active; holds = lasts.holds; named = lasts.named; object = lasts.object; inputs = lasts.inputs }
+      record { runs = lasts.runs; active = lasts.active; holds = lasts.holds; named = lasts.named; object = lasts.object; called = lasts.called; inputs = lasts.inputs }
 
   parameterized_one : (by_application : Bool) (link : RelationState) → Lasts silence link → Lasts silence (parameterized_from by_application link)
   parameterized_one true link lasts =
-      record { runs = λ untimed. absurd cc; active = lasts.active; holds = lasts.holds; named = lasts.named; object = lasts.object; inputs = lasts.inputs }
+      record { runs = λ untimed. absurd cc; active = lasts.active; holds = lasts.holds; named = lasts.named; object = lasts.object; called = lasts.called; inputs = lasts.inputs }
   parameterized_one false link lasts =
-      record { runs = λ untimed. absurd cc; active = lasts.active; holds = lasts.holds; named = lasts.named; object = lasts.object; inputs = lasts.inputs }
+      record { runs = λ untimed. absurd cc; active = lasts.active; holds = lasts.holds; named = lasts.named; object = lasts.object; called = lasts.called; inputs = lasts.inputs }
 
   pub parameterized_lasts : (by_application : Bool) (link : Option RelationState) → AllLast silence link
       → AllLast silence (updated (Parameterized by_application) link)
@@ -72,7 +107,7 @@ module _ (silence : ℕ) where
 
   pub exchanging_lasts : (link : RelationState) → Lasts silence link → Lasts silence (exchanging_from link)
   exchanging_lasts link lasts =
-      record { runs = λ untimed. refl; active = lasts.active; holds = lasts.holds; named = lasts.named; object = lasts.object; inputs = lasts.inputs }
+      record { runs = λ untimed. refl; active = lasts.active; holds = lasts.holds; named = lasts.named; object = lasts.object; called = lasts.called; inputs = lasts.inputs }
 
   later_limit : (begun : Bool) (hearing : Hearing) → (if begun then held_on hearing else hearing).limit ≡ hearing.limit
   later_limit true hearing = refl
@@ -85,6 +120,7 @@ module _ (silence : ℕ) where
     holds = subst (λ (n : ℕ). n ≤ silence) (sym (later_limit link.flow.cyclic.begun link.flow.cyclic.hearing)) lasts.holds;
     named = lasts.named;
     object = lasts.object;
+    called = later_numbered (is_timed link.phase) link.plugs lasts.called;
     inputs = lasts.inputs;
   }
 
@@ -117,11 +153,12 @@ module _ (setup next : Setup) (identity : Identity) (silence : ℕ) (station : S
   GoesOn live frames = IsAnyDevice setup next identity silence station live × AllByRecursion (ChoosesWell setup) frames
 
   -- the same settings, and another rest
-  rest_after : (live : Live) (rest : Rest) → IsAnyDevice setup next identity silence station live → AllLast silence rest.link → IsStored rest.calls
+  rest_after : (live : Live) (rest : Rest) → IsAnyDevice setup next identity silence station live → rest.real ≡ live.rest.real
+      → AllLast silence rest.link → IsStored rest.calls
       → IsAnyDevice setup next identity silence station (record { values = live.values; rest = rest })
-  rest_after live rest device lasts stored = record {
+  rest_after live rest device real lasts stored = record {
     of_device = device.of_device;
-    of_plan = device.of_plan;
+    of_plan = subst (λ (r : Real). IsOfPlan setup station r) (sym real) device.of_plan;
     named = record { name = device.named.name };
     sized = device.sized;
     addressed = addressed_so device.addressed;
@@ -162,26 +199,36 @@ module _ (setup next : Setup) (identity : Identity) (silence : ℕ) (station : S
   each_is live caller address call header judged none =
       ap (λ (items : List SetItem). each_step live caller address call header judged (carried [] live.values items)) none
 
-  module _ (laws : SaysLaws) (good : IsSetup setup) (device : IsDevice station.identity) where
-    move_after : (live : Live) (rest : Rest) (sent : List Sent) → IsAnyDevice setup next identity silence station live → IsFineMove rest sent
-        → AreSendable station.identity sent → GoesOn (record { values = live.values; rest = rest }) (map (bytes_of station.identity) sent)
-    move_after live rest sent before fine can =
-        (rest_after live rest before fine.0 (fine.1 can), all_fit laws setup station.identity good device sent fine.2 can)
+  pub fine_sized : (live : Live) (what : Handled) → IsFine live what → AllByRecursion IsSizedIfPlug (handled_step [] station live what).sent
+  unfolding handled_step
+  fine_sized live (Refuses note) fine = tt
+  fine_sized live (Sets asker request in_operation) fine = absurd fine
+  fine_sized live (Writes caller address call header value) fine = absurd fine
+  fine_sized live (WritesEach caller address call header judged) fine =
+      subst (λ (step : Stepped). AllByRecursion IsSizedIfPlug step.sent) (sym (each_is live caller address call header judged fine.0)) (tt, tt)
+  fine_sized live (Moves rest sent) fine = all_sized setup sent fine.2
 
-    pub fine_after : (live : Live) (what : Handled) → IsAnyDevice setup next identity silence station live → IsFine live what
+  module _ (laws : SaysLaws) (good : IsSetup setup) (device : IsDevice station.identity) where
+    move_after : (live : Live) (rest : Rest) (sent : List Sent) → IsAnyDevice setup next identity silence station live → rest.real ≡ live.rest.real
+        → IsFineMove rest sent → AreSendable station.identity sent → GoesOn (record { values = live.values; rest = rest }) (map (bytes_of station.identity) sent)
+    move_after live rest sent before real fine can =
+        (rest_after live rest before real fine.0 (fine.1 can), all_fit laws setup station.identity good device sent fine.2 can)
+
+    pub fine_after : (live : Live) (what : Handled) → IsAnyDevice setup next identity silence station live
+        → (handled_step [] station live what).live.rest.real ≡ live.rest.real → IsFine live what
         → AreSendable station.identity (handled_step [] station live what).sent
         → GoesOn (handled_step [] station live what).live (handled_step [] station live what).frames
     unfolding handled_step
-    fine_after live (Refuses note) before fine can = (before, tt)
-    fine_after live (Sets asker request in_operation) before fine can = absurd fine
-    fine_after live (Writes caller address call header value) before fine can = absurd fine
-    fine_after live (WritesEach caller address call header judged) before fine can =
+    fine_after live (Refuses note) before real fine can = (before, tt)
+    fine_after live (Sets asker request in_operation) before real fine can = absurd fine
+    fine_after live (Writes caller address call header value) before real fine can = absurd fine
+    fine_after live (WritesEach caller address call header judged) before real fine can =
         let is = each_is live caller address call header judged fine.0 in
         subst (λ (step : Stepped). GoesOn step.live step.frames) (sym is)
         (move_after live (kept_behind station.identity live.rest call (each_answer live caller address call header judged)
         (updated (Named (partner_of caller)) (link_behind judged live.rest.link)))
-        (each_answer live caller address call header judged ∷ []) before fine.1 (subst (λ (step : Stepped). AreSendable station.identity step.sent) is can))
-    fine_after live (Moves rest sent) before fine can = move_after live rest sent before fine can
+        (each_answer live caller address call header judged ∷ []) before refl fine.1 (subst (λ (step : Stepped). AreSendable station.identity step.sent) is can))
+    fine_after live (Moves rest sent) before real fine can = move_after live rest sent before real fine can
 
   -- ---- an answer that is stored
 

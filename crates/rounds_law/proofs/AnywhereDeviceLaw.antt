@@ -32,12 +32,12 @@ use Rattle.plans.specs.Connect.{connect_of}
 use Rattle.relations.specs.Calls.{done_of}
 use Rattle.relations.specs.Connect.{connect_within}
 use Rattle.relations.specs.Numbers.{endpoint_of}
-use Rattle.relations.specs.Ready.{answer_of as ready_answer}
 use Rattle.relations.specs.declared.options.DeviceOptions.{DeviceOptions}
 use Rattle.device_frames.specs.declared.note.Note.TheVariants as note
 use Rattle.device_frames.specs.Heard.{Asks, Calls, Elsewhere, Heard, Reported, Responds, Said, Ticks, heard_of}
 use Rattle.device_frames.specs.Sendable.{AreSendable}
 use Rattle.device_frames.specs.Sent.{IdentifyAnswer}
+use Rattle.device_core.specs.Local.{OnlyPullsAndPlugsChangeModules}
 use Rattle.device_core.specs.State.{Live, State, Station, alias_in}
 use Rattle.device_core.specs.Handled.{Handled, Moves, Refuses, Sets, handled, handled_said, is_running}
 use Rattle.device_core.specs.Machine.{handled_step, heard_step}
@@ -56,19 +56,21 @@ use Rattle.both_ends.specs.startup.answer.Answer.{AcceptsInterval, IsAllThere, a
 use Rattle.both_ends.specs.startup.request.Request.{no_rows, request_for}
 use Rattle.rounds_law.specs.Anywhere.{ChoosesWell, IsAnyDevice}
 use Rattle.rounds_law.specs.Path.{IsSized}
+use Rattle.rounds_law.specs.AnywhereFrames.{IsAnything, IsOwn}
 use Rattle.rounds_law.specs.Rounds.{Goes}
 use Rattle.rounds_law.proofs.AgainUnset.{asks_unset}
 use Rattle.rounds_law.proofs.AnywhereDeviceAnswers.{CallLaws}
 use Rattle.rounds_law.proofs.AnywhereDeviceCalls.{connect_said, prm_end_said, release_said, write_said}
-use Rattle.rounds_law.proofs.AnywhereDeviceExchange.{alarm_fine, answer_fine, cyclic_fine, low_confirm_fine, low_reply_fine, unit_fine}
-use Rattle.rounds_law.proofs.AnywhereDeviceFine.{IsFine, fine_after, stored_before}
+use Rattle.rounds_law.proofs.AnywhereDeviceExchange.{alarm_fine, cyclic_fine, low_confirm_fine, low_reply_fine, response_fine, unit_fine}
+use Rattle.rounds_law.proofs.AnywhereDeviceFine.{IsFine, fine_after, fine_sized, stored_before}
+use Rattle.rounds_law.proofs.PlanKept.{IsUnsaid, handled_stays}
 use Rattle.rounds_law.proofs.AnywhereDeviceHears.{HearsLaws, IsHeardAs, message_heard, message_said, replied_said, request_said}
 use Rattle.rounds_law.proofs.AnywhereDeviceReleased.{released_or, response_unchosen}
-use Rattle.rounds_law.proofs.AnywhereDeviceSays.{SaysLaws}
-use Rattle.rounds_law.proofs.AnywhereDeviceSets.{set_after}
+use Rattle.rounds_law.proofs.AnywhereDeviceSays.{IsSizedIfPlug, SaysLaws}
+use Rattle.rounds_law.proofs.AnywhereDeviceSets.{set_after, set_sized}
 use Rattle.rounds_law.proofs.AnywhereDeviceWrites.{all_quiet}
 use Rattle.rounds_law.proofs.AnywhereLinkIgnored.{answer_ignored}
-use Rattle.rounds_law.proofs.AnywhereParts.{DeviceFound, DeviceFrame, DeviceUnit, HasWay, IsLong}
+use Rattle.rounds_law.proofs.AnywhereParts.{DeviceFound, DeviceFrame, DeviceUnit, HasWay, Hears, IsLong}
 use Rattle.rounds_law.proofs.SearchingDevice.{found_so, some_name}
 use Rattle.rounds_law.proofs.SearchingSizes.{asks_suite}
 use Rattle.rounds_law.proofs.WriteListed.{AreBlocksLong, AreBlocksRead, AreFit}
@@ -78,6 +80,7 @@ use Rattle.rounds_law.proofs.WriteTaken.{fit_each}
 
 -- What follows from the clauses of functions below for these stations.
 pub record DeviceLaws (setup : Setup) (identity : Identity) : Type 0 where
+  pub modules : OnlyPullsAndPlugsChangeModules
   pub hears : HearsLaws
   pub says : SaysLaws
   pub negative : (operation : Operation) (refusal : CallFault) → is_done (status_of operation refusal) ≡ false
@@ -128,9 +131,8 @@ module _ {F : Type 0} {S : ℕ} (as_flash : Flash F S) (setup next : Setup) (ide
     device : IsDevice station.identity
     device = subst IsDevice (sym before.of_device) long.of_device
 
-    fits : AreFit station.real setup.plan.records.items
-    fits = subst (λ real. AreFit real setup.plan.records.items) (sym before.of_plan.plugged)
-        (fit_each setup.plan.real setup.plan.records.items long.can.can_meet.records laws.placed long.real.plan.short_records long.can.records)
+    fits : AreFit setup.plan.real setup.plan.records.items
+    fits = fit_each setup.plan.real setup.plan.records.items long.can.can_meet.records laws.placed long.real.plan.short_records long.can.records
 
     pub calls : CallLaws setup next silence station
     calls = record {
@@ -143,11 +145,10 @@ module _ {F : Type 0} {S : ℕ} (as_flash : Flash F S) (setup next : Setup) (ide
       negative = laws.negative;
       whole = λ number few. subst (λ (i : Identity). IsAllThere (answer_blocks setup i number) (0xC000 + number) (endpoint_of number)) (sym before.of_device)
           (laws.whole number few);
-      plugged = before.of_plan.plugged;
       same = laws.same;
       accepted = laws.own station.options long.can.can_meet.named before.of_plan.interval;
       quiet = λ number small standing. all_quiet laws.block_read laws.block_long setup long.real.ar long.real.plan.few_records
-          station.real fits number standing;
+          setup.plan.real fits number standing;
       released = λ link. released_or laws.block_long link (control_of setup 4) (laws.block_alone (is.Release (control_of setup 4))
           (record { ar_uuid = long.real.ar; session_key = omega arith; control_command = omega arith; control_block_properties = omega arith }));
       unchosen = response_unchosen (done_of (control_of setup 4)) (laws.block_alone (is.ReleaseRes (done_of (control_of setup 4)))
@@ -162,9 +163,14 @@ module _ {F : Type 0} {S : ℕ} (as_flash : Flash F S) (setup next : Setup) (ide
     abbrev IsGoing : Handled → Type 0
     IsGoing what = AreSendable station.identity (handled_step [] station live what).sent
         → Going station (handled_step [] station live what).live (handled_step [] station live what).frames
+        × AllByRecursion IsSizedIfPlug (handled_step [] station live what).sent
 
-    fine_goes : (what : Handled) → Fine what → IsGoing what
-    fine_goes what fine can = fine_after setup next identity silence station laws.says long.real device live what before fine can
+    fine_goes : (heard : Heard) → IsUnsaid heard → Fine (handled station live heard) → IsGoing (handled station live heard)
+    fine_goes heard unsaid fine can = (
+      fine_after setup next identity silence station laws.says long.real device live (handled station live heard) before
+          (handled_stays laws.modules [] station live heard unsaid) fine can,
+      fine_sized setup next identity silence station live (handled station live heard) fine,
+    )
 
     -- ---- what a message says
 
@@ -191,21 +197,25 @@ module _ {F : Type 0} {S : ℕ} (as_flash : Flash F S) (setup next : Setup) (ide
     address_goes = by_relation (is_some live.rest.link)
       where
         by_relation : (related : Bool) → IsGoing (Sets setup.plan.controller.mac (address_asked setup.plan) related)
-        by_relation true can =
-            set_after setup next identity silence station live true before laws.says long.real device
-            (inr (asks_unset setup.plan.station.suite suite_sized laws.suite)) can
-        by_relation false can =
-            set_after setup next identity silence station live false before laws.says long.real device
-            (inl (asks_suite setup.plan.station.suite suite_sized laws.suite)) can
+        by_relation true can = (
+          set_after setup next identity silence station live true before laws.says long.real device
+              (inr (asks_unset setup.plan.station.suite suite_sized laws.suite)) can,
+          set_sized setup next identity silence station live true before,
+        )
+        by_relation false can = (
+          set_after setup next identity silence station live false before laws.says long.real device
+              (inl (asks_suite setup.plan.station.suite suite_sized laws.suite)) can,
+          set_sized setup next identity silence station live false before,
+        )
 
     call_goes : (call : Call) → Fine (handled_said station live (caller_of setup.plan.controller) (Calls call))
         → IsGoing (handled station live (Reported (caller_of setup.plan.controller) setup.plan.station.suite.address (Calls call)))
     call_goes call fine =
-        fine_goes (handled station live (Reported (caller_of setup.plan.controller) setup.plan.station.suite.address (Calls call)))
+        fine_goes (Reported (caller_of setup.plan.controller) setup.plan.station.suite.address (Calls call)) tt
         (datagram_fine (caller_of setup.plan.controller) setup.plan.station.suite.address (Calls call) fine)
 
     request_goes : (request : Request) → IsNumbered request → IsGoing (handled station live (request_said setup request))
-    request_goes asks.Identify numbered = fine_goes (handled station live (Asks setup.plan.controller.mac (identify_asked setup.plan))) identify_fine
+    request_goes asks.Identify numbered = fine_goes (Asks setup.plan.controller.mac (identify_asked setup.plan)) tt identify_fine
     request_goes asks.Address numbered = address_goes
     request_goes asks.Connect numbered = call_goes (call_for setup asks.Connect) (connect_said setup next identity silence station calls live before)
     request_goes (asks.Write number) numbered =
@@ -222,27 +232,34 @@ module _ {F : Type 0} {S : ℕ} (as_flash : Flash F S) (setup next : Setup) (ide
     reply_fine priority header pdu.Data = tt
     reply_fine priority header pdu.Error = tt
 
+    reply_unsaid : (priority : Priority) (header : Header) (kind : PduType) → IsUnsaid (replied_said setup priority header kind)
+    reply_unsaid High header pdu.Ack = tt
+    reply_unsaid Low header pdu.Ack = tt
+    reply_unsaid priority header pdu.Nack = tt
+    reply_unsaid priority header pdu.Data = tt
+    reply_unsaid priority header pdu.Error = tt
+
     message_goes : (message : Sent) → CanBeSent setup message → HasWay message → IsGoing (handled station live (message_said setup message))
     message_goes (Requests to request) can way = request_goes request can.1
     message_goes (Accesses to request octets) can way = absurd way
     message_goes (Agrees caller answer) can way =
-        fine_goes (handled station live (message_said setup (Agrees caller answer)))
+        fine_goes (message_said setup (Agrees caller answer)) tt
         (datagram_fine (caller_of setup.plan.controller) caller.endpoint.address (Responds answer)
-        (answer_fine setup next identity silence station live before (ready_answer answer live.rest.link)))
+        (response_fine setup next identity silence station live before answer))
     message_goes (Cycles route shown counter) can way =
-        fine_goes (handled station live (message_said setup (Cycles route shown counter)))
+        fine_goes (message_said setup (Cycles route shown counter)) tt
         (cyclic_fine setup next identity silence station live before setup.plan.controller.mac route.sent_id
         (padded setup.plan.controller.mac route.partner (Some route.sent_tag) route.sent_id (cyclic_body shown counter)))
     message_goes (Confirms route High header ack) can way =
-        fine_goes (handled station live (message_said setup (Confirms route High header ack)))
+        fine_goes (message_said setup (Confirms route High header ack)) tt
         (alarm_fine setup next identity silence station live before setup.plan.controller.mac header (notice.Data header.send_number ack))
     message_goes (Confirms route Low header ack) can way =
-        fine_goes (handled station live (message_said setup (Confirms route Low header ack)))
+        fine_goes (message_said setup (Confirms route Low header ack)) tt
         (low_confirm_fine setup next identity silence station live before setup.plan.controller.mac header (notice.Data header.send_number ack))
     message_goes (Replies route priority header) can way =
-        fine_goes (handled station live (message_said setup (Replies route priority header))) (reply_fine priority header header.kind)
+        fine_goes (message_said setup (Replies route priority header)) (reply_unsaid priority header header.kind) (reply_fine priority header header.kind)
     message_goes (Ends route header reason) can way =
-        fine_goes (handled station live (message_said setup (Ends route header reason)))
+        fine_goes (message_said setup (Ends route header reason)) tt
         (alarm_fine setup next identity silence station live before setup.plan.controller.mac
         (end_pdu header reason).header (notice.Abort (abort_status reason)))
 
@@ -250,6 +267,7 @@ module _ {F : Type 0} {S : ℕ} (as_flash : Flash F S) (setup next : Setup) (ide
     abbrev IsHeardGoing : Heard → Type 0
     IsHeardGoing heard = AreSendable station.identity (heard_step [] station live heard).sent
         → Going station (heard_step [] station live heard).live (heard_step [] station live heard).frames
+        × AllByRecursion IsSizedIfPlug (heard_step [] station live heard).sent
 
     step_heard : (heard : Heard) → IsGoing (handled station live heard) → IsHeardGoing heard
     unfolding heard_step
@@ -257,10 +275,10 @@ module _ {F : Type 0} {S : ℕ} (as_flash : Flash F S) (setup next : Setup) (ide
 
     heard_goes : (heard : Heard) (message : Sent) → CanBeSent setup message → HasWay message → IsHeardAs heard (message_said setup message) → IsHeardGoing heard
     heard_goes heard message can way (inl is) = subst IsHeardGoing (sym is) (step_heard (message_said setup message) (message_goes message can way))
-    heard_goes heard message can way (inr is) = subst IsHeardGoing (sym is) (step_heard Elsewhere (fine_goes (Refuses note.NotMine) tt))
+    heard_goes heard message can way (inr is) = subst IsHeardGoing (sym is) (step_heard Elsewhere (fine_goes Elsewhere tt tt))
 
     unit_goes : IsHeardGoing Ticks
-    unit_goes = step_heard Ticks (fine_goes (handled station live Ticks) (unit_fine setup next identity silence station live before))
+    unit_goes = step_heard Ticks (fine_goes Ticks tt (unit_fine setup next identity silence station live before))
 
   -- ---- the parts
 
@@ -271,12 +289,37 @@ module _ {F : Type 0} {S : ℕ} (as_flash : Flash F S) (setup next : Setup) (ide
       let hears = subst (λ (o : List ℕ). IsHeardAs (heard_of before.station.identity (comes o)) (message_said setup own.message)) (sym own.frame)
       (message_heard laws.hears setup before.station.identity long.real own.message own.sendable own.way) in
       step_goes before after heard frames step
-      (heard_goes long before.station before.live device heard own.message own.sendable own.way hears step.sendable)
+      (heard_goes long before.station before.live device heard own.message own.sendable own.way hears step.sendable).0
 
   pub device_unit : DeviceUnit as_flash setup next identity silence
   device_unit = λ long before after frames goes device.
       let step = step_of before after Ticks frames goes in
-      step_goes before after Ticks frames step (unit_goes long before.station before.live device step.sendable)
+      step_goes before after Ticks frames step (unit_goes long before.station before.live device step.sendable).0
+
+  -- ---- the calls of plugs that are sent
+
+  -- They are of their sizes.
+  abbrev pub AreSizedPlugs : (before : State F) (heard : Heard) (outcomes : List Outcome) → Type 0
+  AreSizedPlugs before heard outcomes = AllByRecursion IsSizedIfPlug (heard_step outcomes before.station before.live heard).sent
+
+  pub frame_sized : IsLong as_flash setup next identity silence → (before after : State F) (octets : List ℕ) (frames : List (List ℕ))
+      → (goes : Hears as_flash before octets frames after) → IsAnyDevice setup next identity silence before.station before.live
+      → IsOwn setup IsAnything octets → AreSizedPlugs before (heard_of before.station.identity (comes octets)) goes.steps.outcomes
+  frame_sized long before after octets frames goes device own =
+      let heard = heard_of before.station.identity (comes octets) in
+      let step = step_of before after heard frames goes in
+      let hears = subst (λ (o : List ℕ). IsHeardAs (heard_of before.station.identity (comes o)) (message_said setup own.message)) (sym own.frame)
+      (message_heard laws.hears setup before.station.identity long.real own.message own.sendable own.way) in
+      subst (AreSizedPlugs before heard) (sym (goes.steps.inactive goes.unfailed))
+      (heard_goes long before.station before.live device heard own.message own.sendable own.way hears step.sendable).1
+
+  pub unit_sized : IsLong as_flash setup next identity silence → (before after : State F) (frames : List (List ℕ))
+      → (goes : Goes as_flash before Ticks frames after) → IsAnyDevice setup next identity silence before.station before.live
+      → AreSizedPlugs before Ticks goes.steps.outcomes
+  unit_sized long before after frames goes device =
+      let step = step_of before after Ticks frames goes in
+      subst (AreSizedPlugs before Ticks) (sym (goes.steps.inactive goes.unfailed))
+      (unit_goes long before.station before.live device step.sendable).1
 
   opening_heard : IsSetup setup → (one : Identity) (controller : Controlling) → controller.setup ≡ setup
       → heard_of one (comes (opening_of controller)) ≡ Asks setup.plan.controller.mac (identify_asked setup.plan)

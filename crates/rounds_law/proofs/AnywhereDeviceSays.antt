@@ -15,15 +15,16 @@ use Rattle.rpc_core.specs.declared.interface.Interface.TheVariants.{Controller a
 use Rattle.rpc_core.specs.Interface.{interface_uuid}
 use Rattle.rpc_core.specs.Response.{Answered}
 use Rattle.rpc_core.specs.Sendable.{CanBeAnswered, CanBeCalled, IsHeader, IsUuid}
+use Rattle.relations.specs.declared.plugging.PlugReady.{PlugReady}
 use Rattle.relations.specs.declared.ready.Ready.{Ready}
 use Rattle.plans.specs.declared.parts.Controller.{Controller}
 use Rattle.device_frames.specs.Sendable.{AreSendable, IsSendable}
-use Rattle.device_frames.specs.Sent.{Sent, IdentifyAnswer, GetAnswer, SetAnswer, ArpReply, CallAnswer, Again, ReadyCall, Ends, Exchanges, bytes_of}
-use Rattle.device_frames.specs.Sent.{ready_frame, response_frame}
+use Rattle.device_frames.specs.Sent.{Sent, IdentifyAnswer, GetAnswer, SetAnswer, ArpReply, CallAnswer, Again, ReadyCall, PlugReadyCall, Ends, Exchanges}
+use Rattle.device_frames.specs.Sent.{bytes_of, plug_ready_frame, ready_frame, response_frame}
 use Rattle.controller_messages.specs.declared.setup.Setup.{Setup}
 use Rattle.controller_messages.specs.Heard.{Calls, Heard, Nothing, Responds, heard_of}
 use Rattle.end_laws.specs.hearing.Hearing.{IsUncalled, mine_reported}
-use Rattle.end_laws.specs.hearing.Stations.{IsAddress, IsCaller, IsDevice, IsSetup, ready_call}
+use Rattle.end_laws.specs.hearing.Stations.{IsAddress, IsCaller, IsDevice, IsSetup, plug_ready_call, ready_call}
 use Rattle.both_ends.specs.startup.answer.Answer.{caller_of}
 use Rattle.rounds_law.specs.Anywhere.{ChoosesWell, IsFit}
 
@@ -42,6 +43,13 @@ pub record SaysLaws : Type 0 where
       (Calls (record { mac = identity.mac; endpoint = calls_at address }) (ready_call ready))
   pub ready_can : (ready : Ready) → IsHeader ready.header → ready.header.interface ≡ interface_uuid controllers
       → IsUuid ready.block.ar_uuid → CanBeCalled controllers (ready_call ready)
+  pub plug : (mine : Controller) (identity : Identity) (address : List ℕ) (ready : PlugReady)
+      → IsDevice identity → IsMac ready.partner.mac → IsAddress ready.partner.address → IsAddress address → CanBeCalled controllers (plug_ready_call ready)
+      → heard_of mine (plug_ready_frame identity address ready)
+      ≡ mine_reported mine ready.partner.mac (calls_at ready.partner.address)
+      (Calls (record { mac = identity.mac; endpoint = calls_at address }) (plug_ready_call ready))
+  pub plug_can : (ready : PlugReady) → IsHeader ready.header → ready.header.interface ≡ interface_uuid controllers
+      → IsUuid ready.block.ar_uuid → CanBeCalled controllers (plug_ready_call ready)
 
 -- ---- what is heard
 
@@ -69,6 +77,12 @@ pub record IsSizedReady (ready : Ready) : Type 0 where
   pub interface : ready.header.interface ≡ interface_uuid controllers
   pub uuid : IsUuid ready.block.ar_uuid
 
+-- The same of ApplicationReady for a plug.
+pub record IsSizedPlug (ready : PlugReady) : Type 0 where
+  pub header : IsHeader ready.header
+  pub interface : ready.header.interface ≡ interface_uuid controllers
+  pub uuid : IsUuid ready.block.ar_uuid
+
 -- A message that is fit: a response to this controller.
 abbrev pub IsFitting : Setup → Sent → Type 0
 IsFitting setup (IdentifyAnswer asker running xid) = Unit {0}
@@ -78,8 +92,23 @@ IsFitting setup (ArpReply asker address target) = ⊥
 IsFitting setup (CallAnswer caller address answer) = (caller ≡ caller_of setup.plan.controller) × IsFit setup (Responds answer)
 IsFitting setup (Again frame) = ChoosesWell setup frame
 IsFitting setup (ReadyCall address ready) = IsSizedReady ready
+IsFitting setup (PlugReadyCall address ready) = IsSizedPlug ready
 IsFitting setup (Ends farewell) = Unit {0}
 IsFitting setup (Exchanges route frame) = Unit {0}
+
+-- If it is an ApplicationReady of a plug, its fields have their sizes.
+abbrev pub IsSizedIfPlug : Sent → Type 0
+IsSizedIfPlug (PlugReadyCall address ready) = IsSizedPlug ready
+IsSizedIfPlug message = Unit {0}
+
+-- So do those of messages that are fit.
+fit_sized : (setup : Setup) (message : Sent) → IsFitting setup message → IsSizedIfPlug message
+fit_sized setup (PlugReadyCall address ready) fits = fits
+fit_sized setup message fits = tt
+
+pub all_sized : (setup : Setup) (sent : List Sent) → AllByRecursion (IsFitting setup) sent → AllByRecursion IsSizedIfPlug sent
+all_sized setup [] fits = tt
+all_sized setup (message ∷ sent) fits = (fit_sized setup message fits.0, all_sized setup sent fits.1)
 
 module _ (laws : SaysLaws) (setup : Setup) (identity : Identity) (good : IsSetup setup) (device : IsDevice identity) where
   data_fit : (destination : Mac) (tag : Option ℕ) (frame_id : ℕ) (body : List ℕ) → CanBeSent (carrying destination identity.mac tag (RealTime frame_id body))
@@ -104,6 +133,15 @@ module _ (laws : SaysLaws) (setup : Setup) (identity : Identity) (good : IsSetup
       (Calls (record { mac = identity.mac; endpoint = calls_at address }) (ready_call ready))
       (record { mac = device; endpoint = (can.content.0.0, omega arith) }, sized.header, omega arith))
 
+  plug_fit : (address : List ℕ) (ready : PlugReady) → IsSizedPlug ready → IsSendable identity (PlugReadyCall address ready)
+      → ChoosesWell setup (plug_ready_frame identity address ready)
+  plug_fit address ready sized can =
+      subst (IsFit setup) (sym (laws.plug setup.plan.controller identity address ready device can.destination can.content.1.0 can.content.0.0
+      (laws.plug_can ready sized.header sized.interface sized.uuid)))
+      (reported_fit setup ready.partner.mac (calls_at ready.partner.address)
+      (Calls (record { mac = identity.mac; endpoint = calls_at address }) (plug_ready_call ready))
+      (record { mac = device; endpoint = (can.content.0.0, omega arith) }, sized.header, omega arith))
+
   pub message_fit : (message : Sent) → IsFitting setup message → IsSendable identity message → ChoosesWell setup (bytes_of identity message)
   message_fit (IdentifyAnswer asker running xid) fits can = data_fit asker None _ _ can
   message_fit (GetAnswer asker running alias request) fits can = data_fit asker None _ _ can
@@ -112,6 +150,7 @@ module _ (laws : SaysLaws) (setup : Setup) (identity : Identity) (good : IsSetup
   message_fit (CallAnswer caller address answer) fits can = answer_fit caller address answer fits.0 fits.1 can
   message_fit (Again frame) fits can = fits
   message_fit (ReadyCall address ready) fits can = ready_fit address ready fits can
+  message_fit (PlugReadyCall address ready) fits can = plug_fit address ready fits can
   message_fit (Ends farewell) fits can = data_fit farewell.initiator (Some farewell.tag) _ _ can
   message_fit (Exchanges route frame) fits can = data_fit route.partner (Some _) _ _ can
 

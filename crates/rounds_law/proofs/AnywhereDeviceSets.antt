@@ -26,7 +26,7 @@ use Rattle.rounds_law.specs.Path.{IsAddressed, IsNamed, IsSized}
 use Rattle.rounds_law.specs.Start.{CanBeAddressed}
 use Rattle.rounds_law.proofs.AnywhereDeviceExchange.{both_fit, farewells_fit}
 use Rattle.rounds_law.proofs.AnywhereDeviceFine.{GoesOn}
-use Rattle.rounds_law.proofs.AnywhereDeviceSays.{IsFitting, SaysLaws, all_fit}
+use Rattle.rounds_law.proofs.AnywhereDeviceSays.{IsFitting, IsSizedIfPlug, SaysLaws, all_fit, all_sized}
 
 -- ---- the settings
 
@@ -104,6 +104,13 @@ module _ (setup next : Setup) (identity : Identity) (silence : ℕ) (station : S
           → IsAddressed setup (step settled).live ⊎ CanBeAddressed (step settled).live
       addressed_so (inl is) = inl (record { suite = is })
       addressed_so (inr can) = inr (record { unfailed = can.0; room = can.1 })
+
+  pub set_sized : AllByRecursion IsSizedIfPlug
+      (handled_step [] station live (Sets setup.plan.controller.mac (address_asked setup.plan) in_operation)).sent
+  unfolding handled_step
+  set_sized =
+      let answers = (carried [] live.values (plan_of in_operation request)).answers in
+      all_sized setup (finished station.identity live.rest (Sets mac request in_operation) answers).sent (sent_fit answers)
 
   pub set_after : SaysLaws → IsSetup setup → IsDevice station.identity
       → (plan_of in_operation (address_asked setup.plan) ≡ Ask (SetIp false setup.plan.station.suite) ∷ [])

@@ -21,27 +21,34 @@ use Rattle.cyclic_data.specs.declared.exchange.received.Received.{Received}
 use Rattle.cyclic_data.specs.declared.exchange.received.Received.TheVariants.{Foreign, Short, Stale, Taken}
 use Rattle.cyclic_data.specs.declared.exchange.route.Route.{Route}
 use Rattle.cyclic_data.specs.exchange.Received.{is_of_partner, received_in}
+use Rattle.diagnosis.specs.Queue.{is_next}
+use Rattle.expected_places.specs.Machine.{PlugState, next_called}
 use Rattle.relations.specs.Diagnosed.{begin_one, has_sent_low, report_one}
 use Rattle.relations.specs.Exchanged.{hearing_as, receiving_as}
-use Rattle.relations.specs.Phases.{exchanging_from, updated, with_flow}
+use Rattle.relations.specs.Phases.{exchanging_from, updated, with_flow, with_reported}
+use Rattle.relations.specs.Plugging.{calling_next, first_sent, flow_answered, is_calling, plug_answer_in, plug_answering, plug_ready_of}
+use Rattle.relations.specs.Plugging.{plugs_after, plugs_answered, taken_after}
 use Rattle.relations.specs.Ready.{answer_of, confirmed_block, confirmed_by, is_answer_to}
 use Rattle.relations.specs.Farewells.{farewell_of}
-use Rattle.relations.specs.RelationState.{RelationState, is_alarm_of, is_awaiting}
+use Rattle.relations.specs.RelationState.{RelationState, is_alarm_of, is_awaiting, is_in_exchange}
 use Rattle.relations.specs.Timers.{is_timed, limit_of}
 use Rattle.relations.specs.declared.hearing.ReadyAnswer.{ReadyAnswer}
 use Rattle.relations.specs.declared.hearing.ReadyAnswer.TheVariants as to_ready
-use Rattle.relations.specs.exchange.Diagnosis.{behind_low, diagnoses_begun, next_reported}
+use Rattle.relations.specs.declared.plugging.PlugAnswer.{PlugAnswer}
+use Rattle.relations.specs.declared.plugging.PlugAnswer.TheVariants as to_plug
+use Rattle.relations.specs.exchange.Diagnosis.{begins_with_one, behind_low, diagnoses_begun, next_reported}
 use Rattle.relations.specs.exchange.Flow.{Flow}
+use Rattle.relations.specs.exchange.Modules.{restated_flow}
 use Rattle.relations.specs.exchange.Notices.{behind_message}
 use Rattle.relations.specs.exchange.Received.{behind_frame, received_as}
 use Rattle.device_frames.specs.Heard.{Said, Calls, Garbled, Responds, heard_of}
 use Rattle.device_frames.specs.Heard.{Heard, Elsewhere, Reported, Cyclic, Alarms, LowReplies, LowConfirms}
-use Rattle.device_frames.specs.Relation.{low_alarms_of}
+use Rattle.device_frames.specs.Relation.{low_alarms_of, plug_calls}
 use Rattle.device_frames.specs.declared.note.Note.{Note}
 use Rattle.device_frames.specs.declared.note.Note.TheVariants as note
 use Rattle.device_core.specs.State.{Live, Station}
 use Rattle.device_core.specs.Handled.{Refuses, handled_alarm, handled_answer, handled_low, handled_low_message, handled_low_pdu, handled_message, handled_pdu}
-use Rattle.device_core.specs.Handled.{handled_received, handled_said, is_running}
+use Rattle.device_core.specs.Handled.{handled_next_call, handled_plug_answer, handled_received, handled_said, is_running}
 use Rattle.device_core.specs.Machine.{handled_step, heard_step}
 use Rattle.controller_messages.specs.declared.setup.Setup.{Setup}
 use Rattle.end_laws.specs.hearing.Hearing.{comes}
@@ -49,7 +56,7 @@ use Rattle.rounds_law.specs.Again.{units_left}
 use Rattle.rounds_law.proofs.AgainVain.{Keeps, in_vain}
 use Rattle.rounds_law.proofs.AnywhereLinkHears.{IsNoCall, IsOfData, own_is_of_data}
 use Rattle.rounds_law.proofs.AnywhereLinkLaws.{ExchangeLaws}
-use Rattle.rounds_law.proofs.AnywhereLinkMoved.{IsNow, Went, as_before, due_of_link, no_more, report_of_link, timed_in, timed_units}
+use Rattle.rounds_law.proofs.AnywhereLinkMoved.{IsNow, Went, as_before, calls_of_link, due_of_link, no_more, report_of_link, timed_in, timed_units}
 use Rattle.rounds_law.proofs.AnywhereParts.{AcceptsOutputs, IsMoved, LinkFrame}
 use Rattle.rounds_law.proofs.DevicePassingLeft.{frame_left}
 use Rattle.rounds_law.proofs.DevicePassingTaken.{with_link}
@@ -68,6 +75,12 @@ confirmed_timed response link e =
     (if is_done response.status then confirmed_by link.request.ar.uuid (confirmed_block (block_of response.blocks))
     else to_ready.Refused (farewell_of Other link)) e)
 
+-- The relation after an exchange with which an alarm of low priority was first sent, or not.
+abbrev reported_as : Bool → Flow → RelationState → RelationState
+reported_as is_sent flow link =
+    let sent = first_sent is_sent flow.low in
+    with_reported flow (taken_after sent link.plugs.places link.taken) (plugs_after sent flow.low.waiting link.plugs) link
+
 module _ (setup : Setup) (route : Route) (outcomes : List Outcome) (station : Station) (live : Live) (link : RelationState) where
   -- The device with this relation.
   abbrev now : Live
@@ -84,17 +97,59 @@ module _ (setup : Setup) (route : Route) (outcomes : List Outcome) (station : St
   answer_went to_ready.Garbled timed = refused_went note.Fault
   answer_went to_ready.Confirmed timed =
       let begun = exchanging_from link in
-      let real = station.real.modules.items in
+      let real = live.rest.real.modules.items in
       let flow = diagnoses_begun real live.rest.diagnoses begun.flow in (
-        inr (with_flow flow begun, refl, record { route = refl }, inr (inr (timed refl, refl))),
+        inr (
+          reported_as (begins_with_one real live.rest.diagnoses begun.flow) flow begun,
+          refl,
+          record { route = refl },
+          inr (inr (timed refl, refl)),
+        ),
         due_of_link link.flow.cyclic.route (begin_one real live.rest.diagnoses (Some begun)) (low_alarms_of (Some flow))
             (report_of_link link.flow.cyclic.route flow flow.low.alarms.sender.standing),
       )
   answer_went (to_ready.Refused farewell) timed = (inl refl, (tt, tt))
 
+  -- ---- the answer to ApplicationReady of a plug
+
+  answered_now : (heard : PlugAnswer) (plugs : PlugState)
+      → IsNow setup route link (Some (record link { flow = flow_answered heard plugs link.flow; plugs = next_called plugs }))
+  answered_now to_plug.NotWanted plugs = as_before setup route link (record link { plugs = next_called plugs }) refl refl (no_more (units_left link))
+  answered_now to_plug.Garbled plugs = as_before setup route link (record link { plugs = next_called plugs }) refl refl (no_more (units_left link))
+  answered_now to_plug.Confirmed plugs =
+      as_before setup route link (record link { flow = restated_flow plugs link.flow; plugs = next_called plugs }) refl refl (no_more (units_left link))
+  answered_now to_plug.Refused plugs =
+      as_before setup route link (record link { flow = restated_flow plugs link.flow; plugs = next_called plugs }) refl refl (no_more (units_left link))
+
+  next_went : (response : Answered)
+      → Went setup route link (handled_step outcomes station now (handled_next_call now (plug_answering response (Some link))))
+  unfolding handled_step
+  next_went response =
+      let heard = plug_answer_in response (Some link) in
+      let answered = plug_answering response (Some link) in
+      let address = live.values.running.suite.address in (
+        answered_now heard (plugs_answered heard link.plugs),
+        due_of_link link.flow.cyclic.route (is_calling answered) (plug_calls address (calling_next answered))
+            (calls_of_link link.flow.cyclic.route address (plug_ready_of (calling_next answered))),
+      )
+
+  plug_answer_went : (response : Answered) (heard : PlugAnswer)
+      → Went setup route link (handled_step outcomes station now (handled_plug_answer now response heard))
+  plug_answer_went response to_plug.NotWanted = refused_went note.NoRelation
+  plug_answer_went response to_plug.Garbled = refused_went note.Fault
+  plug_answer_went response to_plug.Confirmed = next_went response
+  plug_answer_went response to_plug.Refused = next_went response
+
+  response_went : (response : Answered) (exchanges : Bool)
+      → Went setup route link (handled_step outcomes station now
+      (if exchanges then handled_plug_answer now response (plug_answer_in response (Some link))
+      else handled_answer station now (answer_of response (Some link))))
+  response_went response true = plug_answer_went response (plug_answer_in response (Some link))
+  response_went response false = answer_went (answer_of response (Some link)) (λ e. confirmed_timed response link e)
+
   said_went : (caller : Caller) (said : Said) → IsNoCall said → Went setup route link (handled_step outcomes station now (handled_said station now caller said))
   said_went caller (Calls call) is = absurd is
-  said_went caller (Responds response) is = answer_went (answer_of response (Some link)) (λ e. confirmed_timed response link e)
+  said_went caller (Responds response) is = response_went response (is_in_exchange (Some link))
   said_went caller Garbled is = refused_went note.Fault
 
   datagram_went : (caller : Caller) (said : Said) → IsNoCall said → (runs : Bool)
@@ -163,13 +218,12 @@ module _ (setup : Setup) (route : Route) (outcomes : List Outcome) (station : St
       → Went setup route link (handled_step outcomes station now (handled_low_pdu station now what (Some (with_flow (behind_low link.flow message) link))))
   unfolding handled_step
   low_pdu_went message (fate.Data taken) =
-      let real = station.real.modules.items in
       let later = with_flow (behind_low link.flow message) link in
-      let flow = next_reported real later.flow in (
-        as_before setup route link (with_flow flow later) refl refl (no_more (units_left link)),
+      let flow = next_reported later.flow in (
+        as_before setup route link (reported_as (is_next later.flow.low) flow later) refl refl (no_more (units_left link)),
         (
           tt,
-          due_of_link link.flow.cyclic.route (report_one real (Some later)) (low_alarms_of (Some flow))
+          due_of_link link.flow.cyclic.route (report_one (Some later)) (low_alarms_of (Some flow))
               (report_of_link link.flow.cyclic.route flow flow.low.alarms.sender.standing),
         ),
       )
@@ -224,7 +278,8 @@ said_in_vain : (outcomes : List Outcome) (station : Station) (live : Live) (call
 unfolding handled_step answer_of
 said_in_vain outcomes station live caller (Calls call) is none = absurd is
 said_in_vain outcomes station live caller (Responds response) is none =
-    subst (λ (l : Option RelationState). Keeps live (handled_step outcomes station live (handled_answer station live (answer_of response l)))) (sym none)
+    subst (λ (l : Option RelationState). Keeps live (handled_step outcomes station live
+    (if is_in_exchange l then handled_plug_answer live response (plug_answer_in response l) else handled_answer station live (answer_of response l)))) (sym none)
     (refl, refl)
 said_in_vain outcomes station live caller Garbled is none = (refl, refl)
 

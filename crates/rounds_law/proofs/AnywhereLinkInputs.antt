@@ -21,13 +21,14 @@ use Rattle.plans.specs.declared.parts.Controller.{Controller}
 use Rattle.relations.specs.exchange.Flow.{Flow}
 use Rattle.relations.specs.exchange.Frames.{Inputs, Notifies, Replies, RepliesLow, Reports}
 use Rattle.relations.specs.exchange.Notices.{header_of}
+use Rattle.relations.specs.Plugging.{plug_ready_of}
 use Rattle.relations.specs.RelationState.{RelationState}
 use Rattle.relations.specs.Timers.{due_by, ending_of, unit_later}
 use Rattle.device_frames.specs.Heard as device
 use Rattle.device_frames.specs.Heard.{Ticks, heard_of as device_hears}
-use Rattle.device_frames.specs.Relation.{alarms_of, frames_in, inputs_of, low_alarms_of, ready_calls, where_due}
+use Rattle.device_frames.specs.Relation.{alarms_of, frames_in, inputs_of, low_alarms_of, plug_calls, ready_calls, where_due}
 use Rattle.device_frames.specs.Sendable.{AreSendable, IsSendable}
-use Rattle.device_frames.specs.Sent.{Sent, ReadyCall, Ends, Exchanges, bytes_of}
+use Rattle.device_frames.specs.Sent.{Sent, ReadyCall, PlugReadyCall, Ends, Exchanges, bytes_of}
 use Rattle.device_core.specs.State.{Live, Station, counter_of, units_after}
 use Rattle.device_core.specs.Machine.{Stepped, handled_step, heard_step}
 use Rattle.controller_messages.specs.declared.setup.Setup.{Setup}
@@ -38,7 +39,7 @@ use Rattle.rounds_law.proofs.AnywhereLinkCyclic.{IsNoData, and_true, here_from, 
 use Rattle.rounds_law.proofs.AnywhereLinkFrame.{data_went}
 use Rattle.rounds_law.proofs.AnywhereLinkHears.{own_is_of_data}
 use Rattle.rounds_law.proofs.AnywhereLinkLaws.{ExchangeLaws, ReadLaws}
-use Rattle.rounds_law.proofs.AnywhereLinkMoved.{AreOfLink, IsOfLink, due_of_link, report_of_link}
+use Rattle.rounds_law.proofs.AnywhereLinkMoved.{AreOfLink, IsOfLink, calls_of_link, due_of_link, report_of_link}
 use Rattle.rounds_law.proofs.AnywhereParts.{Accepts, AcceptsInputs, InputsOfFrame, InputsOfUnit}
 use Rattle.rounds_law.proofs.DevicePassingUnits.{ticked_by, unit_goes}
 
@@ -94,6 +95,8 @@ module _ (laws : ReadLaws) (identity : Identity) (controller : Controlling) (lin
       never (bytes_of identity (Exchanges route (RepliesLow tag header))) (tagged_no_data laws mine route.partner identity.mac tag _ _ refl can)
   message_well (ReadyCall address ready) of can =
       never (bytes_of identity (ReadyCall address ready)) (udp_no_data laws mine ready.partner.mac identity.mac _ _ _ can)
+  message_well (PlugReadyCall address ready) of can =
+      never (bytes_of identity (PlugReadyCall address ready)) (udp_no_data laws mine ready.partner.mac identity.mac _ _ _ can)
   message_well message of can = absurd of
 
   all_well : (sent : List Sent) → AreOfLink link.flow.cyclic.route sent → AreSendable identity sent → AllByRecursion IsWell (map (bytes_of identity) sent)
@@ -136,7 +139,9 @@ module _ (outcomes : List Outcome) (station : Station) (live : Live) (link : Rel
       (all_both route (where_due due.is_low (low_alarms_of (Some later.flow))) _
       (due_of_link route due.is_low _ (report_of_link route later.flow later.flow.low.alarms.sender.standing))
       (all_both route (where_due due.is_ready (ready_calls address (Some later))) _ (due_of_link route due.is_ready _ (tt, tt))
-      (due_of_link route due.is_cyclic (inputs_of counter (Some later.flow)) (refl, tt))))
+      (all_both route (where_due due.is_plug_ready (plug_calls address (Some later))) _
+      (due_of_link route due.is_plug_ready _ (calls_of_link route address (plug_ready_of (Some later))))
+      (due_of_link route due.is_cyclic (inputs_of counter (Some later.flow)) (refl, tt)))))
 
   pub unit_of_link : live.rest.link ≡ Some link → AreOfLink link.flow.cyclic.route (heard_step outcomes station live Ticks).sent
   unit_of_link has =

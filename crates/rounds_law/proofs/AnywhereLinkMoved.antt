@@ -5,6 +5,7 @@ use Rattle.std.specs.List.{AllByRecursion}
 use Rattle.record_blocks.specs.declared.alarm_notification.AlarmNotification.{AlarmNotification}
 use Rattle.pn_alarms.specs.declared.pdu.PduType.TheVariants.{Data}
 use Rattle.cyclic_data.specs.declared.exchange.route.Route.{Route}
+use Rattle.relations.specs.declared.plugging.PlugReady.{PlugReady}
 use Rattle.relations.specs.RelationState.{RelationState, is_awaiting}
 use Rattle.relations.specs.Timers.{is_timed}
 use Rattle.relations.specs.declared.phase.Phase.{Phase}
@@ -12,8 +13,8 @@ use Rattle.relations.specs.declared.phase.Phase.TheVariants.{Awaiting, Exchangin
 use Rattle.relations.specs.exchange.Diagnosis.{low_header_of}
 use Rattle.relations.specs.exchange.Flow.{Flow}
 use Rattle.relations.specs.exchange.Frames.{Inputs, Notifies, Replies as Answers, RepliesLow, Reports}
-use Rattle.device_frames.specs.Relation.{frames_in, where_due}
-use Rattle.device_frames.specs.Sent.{Sent, IdentifyAnswer, GetAnswer, SetAnswer, ArpReply, CallAnswer, Again, ReadyCall, Ends, Exchanges}
+use Rattle.device_frames.specs.Relation.{frames_in, plug_call_in, where_due}
+use Rattle.device_frames.specs.Sent.{Sent, IdentifyAnswer, GetAnswer, SetAnswer, ArpReply, CallAnswer, Again, ReadyCall, PlugReadyCall, Ends, Exchanges}
 use Rattle.device_core.specs.Machine.{Stepped}
 use Rattle.controller_messages.specs.declared.setup.Setup.{Setup}
 use Rattle.rounds_law.specs.Again.{units_left}
@@ -21,7 +22,7 @@ use Rattle.rounds_law.proofs.AnywhereParts.{IsMoved, LinkGoesOn}
 
 -- ---- what a device sends in a relation
 
--- A message of this relation: its inputs, an alarm or the reply to one, ApplicationReady, or its ERR.
+-- A message of this relation: its inputs, an alarm or the reply to one, ApplicationReady, also that of a plug, or its ERR.
 abbrev pub IsOfLink : Route → Sent → Type 0
 IsOfLink route (Ends farewell) = Unit {0}
 IsOfLink route (Exchanges sent (Inputs state inputs counter)) = sent ≡ route
@@ -30,6 +31,7 @@ IsOfLink route (Exchanges sent (Answers header)) = Unit {0}
 IsOfLink route (Exchanges sent (Reports tag header alarm)) = Unit {0}
 IsOfLink route (Exchanges sent (RepliesLow tag header)) = Unit {0}
 IsOfLink route (ReadyCall address ready) = Unit {0}
+IsOfLink route (PlugReadyCall address ready) = Unit {0}
 IsOfLink route (IdentifyAnswer asker running xid) = ⊥
 IsOfLink route (GetAnswer asker running alias request) = ⊥
 IsOfLink route (SetAnswer asker request answers) = ⊥
@@ -49,6 +51,10 @@ pub report_of_link : (route : Route) (flow : Flow) (standing : Option AlarmNotif
     → AreOfLink route (frames_in flow.cyclic.route (option_map (Reports flow.low.tag (low_header_of flow Data)) standing))
 report_of_link route flow None = tt
 report_of_link route flow (Some alarm) = (tt, tt)
+
+pub calls_of_link : (route : Route) (address : List ℕ) (ready : Option PlugReady) → AreOfLink route (plug_call_in address ready)
+calls_of_link route address None = tt
+calls_of_link route address (Some ready) = (tt, tt)
 
 -- ---- what becomes of the relation
 

@@ -34,7 +34,7 @@ use Rattle.relations.specs.Phases.{differing_octets}
 use Rattle.relations.specs.RelationState.{RelationState}
 use Rattle.relations.specs.declared.ready.Ready.{Ready}
 use Rattle.device_frames.specs.Heard.{Calls, Heard, Reported}
-use Rattle.device_frames.specs.Sent.{Again, CallAnswer, Exchanges, ReadyCall, Sent, bytes_of}
+use Rattle.device_frames.specs.Sent.{Again, CallAnswer, Exchanges, PlugReadyCall, ReadyCall, Sent, bytes_of}
 use Rattle.device_core.specs.State.{Live, Rest, Station}
 use Rattle.device_core.specs.Handled.{answer_from, kept_for, outcome_of}
 use Rattle.controller_messages.specs.declared.request.Request.{Request}
@@ -42,7 +42,7 @@ use Rattle.controller_messages.specs.declared.request.Request.TheVariants as ask
 use Rattle.controller_messages.specs.declared.setup.Setup.{Setup}
 use Rattle.controller_messages.specs.Heard.{Responds}
 use Rattle.controller_messages.specs.Requests.{blocks_of, call_for, write_count}
-use Rattle.end_laws.specs.device.Does.{AreReadied, Connected, Does, IsEffect, IsExchange, IsOther, Serves, readied_from}
+use Rattle.end_laws.specs.device.Does.{AreReadied, Connected, Does, Following, IsEffect, IsExchange, IsOther, Plugging, Readying, Serves, readied_from}
 use Rattle.end_laws.specs.device.Owed.{IsOfRelation}
 use Rattle.end_laws.specs.hearing.Stations.{IsCalled}
 use Rattle.end_laws.specs.turns.Turns.{chosen_in}
@@ -50,7 +50,7 @@ use Rattle.both_ends.specs.startup.answer.Answer.{IsAllThere, chosen_with}
 use Rattle.both_ends.specs.startup.request.Request.{no_rows, request_for}
 use Rattle.rounds_law.specs.Anywhere.{AllLast, Lasts}
 use Rattle.rounds_law.specs.AnywhereSame.{Chooses, IsNoneChosen, StoresChosen}
-use Rattle.rounds_law.proofs.AnywhereDeviceSays.{IsSizedReady}
+use Rattle.rounds_law.proofs.AnywhereDeviceSays.{IsSizedIfPlug, IsSizedReady}
 use Rattle.rounds_law.proofs.AnywhereSameHears.{IsOwnHeard, which_is, which_of}
 use Rattle.rounds_law.proofs.AnywhereSameLink.{none_before, request_is}
 use Rattle.rounds_law.proofs.AnywhereSameReleased.{IsUnchosen}
@@ -63,7 +63,7 @@ pub record AnswersLaws (setup : Setup) (Holds : Chosen → Type 0) (station : St
   pub negative : (operation : Operation) (refusal : CallFault) → is_done (status_of operation refusal) ≡ false
   pub whole : (number : ℕ) → number < 14336
       → IsAllThere (connect_blocks station.identity number (request_for setup.plan setup.ar) []) (0xC000 + number) (endpoint_of number)
-  pub plugged : station.real ≡ setup.plan.real
+  pub plugged : live.rest.real ≡ setup.plan.real
   pub same : diff_of (request_for setup.plan setup.ar).expected setup.plan.real.modules.items ≡ no_rows
   pub read : request_of None (plan_connect setup.plan setup.ar) ≡ Ok (request_for setup.plan setup.ar)
   pub allows : live.rest.link ≡ None → (number : ℕ) → number < 14336 → Holds (chosen_with number)
@@ -86,21 +86,21 @@ module _ (setup : Setup) (Holds : Chosen → Type 0) (silence : ℕ) (station : 
   none_says : (response : Answered) → Chooses setup IsNoneChosen (Responds response) → Says response
   none_says response none = λ right positive chosen is. absurd (none right positive chosen is)
 
-  no_difference : differing_of (request_for setup.plan setup.ar) station.real ≡ []
+  no_difference : differing_of (request_for setup.plan setup.ar) live.rest.real ≡ []
   no_difference =
       ap (λ (real : Real). differing_of (request_for setup.plan setup.ar) real) laws.plugged
       ∙ ap (λ (rows : Listed DiffModule DiffSubmodule). differing_octets rows) laws.same
 
   -- A Connect is accepted: the response chooses the number of the relation.
   connected_says : (response : Answered) (caller : Caller) (after : Option RelationState)
-      → Connected station caller (blocks_of setup asks.Connect) response.blocks live.rest.link after → Says response
+      → Connected station live.rest.real caller (blocks_of setup asks.Connect) response.blocks live.rest.link after → Says response
   connected_says response caller after it = λ right positive chosen is.
       let none = none_before live.rest.link (blocks_of setup asks.Connect) it.request it.read in
       let same = request_is setup laws.read live.rest.link (blocks_of setup asks.Connect) it.request refl it.read in
       let number = it.starting.number in
       let octets : response.blocks ≡ connect_blocks station.identity number (request_for setup.plan setup.ar) [] =
       it.answer
-      ∙ (ap (λ (request : Asked). connect_blocks station.identity number request (differing_of request station.real)) same
+      ∙ (ap (λ (request : Asked). connect_blocks station.identity number request (differing_of request live.rest.real)) same
       ∙ ap (λ (differing : List ℕ). connect_blocks station.identity number (request_for setup.plan setup.ar) differing) no_difference) in
       subst Holds (same_Some (chosen_with number) chosen (sym (chosen_so number octets (laws.whole number it.numbered.few)) ∙ is))
       (laws.allows none number it.numbered.few)
@@ -121,7 +121,7 @@ module _ (setup : Setup) (Holds : Chosen → Type 0) (silence : ℕ) (station : 
       answer_to (call_for setup request) (outcome_of (which_of request) outcome).0 (outcome_of (which_of request) outcome).1
 
   request_says : (request : Request) → IsCalled request → (caller : Caller) (after : Option RelationState) (outcome : Result (List ℕ) CallFault)
-      → IsEffect station caller (blocks_of setup request) outcome (which_of request) live.rest.link after
+      → IsEffect station live.rest.real caller (blocks_of setup request) outcome (which_of request) live.rest.link after
       → (which_of request ≡ Release → Chooses setup IsNoneChosen (Responds (answer_with request outcome)))
       → Says (answer_with request outcome)
   request_says asks.Identify called caller after outcome effect release = absurd called
@@ -155,21 +155,24 @@ module _ (setup : Setup) (Holds : Chosen → Type 0) (silence : ℕ) (station : 
         uuid = subst (λ (b : ControlBlock). IsUuid b.ar_uuid) (sym of.block) its.named;
       }
 
-  other_says : (after : Option RelationState) (message : Sent) → AllLast silence live.rest.link → IsOther live after message → Saying message
-  other_says after (CallAnswer caller address answer) lasts is = absurd is
-  other_says after (Again frame) lasts is = absurd is
-  other_says after (ReadyCall address ready) lasts is = ready_sized ready is.0 lasts
-  other_says after message lasts is = tt
+  other_says : (after : Option RelationState) (message : Sent) → AllLast silence live.rest.link → IsOther live after message → IsSizedIfPlug message
+      → Saying message
+  other_says after (CallAnswer caller address answer) lasts is sized = absurd is
+  other_says after (Again frame) lasts is sized = absurd is
+  other_says after (ReadyCall address ready) lasts is sized = ready_sized ready is.0 lasts
+  other_says after (PlugReadyCall address ready) lasts is sized = sized
+  other_says after message lasts is sized = tt
 
   others_say : (after : Option RelationState) (sent : List Sent) → AllLast silence live.rest.link → AllByRecursion (IsOther live after) sent
-      → AllByRecursion Saying sent
-  others_say after [] lasts all = tt
-  others_say after (message ∷ sent) lasts all = (other_says after message lasts all.0, others_say after sent lasts all.1)
+      → AllByRecursion IsSizedIfPlug sent → AllByRecursion Saying sent
+  others_say after [] lasts all sized = tt
+  others_say after (message ∷ sent) lasts all sized = (other_says after message lasts all.0 sized.0, others_say after sent lasts all.1 sized.1)
 
-  readied_says : (after : Option RelationState) (address : List ℕ) (ready : Option Ready) → AllLast silence live.rest.link → AreReadied live after ready
-      → AllByRecursion Saying (readied_from address ready)
-  readied_says after address None lasts is = tt
-  readied_says after address (Some ready) lasts is = (ready_sized ready is.0 lasts, tt)
+  readied_says : (after : Option RelationState) (address : List ℕ) (ready : Option Following) → AllLast silence live.rest.link → AreReadied live after ready
+      → AllByRecursion IsSizedIfPlug (readied_from address ready) → AllByRecursion Saying (readied_from address ready)
+  readied_says after address None lasts is sized = tt
+  readied_says after address (Some (Readying ready)) lasts is sized = (ready_sized ready is.0 lasts, tt)
+  readied_says after address (Some (Plugging ready)) lasts is sized = (sized.0, tt)
 
   -- ---- what is stored
 
@@ -187,17 +190,17 @@ module _ (setup : Setup) (Holds : Chosen → Type 0) (silence : ℕ) (station : 
   served : (heard : Heard) (after : Rest) (sent : List Sent) → AllLast silence live.rest.link → IsOwnHeard setup heard
       → ((caller : Caller) (address : List ℕ) (sequence : ℕ) → heard ≡ Reported caller address (Calls (call_for setup (asks.Release sequence)))
       → AllByRecursion (IsUnchosen setup) sent)
-      → Serves station live heard after sent → Went after sent
-  served heard after sent lasts known releases it =
+      → AllByRecursion IsSizedIfPlug sent → Serves station live heard after sent → Went after sent
+  served heard after sent lasts known releases sized it =
       let own = subst (IsOwnHeard setup) it.is known in
       let request = own.request in
       let address = live.values.running.suite.address in
       let which : it.which ≡ which_of request = same_Some it.which (which_of request)
       (sym it.asks ∙ (ap (λ (c : Call). operation_of c.header.operation) own.is ∙ which_is setup request own.called)) in
       let blocks : it.blocks ≡ blocks_of setup request = same_Some it.blocks (blocks_of setup request) (sym it.counted ∙ ap (λ (c : Call). c.blocks) own.is) in
-      let effect : IsEffect station it.caller (blocks_of setup request) it.outcome (which_of request) live.rest.link after.link =
-      subst (λ (w : Operation). IsEffect station it.caller (blocks_of setup request) it.outcome w live.rest.link after.link) which
-      (subst (λ (b : List ℕ). IsEffect station it.caller b it.outcome it.which live.rest.link after.link) blocks it.effect) in
+      let effect : IsEffect station live.rest.real it.caller (blocks_of setup request) it.outcome (which_of request) live.rest.link after.link =
+      subst (λ (w : Operation). IsEffect station live.rest.real it.caller (blocks_of setup request) it.outcome w live.rest.link after.link) which
+      (subst (λ (b : List ℕ). IsEffect station live.rest.real it.caller b it.outcome it.which live.rest.link after.link) blocks it.effect) in
       let first : Sent = CallAnswer it.caller address (answer_with request it.outcome) in
       let is_first : answer_from address it.caller it.call it.which it.outcome ≡ first =
       ap (λ (c : Call). answer_from address it.caller c it.which it.outcome) own.is
@@ -206,7 +209,11 @@ module _ (setup : Setup) (Holds : Chosen → Type 0) (silence : ℕ) (station : 
       let says = request_says request own.called it.caller after.link it.outcome effect
       (λ release. (subst (AllByRecursion (IsUnchosen setup)) sends
       (by_release request own.called release it.caller it.address (it.is ∙ ap (λ (c : Call). Reported it.caller it.address (Calls c)) own.is))).0) in (
-        subst (AllByRecursion Saying) (sym sends) ((own.by, says), readied_says after.link address it.ready lasts it.readied),
+        subst (AllByRecursion Saying) (sym sends) (
+          (own.by, says),
+          readied_says after.link address it.ready lasts it.readied
+              (subst (AllByRecursion IsSizedIfPlug) sends sized).1,
+        ),
         inr (
           kept_for station.identity (call_for setup request) first,
           subst (λ (calls : List Kept). kept_of setup.activity calls ≡ Some (kept_for station.identity (call_for setup request) first))
@@ -237,13 +244,13 @@ module _ (setup : Setup) (Holds : Chosen → Type 0) (silence : ℕ) (station : 
   pub turn_says : (heard : Heard) (after : Rest) (sent : List Sent) → AllLast silence live.rest.link → IsOwnHeard setup heard → StoresChosen setup Holds live
       → ((caller : Caller) (address : List ℕ) (sequence : ℕ) → heard ≡ Reported caller address (Calls (call_for setup (asks.Release sequence)))
       → AllByRecursion (IsUnchosen setup) sent)
-      → Does station live heard after sent → Went after sent
-  turn_says heard after sent lasts known stored releases (inl it) =
+      → AllByRecursion IsSizedIfPlug sent → Does station live heard after sent → Went after sent
+  turn_says heard after sent lasts known stored releases sized (inl it) =
       (subst (AllByRecursion Saying) (sym it.silent) tt, inl (ap (λ (r : Rest). r.calls) it.same))
-  turn_says heard after sent lasts known stored releases (inr (inl it)) = (others_say after.link sent lasts it.others, inl it.calls)
-  turn_says heard after sent lasts known stored releases (inr (inr (inl it))) =
+  turn_says heard after sent lasts known stored releases sized (inr (inl it)) = (others_say after.link sent lasts it.others sized, inl it.calls)
+  turn_says heard after sent lasts known stored releases sized (inr (inr (inl it))) =
       (exchange_says sent it.others, inl (ap (λ (r : Rest). r.calls) it.becomes))
-  turn_says heard after sent lasts known stored releases (inr (inr (inr (inl it)))) = (
+  turn_says heard after sent lasts known stored releases sized (inr (inr (inr (inl it)))) = (
     subst (AllByRecursion Saying) (sym it.sends) (
       stored it.kept (subst (λ (activity : List ℕ). kept_of activity live.rest.calls ≡ Some it.kept)
           (repeats_activity heard it.caller it.address it.call known it.is) it.there),
@@ -251,4 +258,5 @@ module _ (setup : Setup) (Holds : Chosen → Type 0) (silence : ℕ) (station : 
     ),
     inl (ap (λ (r : Rest). r.calls) it.same),
   )
-  turn_says heard after sent lasts known stored releases (inr (inr (inr (inr it)))) = served heard after sent lasts known releases it
+  turn_says heard after sent lasts known stored releases sized (inr (inr (inr (inr it)))) =
+      served heard after sent lasts known releases sized it

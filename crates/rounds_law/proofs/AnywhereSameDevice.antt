@@ -33,7 +33,7 @@ use Rattle.rounds_law.specs.AnywhereSame.{ChoosesIn, IsOfStart, StoresChosen}
 use Rattle.rounds_law.specs.Rounds.{Goes}
 use Rattle.rounds_law.proofs.AnywhereDeviceAnswers.{CallLaws}
 use Rattle.rounds_law.proofs.AnywhereDeviceHears.{IsHeardAs, message_heard, message_said}
-use Rattle.rounds_law.proofs.AnywhereDeviceLaw.{DeviceLaws, calls}
+use Rattle.rounds_law.proofs.AnywhereDeviceLaw.{AreSizedPlugs, DeviceLaws, calls, frame_sized, unit_sized}
 use Rattle.rounds_law.proofs.AnywhereParts.{Hears, IsLong}
 use Rattle.rounds_law.proofs.AnywhereSameAnswers.{AnswersLaws, turn_says}
 use Rattle.rounds_law.proofs.AnywhereControllerLaws.{ControllerLaws}
@@ -45,7 +45,7 @@ use Rattle.rounds_law.proofs.AnywhereSameSays.{PacketsAreNothing, all_say}
 -- A clause of a function below: each turn of a device that hears planned calls is of a kind.
 abbrev pub TurnsAreKnown : Type 0
 TurnsAreKnown = (rules : Rules TakenRecord Request) (activity : List ℕ) (outcomes : List Outcome) (station : Station) (live : Live) (heard : Heard)
-    → IsPlanned rules activity station.real heard
+    → IsPlanned rules activity live.rest.real heard
     → Turn station live heard (heard_step outcomes station live heard).live.rest (heard_step outcomes station live heard).sent
 
 -- What follows from the clauses of functions below for these stations.
@@ -67,7 +67,8 @@ module _ {F : Type 0} {S : ℕ} (as_flash : Flash F S) (setup next : Setup) (ide
   read = laws.read long.can.can_meet.named
 
   module _ (before after : State F) (heard : Heard) (frames : List (List ℕ)) (goes : Goes as_flash before heard frames after)
-      (any : IsAnyDevice setup next identity silence before.station before.live) (known : IsKnown setup before.station.real read heard) where
+      (any : IsAnyDevice setup next identity silence before.station before.live) (known : IsKnown setup before.live.rest.real read heard)
+      (plugs : AreSizedPlugs as_flash setup next identity silence laws.device before heard goes.steps.outcomes) where
     abbrev outcomes : List Outcome
     outcomes = goes.steps.outcomes
 
@@ -84,7 +85,7 @@ module _ {F : Type 0} {S : ℕ} (as_flash : Flash F S) (setup next : Setup) (ide
     stays_of_start : IsOfStart setup before.live.rest.link → IsOfStart setup after.live.rest.link
     stays_of_start start =
         subst (λ (live : Live). IsOfStart setup live.rest.link) (sym goes.steps.live)
-        (link_on setup read before.station.real.modules.items before.live.rest.calls before.live.rest.diagnoses rest.diagnoses before.live.rest.link heard
+        (link_on setup read before.live.rest.real.modules.items rest.real.modules.items before.live.rest.calls before.live.rest.diagnoses rest.diagnoses before.live.rest.link heard
         rest.link sent turn.is known.1 start)
 
     call_laws : CallLaws setup next silence before.station
@@ -102,7 +103,7 @@ module _ {F : Type 0} {S : ℕ} (as_flash : Flash F S) (setup next : Setup) (ide
       answers = record {
         negative = call_laws.negative;
         whole = call_laws.whole;
-        plugged = call_laws.plugged;
+        plugged = any.of_plan.plugged;
         same = call_laws.same;
         read = read;
         allows = allows;
@@ -114,7 +115,7 @@ module _ {F : Type 0} {S : ℕ} (as_flash : Flash F S) (setup next : Setup) (ide
       all_sent : AllByRecursion (ChoosesIn setup Holds) (map (bytes_of before.station.identity) sent)
       all_sent =
           all_say laws.device.says laws.packets setup Holds before.station.identity long.real device sent
-          (turn_says setup Holds silence before.station before.live answers heard rest sent any.lasts known.1 stored releases turn.does).0 goes.steps.sendable
+          (turn_says setup Holds silence before.station before.live answers heard rest sent any.lasts known.1 stored releases plugs turn.does).0 goes.steps.sendable
 
       stored_in : (stored_now : List Kept) → (stored_now ≡ before.live.rest.calls)
           ⊎ ((kept : Kept) × (kept_of setup.activity stored_now ≡ Some kept) × (first : Sent) × (others : List Sent) × (sent ≡ first ∷ others)
@@ -132,16 +133,16 @@ module _ {F : Type 0} {S : ℕ} (as_flash : Flash F S) (setup next : Setup) (ide
       stays_chosen = (
         subst (λ (live : Live). StoresChosen setup Holds live) (sym goes.steps.live)
             (stored_in rest.calls
-            (turn_says setup Holds silence before.station before.live answers heard rest sent any.lasts known.1 stored releases turn.does).1),
+            (turn_says setup Holds silence before.station before.live answers heard rest sent any.lasts known.1 stored releases plugs turn.does).1),
         subst (AllByRecursion (ChoosesIn setup Holds)) (sym (goes.steps.frames ∙ frames_are outcomes before.station before.live heard)) all_sent,
       )
 
   -- ---- a frame of the controller, and a unit
 
   frame_known : (before : State F) (octets : List ℕ) → IsAnyDevice setup next identity silence before.station before.live → IsOwn setup IsAnything octets
-      → IsKnown setup before.station.real read (heard_of before.station.identity (comes octets))
+      → IsKnown setup before.live.rest.real read (heard_of before.station.identity (comes octets))
   frame_known before octets any own =
-      message_known setup before.station.real read (heard_of before.station.identity (comes octets)) own.message own.way
+      message_known setup before.live.rest.real read (heard_of before.station.identity (comes octets)) own.message own.way
       (subst (λ (o : List ℕ). IsHeardAs (heard_of before.station.identity (comes o)) (message_said setup own.message)) (sym own.frame)
       (message_heard laws.device.hears setup before.station.identity long.real own.message own.sendable own.way))
 
@@ -156,16 +157,18 @@ module _ {F : Type 0} {S : ℕ} (as_flash : Flash F S) (setup next : Setup) (ide
   frame_leaves before after octets frames goes any own =
       let heard = heard_of before.station.identity (comes octets) in
       let known = frame_known before octets any own in
+      let plugs = frame_sized as_flash setup next identity silence laws.device long before after octets frames goes any own in
       record {
-        of_start = stays_of_start before after heard frames goes any known;
-        chosen = λ Holds allows stored. stays_chosen before after heard frames goes any known Holds allows stored;
+        of_start = stays_of_start before after heard frames goes any known plugs;
+        chosen = λ Holds allows stored. stays_chosen before after heard frames goes any known plugs Holds allows stored;
       }
 
   pub unit_leaves : (before after : State F) (frames : List (List ℕ)) → Goes as_flash before Ticks frames after
       → IsAnyDevice setup next identity silence before.station before.live → Leaves before after frames
   unit_leaves before after frames goes any =
-      let known = unit_known setup before.station.real read in
+      let known = unit_known setup before.live.rest.real read in
+      let plugs = unit_sized as_flash setup next identity silence laws.device long before after frames goes any in
       record {
-        of_start = stays_of_start before after Ticks frames goes any known;
-        chosen = λ Holds allows stored. stays_chosen before after Ticks frames goes any known Holds allows stored;
+        of_start = stays_of_start before after Ticks frames goes any known plugs;
+        chosen = λ Holds allows stored. stays_chosen before after Ticks frames goes any known plugs Holds allows stored;
       }

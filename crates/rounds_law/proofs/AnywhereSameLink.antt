@@ -1,10 +1,11 @@
 -- The relation of a device after a turn: it is over, it has the request, the route and the endpoint that it had, or it is one of this start.
-use Rattle.std.proofs.Common.{◌≡◌, inl, inr, ℕ, List, Option, Some, None, Result, Ok, Err, refl, sym, ap, subst, ◌∙◌}
+use Rattle.std.proofs.Common.{◌≡◌, inl, inr, ℕ, Bool, List, Option, Some, None, Result, Ok, Err, refl, sym, ap, subst, ◌∙◌}
 use Rattle.std.proofs.lemmas.Option.{none-some, same_Some}
 use Rattle.frame_codec.specs.declared.udp.Caller.{Caller}
 use Rattle.rpc_core.specs.Cache.{Kept}
 use Rattle.rpc_core.specs.Call.{Asked as Call}
 use Rattle.pn_values.specs.declared.real.RealModule.{RealModule}
+use Rattle.module_diff.specs.declared.changes.RealChange.{RealChange}
 use Rattle.records.specs.declared.status.call_fault.CallFault.{CallFault}
 use Rattle.records.specs.declared.status.operation.Operation.TheVariants.{Connect}
 use Rattle.records.specs.status.Operation.{operation_of}
@@ -12,17 +13,23 @@ use Rattle.connects.specs.requests.Handled.{any_short, request_of, request_withi
 use Rattle.connects.specs.requests.Request.{Request as Asked}
 use Rattle.cyclic_data.specs.declared.exchange.route.Route.{Route}
 use Rattle.diagnosis.specs.declared.diagnosis.Diagnosis.{Diagnosis}
+use Rattle.diagnosis.specs.Queue.{is_next}
+use Rattle.pn_alarms.specs.declared.message.Notice.TheVariants as notice
 use Rattle.plans.specs.Connect.{connect_of as plan_connect}
 use Rattle.relations.specs.Connect.{connect_of}
-use Rattle.relations.specs.Phases.{made_of}
+use Rattle.relations.specs.Diagnosed.{sent_as}
+use Rattle.relations.specs.Phases.{exchanging_from, made_of, updated, with_reported}
+use Rattle.relations.specs.Plugging.{first_sent, plugs_after, taken_after}
 use Rattle.relations.specs.RelationState.{RelationState}
-use Rattle.device_frames.specs.Heard.{Heard}
+use Rattle.relations.specs.exchange.Diagnosis.{begins_with_one, diagnoses_begun, next_reported}
+use Rattle.relations.specs.exchange.Flow.{Flow}
+use Rattle.device_frames.specs.Heard.{Applied, Heard}
 use Rattle.device_frames.specs.Sent.{Sent}
 use Rattle.controller_messages.specs.declared.request.Request.{Request}
 use Rattle.controller_messages.specs.declared.request.Request.TheVariants as asks
 use Rattle.controller_messages.specs.declared.setup.Setup.{Setup}
 use Rattle.controller_messages.specs.Requests.{blocks_of}
-use Rattle.end_laws.specs.device.Turn.{IsSameOr, IsTurn, Makes, Standing, standing_of}
+use Rattle.end_laws.specs.device.Turn.{IsSameOr, IsTurn, Makes, Standing, change_by, heard_low_in, standing_of}
 use Rattle.end_laws.specs.hearing.Stations.{IsCalled}
 use Rattle.both_ends.specs.startup.request.Request.{request_for}
 use Rattle.rounds_law.specs.AnywhereSame.{AreOfNumber, IsOfStart}
@@ -130,26 +137,47 @@ module _ (setup : Setup) (read : request_of None (plan_connect setup.plan setup.
 
   -- ---- each turn
 
-  pub link_on : (real : List RealModule) (calls : List Kept) (diagnoses later : List Diagnosis) (before : Option RelationState) (heard : Heard)
-      (after : Option RelationState) (sent : List Sent) → IsTurn real calls diagnoses later before heard after sent → IsOwnHeard setup heard
+  -- A pull or a plug is said by an application.
+  no_change : (real : List RealModule) (heard : Heard) (made : RealChange) → IsOwnHeard setup heard → change_by real heard ≡ Some made → ⊥
+  no_change real (Applied said) made own is = own
+  no_change real heard made own is = absurd cc
+
+  -- An alarm of low priority is sent, or not.
+  sent_alike : (is_sent : Bool) (flow : Flow) (link : RelationState) → flow.cyclic.route ≡ link.flow.cyclic.route → flow.endpoint ≡ link.flow.endpoint
+      → IsOfStart setup (Some link) → IsOfStart setup (updated (sent_as is_sent flow link) (Some link))
+  sent_alike is_sent flow link route endpoint start =
+      let sent = first_sent is_sent flow.low in
+      alike_on link (with_reported flow (taken_after sent link.plugs.places link.taken) (plugs_after sent flow.low.waiting link.plugs) link)
+      (record { request = refl; route = route; endpoint = endpoint }) start
+
+  pub link_on : (real now : List RealModule) (calls : List Kept) (diagnoses later : List Diagnosis) (before : Option RelationState) (heard : Heard)
+      (after : Option RelationState) (sent : List Sent) → IsTurn real now calls diagnoses later before heard after sent → IsOwnHeard setup heard
       → IsOfStart setup before → IsOfStart setup after
-  link_on real calls diagnoses later before heard after sent (inl it) own start = same_on before after it.link start
-  link_on real calls diagnoses later before heard after sent (inr (inl it)) own start = made_on calls before heard after sent it own
-  link_on real calls diagnoses later before heard after sent (inr (inr (inl it))) own start = absurd (subst (IsOwnHeard setup) it.is own)
-  link_on real calls diagnoses later before heard after sent (inr (inr (inr (inl it)))) own start =
+  link_on real now calls diagnoses later before heard after sent (inl it) own start = same_on before after it.link start
+  link_on real now calls diagnoses later before heard after sent (inr (inl it)) own start = made_on calls before heard after sent it own
+  link_on real now calls diagnoses later before heard after sent (inr (inr (inl it))) own start = absurd (subst (IsOwnHeard setup) it.is own)
+  link_on real now calls diagnoses later before heard after sent (inr (inr (inr (inl it)))) own start =
       goes_on before after it.link _ it.was it.becomes (record { request = refl; route = refl; endpoint = refl }) start
-  link_on real calls diagnoses later before heard after sent (inr (inr (inr (inr (inl it))))) own start =
+  link_on real now calls diagnoses later before heard after sent (inr (inr (inr (inr (inl it))))) own start =
       goes_on before after it.link _ it.was it.becomes (record { request = refl; route = refl; endpoint = refl }) start
-  link_on real calls diagnoses later before heard after sent (inr (inr (inr (inr (inr (inl it)))))) own start =
+  link_on real now calls diagnoses later before heard after sent (inr (inr (inr (inr (inr (inl it)))))) own start =
       goes_on before after it.link _ it.was it.becomes (record { request = refl; route = refl; endpoint = refl }) start
-  link_on real calls diagnoses later before heard after sent (inr (inr (inr (inr (inr (inr (inl it))))))) own start =
+  link_on real now calls diagnoses later before heard after sent (inr (inr (inr (inr (inr (inr (inl it))))))) own start =
       goes_on before after it.link _ it.was it.becomes
       (record { request = refl; route = (frame_left it.link.flow.cyclic it.source it.frame_id it.body).route; endpoint = refl }) start
-  link_on real calls diagnoses later before heard after sent (inr (inr (inr (inr (inr (inr (inr (inl it)))))))) own start =
+  link_on real now calls diagnoses later before heard after sent (inr (inr (inr (inr (inr (inr (inr (inl it)))))))) own start =
       goes_on before after it.link _ it.was it.becomes (record { request = refl; route = refl; endpoint = refl }) start
-  link_on real calls diagnoses later before heard after sent (inr (inr (inr (inr (inr (inr (inr (inr (inl it))))))))) own start =
-      goes_on before after it.link _ it.was it.becomes (record { request = refl; route = refl; endpoint = refl }) start
-  link_on real calls diagnoses later before heard after sent (inr (inr (inr (inr (inr (inr (inr (inr (inr (inl it)))))))))) own start =
-      goes_on before after it.link _ it.was it.becomes (record { request = refl; route = refl; endpoint = refl }) start
-  link_on real calls diagnoses later before heard after sent (inr (inr (inr (inr (inr (inr (inr (inr (inr (inr it)))))))))) own start =
+  link_on real now calls diagnoses later before heard after sent (inr (inr (inr (inr (inr (inr (inr (inr (inl it))))))))) own start =
+      let link = heard_low_in it.link (notice.Data it.number it.ack) in
+      subst (IsOfStart setup) (sym it.becomes)
+      (sent_alike (is_next link.flow.low) (next_reported link.flow) link refl refl
+      (alike_on it.link link (record { request = refl; route = refl; endpoint = refl }) (subst (IsOfStart setup) it.was start)))
+  link_on real now calls diagnoses later before heard after sent (inr (inr (inr (inr (inr (inr (inr (inr (inr (inl it)))))))))) own start =
+      let link = exchanging_from it.link in
+      subst (IsOfStart setup) (sym it.becomes)
+      (sent_alike (begins_with_one real diagnoses link.flow) (diagnoses_begun real diagnoses link.flow) link refl refl
+      (alike_on it.link link (record { request = refl; route = refl; endpoint = refl }) (subst (IsOfStart setup) it.was start)))
+  link_on real now calls diagnoses later before heard after sent (inr (inr (inr (inr (inr (inr (inr (inr (inr (inr (inl it))))))))))) own start =
       absurd (subst (IsOwnHeard setup) it.is own)
+  link_on real now calls diagnoses later before heard after sent (inr (inr (inr (inr (inr (inr (inr (inr (inr (inr (inr it))))))))))) own start =
+      absurd (no_change real heard it.made own it.is)

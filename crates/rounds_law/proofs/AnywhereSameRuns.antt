@@ -28,7 +28,7 @@ use Rattle.rounds_law.proofs.AnywhereSameDevice.{Leaves, SameLaws, frame_leaves,
 
 module _ {F : Type 0} {S : ℕ} (as_flash : Flash F S) (setup : Setup) (station : Station) (flash : F) (device : State F)
     (stored : HasStored as_flash setup flash) (is : IsStartedFrom as_flash station flash device) where
-  state : device.live ≡ started stored.settings stored.room
+  state : device.live ≡ started station.real stored.settings stored.room
   state = is.known stored.settings stored.room stored.starts
 
   -- It has stored no answer.

@@ -14,18 +14,19 @@ use Rattle.frame_codec.specs.Meaning.{RealTime}
 use Rattle.frame_codec.specs.Sendable.{CanBeSent, IsHolder, IsMac, carrying}
 use Rattle.rpc_core.specs.Response.{Answered}
 use Rattle.connects.specs.answers.Connect.{Chosen}
+use Rattle.relations.specs.declared.plugging.PlugReady.{PlugReady}
 use Rattle.relations.specs.declared.ready.Ready.{Ready}
 use Rattle.plans.specs.declared.parts.Controller.{Controller}
 use Rattle.device_frames.specs.Sendable.{AreSendable, IsSendable}
-use Rattle.device_frames.specs.Sent.{Sent, IdentifyAnswer, GetAnswer, SetAnswer, ArpReply, CallAnswer, Again, ReadyCall, Ends, Exchanges, bytes_of}
-use Rattle.device_frames.specs.Sent.{ready_frame, response_frame}
+use Rattle.device_frames.specs.Sent.{Sent, IdentifyAnswer, GetAnswer, SetAnswer, ArpReply, CallAnswer, Again, ReadyCall, PlugReadyCall, Ends, Exchanges}
+use Rattle.device_frames.specs.Sent.{bytes_of, plug_ready_frame, ready_frame, response_frame}
 use Rattle.controller_messages.specs.declared.setup.Setup.{Setup}
 use Rattle.controller_messages.specs.Heard.{Calls, Heard, Nothing, Responds, heard_of}
 use Rattle.end_laws.specs.hearing.Hearing.{IsUncalled, mine_reported}
-use Rattle.end_laws.specs.hearing.Stations.{IsAddress, IsCaller, IsDevice, IsSetup, ready_call}
+use Rattle.end_laws.specs.hearing.Stations.{IsAddress, IsCaller, IsDevice, IsSetup, plug_ready_call, ready_call}
 use Rattle.both_ends.specs.startup.answer.Answer.{caller_of}
 use Rattle.rounds_law.specs.AnywhereSame.{Chooses, ChoosesIn}
-use Rattle.rounds_law.proofs.AnywhereDeviceSays.{IsSizedReady, SaysLaws}
+use Rattle.rounds_law.proofs.AnywhereDeviceSays.{IsSizedPlug, IsSizedReady, SaysLaws}
 
 -- A controller hears nothing of an ARP packet: a clause of a function below.
 abbrev pub PacketsAreNothing : Type 0
@@ -51,11 +52,12 @@ reported_chooses setup Holds destination to heard fit =
 
 -- ---- each message
 
--- A response to this controller that chooses so, and an ApplicationReady of sizes that are read.
+-- A response to this controller that chooses so, and an ApplicationReady, also that of a plug, of sizes that are read.
 abbrev pub IsSaying : Setup → (Chosen → Type 0) → Sent → Type 0
 IsSaying setup Holds (CallAnswer caller address answer) = (caller ≡ caller_of setup.plan.controller) × Chooses setup Holds (Responds answer)
 IsSaying setup Holds (Again frame) = ChoosesIn setup Holds frame
 IsSaying setup Holds (ReadyCall address ready) = IsSizedReady ready
+IsSaying setup Holds (PlugReadyCall address ready) = IsSizedPlug ready
 IsSaying setup Holds message = Unit {0}
 
 module _ (laws : SaysLaws) (packets : PacketsAreNothing) (setup : Setup) (Holds : Chosen → Type 0) (identity : Identity) (good : IsSetup setup)
@@ -81,6 +83,14 @@ module _ (laws : SaysLaws) (packets : PacketsAreNothing) (setup : Setup) (Holds 
       (reported_chooses setup Holds ready.partner.mac (calls_at ready.partner.address)
       (Calls (record { mac = identity.mac; endpoint = calls_at address }) (ready_call ready)) tt)
 
+  plug_says : (address : List ℕ) (ready : PlugReady) → IsSizedPlug ready → IsSendable identity (PlugReadyCall address ready)
+      → ChoosesIn setup Holds (plug_ready_frame identity address ready)
+  plug_says address ready sized can =
+      subst (Chooses setup Holds) (sym (laws.plug setup.plan.controller identity address ready device can.destination can.content.1.0 can.content.0.0
+      (laws.plug_can ready sized.header sized.interface sized.uuid)))
+      (reported_chooses setup Holds ready.partner.mac (calls_at ready.partner.address)
+      (Calls (record { mac = identity.mac; endpoint = calls_at address }) (plug_ready_call ready)) tt)
+
   pub message_says : (message : Sent) → IsSaying setup Holds message → IsSendable identity message → ChoosesIn setup Holds (bytes_of identity message)
   message_says (IdentifyAnswer asker running xid) says can = data_says asker None _ _ can
   message_says (GetAnswer asker running alias request) says can = data_says asker None _ _ can
@@ -90,6 +100,7 @@ module _ (laws : SaysLaws) (packets : PacketsAreNothing) (setup : Setup) (Holds 
   message_says (CallAnswer caller address answer) says can = answer_says caller address answer says.0 says.1 can
   message_says (Again frame) says can = says
   message_says (ReadyCall address ready) says can = ready_says address ready says can
+  message_says (PlugReadyCall address ready) says can = plug_says address ready says can
   message_says (Ends farewell) says can = data_says farewell.initiator (Some farewell.tag) _ _ can
   message_says (Exchanges route frame) says can = data_says route.partner (Some _) _ _ can
 

@@ -100,7 +100,7 @@ module _ {F : Type 0} {S : ℕ} (as_flash : Flash F S) (setup next : Setup) (ide
     of_plan = of_plan_next as_flash setup next identity silence (controller_frame laws.controller setup) (ended_frame laws.controller setup)
         (ended_unit laws.controller setup)
         (device_frame as_flash setup next identity silence laws.device) (link_unit as_flash setup next identity silence) releases_heard
-        (keeps as_flash setup next identity silence laws long) releases_ignored next_starts long patience device.station is.0.of_plan;
+        (keeps as_flash setup next identity silence laws long) releases_ignored next_starts long patience device.station device.live.rest.real is.0.of_plan;
     named = record { name = is.0.named.name ∙ ap (λ (p : Parts). p.station.name) (sym long.starts.plan) };
     sized = is.0.sized;
     addressed = addressed_next as_flash setup next identity silence (controller_frame laws.controller setup) (ended_frame laws.controller setup)

@@ -5,6 +5,7 @@ use Rattle.std.specs.List.{AllByRecursion}
 use Rattle.std.proofs.lemmas.List.{append_assoc}
 use Rattle.flash_model.specs.declared.flash.Flash.{Ghosts as Flash}
 use Rattle.pn_values.specs.declared.identity.Identity.{Identity}
+use Rattle.pn_values.specs.declared.real.Real.{Real}
 use Rattle.device_core.specs.State.{Live, State, Station}
 use Rattle.controller_messages.specs.declared.setup.Setup.{Setup}
 use Rattle.controller_messages.specs.Requests.{write_count}
@@ -70,8 +71,8 @@ module _ {F : Type 0} {S : ℕ} (as_flash : Flash F S) (setup next : Setup) (ide
     (long : IsLong as_flash setup next identity silence) (patience : HasPatience setup.options) where
   -- ---- the device of the next start
 
-  pub of_plan_next : (station : Station) → IsOfPlan setup station → IsOfPlan next station
-  of_plan_next station plan = record {
+  pub of_plan_next : (station : Station) (real : Real) → IsOfPlan setup station real → IsOfPlan next station real
+  of_plan_next station real plan = record {
     vendor = plan.vendor ∙ ap (λ p. p.station.vendor_id) (sym long.starts.plan);
     device = plan.device ∙ ap (λ p. p.station.device_id) (sym long.starts.plan);
     plugged = plan.plugged ∙ ap (λ p. p.real) (sym long.starts.plan);
@@ -113,7 +114,7 @@ module _ {F : Type 0} {S : ℕ} (as_flash : Flash F S) (setup next : Setup) (ide
     opened = refl;
     ignored = ignored;
     of_device = is.0.of_device;
-    of_plan = of_plan_next device.station is.0.of_plan;
+    of_plan = of_plan_next device.station device.live.rest.real is.0.of_plan;
     named = record { name = is.0.named.name ∙ ap (λ p. p.station.name) (sym long.starts.plan) };
     free = record { unrelated = is.1; uncalled = is.0.uncalled_next };
     sized = is.0.sized;

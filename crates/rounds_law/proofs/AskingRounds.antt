@@ -29,6 +29,7 @@ use Rattle.rounds_law.proofs.CompositionEnds.{Passed, addressed_by, can_by, free
 use Rattle.rounds_law.proofs.CompositionLaws.{Laws}
 use Rattle.rounds_law.proofs.CompositionLists.{arrives_as}
 use Rattle.rounds_law.proofs.CompositionRounds.{addressing_law, connecting_law, looking_law, opening_is}
+use Rattle.rounds_law.proofs.PlanKept.{round_of_plan}
 
 -- The law of one end.
 pub record AskingLaw (setup : Setup) : Type 0 where
@@ -90,6 +91,7 @@ module _ {F : Type 0} {S : ℕ} (as_flash : Flash F S) (setup : Setup) (identity
     silent : after.to_controller ≡ []
     of_station : after.device.station ≡ net.device.station
     values : after.device.live.values ≡ net.device.live.values
+    of_plan : IsOfPlan setup after.device.station after.device.live.rest.real
     free : IsFree setup after.device.live
 
   quiet_round : (stage : Stage) (net after : Net F) → IsAskingAgain setup identity stage net → Round as_flash net after → Quiet stage net after
@@ -110,6 +112,7 @@ module _ {F : Type 0} {S : ℕ} (as_flash : Flash F S) (setup : Setup) (identity
         silent = unit.none;
         of_station = unit.of_station;
         values = unit.values ∙ ap (λ (d : State F). d.live.values) hears.0;
+        of_plan = round_of_plan as_flash laws.modules setup net after round at.of_plan;
         free = unit.free;
       }
 
@@ -141,7 +144,7 @@ module _ {F : Type 0} {S : ℕ} (as_flash : Flash F S) (setup : Setup) (identity
     opened = sent ∙ ap (λ (f : List ℕ). f ∷ []) (sym (opening_is setup identity after.controller asked.of_setup));
     ignored = subst (AllByRecursion (IsIgnored setup)) (sym quiet.silent) tt;
     of_device = ap (λ (s : Station). s.identity) quiet.of_station ∙ at.of_device;
-    of_plan = subst (λ (s : Station). IsOfPlan setup s) (sym quiet.of_station) at.of_plan;
+    of_plan = quiet.of_plan;
     named = (ready_by Searches net.device.live after.device.live quiet.values at.ready).0;
     free = quiet.free;
     sized = (ready_by Searches net.device.live after.device.live quiet.values at.ready).1;
@@ -153,7 +156,7 @@ module _ {F : Type 0} {S : ℕ} (as_flash : Flash F S) (setup : Setup) (identity
     under_way = sent;
     ignored = subst (AllByRecursion (IsIgnored setup)) (sym quiet.silent) tt;
     of_device = ap (λ (s : Station). s.identity) quiet.of_station ∙ at.of_device;
-    of_plan = subst (λ (s : Station). IsOfPlan setup s) (sym quiet.of_station) at.of_plan;
+    of_plan = quiet.of_plan;
     named = (ready_by Addresses net.device.live after.device.live quiet.values at.ready).0;
     free = quiet.free;
     can = (ready_by Addresses net.device.live after.device.live quiet.values at.ready).1;
@@ -164,7 +167,7 @@ module _ {F : Type 0} {S : ℕ} (as_flash : Flash F S) (setup : Setup) (identity
     under_way = sent;
     ignored = subst (AllByRecursion (IsIgnored setup)) (sym quiet.silent) tt;
     of_device = ap (λ (s : Station). s.identity) quiet.of_station ∙ at.of_device;
-    of_plan = subst (λ (s : Station). IsOfPlan setup s) (sym quiet.of_station) at.of_plan;
+    of_plan = quiet.of_plan;
     addressed = ready_by Connects net.device.live after.device.live quiet.values at.ready;
     free = quiet.free;
   }
@@ -248,7 +251,7 @@ module _ {F : Type 0} {S : ℕ} (as_flash : Flash F S) (setup : Setup) (identity
                   nothing = sent false e;
                   ignored = subst (AllByRecursion (IsIgnored setup)) (sym quiet.silent) tt;
                   of_device = ap (λ (s : Station). s.identity) quiet.of_station ∙ at.of_device;
-                  of_plan = subst (λ (s : Station). IsOfPlan setup s) (sym quiet.of_station) at.of_plan;
+                  of_plan = quiet.of_plan;
                   free = quiet.free;
                   ready = ready_by stage net.device.live after.device.live quiet.values at.ready;
                 },

@@ -71,14 +71,14 @@ module _ (setup : Setup) (station : Station) (live : Live) where
   blocks = blocks_of setup asks.Connect
 
   abbrev outcome : Option RelationState → Result (List ℕ) CallFault
-  outcome link = connect_answer station.identity station.real station.options (number_now station live) caller.mac link blocks
+  outcome link = connect_answer station.identity live.rest.real station.options (number_now station live) caller.mac link blocks
 
   abbrev sent : Sent
   sent = answer_from live.values.running.suite.address caller call Connect (outcome live.rest.link)
 
   abbrev rest : Rest
   rest = kept_behind station.identity (counted_by (outcome live.rest.link) (with_log (connect_log blocks (outcome live.rest.link)) live.rest)) call sent
-      (updated (making station.real (partner_of caller) station.options (starting_of station live)
+      (updated (making live.rest.real (partner_of caller) station.options (starting_of station live)
       (connect_within station.options caller.mac live.rest.link blocks)) live.rest.link)
 
   is_handled : IsFree setup live → handled_said station live caller (Calls call) ≡ Moves rest (sent ∷ [])
@@ -88,18 +88,18 @@ module _ (setup : Setup) (station : Station) (live : Live) where
 
   is_sent : IsAddressed setup live → IsFree setup live
       → connect_within station.options setup.plan.controller.mac None blocks ≡ Ok (request_for setup.plan setup.ar)
-      → sent ≡ answer_from setup.plan.station.suite.address caller call Connect (Ok (blocks_with setup station.identity (number_now station live) station.real))
+      → sent ≡ answer_from setup.plan.station.suite.address caller call Connect (Ok (blocks_with setup station.identity (number_now station live) live.rest.real))
   is_sent addressed free accepted =
       ap (λ (link : Option RelationState). answer_from live.values.running.suite.address caller call Connect (outcome link)) free.unrelated
       ∙ (ap (λ (asked : Result Request CallFault). answer_from live.values.running.suite.address caller call Connect
-      (asked >>= λ request. Ok (connect_blocks station.identity (number_now station live) request (differing_of request station.real)))) accepted
-      ∙ ap (λ suite. answer_from suite.address caller call Connect (Ok (blocks_with setup station.identity (number_now station live) station.real))) addressed.suite)
+      (asked >>= λ request. Ok (connect_blocks station.identity (number_now station live) request (differing_of request live.rest.real)))) accepted
+      ∙ ap (λ suite. answer_from suite.address caller call Connect (Ok (blocks_with setup station.identity (number_now station live) live.rest.real))) addressed.suite)
 
   reports_own : (outcomes : List Outcome) → IsAddressed setup live → IsFree setup live → (octets : List ℕ)
       → connect_within station.options setup.plan.controller.mac None blocks ≡ Ok (request_for setup.plan setup.ar)
       → heard_of station.identity (comes octets) ≡ Reported caller setup.plan.station.suite.address (Calls call)
       → is_running live.values.running setup.plan.station.suite.address ≡ true
-      → Reports setup station.identity (number_now station live) station.real (device_step outcomes station live octets)
+      → Reports setup station.identity (number_now station live) live.rest.real (device_step outcomes station live octets)
   reports_own outcomes addressed free octets accepted hears running =
       let steps = step_is outcomes station live octets caller setup.plan.station.suite.address (Calls call) rest (sent ∷ []) hears running (is_handled free) in
       let message = is_sent addressed free accepted in (
@@ -114,9 +114,9 @@ pub reports : (setup : Setup) (identity : Identity) (station : Station) (live : 
     → heard_of station.identity (comes (request_to setup identity asks.Connect))
     ≡ Reported (caller_of setup.plan.controller) setup.plan.station.suite.address (Calls (call_for setup asks.Connect))
     → is_running live.values.running setup.plan.station.suite.address ≡ true
-    → Reports setup identity (number_now station live) station.real (device_step outcomes station live (request_to setup identity asks.Connect))
+    → Reports setup identity (number_now station live) live.rest.real (device_step outcomes station live (request_to setup identity asks.Connect))
 reports setup identity station live outcomes same addressed free accepted hears running =
-    subst (λ (i : Identity). Reports setup i (number_now station live) station.real (device_step outcomes station live (request_to setup identity asks.Connect))) same
+    subst (λ (i : Identity). Reports setup i (number_now station live) live.rest.real (device_step outcomes station live (request_to setup identity asks.Connect))) same
     (reports_own setup station live outcomes addressed free (request_to setup identity asks.Connect) accepted hears running)
 
 -- ---- the controller

@@ -72,9 +72,9 @@ pub record EndLaws (setup : Setup) (identity : Identity) : Type 0 where
   pub device_differing : CanMeet setup identity → is_zero setup.plan.station.suite.address ≡ false
       → (outcomes : List Outcome) (station : Station) (live : Live) → station.identity ≡ identity
       → AcceptsInterval station.options setup.plan → IsAddressed setup live → IsFree setup live
-      → ((device_step outcomes station live (request_to setup identity wants.Connect)).frames ≡ differing_frame setup identity (number_now station live) station.real ∷ [])
+      → ((device_step outcomes station live (request_to setup identity wants.Connect)).frames ≡ differing_frame setup identity (number_now station live) live.rest.real ∷ [])
       × (AreSendable identity (device_step outcomes station live (request_to setup identity wants.Connect)).sent
-      → CanBeAnswered (answer_to (call_for setup wants.Connect) done (blocks_with setup identity (number_now station live) station.real)))
+      → CanBeAnswered (answer_to (call_for setup wants.Connect) done (blocks_with setup identity (number_now station live) live.rest.real)))
   pub differing : (serial : ℕ) (real : Real) (controller : Controlling) (spare : ℕ) → Asks setup identity.mac Connecting wants.Connect None spare controller
       → Differs setup identity serial real → CanBeAnswered (answer_to (call_for setup wants.Connect) done (blocks_with setup identity serial real))
       → EndedWith cause.ModuleDiff (controller_step controller (differing_frame setup identity serial real)).controller
@@ -263,7 +263,7 @@ module _ {F : Type 0} {S : ℕ} (as_flash : Flash F S) (setup : Setup) (identity
       let station = net.device.station in
       let request = request_to setup identity wants.Connect in
       let serial : ℕ = number_now station net.device.live in
-      let answer = differing_frame setup identity serial station.real in
+      let answer = differing_frame setup identity serial net.device.live.rest.real in
       let law = laws.device_differing meets some [] station net.device.live at.of_device at.interval at.addressed at.free in
       let all = arrive_first as_flash station (λ (live : Live). Unit {0}) (λ (octets : List ℕ). ⊥) (never (λ (live : Live). Unit {0}) station)
       net.device request [] round.answers round.device refl (λ sendable. tt) tt
@@ -273,7 +273,7 @@ module _ {F : Type 0} {S : ℕ} (as_flash : Flash F S) (setup : Setup) (identity
       net.controller net.to_controller (answer ∷ []) at.ignored at.asks in
       let step = controller_step kept.between answer in
       let u = passed as_flash net next round (answer ∷ []) step (all.0.sent ∙ law.0) (kept.goes_on ∙ hears_one kept.between answer) in
-      ended_after cause.ModuleDiff step next (laws.differing serial station.real kept.between at.spare kept.is at.differs can) u.controller
+      ended_after cause.ModuleDiff step next (laws.differing serial net.device.live.rest.real kept.between at.spare kept.is at.differs can) u.controller
 
   pub modules_law : CanMeet setup identity → is_zero setup.plan.station.suite.address ≡ false → (net : Net F) → ConnectsToOther setup identity net
       → EndsWithin as_flash 1 cause.ModuleDiff net

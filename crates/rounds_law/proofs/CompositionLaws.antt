@@ -3,6 +3,7 @@ use Rattle.std.specs.Prelude.{[], ◌+◌, ◌<◌, ◌∷◌, ◌≡◌, ◌≤
 use Rattle.settings_journal.specs.settings_store.Machine.{Outcome}
 use Rattle.controller_messages.specs.declared.request.Request.TheVariants.{Address, Connect, Identify, PrmEnd, Write}
 use Rattle.device_core.specs.State.{Live, Station}
+use Rattle.device_core.specs.Local.{OnlyPullsAndPlugsChangeModules}
 use Rattle.rounds_law.specs.Path.{Asks, AsksNext, Controls, Exchanges, FindsIt, HasRelation, IsAddressed, IsFree, IsInputs}
 use Rattle.rounds_law.specs.Path.{IsNamed, IsOutputs, IsReport, IsSearching, IsSized, IsWritten, confirmed_frame, controller_step}
 use Rattle.rounds_law.specs.Path.{device_step, ended_frame, found_frame, hold_of, readied_frame, request_to, set_frame}
@@ -34,6 +35,7 @@ use Rattle.pn_values.specs.declared.identity.Identity.{Identity}
 use Rattle.controller_messages.specs.declared.setup.Setup.{Setup}
 
 pub record Laws (setup : Setup) (identity : Identity) : Type 0 where
+  pub modules : OnlyPullsAndPlugsChangeModules
   pub device_found : (outcomes : List Outcome) (station : Station) (live : Live) → station.identity ≡ identity → IsNamed setup live
       → ((device_step outcomes station live (request_to setup identity Identify)).live ≡ live)
       × ((device_step outcomes station live (request_to setup identity Identify)).frames
@@ -45,7 +47,7 @@ pub record Laws (setup : Setup) (identity : Identity) : Type 0 where
       × IsAddressed setup (device_step [] station live (request_to setup identity Address)).live
       × IsFree setup (device_step [] station live (request_to setup identity Address)).live
   pub device_connected : CanMeet setup identity → is_zero setup.plan.station.suite.address ≡ false
-      → (outcomes : List Outcome) (station : Station) (live : Live) → station.identity ≡ identity → IsOfPlan setup station
+      → (outcomes : List Outcome) (station : Station) (live : Live) → station.identity ≡ identity → IsOfPlan setup station live.rest.real
       → IsAddressed setup live → IsFree setup live
       → ((device_step outcomes station live (request_to setup identity Connect)).frames
       ≡ answer_frame setup identity station.options (number_now station live) setup.plan.station.suite.address ∷ [])
@@ -53,7 +55,7 @@ pub record Laws (setup : Setup) (identity : Identity) : Type 0 where
       × HasRelation setup (number_now station live) Started [] 0 0 (device_step outcomes station live (request_to setup identity Connect)).live
   pub device_ended : CanMeet setup identity → is_zero setup.plan.station.suite.address ≡ false
       → (serial : ℕ) (outcomes : List Outcome) (station : Station) (live : Live) (taken : List TakenRecord) (last age : ℕ) → station.identity ≡ identity
-      → IsOfPlan setup station → IsAddressed setup live → last ≤ write_count setup.plan → HasRelation setup serial Started taken last age live
+      → IsOfPlan setup station live.rest.real → IsAddressed setup live → last ≤ write_count setup.plan → HasRelation setup serial Started taken last age live
       → ((device_step outcomes station live (request_to setup identity PrmEnd)).frames
       ≡ ended_frame setup identity ∷ readied_frame setup identity ∷ [])
       × ((device_step outcomes station live (request_to setup identity PrmEnd)).live.values ≡ live.values)
@@ -61,14 +63,14 @@ pub record Laws (setup : Setup) (identity : Identity) : Type 0 where
       (device_step outcomes station live (request_to setup identity PrmEnd)).live
   pub device_confirmed : CanMeet setup identity → is_zero setup.plan.station.suite.address ≡ false
       → (serial : ℕ) (outcomes : List Outcome) (station : Station) (live : Live) (taken : List TakenRecord) (last age : ℕ) → station.identity ≡ identity
-      → IsOfPlan setup station → IsAddressed setup live → HasRelation setup serial Awaiting taken last age live
+      → IsOfPlan setup station live.rest.real → IsAddressed setup live → HasRelation setup serial Awaiting taken last age live
       → AreSendable identity (device_step outcomes station live (confirmed_frame setup identity)).sent
       → AllByRecursion (IsReport setup identity) (device_step outcomes station live (confirmed_frame setup identity)).frames
       × ((device_step outcomes station live (confirmed_frame setup identity)).live.values ≡ live.values)
       × Exchanges setup serial 0 (device_step outcomes station live (confirmed_frame setup identity)).live
   pub device_written : CanMeet setup identity → is_zero setup.plan.station.suite.address ≡ false → AreWritable setup
       → (serial : ℕ) (outcomes : List Outcome) (station : Station) (live : Live) (number age : ℕ) → station.identity ≡ identity
-      → IsOfPlan setup station → IsAddressed setup live → number < write_count setup.plan
+      → IsOfPlan setup station live.rest.real → IsAddressed setup live → number < write_count setup.plan
       → HasRelation setup serial Started (map taken_for (take (first_of setup.plan number) setup.plan.records.items)) number age live
       → (octets : List ℕ)
       × ((device_step outcomes station live (request_to setup identity (Write number))).frames ≡ octets ∷ [])

@@ -38,6 +38,7 @@ use Rattle.rounds_law.proofs.CompositionLaws.{Laws}
 use Rattle.rounds_law.proofs.CompositionLists.{arrive_first, arrives_as, hears_one, keep, keep_state, never, went_at}
 use Rattle.rounds_law.proofs.CompositionEnds.{Asked, IsRelated, Passed, addressed_by, asked_after, can_by, free_unit}
 use Rattle.rounds_law.proofs.CompositionEnds.{ignore, named_by, passed, related_outputs, related_unit}
+use Rattle.rounds_law.proofs.PlanKept.{round_of_plan}
 
 -- ---- small facts
 
@@ -91,7 +92,7 @@ before_first setup = sym (ap (λ (n : ℕ). map taken_for (take n setup.plan.rec
 pub record IsAtRequest {F : Type 0} (setup : Setup) (identity : Identity) (number spare : ℕ) (net : Net F) : Type 0 where
   pub serial : ℕ
   pub of_device : net.device.station.identity ≡ identity
-  pub of_plan : IsOfPlan setup net.device.station
+  pub of_plan : IsOfPlan setup net.device.station net.device.live.rest.real
   pub age : ℕ
   pub is : IsRelated setup serial Started (taken_before setup number) number age net.device.live
   pub asked : Asked setup identity (phase_for (writing_from setup.plan number)) (writing_from setup.plan number) (Some serial) spare net.controller net.to_device
@@ -100,9 +101,6 @@ pub record IsAtRequest {F : Type 0} (setup : Setup) (identity : Identity) (numbe
 module _ {F : Type 0} {S : ℕ} (as_flash : Flash F S) (setup : Setup) (identity : Identity) (laws : Laws setup identity) (can : CanStart setup identity) where
   pub of_device_by : (before after : State F) → after.station ≡ before.station → before.station.identity ≡ identity → after.station.identity ≡ identity
   of_device_by before after same own = ap (λ (s : Station). s.identity) same ∙ own
-
-  pub of_plan_by : (before after : State F) → after.station ≡ before.station → IsOfPlan setup before.station → IsOfPlan setup after.station
-  of_plan_by before after same plan = subst (λ (s : Station). IsOfPlan setup s) (sym same) plan
 
   -- ---- the search
 
@@ -127,14 +125,15 @@ module _ {F : Type 0} {S : ℕ} (as_flash : Flash F S) (setup : Setup) (identity
       (kept.goes_on ∙ hears_one kept.between (found_frame setup identity settings)) in
       let vendor = ap (λ (i : Identity). i.vendor_id) (sym at.of_device) ∙ at.of_plan.vendor in
       let device = ap (λ (i : Identity). i.device_id) (sym at.of_device) ∙ at.of_plan.device in
-      by_found net next at unit.of_station values unit.none unit.free step u
+      by_found net next at round unit.of_station values unit.none unit.free step u
       (laws.controller_found can.patient vendor device settings kept.between at.named.name at.sized kept.is)
     where
-      by_found : (net next : Net F) → IsLooking setup identity net → next.device.station ≡ net.device.station → next.device.live.values ≡ net.device.live.values
+      by_found : (net next : Net F) → IsLooking setup identity net → Round as_flash net next → next.device.station ≡ net.device.station
+          → next.device.live.values ≡ net.device.live.values
           → next.to_controller ≡ [] → IsFree setup next.device.live → (step : Stepped) → Passed step next
           → FindsIt setup identity net.device.live.values.running (write_count setup.plan + 2) step
           → IsAddressing setup identity next ⊎ IsConnecting setup identity next
-      by_found net next at same values none free step u (inl found) =
+      by_found net next at round same values none free step u (inl found) =
           let asked = asked_after setup identity laws step next Connecting wants.Connect None (write_count setup.plan + 1) refl u
           (subst (λ (n : ℕ). AsksNext setup identity Connecting wants.Connect None n step) (two_more (write_count setup.plan)) found.1) in
           inr (record {
@@ -143,11 +142,11 @@ module _ {F : Type 0} {S : ℕ} (as_flash : Flash F S) (setup : Setup) (identity
             under_way = asked.under_way ∙ ap (λ (fs : List (List ℕ)). request_to setup identity wants.Connect ∷ fs) (asked.unsent refl);
             ignored = subst (λ (fs : List (List ℕ)). AllByRecursion (IsIgnored setup) fs) (sym none) tt;
             of_device = of_device_by net.device next.device same at.of_device;
-            of_plan = of_plan_by net.device next.device same at.of_plan;
+            of_plan = round_of_plan as_flash laws.modules setup net next round at.of_plan;
             addressed = record { suite = ap (λ (v : Values). v.running.suite) values ∙ found.0 };
             free = free;
           })
-      by_found net next at same values none free step u (inr found) =
+      by_found net next at round same values none free step u (inr found) =
           let asked = asked_after setup identity laws step next Addressing wants.Address None (write_count setup.plan + 1) refl u
           (subst (λ (n : ℕ). AsksNext setup identity Addressing wants.Address None n step) (two_more (write_count setup.plan)) found.1) in
           inl (record {
@@ -156,7 +155,7 @@ module _ {F : Type 0} {S : ℕ} (as_flash : Flash F S) (setup : Setup) (identity
             under_way = asked.under_way ∙ ap (λ (fs : List (List ℕ)). request_to setup identity wants.Address ∷ fs) (asked.unsent refl);
             ignored = subst (λ (fs : List (List ℕ)). AllByRecursion (IsIgnored setup) fs) (sym none) tt;
             of_device = of_device_by net.device next.device same at.of_device;
-            of_plan = of_plan_by net.device next.device same at.of_plan;
+            of_plan = round_of_plan as_flash laws.modules setup net next round at.of_plan;
             named = named_by setup net.device.live next.device.live values at.named;
             free = free;
             can = can_by net.device.live next.device.live values (room at.addressed found.0);
@@ -191,7 +190,7 @@ module _ {F : Type 0} {S : ℕ} (as_flash : Flash F S) (setup : Setup) (identity
         under_way = asked.under_way ∙ ap (λ (fs : List (List ℕ)). request_to setup identity wants.Connect ∷ fs) (asked.unsent refl);
         ignored = subst (λ (fs : List (List ℕ)). AllByRecursion (IsIgnored setup) fs) (sym unit.none) tt;
         of_device = of_device_by net.device next.device unit.of_station at.of_device;
-        of_plan = of_plan_by net.device next.device unit.of_station at.of_plan;
+        of_plan = round_of_plan as_flash laws.modules setup net next round at.of_plan;
         addressed = addressed_by setup round.device.live next.device.live unit.values all.0.is.0;
         free = unit.free;
       }
@@ -224,7 +223,7 @@ module _ {F : Type 0} {S : ℕ} (as_flash : Flash F S) (setup : Setup) (identity
       record {
         serial = serial;
         of_device = of_device_by net.device next.device unit.of_station at.of_device;
-        of_plan = of_plan_by net.device next.device unit.of_station at.of_plan;
+        of_plan = round_of_plan as_flash laws.modules setup net next round at.of_plan;
         age = 1;
         is = subst (λ (taken : List TakenRecord). IsRelated setup serial Started taken 0 1 next.device.live) (before_first setup) unit.is;
         asked = asked_after setup identity laws step next (phase_for (writing_from setup.plan 0))
@@ -271,7 +270,7 @@ module _ {F : Type 0} {S : ℕ} (as_flash : Flash F S) (setup : Setup) (identity
       record {
         serial = serial;
         of_device = of_device_by net.device next.device unit.of_station at.of_device;
-        of_plan = of_plan_by net.device next.device unit.of_station at.of_plan;
+        of_plan = round_of_plan as_flash laws.modules setup net next round at.of_plan;
         age = 1;
         is = unit.is;
         asked = asked_after setup identity laws step next (phase_for (writing_from setup.plan (number + 1))) (writing_from setup.plan (number + 1)) (Some serial) spare
@@ -330,7 +329,7 @@ module _ {F : Type 0} {S : ℕ} (as_flash : Flash F S) (setup : Setup) (identity
         serial = at.serial;
         device = record {
           of_device = of_device_by net.device next.device unit.of_station own;
-          of_plan = of_plan_by net.device next.device unit.of_station at.device.of_plan;
+          of_plan = round_of_plan as_flash laws.modules setup net next round at.device.of_plan;
           addressed = unit.is.addressed;
         };
         taken = at.taken;

@@ -1,5 +1,5 @@
 -- A frame of inputs, or an alarm of low priority, at a controller.
-use Rattle.std.proofs.Common.{◌≡◌, ◌<◌, ◌≤◌, ◌&&◌, ℕ, Bool, true, false, nat_eq, List, [], length, Some, None, Option}
+use Rattle.std.proofs.Common.{◌≡◌, ◌==◌, ◌<◌, ◌≤◌, ◌&&◌, ℕ, Bool, true, false, nat_eq, List, [], length, Some, None, Option}
 use Rattle.std.proofs.Common.{Result, Err, if◌then◌else◌, refl, sym, ap, subst, ◌∙◌, arith, inl, inr}
 use Rattle.std.proofs.lemmas.Bool.{cases_lt}
 use Rattle.std.specs.Cmp.Lexicographic.{pointwise}
@@ -18,7 +18,8 @@ use Rattle.pn_alarms.specs.declared.receiver.Taken.TheVariants.{New, Again, Refu
 use Rattle.pn_alarms.specs.Receiver.{taken_as}
 use Rattle.record_blocks.specs.declared.alarm_notification.AlarmNotification.{AlarmNotification}
 use Rattle.diagnosis.specs.declared.reports.priority.Priority.TheVariants.{Low}
-use Rattle.diagnosis.specs.reports.Report.{diagnosed}
+use Rattle.diagnosis.specs.declared.reports.report.Report.{Report}
+use Rattle.diagnosis.specs.reports.Report.{bare, diagnosed, low_report}
 use Rattle.diagnosis.specs.Sendable.{IsHeader}
 use Rattle.block_codec.specs.Writable.{IsAlarm}
 use Rattle.cyclic_data.specs.declared.status.StationState.{StationState}
@@ -205,6 +206,10 @@ module _ (hears : InputsAreHeard) (sound : IsSound ethernet) (whole : IsSoundWho
 
 -- ---- an alarm of low priority
 
+-- One with this UserStructureIdentifier, or none.
+abbrev of_low : Option ℕ → AlarmNotification → Report
+of_low user alarm = record { priority = Low; notification = alarm; user_structure = user }
+
 module _ (setup : Setup) (serial : ℕ) (device : Mac) (age : ℕ) (controller : Controlling) (is : Controls setup serial device age controller) where
   abbrev StaysIn : Turn → Type 0
   StaysIn turn = Controls setup serial device age (stepped controller turn).controller
@@ -226,8 +231,8 @@ module _ (setup : Setup) (serial : ℕ) (device : Mac) (age : ℕ) (controller :
   }
 
   -- The AlarmAck of a new alarm was sent just now.
-  new_in : (number : ℕ) (alarm : AlarmNotification) → StaysIn (taken (behind_data controller.live Low number) (diagnosed alarm) New)
-  new_in number alarm = record {
+  new_in : (number : ℕ) (user : Option ℕ) (alarm : AlarmNotification) → StaysIn (taken (behind_data controller.live Low number) (of_low user alarm) New)
+  new_in number user alarm = record {
     of_setup = is.of_setup;
     in_phase = is.in_phase;
     established = is.established;
@@ -243,27 +248,36 @@ module _ (setup : Setup) (serial : ℕ) (device : Mac) (age : ℕ) (controller :
   }
 
   -- It is new, came before, or is refused.
-  taken_in : (number : ℕ) (alarm : AlarmNotification) (outcome : Taken) → StaysIn (taken (behind_data controller.live Low number) (diagnosed alarm) outcome)
-  taken_in number alarm New = new_in number alarm
-  taken_in number alarm Again = seen_in number
-  taken_in number alarm Refused = seen_in number
+  taken_in : (number : ℕ) (user : Option ℕ) (alarm : AlarmNotification) (outcome : Taken)
+      → StaysIn (taken (behind_data controller.live Low number) (of_low user alarm) outcome)
+  taken_in number user alarm New = new_in number user alarm
+  taken_in number user alarm Again = seen_in number
+  taken_in number user alarm Refused = seen_in number
 
-  alarm_in : (number : ℕ) (alarm : AlarmNotification) (counts : Bool)
-      → StaysIn (if counts then noticed controller.live Low (notice.Data number (diagnosed alarm)) else stays controller.live)
-  alarm_in number alarm true = taken_in number alarm (taken_as controller.live.low_alarms.seen number)
-  alarm_in number alarm false = is
+  alarm_in : (number : ℕ) (user : Option ℕ) (alarm : AlarmNotification) (counts : Bool)
+      → StaysIn (if counts then noticed controller.live Low (notice.Data number (of_low user alarm)) else stays controller.live)
+  alarm_in number user alarm true = taken_in number user alarm (taken_as controller.live.low_alarms.seen number)
+  alarm_in number user alarm false = is
 
-  heard_in : (source : Mac) (header : Header) (number : ℕ) (alarm : AlarmNotification) (own : Bool)
-      → StaysIn (turned controller.setup controller.live (if own then Alarms source Low header (notice.Data number (diagnosed alarm)) else Nothing))
-  heard_in source header number alarm true = alarm_in number alarm (controller.live.stands && is_alarm controller.live.cyclic.route source header)
-  heard_in source header number alarm false = is
+  of_low_in : (source : Mac) (header : Header) (number : ℕ) (user : Option ℕ) (alarm : AlarmNotification) (own : Bool)
+      → StaysIn (turned controller.setup controller.live (if own then Alarms source Low header (notice.Data number (of_low user alarm)) else Nothing))
+  of_low_in source header number user alarm true =
+      alarm_in number user alarm (controller.live.stands && is_alarm controller.live.cyclic.route source header)
+  of_low_in source header number user alarm false = is
+
+  -- That of a pull or a plug has no data, that of a diagnosis has some.
+  heard_in : (source : Mac) (header : Header) (number : ℕ) (alarm : AlarmNotification) (own none : Bool)
+      → StaysIn (turned controller.setup controller.live
+      (if own then Alarms source Low header (notice.Data number (if none then bare alarm else diagnosed alarm)) else Nothing))
+  heard_in source header number alarm own true = of_low_in source header number None alarm own
+  heard_in source header number alarm own false = of_low_in source header number (Some 0x8000) alarm own
 
 -- A clause of the hearing of alarms.
 abbrev pub ReportsAreHeard : Type 0
 ReportsAreHeard = (mine : Controller) (identity : Identity) (route : Route) (tag : ℕ) (header : Header) (alarm : AlarmNotification)
     → IsDevice identity → IsRouted route → tag < 65536 → header.kind ≡ pdu.Data → IsHeader header → IsAlarm alarm
     → heard_of mine (device_bytes identity (Exchanges route (Reports tag header alarm)))
-    ≡ mine_hears mine route.partner (Alarms identity.mac Low header (notice.Data header.send_number (diagnosed alarm)))
+    ≡ mine_hears mine route.partner (Alarms identity.mac Low header (notice.Data header.send_number (low_report alarm)))
 
 pub reported : (serial : ℕ) → ReportsAreHeard → (setup : Setup) (identity : Identity) → IsSetup setup → IsDevice identity
     → (controller : Controlling) (age : ℕ) (octets : List ℕ)
@@ -271,7 +285,7 @@ pub reported : (serial : ℕ) → ReportsAreHeard → (setup : Setup) (identity 
     → Controls setup serial identity.mac age (controller_step controller octets).controller
 reported serial hears setup identity of_setup of_device controller age octets report is =
     let route = inputs_route report.serial (request_for setup.plan setup.ar) in
-    let said = Alarms identity.mac Low report.header (notice.Data report.header.send_number (diagnosed report.alarm)) in
+    let said = Alarms identity.mac Low report.header (notice.Data report.header.send_number (low_report report.alarm)) in
     let heard : heard_of setup.plan.controller octets ≡ mine_hears setup.plan.controller route.partner said =
     ap (λ (bytes : List ℕ). heard_of setup.plan.controller bytes) report.frame
     ∙ hears setup.plan.controller identity route report.tag report.header report.alarm of_device
@@ -279,4 +293,4 @@ reported serial hears setup identity of_setup of_device controller age octets re
     subst (λ (step : Stepped). Controls setup serial identity.mac age step.controller)
     (sym (by_heard setup controller octets (mine_hears setup.plan.controller route.partner said) is.of_setup heard))
     (heard_in setup serial identity.mac age controller is identity.mac report.header report.header.send_number report.alarm
-    (pointwise nat_eq route.partner.octets setup.plan.controller.mac.octets))
+    (pointwise nat_eq route.partner.octets setup.plan.controller.mac.octets) (length report.alarm.alarm_data == 0))

@@ -1,6 +1,6 @@
 -- PrmEnd and the answer to ApplicationReady, as a device reads their blocks.
 use Rattle.std.proofs.Common.{◌≡◌, ◌==◌, ◌&&◌, ◌+◌, ℕ, nat_eq, Bool, true, false, List, [], ◌∷◌, length, Some, Result, Ok, Err, refl, ap, ◌∙◌, arith}
-use Rattle.std.specs.Prelude.{nat_lt, not, if◌then◌else◌}
+use Rattle.std.specs.Prelude.{drop, nat_le, nat_lt, not, Option, None, if◌then◌else◌}
 use Rattle.std.specs.Cmp.Lexicographic.{pointwise}
 use Rattle.std.proofs.lemmas.Bool.Decides.{nat_tests}
 use Rattle.wire.specs.Codec.{◌>>=◌}
@@ -19,12 +19,13 @@ use Rattle.records.specs.calls.Handled.{handled as in_order}
 use Rattle.records.specs.calls.Single.{formed, single_of}
 use Rattle.relations.specs.declared.hearing.ReadyAnswer.TheVariants.{Confirmed, NotWanted}
 use Rattle.relations.specs.Calls.{in_control, in_started, named_of, prm_end_of}
+use Rattle.relations.specs.Plugging.{is_plug_control, is_plug_type}
 use Rattle.relations.specs.Ready.{answer_of, confirmed_block, confirmed_by}
 use Rattle.relations.specs.RelationState.{RelationState, is_awaiting, is_started}
 use Rattle.controller_messages.specs.Sent.{done, ready_done}
 use Rattle.rpc_core.specs.Response.{Answered}
 use Rattle.rpc_core.specs.declared.header.CallHeader.{CallHeader}
-use Rattle.rounds_law.proofs.Choices.{where_so}
+use Rattle.rounds_law.proofs.Choices.{and_false, where_so}
 
 -- ---- the block of PrmEnd
 
@@ -73,6 +74,23 @@ single_end long control read =
     ∙ (passed (not (big_number 2 blocks == number_of kind.PrmEnd)) fault.BlockType [] (formed (block_of blocks))
     (ap (λ (n : ℕ). not (n == number_of kind.PrmEnd)) (end_type control) ∙ alike (number_of kind.PrmEnd))
     ∙ ap (λ (r : Result (Block × List ℕ) BlockFault). formed r) read))
+
+-- It is not one of a plug.
+type_by : (short : Bool) (blocks : List ℕ) → big_number 2 blocks ≡ 0x0110
+    → is_plug_type (if short then Err fault.BlockHeader else Ok (big_number 2 blocks, drop 2 blocks)) ≡ false
+type_by true blocks e = refl
+type_by false blocks e = ap (λ (n : ℕ). n == 0x0111) e
+
+end_number : (control : ControlBlock) → big_number 2 (block_bytes (is.PrmEnd control)) ≡ 0x0110
+unfolding number_of
+end_number control = end_type control
+
+pub not_of_plug : (link : Option RelationState) (control : ControlBlock) → is_plug_control (block_bytes (is.PrmEnd control)) link ≡ false
+not_of_plug None control = refl
+not_of_plug (Some link) control =
+    let blocks = block_bytes (is.PrmEnd control) in
+    ap (λ (b : Bool). link.plugs.has_told && (nat_le 4 (length blocks) && b)) (type_by (nat_lt (length blocks) 2) blocks (end_number control))
+    ∙ (ap (λ (b : Bool). link.plugs.has_told && b) (and_false (nat_le 4 (length blocks))) ∙ and_false link.plugs.has_told)
 
 -- ---- what PrmEnd means to a relation
 

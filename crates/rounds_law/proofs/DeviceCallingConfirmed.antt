@@ -1,5 +1,6 @@
 -- The answer to ApplicationReady begins the exchange of data.
 use Rattle.std.proofs.Common.{◌≡◌, ℕ, true, List, map, Option, Some, refl, sym, ap, subst, ◌∙◌, arith}
+use Rattle.std.specs.Prelude.{is_some}
 use Rattle.std.specs.List.{AllByRecursion}
 use Rattle.std.proofs.lemmas.Cmp.{nat_list_eq_equiv}
 use Rattle.pn_values.specs.declared.identity.Identity.{Identity}
@@ -9,26 +10,29 @@ use Rattle.rpc_core.specs.Response.{Answered}
 use Rattle.block_codec.specs.declared.block.Block.TheVariants as is
 use Rattle.records.specs.declared.writes.taken.TakenRecord.{TakenRecord}
 use Rattle.settings_journal.specs.settings_store.Machine.{Outcome}
-use Rattle.diagnosis.specs.alarms.Alarms.{Low, begun, next_in}
+use Rattle.diagnosis.specs.Queue.{begun, next_in}
+use Rattle.diagnosis.specs.alarms.Alarms.{Low}
+use Rattle.diagnosis.specs.declared.alarms.alarms.SentAlarm.{SentAlarm}
 use Rattle.relations.specs.declared.hearing.ReadyAnswer.{ReadyAnswer}
 use Rattle.relations.specs.declared.hearing.ReadyAnswer.TheVariants.{Confirmed as to_confirm}
 use Rattle.relations.specs.declared.phase.Phase.TheVariants.{Awaiting}
-use Rattle.relations.specs.Phases.{Confirmed, exchanging_from, updated, with_flow}
+use Rattle.relations.specs.Phases.{Confirmed, exchanging_from, updated, with_reported}
+use Rattle.relations.specs.Plugging.{first_sent, plug_answer_in, plugs_after, taken_after}
 use Rattle.relations.specs.Ready.{answer_of}
-use Rattle.relations.specs.RelationState.{RelationState}
+use Rattle.relations.specs.RelationState.{RelationState, is_in_exchange}
 use Rattle.device_frames.specs.Heard.{Reported, Responds, heard_of}
 use Rattle.device_frames.specs.Sendable.{AreSendable}
 use Rattle.device_frames.specs.Sent.{Sent, bytes_of}
 use Rattle.device_core.specs.State.{Live, Rest, Station}
-use Rattle.device_core.specs.Handled.{Moves, handled_answer, handled_beginning, handled_said, is_running}
+use Rattle.device_core.specs.Handled.{Moves, handled_answer, handled_beginning, handled_plug_answer, handled_said, is_running}
 use Rattle.device_core.specs.Machine.{Stepped}
 use Rattle.controller_messages.specs.declared.setup.Setup.{Setup}
 use Rattle.controller_messages.specs.Sent.{ready_answer, ready_done}
 use Rattle.end_laws.specs.hearing.Hearing.{comes}
 use Rattle.end_laws.specs.hearing.Stations.{ready_call}
 use Rattle.both_ends.specs.startup.answer.Answer.{caller_of}
-use Rattle.both_ends.specs.exchange.Sized.{AreSizedModules}
 use Rattle.rounds_law.specs.Path.{Exchanges, HasNumber, HasRelation, IsReport, confirmed_frame, device_step, ready_for}
+use Rattle.rounds_law.proofs.Choices.{where_not}
 use Rattle.rounds_law.proofs.DeviceCallingBlocks.{IsReadAlone, ready_confirmed}
 use Rattle.rounds_law.proofs.DeviceCallingEnded.{is_stated, stated}
 use Rattle.rounds_law.proofs.DeviceCallingReport.{IsReported, is_reported, next_is, told, told_flow}
@@ -58,16 +62,21 @@ module _ (setup : Setup) (identity : Identity) (station : Station) (live : Live)
   now = exchanging_from base
 
   abbrev real : List RealModule
-  real = station.real.modules.items
+  real = live.rest.real.modules.items
 
   abbrev low : Low
-  low = begun live.rest.diagnoses now.flow.low
+  low = begun real live.rest.diagnoses now.flow.low
 
   abbrev next : Option Low
-  next = next_in real low
+  next = next_in low
+
+  -- the alarm that is sent with it, if one is
+  abbrev first : Option SentAlarm
+  first = first_sent (is_some next) (told_flow now.flow low next).low
 
   abbrev made : RelationState
-  made = with_flow (told_flow now.flow low next) now
+  made = with_reported (told_flow now.flow low next) (taken_after first now.plugs.places now.taken)
+      (plugs_after first (told_flow now.flow low next).low.waiting now.plugs) now
 
   abbrev rest : Rest
   rest = record live.rest { link = Some made }
@@ -85,7 +94,11 @@ module _ (setup : Setup) (identity : Identity) (station : Station) (live : Live)
   is_handled : IsReadAlone (is.ApplicationReadyRes (ready_done (ready_for setup).block))
       → handled_said station live caller (Responds (response_of setup)) ≡ Moves rest sent
   is_handled read =
-      ap (λ (answer : ReadyAnswer). handled_answer station live answer) (is_confirmed read)
+      where_not (is_in_exchange live.rest.link)
+      (handled_plug_answer live (response_of setup) (plug_answer_in (response_of setup) live.rest.link))
+      (handled_answer station live (answer_of (response_of setup) live.rest.link))
+      (ap is_in_exchange (is_stated serial setup Awaiting taken last age live relation))
+      ∙ ap (λ (answer : ReadyAnswer). handled_answer station live answer) (is_confirmed read)
       ∙ ap (λ (link : Option RelationState). handled_beginning station live (updated Confirmed link)) (is_stated serial setup Awaiting taken last age live relation)
 
   same_number : HasNumber setup serial now.flow
@@ -105,16 +118,16 @@ module _ (setup : Setup) (identity : Identity) (station : Station) (live : Live)
     low_limit = reported.limit;
   }
 
-  pub confirms : (outcomes : List Outcome) → station.identity ≡ identity → AreSizedModules real
+  pub confirms : (outcomes : List Outcome) → station.identity ≡ identity
       → IsReadAlone (is.ApplicationReadyRes (ready_done (ready_for setup).block))
       → heard_of station.identity (comes (confirmed_frame setup identity)) ≡ Reported caller setup.plan.station.suite.address (Responds (response_of setup))
       → is_running live.values.running setup.plan.station.suite.address ≡ true
       → AreSendable identity (device_step outcomes station live (confirmed_frame setup identity)).sent
       → IsConfirmed serial setup identity live (device_step outcomes station live (confirmed_frame setup identity))
-  confirms outcomes same sized read hears running sendable =
+  confirms outcomes same read hears running sendable =
       let stepped = step_is outcomes station live (confirmed_frame setup identity) caller setup.plan.station.suite.address (Responds (response_of setup))
       rest sent hears running (is_handled read) in
       let can = subst (λ (step : Stepped). AreSendable identity step.sent) stepped sendable in
-      let reported = is_reported setup identity now.flow serial same_number real low next sized relation.low_new (next_is real low) can in
+      let reported = is_reported setup identity now.flow serial same_number low next relation.low_new (next_is low) can in
       subst (λ (step : Stepped). IsConfirmed serial setup identity live step) (sym stepped)
       (subst (λ (i : Identity). AllByRecursion (IsReport setup identity) (map (bytes_of i) sent)) (sym same) reported.frames, refl, exchanges reported)

@@ -62,24 +62,24 @@ module _ (setup : Setup) (identity : Identity) (station : Station) (live : Live)
   message i real address link = answer_from address caller call Connect (outcome i real link)
 
   abbrev sent : Sent
-  sent = message station.identity station.real live.values.running.suite.address live.rest.link
+  sent = message station.identity live.rest.real live.values.running.suite.address live.rest.link
 
   abbrev link_by : Result Request CallFault → Option RelationState → Option RelationState
-  link_by asked link = updated (making station.real (partner_of caller) station.options (starting_of station live) asked) link
+  link_by asked link = updated (making live.rest.real (partner_of caller) station.options (starting_of station live) asked) link
 
   abbrev link_after : Option RelationState → Option RelationState
   link_after link = link_by (connect_within station.options caller.mac link blocks) link
 
   abbrev rest : Rest
   rest =
-      let answer = outcome station.identity station.real live.rest.link in
+      let answer = outcome station.identity live.rest.real live.rest.link in
       let logged = counted_by answer (with_log (connect_log blocks answer) live.rest) in
       kept_behind station.identity logged call sent (link_after live.rest.link)
 
   abbrev made : RelationState
   made =
       let request = request_for setup.plan setup.ar in
-      made_of request (partner_of caller) (rows_of request station.real) station.options (starting_of station live)
+      made_of request (partner_of caller) (rows_of request live.rest.real) station.options (starting_of station live)
 
   is_made : live.rest.link ≡ None → connect_within station.options setup.plan.controller.mac None blocks ≡ Ok (request_for setup.plan setup.ar)
       → rest.link ≡ Some made
@@ -90,10 +90,10 @@ module _ (setup : Setup) (identity : Identity) (station : Station) (live : Live)
       ap (λ (o : Option Operation). handled_call station live caller call o) is_connect
       ∙ ap (λ (l : Looked). handled_looked station live caller call blocks Connect l) (first_new setup.activity 0 live.rest.calls free.uncalled)
 
-  frames_are : station.identity ≡ identity → station.real ≡ setup.plan.real → IsAddressed setup live → live.rest.link ≡ None
+  frames_are : station.identity ≡ identity → live.rest.real ≡ setup.plan.real → IsAddressed setup live → live.rest.link ≡ None
       → map (bytes_of station.identity) (sent ∷ []) ≡ answer_frame setup identity station.options (number_now station live) setup.plan.station.suite.address ∷ []
   frames_are same plugged addressed unrelated =
-      ap (λ (i : Identity). bytes_of i (message i station.real live.values.running.suite.address live.rest.link) ∷ []) same
+      ap (λ (i : Identity). bytes_of i (message i live.rest.real live.values.running.suite.address live.rest.link) ∷ []) same
       ∙ (ap (λ (real : Real). bytes_of identity (message identity real live.values.running.suite.address live.rest.link) ∷ []) plugged
       ∙ (ap (λ suite. bytes_of identity (message identity setup.plan.real suite.address live.rest.link) ∷ []) addressed.suite
       ∙ ap (λ (link : Option RelationState). bytes_of identity (message identity setup.plan.real setup.plan.station.suite.address link) ∷ []) unrelated))
@@ -119,7 +119,7 @@ module _ (setup : Setup) (identity : Identity) (station : Station) (live : Live)
     number = refl;
   }
 
-  pub connects : (outcomes : List Outcome) → station.identity ≡ identity → IsOfPlan setup station → IsAddressed setup live → IsFree setup live
+  pub connects : (outcomes : List Outcome) → station.identity ≡ identity → IsOfPlan setup station live.rest.real → IsAddressed setup live → IsFree setup live
       → connect_within station.options setup.plan.controller.mac None blocks ≡ Ok (request_for setup.plan setup.ar)
       → heard_of station.identity (comes (request_to setup identity asks.Connect)) ≡ Reported caller setup.plan.station.suite.address (Calls call)
       → is_running live.values.running setup.plan.station.suite.address ≡ true

@@ -20,13 +20,14 @@ use Rattle.relations.specs.declared.phase.Partner.{Partner}
 use Rattle.relations.specs.declared.phase.Phase.{Phase}
 use Rattle.relations.specs.declared.phase.Phase.TheVariants.{Awaiting, Started}
 use Rattle.relations.specs.Calls.{done_of, prm_end_of}
+use Rattle.relations.specs.Plugging.{is_plug_control}
 use Rattle.relations.specs.Phases.{Named, Parameterized, answered, parameterized_from, restarted, updated}
 use Rattle.relations.specs.RelationState.{RelationState, is_alive}
 use Rattle.device_frames.specs.Heard.{Calls, Reported, heard_of}
 use Rattle.device_frames.specs.Sent.{Sent, bytes_of}
 use Rattle.device_core.specs.State.{Live, Rest, Station}
 use Rattle.device_core.specs.Handled.{Moves, answer_from, handled_call, handled_looked, handled_said, is_running, kept_behind, kept_for}
-use Rattle.device_core.specs.Handled.{partner_of, ready_behind}
+use Rattle.device_core.specs.Handled.{handled_plug_end, partner_of, ready_behind}
 use Rattle.device_core.specs.Machine.{Stepped}
 use Rattle.controller_messages.specs.declared.setup.Setup.{Setup}
 use Rattle.controller_messages.specs.declared.request.Request.TheVariants as asks
@@ -36,9 +37,9 @@ use Rattle.both_ends.specs.startup.request.Request.{request_for}
 use Rattle.both_ends.specs.startup.answer.Answer.{caller_of}
 use Rattle.rounds_law.specs.Path.{HasRelation, IsAddressed, device_step, ended_frame, readied_frame, request_to}
 use Rattle.rounds_law.specs.Start.{IsOfPlan}
-use Rattle.rounds_law.proofs.DeviceCallingBlocks.{HasSize, IsReadAlone, prm_ended}
+use Rattle.rounds_law.proofs.DeviceCallingBlocks.{HasSize, IsReadAlone, not_of_plug, prm_ended}
 use Rattle.rounds_law.proofs.DeviceCallingSteps.{kept_first, later_new, partner_alive, step_is}
-use Rattle.rounds_law.proofs.Choices.{where_so}
+use Rattle.rounds_law.proofs.Choices.{where_not, where_so}
 
 is_control : operation_of 4 ≡ Some Control
 unfolding operation_of
@@ -125,8 +126,10 @@ module _ (setup : Setup) (identity : Identity) (station : Station) (live : Live)
   is_handled few =
       let later : ◌<◌ relation.kept.sequence (write_count setup.plan + 1) = omega (arith, few, relation.number) in
       ap (λ (o : Option Operation). handled_call station live caller call o) is_control
-      ∙ ap (λ (l : Looked). handled_looked station live caller call blocks Control l)
+      ∙ (ap (λ (l : Looked). handled_looked station live caller call blocks Control l)
       (later_new setup.activity (write_count setup.plan + 1) live.rest.calls relation.kept relation.answered later)
+      ∙ where_not (is_plug_control blocks live.rest.link) (handled_plug_end station live caller call blocks) (Moves rest sent)
+      (not_of_plug live.rest.link control))
 
   frames_are : station.identity ≡ identity → IsAddressed setup live → station.options.ready_by_application ≡ false → ended_now ≡ Ok control
       → link_now ≡ Some made → map (bytes_of station.identity) sent ≡ ended_frame setup identity ∷ readied_frame setup identity ∷ []
@@ -165,7 +168,7 @@ module _ (setup : Setup) (identity : Identity) (station : Station) (live : Live)
     number = refl;
   }
 
-  pub ends : (outcomes : List Outcome) → station.identity ≡ identity → IsOfPlan setup station → IsAddressed setup live → last ≤ write_count setup.plan
+  pub ends : (outcomes : List Outcome) → station.identity ≡ identity → IsOfPlan setup station live.rest.real → IsAddressed setup live → last ≤ write_count setup.plan
       → HasSize → IsReadAlone (is.PrmEnd control)
       → heard_of station.identity (comes (request_to setup identity asks.PrmEnd)) ≡ Reported caller setup.plan.station.suite.address (Calls call)
       → is_running live.values.running setup.plan.station.suite.address ≡ true

@@ -1,7 +1,7 @@
 -- What a unit of time changes in a relation, and what it does not change.
 use Rattle.std.proofs.Common.{◌≡◌, ◌+◌, ◌*◌, ◌%◌, ◌≤◌, ◌<◌, ◌==◌, ◌&&◌, inl, inr, ℕ, suc, Bool}
 use Rattle.std.proofs.Common.{true, false, cond, nat_le, Option, Some, None, refl, sym, ap, ap₂, subst, ◌∙◌, arith}
-use Rattle.std.specs.Prelude.{min}
+use Rattle.std.specs.Prelude.{min, not}
 use Rattle.std.proofs.lemmas.Bool.{cases_Bool, ne_eqb}
 use Rattle.std.proofs.lemmas.Bool.Decides.{nat_tests}
 use Rattle.pn_alarms.specs.declared.abort.Abort.{Abort}
@@ -12,12 +12,13 @@ use Rattle.cyclic_data.specs.Timing.{Hearing, held_on}
 use Rattle.cyclic_data.specs.exchange.Cyclic.{Cyclic}
 use Rattle.cyclic_data.specs.exchange.Units.{ending_by, ending_of as cyclic_ending, tick_by, tick_of as cyclic_tick}
 use Rattle.connects.specs.requests.Request.{Request}
+use Rattle.expected_places.specs.Calls.{is_again as is_call_again}
 use Rattle.relations.specs.declared.phase.Phase.{Phase}
 use Rattle.relations.specs.declared.phase.Phase.TheVariants.{Awaiting, Exchanging as in_exchange, Preparing, Started}
 use Rattle.relations.specs.exchange.Flow.{Flow}
 use Rattle.relations.specs.exchange.Units.{alarm_due, tick_of}
 use Rattle.relations.specs.RelationState.{RelationState, is_awaiting}
-use Rattle.relations.specs.Timers.{ending_of, inactive_later, is_again, is_timed, limit_of, waited_later}
+use Rattle.relations.specs.Timers.{ending_of, inactive_later, is_again, is_plug_again, is_timed, limit_of, waited_later}
 use Rattle.controller_messages.specs.declared.setup.Setup.{Setup}
 use Rattle.both_ends.specs.startup.request.Request.{request_for}
 use Rattle.rounds_law.specs.Path.{IsCalm, WaitedFew, WaitsFew}
@@ -64,6 +65,10 @@ not_again_in in_exchange waited age few below = refl
 pub not_again : (link : RelationState) (phase : Phase) (age : ℕ) → link.phase ≡ phase → WaitedFew phase age link.waited → age < 31000 → is_again link ≡ false
 not_again link phase age same few below =
     ap (λ (p : Phase). is_awaiting p && (link.waited + 1 == 32000)) same ∙ not_again_in phase link.waited age few below
+
+-- Nor is that of a plug before data is exchanged.
+pub no_plug : (link : RelationState) → is_timed link.phase ≡ true → is_plug_again link ≡ false
+no_plug link timed = ap (λ (b : Bool). not b && is_call_again link.plugs.calls) timed
 
 waited_in : (phase : Phase) (again : Bool) (waited age : ℕ) → WaitedFew phase age waited
     → WaitedFew phase (suc age) (cond again 0 (cond (is_awaiting phase) (waited + 1) waited))

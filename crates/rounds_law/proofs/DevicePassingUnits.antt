@@ -17,9 +17,9 @@ use Rattle.relations.specs.exchange.Opening.{route_of as inputs_route}
 use Rattle.relations.specs.exchange.Units.{repeated_of, tick_of}
 use Rattle.relations.specs.Phases.{passing, passing_by, updated}
 use Rattle.relations.specs.RelationState.{RelationState}
-use Rattle.relations.specs.Timers.{due_by, due_of, ending_of, is_again, is_timed, unit_later}
+use Rattle.relations.specs.Timers.{due_by, due_of, ending_of, is_again, is_plug_again, is_timed, unit_later}
 use Rattle.device_frames.specs.Heard.{Ticks}
-use Rattle.device_frames.specs.Relation.{alarms_of, due_frames, inputs_of, low_alarms_of, ready_calls, where_due}
+use Rattle.device_frames.specs.Relation.{alarms_of, due_frames, inputs_of, low_alarms_of, plug_calls, ready_calls, where_due}
 use Rattle.device_frames.specs.Sent.{Exchanges as device_exchanges, Sent, bytes_of}
 use Rattle.device_core.specs.State.{Live, Station, counter_of, units_after}
 use Rattle.device_core.specs.Log.{err_log, with_log}
@@ -29,7 +29,7 @@ use Rattle.controller_messages.specs.declared.setup.Setup.{Setup}
 use Rattle.both_ends.specs.startup.request.Request.{request_for}
 use Rattle.rounds_law.specs.Path.{Exchanges, HasRelation, IsFree, IsInputs, hold_of}
 use Rattle.rounds_law.proofs.DevicePassingTimers.{active_more, calm_later, held_more, limit_later, no_alarm}
-use Rattle.rounds_law.proofs.DevicePassingTimers.{not_again, stays_before, stays_later, waited_more, waits_more}
+use Rattle.rounds_law.proofs.DevicePassingTimers.{no_plug, not_again, stays_before, stays_later, waited_more, waits_more}
 
 -- A unit at a device with this relation, and with one that ends for this reason, if it does.
 abbrev pub ticked_at : Live → Option RelationState → Handled
@@ -72,11 +72,13 @@ unit_goes Goes outcomes station live link reason has ending goes =
 
 -- ---- before data is exchanged
 
-only_cyclic : (alarm high low ready cyclic : Bool) (highs lows readies inputs : List Sent) → alarm ≡ false → ready ≡ false
-    → where_due (alarm && high) highs ++ (where_due (alarm && low) lows ++ (where_due ready readies ++ where_due cyclic inputs)) ≡ where_due cyclic inputs
-only_cyclic false high low false cyclic highs lows readies inputs none unready = refl
-only_cyclic true high low ready cyclic highs lows readies inputs none unready = absurd cc
-only_cyclic false high low true cyclic highs lows readies inputs none unready = absurd cc
+only_cyclic : (alarm high low ready plug cyclic : Bool) (highs lows readies plugs inputs : List Sent) → alarm ≡ false → ready ≡ false → plug ≡ false
+    → where_due (alarm && high) highs
+    ++ (where_due (alarm && low) lows ++ (where_due ready readies ++ (where_due plug plugs ++ where_due cyclic inputs))) ≡ where_due cyclic inputs
+only_cyclic false high low false false cyclic highs lows readies plugs inputs none unready unplugged = refl
+only_cyclic true high low ready plug cyclic highs lows readies plugs inputs none unready unplugged = absurd cc
+only_cyclic false high low true plug cyclic highs lows readies plugs inputs none unready unplugged = absurd cc
+only_cyclic false high low false true cyclic highs lows readies plugs inputs none unready unplugged = absurd cc
 
 pub all_inputs : (serial : ℕ) (setup : Setup) (identity : Identity) (route : Route) (state : StationState) (inputs : Shown) (counter : ℕ) (due : Bool)
     → route ≡ inputs_route serial (request_for setup.plan setup.ar)
@@ -106,9 +108,10 @@ relation_unit serial setup identity outcomes station live phase taken last age s
     let counter = counter_of (units_after 1 live.rest.units) in
     let inputs = inputs_of counter (Some later.flow) in
     let address = live.values.running.suite.address in
-    let only = only_cyclic (tick_of link.flow).is_alarm (repeated_of link.flow).high (repeated_of link.flow).low (is_again link) (tick_of link.flow).is_cyclic
-    (alarms_of (Some later.flow)) (low_alarms_of (Some later.flow)) (ready_calls address (Some later)) inputs
-    (no_alarm link.flow before.calm) (not_again link phase age before.in_phase before.waited few) in
+    let only = only_cyclic (tick_of link.flow).is_alarm (repeated_of link.flow).high (repeated_of link.flow).low (is_again link) (is_plug_again link)
+    (tick_of link.flow).is_cyclic (alarms_of (Some later.flow)) (low_alarms_of (Some later.flow)) (ready_calls address (Some later))
+    (plug_calls address (Some later)) inputs (no_alarm link.flow before.calm) (not_again link phase age before.in_phase before.waited few)
+    (no_plug link (ap is_timed before.in_phase ∙ timed)) in
     unit_goes (λ (step : Stepped). AllByRecursion (IsInputs setup identity) step.frames × (step.live.values ≡ live.values)
     × HasRelation setup serial phase taken last (suc age) step.live) outcomes station live link None before.has
     (stays_before setup link phase age before.request before.in_phase timed before.active few) (

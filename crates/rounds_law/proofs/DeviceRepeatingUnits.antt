@@ -16,16 +16,16 @@ use Rattle.relations.specs.exchange.Units.{repeated_of, tick_of}
 use Rattle.relations.specs.Farewells.{farewell_of}
 use Rattle.relations.specs.Ready.{ready_of}
 use Rattle.relations.specs.RelationState.{RelationState, is_awaiting}
-use Rattle.relations.specs.Timers.{due_by, ending_of, inactive_later, is_again, is_timed, limit_of, unit_later, waited_later}
+use Rattle.relations.specs.Timers.{due_by, ending_of, inactive_later, is_again, is_plug_again, is_timed, limit_of, unit_later, waited_later}
 use Rattle.device_frames.specs.Heard.{Ticks}
-use Rattle.device_frames.specs.Relation.{alarms_of, due_frames, inputs_of, low_alarms_of, ready_calls, where_due}
+use Rattle.device_frames.specs.Relation.{alarms_of, due_frames, inputs_of, low_alarms_of, plug_calls, ready_calls, where_due}
 use Rattle.device_frames.specs.Sent.{Sent, bytes_of, farewell_frame, ready_frame}
 use Rattle.device_core.specs.State.{Live, Station, counter_of, units_after}
 use Rattle.device_core.specs.Machine.{Stepped, handled_step, heard_step}
 use Rattle.controller_messages.specs.declared.setup.Setup.{Setup}
 use Rattle.rounds_law.specs.Path.{HasRelation, IsAddressed, readied_frame}
 use Rattle.rounds_law.specs.Repeating.{AsksInTime, Awaits, completes, counts_on}
-use Rattle.rounds_law.proofs.DevicePassingTimers.{calm_later, no_alarm}
+use Rattle.rounds_law.proofs.DevicePassingTimers.{calm_later, no_alarm, no_plug}
 use Rattle.rounds_law.proofs.DevicePassingUnits.{all_inputs, unit_goes}
 
 -- ---- the activity timer
@@ -38,10 +38,12 @@ is_over limit inactive h = grind (arith, nat_tests)
 
 -- ---- what is sent
 
-no_alarms : (alarm high low ready : Bool) (highs lows readies inputs : List Sent) → alarm ≡ false
-    → where_due (alarm && high) highs ++ (where_due (alarm && low) lows ++ (where_due ready readies ++ inputs)) ≡ where_due ready readies ++ inputs
-no_alarms false high low ready highs lows readies inputs none = refl
-no_alarms true high low ready highs lows readies inputs none = absurd cc
+no_alarms : (alarm high low ready plug : Bool) (highs lows readies plugs inputs : List Sent) → alarm ≡ false → plug ≡ false
+    → where_due (alarm && high) highs ++ (where_due (alarm && low) lows ++ (where_due ready readies ++ (where_due plug plugs ++ inputs)))
+    ≡ where_due ready readies ++ inputs
+no_alarms false high low ready false highs lows readies plugs inputs none unplugged = refl
+no_alarms true high low ready plug highs lows readies plugs inputs none unplugged = absurd cc
+no_alarms false high low ready true highs lows readies plugs inputs none unplugged = absurd cc
 
 ready_first : (identity : Identity) (address octets : List ℕ) (link : RelationState) (again : Bool) (inputs : List Sent)
     → ready_frame identity address (ready_of link) ≡ octets
@@ -93,8 +95,9 @@ module _ (setup : Setup) (identity : Identity) (outcomes : List Outcome) (statio
   frames_are addressed =
       let address = live.values.running.suite.address in
       ap (λ (sent : List Sent). map (bytes_of identity) sent)
-      (no_alarms (tick_of link.flow).is_alarm (repeated_of link.flow).high (repeated_of link.flow).low (is_again link)
-      (alarms_of (Some later.flow)) (low_alarms_of (Some later.flow)) (ready_calls address (Some later)) inputs (no_alarm link.flow before.calm))
+      (no_alarms (tick_of link.flow).is_alarm (repeated_of link.flow).high (repeated_of link.flow).low (is_again link) (is_plug_again link)
+      (alarms_of (Some later.flow)) (low_alarms_of (Some later.flow)) (ready_calls address (Some later)) (plug_calls address (Some later)) inputs
+      (no_alarm link.flow before.calm) (no_plug link (ap is_timed before.in_phase)))
       ∙ (ready_first identity address (readied_frame setup identity) later (is_again link) inputs (ready_is addressed)
       ∙ ap (λ (again : Bool). (if again then readied_frame setup identity ∷ [] else []) ++ map (bytes_of identity) inputs) again_is)
 

@@ -1,4 +1,6 @@
 pub mod Choices
+pub mod PlanKept
+pub mod AnywherePlugs
 pub mod CompositionLaws
 pub mod CompositionLists
 pub mod CompositionEnds
@@ -23,6 +25,7 @@ pub mod WriteKept
 pub mod WriteTaken
 pub mod DeviceCallingSteps
 pub mod DeviceCallingBlocks
+pub mod AlarmOctets
 pub mod DeviceCallingReport
 pub mod DeviceCallingConnected
 pub mod DeviceCallingEnded

@@ -25,8 +25,9 @@ use Rattle.rounds_law.specs.Start.{CanStart}
 use Rattle.rounds_law.proofs.CompositionEnds.{addressed_by, passed}
 use Rattle.rounds_law.proofs.CompositionLaws.{Laws}
 use Rattle.rounds_law.proofs.CompositionLists.{arrive, keep, went_at}
-use Rattle.rounds_law.proofs.CompositionRounds.{confirming_leads, of_device_by, of_plan_by, open_at, writes, writing_leads}
+use Rattle.rounds_law.proofs.CompositionRounds.{confirming_leads, of_device_by, open_at, writes, writing_leads}
 use Rattle.rounds_law.proofs.MiddleLaws.{WaitLaws}
+use Rattle.rounds_law.proofs.PlanKept.{round_of_plan}
 
 -- The device, which waits, with its IP suite.
 pub record IsThere (setup : Setup) (serial : ℕ) (waited inactive : ℕ) (live : Live) : Type 0 where
@@ -108,7 +109,7 @@ module _ {F : Type 0} {S : ℕ} (as_flash : Flash F S) (setup : Setup) (identity
         serial = serial;
         device = record {
           of_device = of_device_by as_flash setup identity laws can net.device next.device device.same at.device.of_device;
-          of_plan = of_plan_by as_flash setup identity laws can net.device next.device device.same at.device.of_plan;
+          of_plan = round_of_plan as_flash laws.modules setup net next round at.device.of_plan;
           addressed = device.is.addressed;
         };
         taken = device.is.awaits.taken;
@@ -148,7 +149,7 @@ module _ {F : Type 0} {S : ℕ} (as_flash : Flash F S) (setup : Setup) (identity
         serial = serial;
         device = record {
           of_device = of_device_by as_flash setup identity laws can net.device next.device device.same at.device.of_device;
-          of_plan = of_plan_by as_flash setup identity laws can net.device next.device device.same at.device.of_plan;
+          of_plan = round_of_plan as_flash laws.modules setup net next round at.device.of_plan;
           addressed = device.is.addressed;
         };
         waited = 0;
@@ -184,7 +185,7 @@ module _ {F : Type 0} {S : ℕ} (as_flash : Flash F S) (setup : Setup) (identity
         serial = serial;
         device = record {
           of_device = of_device_by as_flash setup identity laws can net.device next.device device.same at.device.of_device;
-          of_plan = of_plan_by as_flash setup identity laws can net.device next.device device.same at.device.of_plan;
+          of_plan = round_of_plan as_flash laws.modules setup net next round at.device.of_plan;
           addressed = device.is.addressed;
         };
         inactive = at.inactive + 1;

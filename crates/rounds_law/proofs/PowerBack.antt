@@ -2,6 +2,7 @@
 use Rattle.std.proofs.Common.{◌≡◌, ◌⊎◌, ◌≤◌, inl, inr, ℕ, refl, ap, subst, sym, ◌∙◌}
 use Rattle.flash_model.specs.declared.flash.Flash.{Ghosts as Flash}
 use Rattle.pn_values.specs.declared.identity.Identity.{Identity}
+use Rattle.pn_values.specs.declared.real.Real.{Real}
 use Rattle.device_core.specs.Cycle.{IsStartedFrom, started}
 use Rattle.device_core.specs.State.{Live, State, Station}
 use Rattle.controller_messages.specs.declared.setup.Setup.{Setup}
@@ -15,7 +16,7 @@ module _ {F : Type 0} {S : ℕ} (as_flash : Flash F S) (setup next : Setup) (ide
     (can : CanLosePower as_flash setup next identity left plant)
     (is : IsStartedFrom as_flash plant.net.device.station plant.net.device.flash device) where
   -- Its state is that of a start with the settings of its flash.
-  state : device.live ≡ started can.settings can.room
+  state : device.live ≡ started plant.net.device.station.real can.settings can.room
   state = is.known can.settings can.room can.starts
 
   suite_by : (can.settings.suite ≡ setup.plan.station.suite) ⊎ (1 ≤ can.room) → IsAddressed setup device.live ⊎ CanBeAddressed device.live
@@ -35,7 +36,8 @@ module _ {F : Type 0} {S : ℕ} (as_flash : Flash F S) (setup next : Setup) (ide
     later = can.later;
     idle = can.idle;
     of_device = ap (λ (station : Station). station.identity) is.station_is ∙ can.of_device;
-    of_plan = subst (λ (station : Station). IsOfPlan setup station) (sym is.station_is) can.of_plan;
+    of_plan = subst (λ (station : Station). IsOfPlan setup station device.live.rest.real) (sym is.station_is)
+        (subst (λ (r : Real). IsOfPlan setup plant.net.device.station r) (sym (ap (λ (live : Live). live.rest.real) state)) can.of_plan);
     named = record { name = ap (λ (live : Live). live.values.running.name) state ∙ can.named };
     sized = subst (λ (live : Live). IsSized live.values.running.suite) (sym state) can.sized;
     addressed = suite_by can.addressed;

@@ -12,9 +12,9 @@ use Rattle.rounds_law.specs.Rounds.{IsReliable}
 module _ {F : Type 0} {S : ℕ} {T : Type 0} (as_flash : Flash F S) (before after : State F) where
   pub started_from : (result : Result T BootFault) (Cause : BootFault → Type 0)
       → OnOk result (StartsWith (as_flash.image before.flash) after.live.values.stored after.live.values.room)
-      → OnOk result (after.live ≡ started after.live.values.stored after.live.values.room) → after.station ≡ before.station
+      → OnOk result (after.live ≡ started before.station.real after.live.values.stored after.live.values.room) → after.station ≡ before.station
       → ((settings : Settings) (room : ℕ) → StartsWith (as_flash.image before.flash) settings room
-      → MatchResult result (λ _. after.live ≡ started settings room) (λ fault. fault ≡ FlashFault))
+      → MatchResult result (λ _. after.live ≡ started before.station.real settings room) (λ fault. fault ≡ FlashFault))
       → as_flash.image after.flash ≡ as_flash.image before.flash → as_flash.asked before.flash [] after.flash
       → MatchResult result (λ _. as_flash.failures after.flash ≡ as_flash.failures before.flash) Cause
       → OnOk result (IsStartedFrom as_flash before.station before.flash after)
@@ -29,7 +29,7 @@ module _ {F : Type 0} {S : ℕ} {T : Type 0} (as_flash : Flash F S) (before afte
   }
   started_from (Err fault) Cause starts fresh station known same calls cause = tt
 
-  pub starts_again : (result : Result T BootFault) → OnOk result (after.live ≡ started after.live.values.stored after.live.values.room)
+  pub starts_again : (result : Result T BootFault) → OnOk result (after.live ≡ started before.station.real after.live.values.stored after.live.values.room)
       → as_flash.is_reliable after.flash × IfErr result (λ fault. fault ≡ Foreign) → IfErr result (λ fault. fault ≡ FlashFault)
       → IsOk result × IsReliable as_flash after
   starts_again (Ok done) fresh reliable left = (search rules, record { flash = reliable.0; unfailed = ap (λ (live : Live). live.values.has_failed) fresh })

@@ -159,7 +159,7 @@ module _ (read : AreBlocksRead) (long : AreBlocksLong) (setup : Setup) (identity
     (few : length setup.plan.records.items ≤ 32)
     (fits : AreFit setup.plan.real setup.plan.records.items) (has_address : is_zero setup.plan.station.suite.address ≡ false)
     (number : ℕ) (below : number < write_count setup.plan) (headed : IsHeader (call_for setup (asks.Write number)).header)
-    (outcomes : List Outcome) (station : Station) (live : Live) (age : ℕ) (own : station.identity ≡ identity) (plugged : station.real ≡ setup.plan.real)
+    (outcomes : List Outcome) (station : Station) (live : Live) (age : ℕ) (own : station.identity ≡ identity) (plugged : live.rest.real ≡ setup.plan.real)
     (addressed : IsAddressed setup live)
     (serial : ℕ) (relation : HasRelation setup serial Started (map taken_for (take (first_of setup.plan number) setup.plan.records.items)) number age live) where
   abbrev plan : Parts
@@ -212,7 +212,7 @@ module _ (read : AreBlocksRead) (long : AreBlocksLong) (setup : Setup) (identity
       ∙ (ap (λ (operation : Option Operation). handled_call station live caller call operation) write_operation
       ∙ (ap (λ (l : Looked). handled_looked station live caller call (writing_blocks setup number) writes l) is_new
       ∙ ap (λ (w : Result Writing CallFault). handled_write station live caller call w)
-      (ap (λ (standing : Option (List ℕ)). writing_of standing station.real (writing_blocks setup number)) named
+      (ap (λ (standing : Option (List ℕ)). writing_of standing live.rest.real (writing_blocks setup number)) named
       ∙ (ap (λ (real : Real). writing_of (Some setup.ar) real (writing_blocks setup number)) plugged ∙ e))))
 
   -- ---- its records
@@ -291,7 +291,7 @@ module _ (read : AreBlocksRead) (long : AreBlocksLong) (setup : Setup) (identity
       ∙ each_is read long setup wide number small plan.real entries ten its) in
       let judged : handled_write station live caller call (Ok (Each header (listed setup number entries)))
       ≡ WritesEach caller live.values.running.suite.address call header (judged_well setup number entries) =
-      ap (λ (standing : Option (List ℕ)). handled_each standing station.real header (listed setup number entries)) named
+      ap (λ (standing : Option (List ℕ)). handled_each standing live.rest.real header (listed setup number entries)) named
       ∙ (ap (λ (real : Real). handled_each (Some setup.ar) real header (listed setup number entries)) plugged
       ∙ ap (λ (each : List Judged). WritesEach caller live.values.running.suite.address call header each)
       (judged_is read long setup wide number small plan.real entries its)) in

@@ -158,7 +158,7 @@ pub record IsAbandoned {F : Type 0} (setup next : Setup) (identity : Identity) (
   pub later : plant.later ≡ next ∷ more
   pub idle : plant.idle ≡ 0
   pub of_device : plant.net.device.station.identity ≡ identity
-  pub of_plan : IsOfPlan setup plant.net.device.station
+  pub of_plan : IsOfPlan setup plant.net.device.station plant.net.device.live.rest.real
   pub named : IsNamed setup plant.net.device.live
   pub sized : IsSized plant.net.device.live.values.running.suite
   pub addressed : IsAddressed setup plant.net.device.live ⊎ CanBeAddressed plant.net.device.live

@@ -28,6 +28,7 @@ use Rattle.controller_core.specs.declared.stored.state.Cause.TheVariants.{DataHo
 use Rattle.controller_core.specs.stored.State.{Controlling}
 use Rattle.controller_core.specs.Machine.{Stepped, first as first_live, opening_of}
 use Rattle.network_world.specs.World.{is_ended}
+use Rattle.end_laws.specs.device.Orderly.{AreNumbered}
 use Rattle.both_ends.specs.startup.request.Request.{request_for}
 use Rattle.both_ends.specs.startup.answer.Answer.{caller_of}
 use Rattle.rounds_law.specs.Path.{IsAddressed, IsIgnored, IsNamed, IsOutputs, IsSized, route_to}
@@ -43,7 +44,7 @@ units_left link =
     if is_timed link.phase then limit_of link - link.inactive else link.flow.cyclic.hearing.limit - link.flow.cyclic.hearing.held
 
 -- The device has the relation of an earlier start of this controller, of any number, with another ARUUID. If the controller is silent, the relation ends
--- after at most this many units.
+-- after at most this many units. The numbers of its calls for plugs have their sizes.
 pub record HasEarlier (setup : Setup) (left : ℕ) (live : Live) : Type 0 where
   pub link : RelationState
   pub has : live.rest.link ≡ Some link
@@ -56,6 +57,7 @@ pub record HasEarlier (setup : Setup) (left : ℕ) (live : Live) : Type 0 where
   pub few : serial < 14336
   pub route : link.flow.cyclic.route ≡ inputs_route serial (request_for setup.plan ar)
   pub begun : link.flow.cyclic.begun ≡ (if is_timed link.phase then false else true)
+  pub called : AreNumbered link.plugs.calls
   pub time : units_left link ≤ left
 
 -- ---- the frames of a device that refuses
@@ -184,7 +186,7 @@ pub record IsRestart {F : Type 0} (setup next : Setup) (identity : Identity) (le
   pub more : List Setup
   pub later : plant.later ≡ next ∷ more
   pub of_device : plant.net.device.station.identity ≡ identity
-  pub of_plan : IsOfPlan setup plant.net.device.station
+  pub of_plan : IsOfPlan setup plant.net.device.station plant.net.device.live.rest.real
   pub named : IsNamed setup plant.net.device.live
   pub sized : IsSized plant.net.device.live.values.running.suite
   pub addressed : IsAddressed setup plant.net.device.live ⊎ CanBeAddressed plant.net.device.live
@@ -204,7 +206,7 @@ pub record IsDeserted {F : Type 0} (setup next : Setup) (identity : Identity) (l
   pub later : plant.later ≡ next ∷ more
   pub idle : plant.idle ≡ 0
   pub of_device : plant.net.device.station.identity ≡ identity
-  pub of_plan : IsOfPlan setup plant.net.device.station
+  pub of_plan : IsOfPlan setup plant.net.device.station plant.net.device.live.rest.real
   pub named : IsNamed setup plant.net.device.live
   pub sized : IsSized plant.net.device.live.values.running.suite
   pub addressed : IsAddressed setup plant.net.device.live ⊎ CanBeAddressed plant.net.device.live

@@ -23,6 +23,7 @@ use Rattle.controller_core.specs.start_up.Answers.{is_answer}
 use Rattle.controller_core.specs.declared.stored.state.State.TheVariants.{Exchanging}
 use Rattle.controller_core.specs.stored.State.{Controlling}
 use Rattle.network_world.specs.World.{is_ended}
+use Rattle.end_laws.specs.device.Orderly.{AreNumbered}
 use Rattle.end_laws.specs.hearing.Stations.{IsCaller}
 use Rattle.end_laws.specs.turns.Runs.{IsReached}
 use Rattle.end_laws.specs.turns.Turns.{chosen_in}
@@ -35,13 +36,15 @@ use Rattle.rounds_law.specs.Again.{Plant, PlantRound, units_left}
 -- ---- the device
 
 -- A relation of anybody: its data hold time runs while data is exchanged, and neither that nor its activity time has more units than these. So
--- it ends after at most that many if its controller is silent. Its identifiers have their sizes, and its inputs have a FrameID of cyclic data.
+-- it ends after at most that many if its controller is silent. Its identifiers and the numbers of its calls for plugs have their sizes, and its
+-- inputs have a FrameID of cyclic data.
 pub record Lasts (silence : ℕ) (link : RelationState) : Type 0 where
   pub runs : is_timed link.phase ≡ false → link.flow.cyclic.begun ≡ true
   pub active : limit_of link ≤ silence
   pub holds : link.flow.cyclic.hearing.limit ≤ silence
   pub named : IsUuid link.request.ar.uuid
   pub object : IsUuid link.request.ar.object
+  pub called : AreNumbered link.plugs.calls
   pub inputs : is_cyclic link.flow.cyclic.route.sent_id ≡ true
 
 -- The relation of the device, if it has one, lasts at most this long without its controller.
@@ -78,7 +81,7 @@ StoresForOther setup next live = (kept : Kept) → kept_of setup.activity live.r
 -- the next start.
 pub record IsAnyDevice (setup next : Setup) (identity : Identity) (silence : ℕ) (station : Station) (live : Live) : Type 0 where
   pub of_device : station.identity ≡ identity
-  pub of_plan : IsOfPlan setup station
+  pub of_plan : IsOfPlan setup station live.rest.real
   pub named : IsNamed setup live
   pub sized : IsSized live.values.running.suite
   pub addressed : IsAddressed setup live ⊎ CanBeAddressed live

@@ -71,7 +71,7 @@ pub record IsBeginning {F : Type 0} {S : ℕ} (as_flash : Flash F S) (setup : Se
   pub opened : past.by_controller ≡ opening_of (made setup) ∷ []
   pub silent : past.by_device ≡ []
   pub of_device : past.device.station.identity ≡ identity
-  pub of_plan : IsOfPlan setup past.device.station
+  pub of_plan : IsOfPlan setup past.device.station past.device.live.rest.real
   pub flash : F
   pub stored : HasStored as_flash setup flash
   pub starts : IsStartedFrom as_flash past.device.station flash past.device

@@ -74,6 +74,6 @@ pub record IsAskingAgain {F : Type 0} (setup : Setup) (identity : Identity) (sta
   pub nothing : net.to_device ≡ []
   pub ignored : AllByRecursion (IsIgnored setup) net.to_controller
   pub of_device : net.device.station.identity ≡ identity
-  pub of_plan : IsOfPlan setup net.device.station
+  pub of_plan : IsOfPlan setup net.device.station net.device.live.rest.real
   pub free : IsFree setup net.device.live
   pub ready : IsReadyFor stage setup net.device.live

@@ -128,4 +128,4 @@ pub record ConnectsToOther {F : Type 0} (setup : Setup) (identity : Identity) (n
   pub interval : AcceptsInterval net.device.station.options setup.plan
   pub addressed : IsAddressed setup net.device.live
   pub free : IsFree setup net.device.live
-  pub differs : Differs setup identity (number_now net.device.station net.device.live) net.device.station.real
+  pub differs : Differs setup identity (number_now net.device.station net.device.live) net.device.live.rest.real

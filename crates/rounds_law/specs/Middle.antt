@@ -41,7 +41,7 @@ waiting_limit waited = until_ready waited + 2
 -- The device is the one of the plan, and uses the plan's IP suite.
 pub record HasDevice {F : Type 0} (setup : Setup) (identity : Identity) (net : Net F) : Type 0 where
   pub of_device : net.device.station.identity ≡ identity
-  pub of_plan : IsOfPlan setup net.device.station
+  pub of_plan : IsOfPlan setup net.device.station net.device.live.rest.real
   pub addressed : IsAddressed setup net.device.live
 
 -- This frame is under way to the device, with outputs of the relation of this number at most after it.

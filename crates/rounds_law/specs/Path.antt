@@ -156,7 +156,7 @@ pub record IsInputs (setup : Setup) (identity : Identity) (octets : List ℕ) : 
   pub counter : ℕ
   pub frame : octets ≡ device_bytes identity (device_exchanges (inputs_route serial (request_for setup.plan setup.ar)) (Inputs state inputs counter))
 
--- An alarm of low priority that reports a diagnosis, in the plan's relation, of any number.
+-- An alarm of low priority, which reports a diagnosis, a pull or a plug, in the plan's relation, of any number.
 pub record IsReport (setup : Setup) (identity : Identity) (octets : List ℕ) : Type 0 where
   pub serial : ℕ
   pub tag : ℕ

@@ -23,7 +23,7 @@ pub record CanLosePower {F : Type 0} {S : ℕ} (as_flash : Flash F S) (setup nex
   pub later : plant.later ≡ next ∷ more
   pub idle : plant.idle ≡ 0
   pub of_device : plant.net.device.station.identity ≡ identity
-  pub of_plan : IsOfPlan setup plant.net.device.station
+  pub of_plan : IsOfPlan setup plant.net.device.station plant.net.device.station.real
   pub settings : Settings
   pub room : ℕ
   pub starts : StartsWith (as_flash.image plant.net.device.flash) settings room

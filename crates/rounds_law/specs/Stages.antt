@@ -25,7 +25,7 @@ pub record IsLooking {F : Type 0} (setup : Setup) (identity : Identity) (net : N
   pub opened : net.to_device ≡ opening_of net.controller ∷ []
   pub ignored : AllByRecursion (IsIgnored setup) net.to_controller
   pub of_device : net.device.station.identity ≡ identity
-  pub of_plan : IsOfPlan setup net.device.station
+  pub of_plan : IsOfPlan setup net.device.station net.device.live.rest.real
   pub named : IsNamed setup net.device.live
   pub free : IsFree setup net.device.live
   pub sized : IsSized net.device.live.values.running.suite
@@ -38,7 +38,7 @@ pub record IsAddressing {F : Type 0} (setup : Setup) (identity : Identity) (net 
   pub under_way : net.to_device ≡ request_to setup identity Address ∷ []
   pub ignored : AllByRecursion (IsIgnored setup) net.to_controller
   pub of_device : net.device.station.identity ≡ identity
-  pub of_plan : IsOfPlan setup net.device.station
+  pub of_plan : IsOfPlan setup net.device.station net.device.live.rest.real
   pub named : IsNamed setup net.device.live
   pub free : IsFree setup net.device.live
   pub can : CanBeAddressed net.device.live
@@ -50,6 +50,6 @@ pub record IsConnecting {F : Type 0} (setup : Setup) (identity : Identity) (net 
   pub under_way : net.to_device ≡ request_to setup identity Connect ∷ []
   pub ignored : AllByRecursion (IsIgnored setup) net.to_controller
   pub of_device : net.device.station.identity ≡ identity
-  pub of_plan : IsOfPlan setup net.device.station
+  pub of_plan : IsOfPlan setup net.device.station net.device.live.rest.real
   pub addressed : IsAddressed setup net.device.live
   pub free : IsFree setup net.device.live

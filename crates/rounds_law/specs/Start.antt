@@ -30,12 +30,12 @@ IsPatient plan options = (options.patience ≡ 0) ⊎ (write_count plan + 3 ≤ 
 abbrev pub HoldsLong : Parts → Type 0
 HoldsLong plan = 4 ≤ plan.times.data_hold_factor * (plan.times.send_clock_factor * plan.times.reduction_ratio)
 
--- The device is the one of the plan: it has the plan's VendorID, DeviceID and modules, accepts the plan's interval, and sends
--- ApplicationReady without its application.
-pub record IsOfPlan (setup : Setup) (station : Station) : Type 0 where
+-- The device is the one of the plan: it has the plan's VendorID and DeviceID, and these modules are the plan's; it accepts the plan's
+-- interval, and sends ApplicationReady without its application.
+pub record IsOfPlan (setup : Setup) (station : Station) (real : Real) : Type 0 where
   pub vendor : station.identity.vendor_id ≡ setup.plan.station.vendor_id
   pub device : station.identity.device_id ≡ setup.plan.station.device_id
-  pub plugged : station.real ≡ setup.plan.real
+  pub plugged : real ≡ setup.plan.real
   pub interval : AcceptsInterval station.options setup.plan
   pub ready : station.options.ready_by_application ≡ false
 
@@ -60,7 +60,7 @@ pub record IsStart {F : Type 0} (setup : Setup) (identity : Identity) (net : Net
   pub opened : net.to_device ≡ opening_of net.controller ∷ []
   pub silent : net.to_controller ≡ []
   pub of_device : net.device.station.identity ≡ identity
-  pub of_plan : IsOfPlan setup net.device.station
+  pub of_plan : IsOfPlan setup net.device.station net.device.live.rest.real
   pub named : IsNamed setup net.device.live
   pub free : IsFree setup net.device.live
   pub sized : IsSized net.device.live.values.running.suite

@@ -28,12 +28,13 @@ pub use again::both_ends_come_back_after_any_pause;
 use block_codec::blocks_are_read;
 use both_ends::connect_is_taken;
 use controller_messages::Setup;
+use device_core::only_pulls_and_plugs_change_modules;
 use end_laws::{
     answers_are_heard, calls_are_heard, calls_can_be_sent, confirmations_are_heard,
     controller_goes_on, datagrams_alone_are_calls, device_turns, ended_is_kept, ends_are_heard,
-    inputs_are_heard, no_state_outlasts_its_patience, packets_are_heard, ready_answers_are_heard,
-    ready_calls_are_heard, requests_are_heard, responses_are_heard, stations_are_real,
-    turns_are_of_a_kind,
+    inputs_are_heard, no_state_outlasts_its_patience, packets_are_heard, plug_calls_are_heard,
+    ready_answers_are_heard, ready_calls_are_heard, requests_are_heard, responses_are_heard,
+    stations_are_real, turns_are_of_a_kind,
 };
 use flash_model::Flash;
 use frame_codec::frames_are_read;
@@ -89,13 +90,14 @@ pub fn both_ends_come_back_from_anywhere<F: Flash<S>, const S: usize>(
         → IsAnyDevice setup.now next.now identity.now silence after.station after.live × AllByRecursion (ChoosesWell setup.now) frames)
         × ((octets : List ℕ) → Goes F.Flash before (heard_of before.station.identity (comes octets)) frames after → IsOwn setup.now IsAnything octets
         → IsAnyDevice setup.now next.now identity.now silence after.station after.live × AllByRecursion (ChoosesWell setup.now) frames) }
-    // If the device loses its power and starts again from its flash, both ends are in any state again, and so the law holds. If no relation of
-    // an earlier start was in the way, none is then.
+    // If the device, which was given the plan's modules, loses its power and starts again from its flash, both ends are in any state again,
+    // and so the law holds. If no relation of an earlier start was in the way, none is then.
     ensures powered { (silence : ℕ) (plant : Plant F) (device : State F) → IsAnywhere setup.now next.now identity.now silence plant
-        → HasStored F.Flash setup.now plant.net.device.flash → IsStartedFrom F.Flash plant.net.device.station plant.net.device.flash device
+        → plant.net.device.station.real ≡ setup.now.plan.real → HasStored F.Flash setup.now plant.net.device.flash → IsStartedFrom F.Flash plant.net.device.station plant.net.device.flash device
         → IsAnywhere setup.now next.now identity.now silence (powered device plant)
         × (IsOfThisStart setup.now plant.net → IsOfThisStart setup.now (powered device plant).net) }
 {
+    only_pulls_and_plugs_change_modules();
     both_ends_start::<F, S>(next, identity);
     stations_are_real(setup, identity);
     stations_are_real(next, identity);
@@ -118,6 +120,7 @@ pub fn both_ends_come_back_from_anywhere<F: Flash<S>, const S: usize>(
     calls_are_heard();
     responses_are_heard();
     ready_calls_are_heard();
+    plug_calls_are_heard();
     ready_answers_are_heard();
     confirmations_are_heard();
     inputs_are_heard();

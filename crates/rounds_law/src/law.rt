@@ -14,6 +14,7 @@ use crate::device::{
     device_answers_the_search, device_goes_on_in_time, device_takes_calls, device_takes_writes,
 };
 use controller_messages::Setup;
+use device_core::only_pulls_and_plugs_change_modules;
 use flash_model::Flash;
 use pn_values::Identity;
 
@@ -34,6 +35,7 @@ pub fn both_ends_start<F: Flash<S>, const S: usize>(setup: &Setup, identity: &Id
     ensures repeated { CanStart setup.now identity.now → (stage : Stage) (net : Net F) → IsAskingAgain setup.now identity.now stage net
         → Leads F.Flash (32000 - net.controller.live.waited + stage_limit setup.now.plan stage) net }
 {
+    only_pulls_and_plugs_change_modules();
     controller_asks_again(setup);
     device_answers_the_search(setup, identity);
     device_takes_calls(setup, identity);

@@ -2,5 +2,6 @@ pub mod Ascii
 mod Cut
 mod Identifiers
 mod Places
+mod Sorting
 pub mod Hex
 pub mod Decimals

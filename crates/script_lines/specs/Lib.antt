@@ -3,4 +3,5 @@ pub mod Line
 pub mod Read
 pub mod Text
 pub mod Show
+pub mod Expected
 pub mod Reports

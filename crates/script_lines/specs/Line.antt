@@ -1,12 +1,14 @@
 -- The lines of a script, and the commands in them.
 use Rattle.std.specs.Prelude.{◌≡◌, ◌==◌, ◌||◌, ◌&&◌, take, drop, ℕ, zero, suc, Bool, true, false, nat_lt, nat_eq, List, [], ◌∷◌, length, slice_index, if◌then◌else◌, codes, Option, Some, None, Result, Ok, Err}
 use Rattle.std.specs.List.{slice_split, list_any}
-use Rattle.std.specs.Option.{option_map}
+use Rattle.std.specs.Option.{option_map, option_copied}
 use Rattle.std.specs.Cmp.Lexicographic.{pointwise}
 use Rattle.hex.specs.Hex.{decode_of}
 use Rattle.uuid.specs.Text.{parsed}
 use Rattle.flash_model.specs.declared.flash.Order.{Order}
 use Rattle.flash_model.specs.declared.flash.Order.TheVariants.{Cut, Fault}
+use Rattle.pn_values.specs.declared.real.ParameterRecord.{ParameterRecord}
+use Rattle.pn_values.specs.declared.real.RealSubmodule.{RealSubmodule}
 use Rattle.script_lines.specs.Numbers.{number_of, repeated}
 use Rattle.hex.specs.declared.error.FromHexError.{FromHexError}
 use Rattle.script_lines.specs.declared.command.Choice.{Choice}
@@ -21,7 +23,9 @@ use Rattle.script_lines.specs.declared.command.Words.TheVariants.{One, Two, Thre
 -- a plan, start a controller with this ARUUID and activity UUID at the other end, set an output of the controller or say
 -- whether it is good, end the relation, show the diagnoses that the controller knows of, or the alarms that it accepted, read
 -- the record with this index of the submodule in a slot and subslot, write these octets to it, show what the last of these
--- requests was answered with, hand over the frames that wait, start the services beside the device.
+-- requests was answered with, hand over the frames that wait, start the services beside the device; say that the application
+-- is ready for the plug in a slot and subslot, pull the submodule there, pull the module in a slot, plug this submodule into a
+-- slot with a module of this ident number, or show how far each submodule is that the Connect of the relation expects.
 pub data Command : Type 0 where
   Frame : (bytes : List ℕ) → Command
   Restart : Command
@@ -49,6 +53,11 @@ pub data Command : Type 0 where
   Reply : Command
   Deliver : Command
   Serve : Command
+  ReadyAt : (slot : ℕ) → (subslot : ℕ) → Command
+  Pull : (slot : ℕ) → (subslot : ℕ) → Command
+  PullModule : (slot : ℕ) → Command
+  Plug : (slot : ℕ) → (module_ident : ℕ) → (submodule : RealSubmodule) → Command
+  Expected : Command
 
 -- The meaning of a line: too long or not ASCII, empty or a comment, a command, or none of these.
 pub data Line : Type 0 where
@@ -76,8 +85,8 @@ AreWords line (Five first second third fourth fifth) =
     words_of line ≡ first.now ∷ second.now ∷ third.now ∷ fourth.now ∷ fifth.now ∷ []
 AreWords line (Six first second third fourth fifth sixth) =
     words_of line ≡ first.now ∷ second.now ∷ third.now ∷ fourth.now ∷ fifth.now ∷ sixth.now ∷ []
-AreWords line More = (first second third fourth fifth sixth seventh : List ℕ) × (more : List (List ℕ))
-    × (words_of line ≡ first ∷ second ∷ third ∷ fourth ∷ fifth ∷ sixth ∷ seventh ∷ more)
+AreWords line (More first second third fourth fifth sixth seventh rest) =
+    words_of line ≡ first.now ∷ second.now ∷ third.now ∷ fourth.now ∷ fifth.now ∷ sixth.now ∷ seventh.now ∷ behind 32 (option_copied rest)
 
 -- A word is this text.
 abbrev pub is_text : List ℕ → List ℕ → Bool
@@ -106,7 +115,8 @@ bare word =
     if is_text word (codes "restart") then Some Restart
     else (if is_text word (codes "show") then Some Show
     else (if is_text word (codes "due") then Some Due
-    else (if is_text word (codes "ready") then Some Ready else bare_of_both word)))
+    else (if is_text word (codes "ready") then Some Ready
+    else (if is_text word (codes "expected") then Some Expected else bare_of_both word))))
 
 -- Units of time, at least one.
 abbrev pub units_of : Option ℕ → Option ℕ
@@ -124,7 +134,8 @@ with_one word first =
     if is_text word (codes "frame") then option_map Frame (bytes_of first)
     else (if is_text word (codes "tick") then option_map Tick (units_of (number_of 1000000 first))
     else (if is_text word (codes "elapse") then option_map Elapse (units_of (number_of 1000000 first))
-    else (if is_text word (codes "services") then services_of first else None)))
+    else (if is_text word (codes "services") then services_of first
+    else (if is_text word (codes "pull") then option_map PullModule (number_of 65535 first) else None))))
 
 -- The mask of decoded bytes.
 abbrev pub mask_of : Result (List ℕ) FromHexError → Option (List ℕ)
@@ -163,18 +174,20 @@ choice_of name value =
     else (if is_text name (codes "ready") then option_map ReadyLater (one_of (codes "on") (codes "off") value)
     else (if is_text name (codes "interval") then option_map Interval (units_of (number_of 65536 value)) else None))
 
--- The command that shows what the controller says of the output in a slot and subslot.
-abbrev pub provider_of : Option ℕ → Option ℕ → Option Command
-provider_of None subslot = None
-provider_of (Some slot) subslot = option_map (Provider slot) subslot
+-- A command for a slot and subslot, if both are valid.
+abbrev pub at_place : (ℕ → ℕ → Command) → Option ℕ → Option ℕ → Option Command
+at_place command None subslot = None
+at_place command (Some slot) subslot = option_map (command slot) subslot
 
 -- The command of a line with two words after it.
 abbrev pub with_two : List ℕ → List ℕ → List ℕ → Option Command
 with_two word first second =
     if is_text word (codes "start") then start_of (parsed first) (parsed second)
     else (if is_text word (codes "option") then option_map Choose (choice_of first second)
-    else (if is_text word (codes "provider") then provider_of (number_of 65535 first) (number_of 65535 second)
-    else ordered word (strike_of (number_of 4294967295 first) (mask_of (decode_of second)))))
+    else (if is_text word (codes "provider") then at_place Provider (number_of 65535 first) (number_of 65535 second)
+    else (if is_text word (codes "pull") then at_place Pull (number_of 65535 first) (number_of 65535 second)
+    else (if is_text word (codes "ready") then at_place ReadyAt (number_of 65535 first) (number_of 65535 second)
+    else ordered word (strike_of (number_of 4294967295 first) (mask_of (decode_of second)))))))
 
 -- The command of a word with a slot, a subslot and bytes.
 abbrev pub targeted : List ℕ → ℕ → ℕ → Option (List ℕ) → Option Command
@@ -228,6 +241,51 @@ with_five word first second third fourth fifth =
     (one_of (codes "appears") (codes "disappears") fifth)
     else None
 
+-- A parameter record, if its index and its length are valid.
+abbrev pub record_with : Option ℕ → Option ℕ → Option ParameterRecord
+record_with (Some index) (Some size) = Some (record { index = index; length = size })
+record_with (Some index) None = None
+record_with None size = None
+
+-- The parameter record that two words spell.
+abbrev pub record_of : List ℕ → List ℕ → Option ParameterRecord
+record_of index size = record_with (number_of 65535 index) (number_of 65535 size)
+
+-- Two records, if both are valid.
+abbrev pub both_of : Option ParameterRecord → Option ParameterRecord → Option (List ParameterRecord)
+both_of (Some one) (Some other) = Some (one ∷ other ∷ [])
+both_of (Some one) None = None
+both_of None other = None
+
+-- The parameter records of a submodule: none, one or two, each an index and a length.
+abbrev pub records_of : List (List ℕ) → Option (List ParameterRecord)
+records_of [] = Some []
+records_of (index ∷ []) = None
+records_of (index ∷ size ∷ []) = option_map (λ one. one ∷ []) (record_of index size)
+records_of (index ∷ size ∷ other ∷ []) = None
+records_of (index ∷ size ∷ other ∷ other_size ∷ []) = both_of (record_of index size) (record_of other other_size)
+records_of (index ∷ size ∷ other ∷ other_size ∷ further ∷ more) = None
+
+-- The command that plugs a submodule, of its slot, subslot, module, ident, octets of input and of output, and parameter records.
+abbrev pub plug_of : Option ℕ → Option ℕ → Option ℕ → Option ℕ → Option ℕ → Option ℕ → Option (List ParameterRecord) → Option Command
+plug_of (Some slot) (Some subslot) (Some module_ident) (Some ident) (Some input) (Some output) (Some parameters) =
+    Some (Plug slot module_ident (record { subslot = subslot; ident = ident; input = input; output = output; parameters = record { items = parameters } }))
+plug_of (Some slot) (Some subslot) (Some module_ident) (Some ident) (Some input) (Some output) None = None
+plug_of (Some slot) (Some subslot) (Some module_ident) (Some ident) (Some input) None parameters = None
+plug_of (Some slot) (Some subslot) (Some module_ident) (Some ident) None output parameters = None
+plug_of (Some slot) (Some subslot) (Some module_ident) None input output parameters = None
+plug_of (Some slot) (Some subslot) None ident input output parameters = None
+plug_of (Some slot) None module_ident ident input output parameters = None
+plug_of None subslot module_ident ident input output parameters = None
+
+-- The command of a line with six words after it, and with more of them: up to two parameter records.
+abbrev pub with_more : List ℕ → List ℕ → List ℕ → List ℕ → List ℕ → List ℕ → List ℕ → List (List ℕ) → Option Command
+with_more word first second third fourth fifth sixth more =
+    if is_text word (codes "plug")
+    then plug_of (number_of 65535 first) (number_of 65535 second) (number_of 4294967295 third) (number_of 4294967295 fourth) (number_of 65535 fifth)
+    (number_of 65535 sixth) (records_of more)
+    else None
+
 -- The command that some words spell.
 abbrev pub command_of : List (List ℕ) → Option Command
 command_of [] = None
@@ -237,7 +295,7 @@ command_of (word ∷ first ∷ second ∷ []) = with_two word first second
 command_of (word ∷ first ∷ second ∷ third ∷ []) = with_three word first second third
 command_of (word ∷ first ∷ second ∷ third ∷ fourth ∷ []) = with_four word first second third fourth
 command_of (word ∷ first ∷ second ∷ third ∷ fourth ∷ fifth ∷ []) = with_five word first second third fourth fifth
-command_of (word ∷ first ∷ second ∷ third ∷ fourth ∷ fifth ∷ sixth ∷ more) = None
+command_of (word ∷ first ∷ second ∷ third ∷ fourth ∷ fifth ∷ sixth ∷ more) = with_more word first second third fourth fifth sixth more
 
 -- Longer than 65,536 bytes, or not ASCII.
 abbrev pub is_unfit : List ℕ → Bool

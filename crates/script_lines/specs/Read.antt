@@ -3,7 +3,7 @@ use Rattle.script_lines.specs.declared.command.Command.{Command as Code}
 use Rattle.script_lines.specs.declared.command.Command.TheVariants as code
 use Rattle.script_lines.specs.declared.command.Line.{Line as CodeLine}
 use Rattle.script_lines.specs.declared.command.Line.TheVariants as line
-use Rattle.script_lines.specs.Line.{Command, Frame, Restart, Tick, Elapse, Show, Due, Choose, Ready, Arm, Input, Alarm, Status, Diagnosis, Provider, Config, Start, Give, OutputStatus, Stop, Stands, Told, Read, Write, Reply, Deliver, Serve, Line, Unfit, Skipped, Asks, Unknown}
+use Rattle.script_lines.specs.Line.{Command, Frame, Restart, Tick, Elapse, Show, Due, Choose, Ready, Arm, Input, Alarm, Status, Diagnosis, Provider, Config, Start, Give, OutputStatus, Stop, Stands, Told, Read, Write, Reply, Deliver, Serve, ReadyAt, Pull, PullModule, Plug, Expected, Line, Unfit, Skipped, Asks, Unknown}
 
 -- What the functions return is this command.
 abbrev pub command_read : Code → Command
@@ -33,6 +33,11 @@ command_read (code.Write slot subslot index octets) = Write slot subslot index o
 command_read code.Reply = Reply
 command_read code.Deliver = Deliver
 command_read code.Serve = Serve
+command_read (code.ReadyAt slot subslot) = ReadyAt slot subslot
+command_read (code.Pull slot subslot) = Pull slot subslot
+command_read (code.PullModule slot) = PullModule slot
+command_read (code.Plug slot module_ident submodule) = Plug slot module_ident submodule
+command_read code.Expected = Expected
 
 -- What the functions return is this line.
 abbrev pub line_read : CodeLine → Line

@@ -6,14 +6,17 @@ ghost use Rattle.std.specs.Str.Lines.{lines, strip_carriage_return};
 ghost use Rattle.hex.specs.Hex.{decode_of};
 ghost use Rattle.uuid.specs.Text.{parsed};
 ghost use Rattle.script_lines.specs.Line.{behind, AreWords, bytes_of, catalogue_in, command_in, command_of, meaning_of, words_of, bare};
-ghost use Rattle.script_lines.specs.Line.{bare_of_both, with_one, with_two, with_five, with_four, with_three, ordered, start_of, units_of, mask_of, strike_of};
-ghost use Rattle.script_lines.specs.Line.{Choose, Elapse, OutputStatus, Read, Status, Tick, choice_of, one_of, provider_of, services_of, targeted};
+ghost use Rattle.script_lines.specs.Line.{bare_of_both, with_one, with_two, with_five, with_four, with_more, with_three, ordered, start_of, units_of, mask_of, strike_of};
+ghost use Rattle.script_lines.specs.Line.{Choose, Elapse, OutputStatus, Provider, Pull, PullModule, Read, ReadyAt, Status, Tick};
+ghost use Rattle.script_lines.specs.Line.{at_place, choice_of, one_of, record_of, records_of, services_of, targeted};
 ghost use Rattle.script_lines.specs.Numbers.{number_of};
 ghost use Rattle.script_lines.specs.Read.{command_read, line_read};
 
 use crate::{digits, numbers};
+use arrayvec::ArrayVec;
 use flash_model::Order;
 use memchr::memchr;
+use pn_values::{ParameterRecord, RealSubmodule};
 use std::alloc::AllocError;
 use uuid::Uuid;
 
@@ -27,7 +30,7 @@ const MOST_UNITS: u32 = 1_000_000;
 const LONGEST_INTERVAL: u32 = 65_536;
 
 /// A command of a script.
-#[derive(Clone, Copy)]
+#[derive(Drop)]
 pub enum Command<'a> {
     /// Hands these bytes to the device, as if from the network.
     Frame(&'a [u8]),
@@ -45,6 +48,16 @@ pub enum Command<'a> {
     Choose(Choice),
     /// The device's application says that its parameters are checked and its data is valid.
     Ready,
+    /// The same for the plug in this slot and subslot.
+    ReadyAt(u16, u16),
+    /// Pulls the submodule in this slot and subslot.
+    Pull(u16, u16),
+    /// Pulls the module in this slot with all its submodules.
+    PullModule(u16),
+    /// Plugs this submodule into this slot, with a module of this ident number if the slot is empty.
+    Plug(u16, u32, RealSubmodule),
+    /// Shows how far each submodule is that the Connect of the device's relation expects.
+    Expected,
     /// Orders the flash to fail at a later call.
     Arm(Order),
     /// A diagnosis of the submodule in this slot and subslot, of this channel and error, appears or disappears.
@@ -95,7 +108,7 @@ pub enum Choice {
 }
 
 /// The meaning of a line.
-#[derive(Clone, Copy)]
+#[derive(Drop)]
 pub enum Line<'a> {
     /// Too long, or not ASCII.
     Unfit,
@@ -115,8 +128,8 @@ enum Words<'a> {
     Four(&'a [u8], &'a [u8], &'a [u8], &'a [u8]),
     Five(&'a [u8], &'a [u8], &'a [u8], &'a [u8], &'a [u8]),
     Six(&'a [u8], &'a [u8], &'a [u8], &'a [u8], &'a [u8], &'a [u8]),
-    /// More words than any line has.
-    More,
+    /// The first seven, and what follows them, if anything does.
+    More(&'a [u8], &'a [u8], &'a [u8], &'a [u8], &'a [u8], &'a [u8], &'a [u8], Option<&'a [u8]>),
 }
 
 /// The bytes up to the first separator, and the bytes after it if there is one.
@@ -189,10 +202,11 @@ fn words_in(line: &[u8]) -> Words<'_>
         return Words::Five(first, second, third, fourth, fifth);
     };
     let (sixth, rest) = cut_at(rest, b' ');
-    match rest {
-        None => Words::Six(first, second, third, fourth, fifth, sixth),
-        Some(_) => Words::More,
-    }
+    let Some(rest) = rest else {
+        return Words::Six(first, second, third, fourth, fifth, sixth);
+    };
+    let (seventh, rest) = cut_at(rest, b' ');
+    Words::More(first, second, third, fourth, fifth, sixth, seventh, rest)
 }
 
 /// The meaning of a line. `buffer` holds the bytes that the line spells. Fails if there is no memory.
@@ -271,7 +285,9 @@ fn asked_by<'a>(
         Words::Six(word, first, second, third, fourth, fifth) => {
             Ok(with_five(word, first, second, third, fourth, fifth))
         }
-        Words::More => Ok(None),
+        Words::More(word, first, second, third, fourth, fifth, sixth, rest) => Ok(with_more(
+            word, first, second, third, fourth, fifth, sixth, rest,
+        )),
     }
 }
 
@@ -286,6 +302,8 @@ fn bare(word: &[u8]) -> Option<Command<'static>>
         Some(Command::Due)
     } else if word == b"ready".as_slice() {
         Some(Command::Ready)
+    } else if word == b"expected".as_slice() {
+        Some(Command::Expected)
     } else {
         bare_of_both(word)
     }
@@ -325,6 +343,8 @@ fn with_one<'a>(
         Ok(elapse(first))
     } else if word == b"services".as_slice() {
         Ok(services(first))
+    } else if word == b"pull".as_slice() {
+        Ok(pull_module(first))
     } else {
         Ok(None)
     }
@@ -381,6 +401,10 @@ fn with_two(
         Ok(choose(first, second))
     } else if word == b"provider".as_slice() {
         Ok(provider(first, second))
+    } else if word == b"pull".as_slice() {
+        Ok(pull(first, second))
+    } else if word == b"ready".as_slice() {
+        Ok(ready_at(first, second))
     } else {
         ordered(word, first, second, buffer)
     }
@@ -437,11 +461,37 @@ fn quality(word: &[u8]) -> Option<bool>
 
 /// The command that shows what the controller says of an output.
 fn provider(first: &[u8], second: &[u8]) -> Option<Command<'static>>
-    ensures { option_map command_read result ≡ provider_of (number_of 65535 first.now) (number_of 65535 second.now) }
+    ensures { option_map command_read result ≡ at_place Provider (number_of 65535 first.now) (number_of 65535 second.now) }
 {
     let slot = place_number(first)?;
     let subslot = place_number(second)?;
     Some(Command::Provider(slot, subslot))
+}
+
+/// The command that pulls the submodule in this slot and subslot.
+fn pull(first: &[u8], second: &[u8]) -> Option<Command<'static>>
+    ensures { option_map command_read result ≡ at_place Pull (number_of 65535 first.now) (number_of 65535 second.now) }
+{
+    let slot = place_number(first)?;
+    let subslot = place_number(second)?;
+    Some(Command::Pull(slot, subslot))
+}
+
+/// The command that pulls the module in this slot.
+fn pull_module(digits: &[u8]) -> Option<Command<'static>>
+    ensures { option_map command_read result ≡ option_map PullModule (number_of 65535 digits.now) }
+{
+    let slot = place_number(digits)?;
+    Some(Command::PullModule(slot))
+}
+
+/// The command that says that the application is ready for the plug in this slot and subslot.
+fn ready_at(first: &[u8], second: &[u8]) -> Option<Command<'static>>
+    ensures { option_map command_read result ≡ at_place ReadyAt (number_of 65535 first.now) (number_of 65535 second.now) }
+{
+    let slot = place_number(first)?;
+    let subslot = place_number(second)?;
+    Some(Command::ReadyAt(slot, subslot))
 }
 
 /// The command that starts a controller with this ARUUID and this activity UUID.
@@ -558,6 +608,75 @@ fn with_five(
     let error = place_number(fourth)?;
     let appears = appearance(fifth)?;
     Some(Command::Diagnosis(slot, subslot, channel, error, appears))
+}
+
+/// The command of a word and six others, with what follows them: a submodule that is plugged.
+fn with_more(
+    word: &[u8],
+    first: &[u8],
+    second: &[u8],
+    third: &[u8],
+    fourth: &[u8],
+    fifth: &[u8],
+    sixth: &[u8],
+    rest: Option<&[u8]>,
+) -> Option<Command<'static>>
+    ensures { option_map command_read result
+        ≡ with_more word.now first.now second.now third.now fourth.now fifth.now sixth.now (behind 32 (option_copied rest.entry)) }
+{
+    if word != b"plug".as_slice() {
+        return None;
+    }
+    let slot = place_number(first)?;
+    let subslot = place_number(second)?;
+    let module_ident = numbers::decimal(third, u32::MAX)?;
+    let ident = numbers::decimal(fourth, u32::MAX)?;
+    let input = place_number(fifth)?;
+    let output = place_number(sixth)?;
+    let parameters = records_in(rest)?;
+    let submodule = RealSubmodule {
+        subslot,
+        ident,
+        input,
+        output,
+        parameters,
+    };
+    Some(Command::Plug(slot, module_ident, submodule))
+}
+
+/// The parameter records of a submodule: at most two, each an index and a length.
+fn records_in(rest: Option<&[u8]>) -> Option<ArrayVec<ParameterRecord, 2>>
+    ensures { option_map (λ records. records.items) result ≡ records_of (behind 32 (option_copied rest.entry)) }
+{
+    let mut records = ArrayVec::new();
+    let Some(rest) = rest else {
+        return Some(records);
+    };
+    match words_in(rest) {
+        Words::Two(index, length) => {
+            records.push(record_of(index, length)?);
+            Some(records)
+        }
+        Words::Four(index, length, other_index, other_length) => {
+            records.push(record_of(index, length)?);
+            records.push(record_of(other_index, other_length)?);
+            Some(records)
+        }
+        Words::One(_)
+        | Words::Three(_, _, _)
+        | Words::Five(_, _, _, _, _)
+        | Words::Six(_, _, _, _, _, _)
+        | Words::More(_, _, _, _, _, _, _, _) => None,
+    }
+}
+
+/// The parameter record with this index and this length.
+fn record_of(index: &[u8], length: &[u8]) -> Option<ParameterRecord>
+    ensures { result ≡ record_of index.now length.now }
+{
+    let index = place_number(index)?;
+    let length = place_number(length)?;
+    Some(ParameterRecord { index, length })
 }
 
 /// Whether a diagnosis appears or disappears.

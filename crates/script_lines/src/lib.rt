@@ -3,6 +3,7 @@
 
 mod command;
 mod digits;
+pub mod expected;
 mod numbers;
 pub mod render;
 pub mod reports;

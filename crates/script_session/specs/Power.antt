@@ -6,6 +6,7 @@ use Rattle.flash_model.specs.Asked.{IsAsked}
 use Rattle.flash_model.specs.Calls.{Arms}
 use Rattle.flash_model.specs.Fate.{against_writes}
 use Rattle.flash_model.specs.Memory.{armed_in, image_of, failures_of, is_powerless, IsReliable}
+use Rattle.pn_values.specs.demo.Demo.{demo_real}
 use Rattle.settings_journal.specs.Commit.{HasBootCause}
 use Rattle.settings_journal.specs.Image.{StartsWith, IsForeign, LeftByDevice}
 use Rattle.settings_journal.specs.declared.journal.BootFault.{BootFault}
@@ -60,7 +61,7 @@ IsSameFlash old new = (image_of new ≡ image_of old) × (against_writes (armed_
 -- holds of the flash. The reason Foreign means that no journal of this layout left the flash.
 abbrev pub IsOver : DeviceOptions → Bool → MemoryFlash 4096 → Power → Type 0
 IsOver options serves flash (On device) =
-    (device.station ≡ demo_device options) × (device.live ≡ started device.live.values.stored device.live.values.room)
+    (device.station ≡ demo_device options) × (device.live ≡ started demo_real device.live.values.stored device.live.values.room)
     × (device.services ≡ services_at serves device.station device.live.values.running) × StartsWith (image_of device.flash) device.live.values.stored device.live.values.room × IsSameFlash flash device.flash
 IsOver options serves flash (Off fault left) =
     HasBootCause fault (failures_of flash) (failures_of left) × (fault ≡ Foreign → IsForeign (image_of left)) × IsSameFlash flash left

@@ -1,5 +1,5 @@
 -- The effect of a line: a command to the demo device, whose flash never fails, or to the other end.
-use Rattle.std.specs.Prelude.{ℕ, Bool, true, false, ◌&&◌, nat_le, List, [], ◌++◌, codes, length, replicate, take, if◌then◌else◌, Option, Some, None}
+use Rattle.std.specs.Prelude.{ℕ, Bool, true, false, ◌&&◌, nat_le, List, [], ◌++◌, codes, length, option_map, replicate, take, if◌then◌else◌, Option, Some, None}
 use Rattle.arrayvec.specs.ArrayVec.{ArrayVec}
 use Rattle.pn_values.specs.Settings.{factory_settings}
 use Rattle.pn_values.specs.declared.settings.Settings.{Settings}
@@ -22,18 +22,20 @@ use Rattle.controller_core.specs.Machine.{step_of as controller_step}
 use Rattle.controller_core.specs.stored.State.{Controlling}
 use Rattle.controller_messages.specs.Access.{record_of}
 use Rattle.controller_messages.specs.RecordRequests.{most_record_octets}
+use Rattle.pn_values.specs.demo.Demo.{demo_real}
 use Rattle.script_session.specs.Demo.{demo_device}
 use Rattle.script_session.specs.Ends.{Station, Turned, due_of, serving, services_at, station_step, Other, Network, DeviceRun, with_ends, arrived_at, chosen, cleared, device_run, frames_for_device, may_request, nobody, printed_for, ticked_by, with_fresh, with_plan, with_run, with_sent}
 use Rattle.station.specs.Serving.{Serving}
-use Rattle.script_lines.specs.Line.{Command, Frame, Restart, Tick, Elapse, Show, Due, Choose, Ready, Arm, Input, Alarm, Status, Diagnosis, Provider, Config, Start, Give, OutputStatus, Stop, Stands, Told, Read, Write, Reply, Deliver, Serve, Line, Unfit, Skipped, Asks, Unknown}
+use Rattle.script_lines.specs.Line.{Command, Frame, Restart, Tick, Elapse, Show, Due, Choose, Ready, Arm, Input, Alarm, Status, Diagnosis, Provider, Config, Start, Give, OutputStatus, Stop, Stands, Told, Read, Write, Reply, Deliver, Serve, ReadyAt, Pull, PullModule, Plug, Expected, Line, Unfit, Skipped, Asks, Unknown}
 use Rattle.script_lines.specs.declared.command.Choice.{Choice}
+use Rattle.script_lines.specs.Expected.{expected_shown}
 use Rattle.script_lines.specs.Show.{shown, outputs_shown, controller_shown, diagnoses_shown, due_line, provider_line}
 use Rattle.script_lines.specs.Reports.{reply_line, told_shown}
 use Rattle.script_lines.specs.Text.{boot_line, moved_line, note_line, printed}
 
 -- The demo device, started with these options from these settings, with services that begin with it or without any.
 abbrev pub demo_started : DeviceOptions → Bool → Settings → ℕ → Station
-demo_started options serves settings room = record { device = demo_device options; live = started settings room; services = services_at serves (demo_device options) settings }
+demo_started options serves settings room = record { device = demo_device options; live = started demo_real settings room; services = services_at serves (demo_device options) settings }
 
 -- Services beside the device, if there are none yet.
 abbrev pub served : Option Serving → Station → Station
@@ -89,7 +91,7 @@ show_answer network =
     record {
       network = network;
       text = shown live.values.running live.values.stored (phase_of live.rest.link) live.rest.lamp
-          ++ (outputs_shown network.station.device.real live.rest.link ++ controller_shown network.other.controller);
+          ++ (outputs_shown live.rest.real live.rest.link ++ controller_shown network.other.controller);
     }
 
 -- The number of units up to and including the next one with which something happens at the station.
@@ -99,6 +101,10 @@ due_answer network = record { network = network; text = due_line (due_of network
 -- What the controller says of the output of a submodule in its last accepted frame.
 abbrev pub provider_answer : Network → ℕ → ℕ → Answer
 provider_answer network slot subslot = record { network = network; text = provider_line slot subslot (provider_in slot subslot network.station.live.rest.link) }
+
+-- How far each submodule is that the Connect of the relation expects.
+abbrev pub expected_answer : Network → Answer
+expected_answer network = record { network = network; text = expected_shown (option_map (λ link. link.plugs.places) network.station.live.rest.link) }
 
 -- An option is set for the device's next start; nothing is printed.
 abbrev pub choose_answer : Network → Choice → Answer
@@ -226,6 +232,11 @@ said plans network Reply = reply_outcome network network.other.controller
 said plans network Stop = heard_outcome network heard.Stop network.other.controller
 said plans network Deliver = deliver_outcome network network.other.controller
 said plans network Serve = Answers (serve_answer network)
+said plans network (ReadyAt slot subslot) = Answers (local_answer network (local.ReadyAt slot subslot))
+said plans network (Pull slot subslot) = Answers (local_answer network (local.Pull slot subslot))
+said plans network (PullModule slot) = Answers (local_answer network (local.PullModule slot))
+said plans network (Plug slot module_ident submodule) = Answers (local_answer network (local.Plug slot module_ident submodule))
+said plans network Expected = Answers (expected_answer network)
 
 -- The outcome of a line.
 abbrev pub outcome_of : (List ℕ → Option Parts) → Network → Line → Outcome
@@ -262,6 +273,11 @@ arms (Write slot subslot index octets) = false
 arms Reply = false
 arms Deliver = false
 arms Serve = false
+arms (ReadyAt slot subslot) = false
+arms (Pull slot subslot) = false
+arms (PullModule slot) = false
+arms (Plug slot module_ident submodule) = false
+arms Expected = false
 
 -- A line that orders a failure of the flash.
 abbrev pub is_order : Line → Bool

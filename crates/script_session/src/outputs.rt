@@ -9,7 +9,7 @@ use std::alloc::AllocError;
 
 /// The outputs of the submodules that have one.
 pub(crate) fn outputs(device: &DemoDevice<'_>, text: &mut Vec<u8>) -> Result<(), AllocError>
-    ensures { OnOk result (text.new.items ≡ text.old.items ++ outputs_shown device.now.station.real device.now.live.rest.link) }
+    ensures { OnOk result (text.new.items ≡ text.old.items ++ outputs_shown device.now.live.rest.real device.now.live.rest.link) }
 {
     for entry in device.real().modules.as_slice() {
         module_outputs(device, entry, text)?;
@@ -23,7 +23,7 @@ fn module_outputs(
     entry: &RealModule,
     text: &mut Vec<u8>,
 ) -> Result<(), AllocError>
-    ensures { OnOk result (text.new.items ≡ text.old.items ++ module_shown device.now.station.real device.now.live.rest.link entry.now) }
+    ensures { OnOk result (text.new.items ≡ text.old.items ++ module_shown device.now.live.rest.real device.now.live.rest.link entry.now) }
 {
     for part in entry.submodules.as_slice() {
         part_output(device, entry.slot, part, text)?;
@@ -38,7 +38,7 @@ fn part_output(
     part: &RealSubmodule,
     text: &mut Vec<u8>,
 ) -> Result<(), AllocError>
-    ensures { OnOk result (text.new.items ≡ text.old.items ++ part_shown device.now.station.real device.now.live.rest.link slot part.now) }
+    ensures { OnOk result (text.new.items ≡ text.old.items ++ part_shown device.now.live.rest.real device.now.live.rest.link slot part.now) }
 {
     if part.output == 0 {
         return Ok(());

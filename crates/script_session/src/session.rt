@@ -20,7 +20,7 @@ use controller_core::{Event as ControllerEvent, MOST_RECORD_OCTETS};
 use device_core::{Event, Local, Note, Octets};
 use flash_model::{Flash, Lent, MemoryFlash, Order};
 use frame_codec::Bytes;
-use script_lines::{Command, Line, meaning, render, show};
+use script_lines::{Command, Line, expected, meaning, render, show};
 use station::StationOutbox;
 use std::alloc::{AllocError, Global};
 use std::marker::Model;
@@ -31,6 +31,7 @@ use wire::at_most;
 /// A run between two lines: the device, the other end, and the frames of one step of the device. In clauses it is both ends.
 #[derive(Drop)]
 pub struct Session<'a> {
+    alloc: Global,
     power: Power<'a>,
     other: OtherEnd,
     outbox: StationOutbox,
@@ -55,7 +56,7 @@ impl<'a> Session<'a> {
     ghost use Rattle.script_session.specs.Ends.{IsRightFor, cleared, nobody};
     ghost use Rattle.script_session.specs.Said.{arms, config_outcome, deliver_answer, deliver_outcome, factory_device};
     ghost use Rattle.script_session.specs.Said.{heard_outcome, is_order, outcome_of, restart_answer, said, serve_answer, show_answer, stands_outcome, start_outcome};
-    ghost use Rattle.script_session.specs.Said.{due_answer, fits_record, provider_answer, record_outcome, reply_outcome, tick_answer, told_outcome};
+    ghost use Rattle.script_session.specs.Said.{due_answer, expected_answer, fits_record, provider_answer, record_outcome, reply_outcome, tick_answer, told_outcome};
     ghost use Rattle.script_session.specs.Power.{IsArmed, IsBack, is_off, refusal_of};
     ghost use Rattle.script_session.specs.Session.{Are, AreRightFor, Comes, Obeys};
     ghost use Rattle.script_session.specs.Off.{Delivers, GivesBack, Leaves, LeavesBy, Orders, TakesOff, TakesOrder, hands, is_handed};
@@ -68,6 +69,7 @@ impl<'a> Session<'a> {
     {
         let other = OtherEnd::new(alloc);
         Session {
+            alloc,
             power: Power::start(other.options(), false, Lent::new(flash)),
             other,
             outbox: StationOutbox::new(),
@@ -161,6 +163,15 @@ impl<'a> Session<'a> {
                 always(Ok(()))
             }
             Command::Ready => always(self.say(Local::Ready, text)),
+            Command::ReadyAt(slot, subslot) => {
+                always(self.say(Local::ReadyAt(slot, subslot), text))
+            }
+            Command::Pull(slot, subslot) => always(self.say(Local::Pull(slot, subslot), text)),
+            Command::PullModule(slot) => always(self.say(Local::PullModule(slot), text)),
+            Command::Plug(slot, ident, submodule) => {
+                always(self.say(Local::Plug(slot, ident, submodule), text))
+            }
+            Command::Expected => always(self.expected(text)),
             Command::Diagnosis(slot, subslot, channel, error, appears) => {
                 let change = Local::Diagnosis(slot, subslot, channel, error, appears);
                 always(self.say(change, text))
@@ -228,6 +239,17 @@ impl<'a> Session<'a> {
             &mut self.other,
             text,
         )
+    }
+
+    /// Shows how far each submodule is that the Connect of the device's relation expects.
+    fn expected(&self, text: &mut Vec<u8>) -> Result<(), AllocError>
+        ensures { (network : Network) → Are network self.now →
+            OnOk result (IsObeyed (expected_answer network) self.now text.old.items text.new.items) }
+    {
+        match &self.power {
+            Power::On(demo) => expected::expected(self.alloc, demo.device().expected(), text),
+            Power::Off(_, _) | Power::Away => text.extend_from_slice(b"off\n"),
+        }
     }
 
     /// Switches the device's power off and on again. The frames that wait are lost.

@@ -35,6 +35,7 @@ use Rattle.end_laws.specs.turns.Alarms.{last_of}
 use Rattle.both_ends.specs.startup.Played.{AreMeant, Begins, CanMeet}
 use Rattle.both_ends.specs.exchange.Over.{raised_over, raised_with, taken_by, taken_from, taken_in, taken_over, taken_with}
 use Rattle.both_ends.specs.exchange.Sized.{AreSizedModules}
+use Rattle.both_ends.specs.exchange.Told.{AreSizedMoves}
 use Rattle.both_ends.proofs.ExchangeLaw.{DeviceSo, FollowsAt, first_follows, in_at, one_follows}
 use Rattle.both_ends.proofs.ExchangeMessages.{HearsSo}
 use Rattle.both_ends.proofs.ExchangeRelated.{IsRight, responded_right}
@@ -160,7 +161,7 @@ module _ {F : Type 0} where
         let sent_is : sent_with before after ≡ map (device_bytes station.identity) step.sent =
         ap (drop (length before.sent)) happens.hears.behind ∙ (dropped before.sent happens.hears.frames ∙ (steps.frames ∙ frames_of_device steps.outcomes station live heard)) in
         record {
-          raised = device_turn station.identity station.real.modules.items live.rest.link slot subslot octets step.live.rest.link step.sent (so.raises steps.outcomes station live slot subslot octets.items) steps.sendable
+          raised = device_turn station.identity live.rest.real.modules.items live.rest.link slot subslot octets step.live.rest.link step.sent (so.raises steps.outcomes station live slot subslot octets.items) steps.sendable
               ∙ sym (ap (raised_by (Some (move.Application (local.Alarm slot subslot octets)))) sent_is);
           accepted = refl;
           kept = tt;
@@ -176,11 +177,11 @@ module _ {F : Type 0} where
     pub kept : AllByRecursion IsKept (taken_over High first run)
 
   run_read : (sound : IsSoundWhole layers) (so : DeviceSo) (hears : HearsSo) {S : ℕ} (as_flash : Flash F S) (w : World F) (raised taken : List AlarmNotification) → FollowsAt High w raised taken
-      → (run : List (Move × World F)) → AreMade as_flash w run → AreMeant w run → IsRunRead w run
-  run_read sound so hears as_flash w raised taken follows [] made meant = record { raised = refl; accepted = refl; kept = tt }
-  run_read sound so hears as_flash w raised taken follows (one ∷ run) made meant =
+      → (run : List (Move × World F)) → AreMade as_flash w run → AreSizedMoves run → AreMeant w run → IsRunRead w run
+  run_read sound so hears as_flash w raised taken follows [] made sized meant = record { raised = refl; accepted = refl; kept = tt }
+  run_read sound so hears as_flash w raised taken follows (one ∷ run) made sized meant =
       let here = move_read sound so hears as_flash w one.1 raised taken follows one.0 made.0 in
-      let later = run_read sound so hears as_flash one.1 _ _ (one_follows High so hears as_flash w one.1 raised taken follows one.0 made.0 meant.0) run made.1 meant.1 in
+      let later = run_read sound so hears as_flash one.1 _ _ (one_follows High so hears as_flash w one.1 raised taken follows one.0 made.0 meant.0 sized.0) run made.1 sized.1 meant.1 in
       record {
         raised = map-append raise_of (raised_with w one.0) (raised_over one.1 run) ∙ both_lists _ _ _ _ here.raised later.raised;
         accepted = both_lists _ _ _ _ here.accepted later.accepted;
@@ -189,9 +190,10 @@ module _ {F : Type 0} where
 
   -- The frames of a run from the start are read.
   pub reads : (sound : IsSoundWhole layers) (so : DeviceSo) (hears : HearsSo) (setup : Setup) (identity : Identity) → IsSetup setup → CanMeet setup identity → {S : ℕ} (as_flash : Flash F S) (first : World F)
-      → Begins setup identity first → AreSizedModules first.device.station.real.modules.items → (run : List (Move × World F)) → AreMade as_flash first run → AreMeant first run → IsRunRead first run
-  reads sound so hears setup identity good can as_flash first begins real run made meant =
-      run_read sound so hears as_flash first [] [] (first_follows High so hears setup identity good can first begins real) run made meant
+      → Begins setup identity first → AreSizedModules first.device.live.rest.real.modules.items → (run : List (Move × World F)) → AreMade as_flash first run
+      → AreSizedMoves run → AreMeant first run → IsRunRead first run
+  reads sound so hears setup identity good can as_flash first begins real run made sized meant =
+      run_read sound so hears as_flash first [] [] (first_follows High so hears setup identity good can first begins real) run made sized meant
 
   -- ---- the law
 
@@ -200,45 +202,50 @@ module _ {F : Type 0} where
     record IsUpTo (first : World F) (front : List Entry) (entry : Entry) : Type 0 where
       run : List (Move × World F)
       made : AreMade as_flash first run
+      sized : AreSizedMoves run
       same : entries_of first run ≡ front
       alarm : entry.alarm ≡ (last_world first run).controller.live.alarm
 
-    moves_to : (first : World F) (run : List (Move × World F)) (before after : List Entry) (entry : Entry) → AreMade as_flash first run → entries_of first run ≡ before ++ entry ∷ after
+    moves_to : (first : World F) (run : List (Move × World F)) (before after : List Entry) (entry : Entry) → AreMade as_flash first run → AreSizedMoves run
+        → entries_of first run ≡ before ++ entry ∷ after
         → IsUpTo first (before ++ entry ∷ []) entry
-    moves_to first [] [] after entry made e = absurd cc
-    moves_to first [] (other ∷ before) after entry made e = absurd cc
-    moves_to first (one ∷ run) [] after entry made e =
+    moves_to first [] [] after entry made sized e = absurd cc
+    moves_to first [] (other ∷ before) after entry made sized e = absurd cc
+    moves_to first (one ∷ run) [] after entry made sized e =
         let same : entry_by first one.0 one.1 ≡ entry = cc in
-        record { run = one ∷ []; made = (made.0, tt); same = ap (λ (x : Entry). x ∷ []) same; alarm = sym (ap (λ (x : Entry). x.alarm) same) }
-    moves_to first (one ∷ run) (other ∷ before) after entry made e =
+        record { run = one ∷ []; made = (made.0, tt); sized = (sized.0, tt); same = ap (λ (x : Entry). x ∷ []) same; alarm = sym (ap (λ (x : Entry). x.alarm) same) }
+    moves_to first (one ∷ run) (other ∷ before) after entry made sized e =
         let same : entry_by first one.0 one.1 ≡ other = cc in
-        let it = moves_to one.1 run before after entry made.1 (let f : entries_of one.1 run ≡ before ++ entry ∷ after = cc in f) in
-        record { run = one ∷ it.run; made = (made.0, it.made); same = ap (λ (x : Entry). x ∷ entries_of one.1 it.run) same ∙ ap (λ (l : List Entry). other ∷ l) it.same; alarm = it.alarm }
+        let it = moves_to one.1 run before after entry made.1 sized.1 (let f : entries_of one.1 run ≡ before ++ entry ∷ after = cc in f) in
+        record { run = one ∷ it.run; made = (made.0, it.made); sized = (sized.0, it.sized); same = ap (λ (x : Entry). x ∷ entries_of one.1 it.run) same ∙ ap (λ (l : List Entry). other ∷ l) it.same; alarm = it.alarm }
 
     -- The same with the first entry, which belongs to no move.
     record IsAt (first : World F) (front : List Entry) (entry : Entry) : Type 0 where
       run : List (Move × World F)
       made : AreMade as_flash first run
+      sized : AreSizedMoves run
       same : opening_entry first ∷ entries_of first run ≡ front
       alarm : entry.alarm ≡ (last_world first run).controller.live.alarm
 
-    up_to : (first : World F) (run : List (Move × World F)) (before after : List Entry) (entry : Entry) → AreMade as_flash first run → opening_entry first ∷ entries_of first run ≡ before ++ entry ∷ after
+    up_to : (first : World F) (run : List (Move × World F)) (before after : List Entry) (entry : Entry) → AreMade as_flash first run → AreSizedMoves run
+        → opening_entry first ∷ entries_of first run ≡ before ++ entry ∷ after
         → IsAt first (before ++ entry ∷ []) entry
-    up_to first run [] after entry made e =
+    up_to first run [] after entry made sized e =
         let same : opening_entry first ≡ entry = cc in
-        record { run = []; made = tt; same = ap (λ (x : Entry). x ∷ []) same; alarm = sym (ap (λ (x : Entry). x.alarm) same) }
-    up_to first run (other ∷ before) after entry made e =
+        record { run = []; made = tt; sized = tt; same = ap (λ (x : Entry). x ∷ []) same; alarm = sym (ap (λ (x : Entry). x.alarm) same) }
+    up_to first run (other ∷ before) after entry made sized e =
         let same : opening_entry first ≡ other = cc in
-        let it = moves_to first run before after entry made (let f : entries_of first run ≡ before ++ entry ∷ after = cc in f) in
-        record { run = it.run; made = it.made; same = ap (λ (x : Entry). x ∷ entries_of first it.run) same ∙ ap (λ (l : List Entry). other ∷ l) it.same; alarm = it.alarm }
+        let it = moves_to first run before after entry made sized (let f : entries_of first run ≡ before ++ entry ∷ after = cc in f) in
+        record { run = it.run; made = it.made; sized = it.sized; same = ap (λ (x : Entry). x ∷ entries_of first it.run) same ∙ ap (λ (l : List Entry). other ∷ l) it.same; alarm = it.alarm }
 
-    pub alarms_taken : (first : World F) (run : List (Move × World F)) → AreMade as_flash first run → ((some : List (Move × World F)) → AreMade as_flash first some → IsRunRead first some)
+    pub alarms_taken : (first : World F) (run : List (Move × World F)) → AreMade as_flash first run → AreSizedMoves run
+        → ((some : List (Move × World F)) → AreMade as_flash first some → AreSizedMoves some → IsRunRead first some)
         → (length (raised_over first run) ≤ 32768 → IsPrefixOf (taken_over High first run) (raised_over first run))
         → (length (raised_over first run) ≤ 32768 → length (raised_over first run) ≤ length (taken_over High first run) + 1)
-        → ((some : List (Move × World F)) → AreMade as_flash first some → (last_world first some).controller.live.alarm ≡ last_of (taken_over High first some))
+        → ((some : List (Move × World F)) → AreMade as_flash first some → AreSizedMoves some → (last_world first some).controller.live.alarm ≡ last_of (taken_over High first some))
         → AreAlarmsTaken (opening_entry first ∷ entries_of first run)
-    alarms_taken first run made read front last shows =
-        let it = read run made in
+    alarms_taken first run made sized read front last shows =
+        let it = read run made sized in
         let entries = entries_of first run in
         let count : length (raises_in entries) ≡ length (raised_over first run) = ap length (sym it.raised) ∙ length-map (raised_over first run) raise_of in
         record {
@@ -250,9 +257,9 @@ module _ {F : Type 0} where
               );
           last = λ few. omega (arith, count, last (subst (λ n. n ≤ 32768) count few), ap length it.accepted);
           shown = λ before after entry e.
-              let some = up_to first run before after entry made e in
-              let so_far = read some.run some.made in
-              some.alarm ∙ (shows some.run some.made ∙ (last_same (taken_over High first some.run) so_far.kept ∙ ap (λ (l : List AlarmNotification). last_in l) (so_far.accepted ∙ ap acceptances_in some.same)));
+              let some = up_to first run before after entry made sized e in
+              let so_far = read some.run some.made some.sized in
+              some.alarm ∙ (shows some.run some.made some.sized ∙ (last_same (taken_over High first some.run) so_far.kept ∙ ap (λ (l : List AlarmNotification). last_in l) (so_far.accepted ∙ ap acceptances_in some.same)));
         }
 
 -- Before anything was learned.

@@ -105,7 +105,7 @@ pub record Laws : Type 0 where
   pub undone : AreNotDone
   pub calls_read : AreCallsRead
   pub turn : (rules : small.Rules TakenRecord Request) (activity : List ℕ) (outcomes : List Outcome) (station : Station) (live : Live) (heard : Heard)
-      → IsPlanned rules activity station.real heard → DeviceTurn station live heard (heard_step outcomes station live heard).live.rest (heard_step outcomes station live heard).sent
+      → IsPlanned rules activity live.rest.real heard → DeviceTurn station live heard (heard_step outcomes station live heard).live.rest (heard_step outcomes station live heard).sent
   pub kinds : (setup : Setup) (live : ControllerLive) (event : Event) → IsTurn setup live (controller_came setup event) (turn_of setup live event)
   pub handed : (rules : small.Rules TakenRecord Request) → IsHandedBy rules
 
@@ -199,13 +199,13 @@ module _ (laws : Laws) {F : Type 0} (first : World F) where
           let meant = meant_at_device so goes now can holds in_step plans heard known in
           let sendable = made.hears.steps.sendable in
           let does = (laws.turn (rules_at now) setup.activity outcomes station live heard meant.planned).does in
-          let steps = goes.device_on (rules_at now) setup.activity outcomes station live heard meant.planned (meant.sent outcomes sendable) in
+          let steps = goes.device_on (rules_at now) setup.activity outcomes station live heard holds.orderly meant.planned (meant.sent outcomes sendable) in
           let owed = goes.owed (rules_at now) setup.activity outcomes station live heard meant.planned in
-          let met = all_met so setup station can.setup_is can.device_is can.apart heard live (heard_step outcomes station live heard).sent known plans owed sendable in
+          let met = all_met so setup station can.setup_is can.device_is can.apart heard live (heard_step outcomes station live heard).sent known plans holds.orderly owed sendable in
           let ready = messages_ready so laws.calls_read setup station can.setup_is can.device_is can.apart heard live known plans (λ answer is. (it.fine answer is).1)
           (heard_step outcomes station live heard).sent owed met sendable in
           let point = device_point laws.undone so.block_read so.block_long setup station fit can.device_is strict (laws.handed (rules_at now)) (view_of first) begins run turns
-          (small_of setup.plan now.controller.live) now.sent live heard later.rest later refl (heard_step outcomes station live heard).sent way turn at messages_are sendable it known meant.planned does
+          (small_of setup.plan now.controller.live) now.sent live heard later.rest later refl (heard_step outcomes station live heard).sent way turn at messages_are sendable it known holds.orderly meant.planned does
           (subst (λ (l : List (List ℕ)). DeviceSteps (rules_at now) (heard_as (is_planned setup) heard) (device.small_of setup.activity live) (device.small_of setup.activity later) l) (sym frames_are) steps)
           flat came access (subst (AllByRecursion _) (sym messages_are) ready)
           (subst (λ (w : SmallWorld). IsRun (rules_at now) (view_of first) (run ++ (way, w) ∷ [])) next_is runs) in
@@ -415,7 +415,7 @@ module _ (laws : Laws) {F : Type 0} (first : World F) where
         let rules_are : rules_at now ≡ Own = ap (λ (s : Setup). rules_of s now.device.station) setup_is ∙ ap (λ (s : Station). rules_of first.controller.setup s) station_is in
         let plans = plans_at run now last rules_are steps in
         let meant = all_meant so goes now can holds in_step plans one.0 in
-        let step = happens_steps as_flash goes.device_on goes.controller_on goes.frames_are now one.1 in_step one.0 meant made.0 in
+        let step = happens_steps as_flash goes.device_on goes.controller_on goes.frames_are now one.1 in_step holds.orderly one.0 meant made.0 in
         let from : Steps Own (last_of (view_of first) (viewed run)) (move_of one.0) (view_of one.1) =
         subst (λ (w : SmallWorld). Steps Own w (move_of one.0) (view_of one.1)) (sym (last_viewed first run ∙ ap (λ (w : World F). view_of w) last))
         (subst (λ (r : small.Rules TakenRecord Request). Steps r (view_of now) (move_of one.0) (view_of one.1)) rules_are step.is) in

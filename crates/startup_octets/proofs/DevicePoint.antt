@@ -19,6 +19,7 @@ use Rattle.end_laws.specs.both.StartUp.{Begins, IsRun}
 use Rattle.end_laws.specs.both.Steps.{DeviceSteps}
 use Rattle.end_laws.specs.controller.Small.{said_to}
 use Rattle.end_laws.specs.device.Does.{Does}
+use Rattle.end_laws.specs.device.Orderly.{IsOrderlyIn}
 use Rattle.end_laws.specs.device.Small.{IsPlanned, heard_as, kept_in, link_of}
 use Rattle.end_laws.specs.device.Small as device
 use Rattle.both_ends.specs.startup.View.{is_planned, rules_of}
@@ -70,7 +71,8 @@ module _ (undone : AreNotDone) (blocks_read : AreBlocksRead) (long : (block : Bl
     abbrev next : SmallWorld
     next = record { device = device.small_of setup.activity later; controller = controller; sent = before_sent ++ turn.sent }
 
-    module _ (it : IsPoint rules mac relation setup.activity run turns point live.rest.link) (known : IsKnownHeard setup heard) (planned : IsPlanned rules setup.activity station.real heard)
+    module _ (it : IsPoint rules mac relation setup.activity run turns point live.rest.link) (known : IsKnownHeard setup heard) (orderly : IsOrderlyIn live.rest.link)
+        (planned : IsPlanned rules setup.activity live.rest.real heard)
         (does : Does station live heard rest sent)
         (steps : DeviceSteps rules (heard_as (is_planned setup) heard) (device.small_of setup.activity live) (device.small_of setup.activity later) turn.sent)
         (flat : (caller : Caller) (address : List ℕ) (call : Called) → heard ≡ Reported caller address (Calls call) → IsCallIn mac turn.came call)
@@ -155,7 +157,7 @@ module _ (undone : AreNotDone) (blocks_read : AreBlocksRead) (long : (block : Bl
       by_history : IsBefore rules mac relation setup.activity run turns point live.rest.link ⊎ IsAfter rules mac relation setup.activity turns point → NextHistory
       by_history (inr after) = still_after after
       by_history (inl before) =
-          by_turn (device_turn undone blocks_read long setup station fit own live heard rest sent turns turn at frames sendable before.early known planned flat came
+          by_turn (device_turn undone blocks_read long setup station fit own live heard rest sent turns turn at frames sendable before.early orderly known planned flat came
           (access before.no_access) some_kept does)
         where
           by_turn : IsEarly mac relation (turns ++ turn ∷ []) rest.link ⊎ IsEnding mac relation turns turn rest.link → NextHistory

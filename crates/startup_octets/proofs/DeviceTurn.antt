@@ -26,18 +26,18 @@ use Rattle.relations.specs.declared.phase.Partner.{Partner}
 use Rattle.relations.specs.declared.phase.Phase.{Phase}
 use Rattle.relations.specs.declared.phase.Phase.TheVariants.{Awaiting, Exchanging, Preparing, Started}
 use Rattle.relations.specs.Phases.{parameterized_from, phase_behind, restarted}
-use Rattle.relations.specs.declared.ready.Ready.{Ready}
 use Rattle.relations.specs.RelationState.{RelationState, uuid_of}
 use Rattle.device_frames.specs.Heard.{Calls, Heard, Reported}
 use Rattle.device_frames.specs.Sendable.{AreSendable}
-use Rattle.device_frames.specs.Sent.{Sent, IdentifyAnswer, GetAnswer, SetAnswer, ArpReply, CallAnswer, Again, ReadyCall, Ends, Exchanges, bytes_of}
+use Rattle.device_frames.specs.Sent.{Sent, IdentifyAnswer, GetAnswer, SetAnswer, ArpReply, CallAnswer, Again, ReadyCall, PlugReadyCall, Ends, Exchanges, bytes_of}
 use Rattle.device_core.specs.State.{Live, Rest, Station}
 use Rattle.device_core.specs.Handled.{answer_from, outcome_of}
 use Rattle.controller_messages.specs.declared.setup.Setup.{Setup}
 use Rattle.controller_messages.specs.Requests.{control_of, group_of, writing_blocks}
 use Rattle.plans.specs.Connect.{ar_block}
 use Rattle.end_laws.specs.both.Small as small
-use Rattle.end_laws.specs.device.Does.{Connected, Does, IsEffect, IsOther, IsRestarted, Parameterized, Serves, readied_from}
+use Rattle.end_laws.specs.device.Does.{Connected, Does, Following, IsEffect, IsKeptOr, IsOther, IsRestarted, Parameterized, Plugging, Readying, Serves, readied_from}
+use Rattle.end_laws.specs.device.Orderly.{IsOrderlyIn}
 use Rattle.end_laws.specs.device.Small.{IsPlanned, IsPlannedAs, IsPlannedWrite, IsWritingOf, asked_by, heard_as, link_of, phase_in, written_by}
 use Rattle.both_ends.specs.startup.View.{is_planned, rules_of, taken_for}
 use Rattle.both_ends.proofs.StartupHeard.{IsKnownHeard, known_activity}
@@ -219,6 +219,16 @@ early_seen mac relation turns turn (Some link) (Some next) early (inl same) at =
       subst (λ (l : List TakenRecord). IsBegun mac relation (turns ++ turn ∷ []) (map written_of l)) (sym taken) begun,
     )
 
+-- It forgets none of its records while its parameters are written.
+early_kept : (mac : Mac) (relation : List ℕ) (turns : List Turn) (turn : Turn) (before after : Option RelationState) → IsEarly mac relation turns before
+    → IsOrderlyIn before → IsKeptOr before after → IsTakenAt mac relation turns turn [] → IsEarly mac relation (turns ++ turn ∷ []) after
+early_kept mac relation turns turn before after early orderly (inl same) at = early_seen mac relation turns turn before after early (inl same) at
+early_kept mac relation turns turn before after early orderly (inr (inl gone)) at = early_seen mac relation turns turn before after early (inr gone) at
+early_kept mac relation turns turn before after early orderly (inr (inr forgets)) at =
+    let begun = subst (IsEarly mac relation turns) forgets.was early in
+    let exchanges = forgets.exchanges (subst IsOrderlyIn forgets.was orderly) in
+    absurd (let e = sym begun.0 ∙ exchanges in cc)
+
 restarted_grown : (source : Partner) (link : Option RelationState) → IsGrown link (option_map (restarted source) link) []
 restarted_grown source None = (refl, refl)
 restarted_grown source (Some link) = (restarted source link, refl, refl, refl, sym (append-nil link.taken))
@@ -237,6 +247,7 @@ no_answers live after (message ∷ messages) all = (one_other message all.0, no_
     one_other (SetAnswer asker request answers) other = tt
     one_other (ArpReply asker address target) other = tt
     one_other (ReadyCall address ready) other = tt
+    one_other (PlugReadyCall address ready) other = tt
     one_other (Ends farewell) other = tt
     one_other (Exchanges route frame) other = tt
 
@@ -263,10 +274,11 @@ module _ (undone : AreNotDone) (blocks_read : AreBlocksRead) (long : (block : Bl
 
   -- ---- a call that is answered
 
-  readied_silent : (asked : List ℕ) (address : List ℕ) (ready : Option Ready) → AreSendable station.identity (readied_from address ready)
+  readied_silent : (asked : List ℕ) (address : List ℕ) (ready : Option Following) → AreSendable station.identity (readied_from address ready)
       → AllByRecursion (λ frame. statuses asked frame ≡ []) (map (bytes_of station.identity) (readied_from address ready))
   readied_silent asked address None can = tt
-  readied_silent asked address (Some ready) can = (message_silent station.identity asked (ReadyCall address ready) own can.0 tt, tt)
+  readied_silent asked address (Some (Readying ready)) can = (message_silent station.identity asked (ReadyCall address ready) own can.0 tt, tt)
+  readied_silent asked address (Some (Plugging ready)) can = (message_silent station.identity asked (PlugReadyCall address ready) own can.0 tt, tt)
 
   answered_so : (it : Serves station live heard rest sent) (call : IsCallIn mac turn.came it.call)
       → IsAnsweredSo call.octets turn.sent (number_of (outcome_of it.which it.outcome).0) (statuses_in 16 (drop 64 (outcome_of it.which it.outcome).1))
@@ -282,12 +294,12 @@ module _ (undone : AreNotDone) (blocks_read : AreBlocksRead) (long : (block : Bl
         silent = readied_silent call.octets address it.ready can.1;
       }
 
-  module _ (early : IsEarly mac relation turns live.rest.link) (caller : Caller) (address : List ℕ) (asked : Called) (is_heard : heard ≡ Reported caller address (Calls asked))
+  module _ (early : IsEarly mac relation turns live.rest.link) (orderly : IsOrderlyIn live.rest.link) (caller : Caller) (address : List ℕ) (asked : Called) (is_heard : heard ≡ Reported caller address (Calls asked))
       (call : IsCallIn mac turn.came asked) (blocks : List ℕ) (counted : asked.blocks ≡ Some blocks)
       (came : (sequence : ℕ) (ask : small.Ask) → heard_as (is_planned setup) heard ≡ small.Call sequence ask → IsIn turn.came (sent_by false turns))
       (no_access : (sequence : ℕ) → heard_as (is_planned setup) heard ≡ small.Call sequence small.Accesses → ⊥)
       (planned : operation_of asked.header.operation ≡ Some operation.Write → is_planned setup asked.header.sequence blocks ≡ true
-      → IsPlannedWrite (rules_of setup station) station.real asked.header.sequence blocks) where
+      → IsPlannedWrite (rules_of setup station) live.rest.real asked.header.sequence blocks) where
     asking_is : asking_at mac turn ≡ Call call.octets
     asking_is = call.asks
 
@@ -321,22 +333,22 @@ module _ (undone : AreNotDone) (blocks_read : AreBlocksRead) (long : (block : Bl
 
     -- The Writes of the plan, and what they ask for.
     meant_writes : operation_of asked.header.operation ≡ Some operation.Write → (plan : IsOfPlan setup asked.header.sequence blocks) → is_planned setup asked.header.sequence blocks ≡ true
-        → IsMeant undone blocks_read long setup station fit plan.number plan.listed live.rest.link (writing_blocks setup plan.number)
+        → IsMeant undone blocks_read long setup station live.rest.real fit plan.number plan.listed live.rest.link (writing_blocks setup plan.number)
     meant_writes asks plan is writing e =
         let it = planned asks is in
         let number_is : it.number ≡ plan.number = same_number plan.number it.number (sym plan.numbered ∙ it.is) in
-        subst (λ (n : ℕ). IsWritingOf (rules_of setup station) station.real (uuid_of live.rest.link) n (map taken_for (group_of setup.plan plan.number)) writing) plan.numbered
-        (subst (λ (n : ℕ). IsWritingOf (rules_of setup station) station.real (uuid_of live.rest.link) asked.header.sequence (map taken_for (group_of setup.plan n)) writing) number_is
-        (it.keeps (uuid_of live.rest.link) writing (ap (writing_of (uuid_of live.rest.link) station.real) plan.is ∙ e)))
+        subst (λ (n : ℕ). IsWritingOf (rules_of setup station) live.rest.real (uuid_of live.rest.link) n (map taken_for (group_of setup.plan plan.number)) writing) plan.numbered
+        (subst (λ (n : ℕ). IsWritingOf (rules_of setup station) live.rest.real (uuid_of live.rest.link) asked.header.sequence (map taken_for (group_of setup.plan n)) writing) number_is
+        (it.keeps (uuid_of live.rest.link) writing (ap (writing_of (uuid_of live.rest.link) live.rest.real) plan.is ∙ e)))
 
     written : (octets : List ℕ) → operation_of asked.header.operation ≡ Some operation.Write → IsAnsweredSo call.octets turn.sent 0 (statuses_in 16 (drop 64 octets))
-        → IsWriteEffect station blocks octets live.rest.link rest.link → (b : Bool) → is_planned setup asked.header.sequence blocks ≡ b → IsEarly mac relation (turns ++ turn ∷ []) rest.link
+        → IsWriteEffect live.rest.real blocks octets live.rest.link rest.link → (b : Bool) → is_planned setup asked.header.sequence blocks ≡ b → IsEarly mac relation (turns ++ turn ∷ []) rest.link
     written octets asks answered effect false is =
         absurd (no_access asked.header.sequence (heard_is operation.Write asks ∙ ap (λ (b : Bool). written_by b asked.header.sequence) is))
     written octets asks answered effect true is =
         let plan = planned_exact setup asked.header.sequence blocks is in
-        let adds = write_adds undone blocks_read long setup station fit plan.number plan.listed octets live.rest.link rest.link (started_early mac relation turns live.rest.link early)
-        (meant_writes asks plan is) (subst (λ (l : List ℕ). IsWriteEffect station l octets live.rest.link rest.link) plan.is effect) in
+        let adds = write_adds undone blocks_read long setup station live.rest.real fit plan.number plan.listed octets live.rest.link rest.link (started_early mac relation turns live.rest.link early)
+        (meant_writes asks plan is) (subst (λ (l : List ℕ). IsWriteEffect live.rest.real l octets live.rest.link rest.link) plan.is effect) in
         early_grown mac relation turns turn live.rest.link rest.link adds.now early adds.grown
         (taken_by (map written_of adds.now) (sym (ap (λ a. confirmed_by relation a turn.sent) asking_is
         ∙ confirmed_so relation call.octets turn.sent 0 (statuses_in 16 (drop 64 octets)) answered
@@ -361,7 +373,7 @@ module _ (undone : AreNotDone) (blocks_read : AreBlocksRead) (long : (block : Bl
         }
 
     connected : operation_of asked.header.operation ≡ Some operation.Connect → IsExact setup asked.header.sequence operation.Connect blocks → (octets : List ℕ) → (more : List ℕ)
-        → IsAnsweredSo call.octets turn.sent 0 more → Connected station caller blocks octets live.rest.link rest.link → IsEarly mac relation (turns ++ turn ∷ []) rest.link
+        → IsAnsweredSo call.octets turn.sent 0 more → Connected station live.rest.real caller blocks octets live.rest.link rest.link → IsEarly mac relation (turns ++ turn ∷ []) rest.link
     connected asks exact octets more answered it =
         subst (IsEarly mac relation (turns ++ turn ∷ [])) (sym it.made) (
           refl,
@@ -379,13 +391,17 @@ module _ (undone : AreNotDone) (blocks_read : AreBlocksRead) (long : (block : Bl
     -- By the outcome and the operation.
     by_outcome : (outcome : Result (List ℕ) CallFault) (which : Operation) → operation_of asked.header.operation ≡ Some which → IsExact setup asked.header.sequence which blocks
         → IsAnsweredSo call.octets turn.sent (number_of (outcome_of which outcome).0) (statuses_in 16 (drop 64 (outcome_of which outcome).1))
-        → IsEffect station caller blocks outcome which live.rest.link rest.link → IsNext
+        → IsEffect station live.rest.real caller blocks outcome which live.rest.link rest.link → IsNext
     by_outcome (Err fault) which asks exact answered effect =
         inl (subst (IsEarly mac relation (turns ++ turn ∷ [])) (sym effect)
         (early_same mac relation turns turn live.rest.link early (refused (number_of (status_of which fault)) answered (no_zero (status_of which fault) (undone which fault)))))
     by_outcome (Ok octets) operation.Connect asks exact answered effect = inl (connected asks exact octets _ answered effect)
     by_outcome (Ok octets) operation.Write asks exact answered effect = inl (written octets asks answered effect (is_planned setup asked.header.sequence blocks) refl)
-    by_outcome (Ok octets) operation.Control asks exact answered effect = inr (ended asks exact _ answered effect)
+    by_outcome (Ok octets) operation.Control asks exact answered (inl effect) = inr (ended asks exact _ answered effect)
+    by_outcome (Ok octets) operation.Control asks exact answered (inr effect) =
+        let begun = subst (IsEarly mac relation turns) effect.was early in
+        let exchanges = effect.exchanges (subst IsOrderlyIn effect.was orderly) in
+        absurd (let e = sym begun.0 ∙ exchanges in cc)
     by_outcome (Ok octets) operation.Release asks exact answered effect = inl (subst (IsEarly mac relation (turns ++ turn ∷ [])) (sym effect.gone) tt)
     by_outcome (Ok octets) operation.Read asks exact answered effect = inl (restarts operation.Read asks refl effect)
     by_outcome (Ok octets) operation.ReadImplicit asks exact answered effect = absurd effect
@@ -398,21 +414,21 @@ module _ (undone : AreNotDone) (blocks_read : AreBlocksRead) (long : (block : Bl
   or_first : (b c : Bool) → b ≡ true → b || c ≡ true
   or_first b c is = ap (λ x. x || c) is
 
-  pub device_turn : IsEarly mac relation turns live.rest.link → IsKnownHeard setup heard → IsPlanned (rules_of setup station) setup.activity station.real heard
+  pub device_turn : IsEarly mac relation turns live.rest.link → IsOrderlyIn live.rest.link → IsKnownHeard setup heard → IsPlanned (rules_of setup station) setup.activity live.rest.real heard
       → ((caller : Caller) (address : List ℕ) (call : Called) → heard ≡ Reported caller address (Calls call) → IsCallIn mac turn.came call)
       → ((sequence : ℕ) (ask : small.Ask) → heard_as (is_planned setup) heard ≡ small.Call sequence ask → IsIn turn.came (sent_by false turns))
       → ((sequence : ℕ) → heard_as (is_planned setup) heard ≡ small.Call sequence small.Accesses → ⊥)
       → ((kept : Kept) → kept_of setup.activity live.rest.calls ≡ Some kept → list_any (pointwise nat_eq (name_for setup.activity kept.sequence)) (names_at mac turns) ≡ true)
       → Does station live heard rest sent → IsNext
-  device_turn early known planned flat came no_access named (inl it) =
+  device_turn early orderly known planned flat came no_access named (inl it) =
       inl (subst (λ (r : Rest). IsEarly mac relation (turns ++ turn ∷ []) r.link) (sym it.same)
       (early_same mac relation turns turn live.rest.link early (taken_none (subst (AllByRecursion IsNoAnswer) (sym it.silent) tt))))
-  device_turn early known planned flat came no_access named (inr (inl it)) =
-      inl (early_seen mac relation turns turn live.rest.link rest.link early it.link (taken_none (no_answers live rest.link sent it.others)))
-  device_turn early known planned flat came no_access named (inr (inr (inl it))) =
+  device_turn early orderly known planned flat came no_access named (inr (inl it)) =
+      inl (early_kept mac relation turns turn live.rest.link rest.link early orderly it.link (taken_none (no_answers live rest.link sent it.others)))
+  device_turn early orderly known planned flat came no_access named (inr (inr (inl it))) =
       let begun = subst (IsEarly mac relation turns) it.was early in
       absurd (let e = sym begun.0 ∙ it.awaits in cc)
-  device_turn early known planned flat came no_access named (inr (inr (inr (inl it)))) =
+  device_turn early orderly known planned flat came no_access named (inr (inr (inr (inl it)))) =
       let call = flat it.caller it.address it.call it.is in
       let activity : it.call.header.activity ≡ setup.activity = known_activity setup it.caller it.call (subst (λ (h : Heard). IsKnownHeard setup h) it.is known) in
       let name : name_of call.octets ≡ name_for setup.activity it.kept.sequence =
@@ -425,13 +441,13 @@ module _ (undone : AreNotDone) (blocks_read : AreBlocksRead) (long : (block : Bl
             ∙ or_first (list_any (pointwise nat_eq (name_of call.octets)) (names_at mac turns)) false (ap (λ n. list_any (pointwise nat_eq n) (names_at mac turns)) name ∙ there),
         refl,
       ))))
-  device_turn early known planned flat came no_access named (inr (inr (inr (inr it)))) =
+  device_turn early orderly known planned flat came no_access named (inr (inr (inr (inr it)))) =
       let call = flat it.caller it.address it.call it.is in
-      let plan = subst (λ (h : Heard). IsPlanned (rules_of setup station) setup.activity station.real h) it.is planned in
+      let plan = subst (λ (h : Heard). IsPlanned (rules_of setup station) setup.activity live.rest.real h) it.is planned in
       let same : plan.blocks ≡ it.blocks = some_blocks plan.blocks it.blocks (sym plan.counted ∙ it.counted) in
-      by_outcome early it.caller it.address it.call it.is call it.blocks it.counted came no_access
-      (λ asks is. subst (IsPlannedAs (rules_of setup station) station.real it.call.header.sequence it.blocks) asks
-      (subst (λ (l : List ℕ). IsPlannedAs (rules_of setup station) station.real it.call.header.sequence l (operation_of it.call.header.operation)) same plan.asks) is)
+      by_outcome early orderly it.caller it.address it.call it.is call it.blocks it.counted came no_access
+      (λ asks is. subst (IsPlannedAs (rules_of setup station) live.rest.real it.call.header.sequence it.blocks) asks
+      (subst (λ (l : List ℕ). IsPlannedAs (rules_of setup station) live.rest.real it.call.header.sequence l (operation_of it.call.header.operation)) same plan.asks) is)
       it.outcome it.which it.asks
       (exact_of setup it.caller it.call (subst (λ (h : Heard). IsKnownHeard setup h) it.is known) it.which it.asks it.blocks it.counted)
       (answered_so it call) it.effect

@@ -2,6 +2,7 @@
 use Rattle.std.proofs.Common.{arith, ◌≡◌, ◌+◌, inl, inr, ℕ, zero, suc, List, [], ◌∷◌, ◌++◌, Bool, length, drop, take, map, Option, Some, None, refl, sym, ap, subst, ◌∙◌, append_assoc, length-append}
 use Rattle.std.proofs.lemmas.List.{append-nil, take-append-drop}
 use Rattle.std.specs.Prelude.{slice_get}
+use Rattle.std.specs.List.{AllByRecursion}
 use Rattle.flash_model.specs.declared.flash.Flash.{Ghosts as Flash}
 use Rattle.pn_values.specs.declared.mac.Mac.{Mac}
 use Rattle.record_blocks.specs.declared.alarm_notification.AlarmNotification.{AlarmNotification}
@@ -10,12 +11,14 @@ use Rattle.network_world.specs.declared.moves.Move.{Move}
 use Rattle.network_world.specs.declared.moves.Move.TheVariants as move
 use Rattle.network_world.specs.World.{AreMade, end_at, Happens, last_world, Played, World}
 use Rattle.both_ends.specs.startup.Played.{moves_of}
+use Rattle.both_ends.specs.exchange.Told.{AreSizedMoves, IsSizedMove}
 use Rattle.settings_journal.specs.declared.journal.BootFault.{BootFault}
 use Rattle.startup_octets.specs.declared.playing.PlayFault.TheVariants.{NoStart}
 use Rattle.startup_octets.specs.StartUp.{AreDelivered, AreStartUps, Written}
 use Rattle.startup_octets.specs.Played.{came_by, is_device, seen_of, turn_by, turns_of}
 use Rattle.startup_octets.specs.Log.{AreOfMoves, Entry, moves_in, sent_in, turns_in}
-use Rattle.startup_octets.specs.OutputWorlds.{outputs_shown}
+use Rattle.startup_octets.specs.OutputWorlds.{outputs_shown, places_shown}
+use Rattle.expected_places.specs.declared.place.ExpectedPlace.{ExpectedPlace}
 use Rattle.startup_octets.specs.Run.{IsCut, IsRun, entries_of, entry_by, opening_entry}
 use Rattle.startup_octets.proofs.Points.{dropped}
 use Rattle.startup_octets.proofs.Start.{all_delivered, more, more_dropped}
@@ -86,16 +89,29 @@ module _ {F : Type 0} {S : ℕ} (as_flash : Flash F S) where
       subst (λ (w : World F). Happens as_flash before one w) (sym it.2) it.1
 
   pub entry_same : (before after : World F) (one : Move) (at : Bool) (came : List ℕ) (sent : List (List ℕ)) (alarm : Option AlarmNotification) (outputs : List (Option (List ℕ)))
-      → at ≡ is_device (end_at one)
-      → came ≡ came_by before.sent one → sent ≡ drop (length before.sent) after.sent → alarm ≡ after.controller.live.alarm → outputs ≡ outputs_shown after
-      → record { turn = record { at_device = at; came = came; sent = sent }; said = Some one; alarm = alarm; outputs = outputs } ≡ entry_by before one after
-  entry_same before after one at came sent alarm outputs at_is came_is sent_is alarm_is outputs_are =
-      let by_at : Bool → Entry = λ a. record { turn = record { at_device = a; came = came; sent = sent }; said = Some one; alarm = alarm; outputs = outputs } in
-      let by_came : List ℕ → Entry = λ c. record { turn = record { at_device = is_device (end_at one); came = c; sent = sent }; said = Some one; alarm = alarm; outputs = outputs } in
-      let by_sent : List (List ℕ) → Entry = λ l. record { turn = record { at_device = is_device (end_at one); came = came_by before.sent one; sent = l }; said = Some one; alarm = alarm; outputs = outputs } in
-      let by_alarm : Option AlarmNotification → Entry = λ a. record { turn = turn_by before.sent one after.sent; said = Some one; alarm = a; outputs = outputs } in
-      let by_outputs : List (Option (List ℕ)) → Entry = λ o. record { turn = turn_by before.sent one after.sent; said = Some one; alarm = after.controller.live.alarm; outputs = o } in
-      ap by_at at_is ∙ ap by_came came_is ∙ ap by_sent sent_is ∙ ap by_alarm alarm_is ∙ ap by_outputs outputs_are
+      (places : Option (List ExpectedPlace)) → at ≡ is_device (end_at one)
+      → came ≡ came_by before.sent one → sent ≡ drop (length before.sent) after.sent → alarm ≡ after.controller.live.alarm → outputs ≡ outputs_shown after → places ≡ places_shown after
+      → record { turn = record { at_device = at; came = came; sent = sent }; said = Some one; alarm = alarm; outputs = outputs; places = places } ≡ entry_by before one after
+  entry_same before after one at came sent alarm outputs places at_is came_is sent_is alarm_is outputs_are places_are =
+      let by_at : Bool → Entry = λ a. record { turn = record { at_device = a; came = came; sent = sent }; said = Some one; alarm = alarm; outputs = outputs; places = places } in
+      let by_came : List ℕ → Entry = λ c. record { turn = record { at_device = is_device (end_at one); came = c; sent = sent }; said = Some one; alarm = alarm; outputs = outputs; places = places } in
+      let by_sent : List (List ℕ) → Entry = λ l. record {
+        turn = record { at_device = is_device (end_at one); came = came_by before.sent one; sent = l };
+        said = Some one;
+        alarm = alarm;
+        outputs = outputs;
+        places = places;
+      } in
+      let by_alarm : Option AlarmNotification → Entry = λ a. record { turn = turn_by before.sent one after.sent; said = Some one; alarm = a; outputs = outputs; places = places } in
+      let by_outputs : List (Option (List ℕ)) → Entry = λ o. record { turn = turn_by before.sent one after.sent; said = Some one; alarm = after.controller.live.alarm; outputs = o; places = places } in
+      let by_places : Option (List ExpectedPlace) → Entry = λ p. record {
+        turn = turn_by before.sent one after.sent;
+        said = Some one;
+        alarm = after.controller.live.alarm;
+        outputs = outputs_shown after;
+        places = p;
+      } in
+      ap by_at at_is ∙ ap by_came came_is ∙ ap by_sent sent_is ∙ ap by_alarm alarm_is ∙ ap by_outputs outputs_are ∙ ap by_places places_are
 
   -- The frames that were sent before are the first ones of those that were sent after a move.
   pub front_is : (before after : World F) (one : Move) (count : ℕ) → length before.sent ≡ count → Happens as_flash before one after → take count after.sent ≡ before.sent
@@ -191,6 +207,30 @@ module _ {F : Type 0} {S : ℕ} (as_flash : Flash F S) where
     pub cut_so : law [] → (moves : List Move) (old new : List Entry) → IsCut as_flash first moves old new → (entries : List Entry) → new ≡ old ++ entries → law entries
     cut_so none moves old new (inl same) entries is = subst law (none_added old new entries same is) none
     cut_so none moves old new (inr it) entries is = run_so (take it.0 moves) old new it.1 it.2 entries is
+
+  -- ---- the same, of each run whose moves have their sizes
+
+  sized_run : (run : List (Move × World F)) → AllByRecursion IsSizedMove (moves_of run) → AreSizedMoves run
+  sized_run [] all = tt
+  sized_run (one ∷ run) all = (all.0, sized_run run all.1)
+
+  sized_first : (count : ℕ) (moves : List Move) → AllByRecursion IsSizedMove moves → AllByRecursion IsSizedMove (take count moves)
+  sized_first zero moves all = tt
+  sized_first (suc count) [] all = tt
+  sized_first (suc count) (one ∷ moves) all = (all.0, sized_first count moves all.1)
+
+  module _ (first : World F) (law : List Entry → Type 0)
+      (of_run : (run : List (Move × World F)) → AreMade as_flash first run → AreSizedMoves run → law (opening_entry first ∷ entries_of first run)) where
+    pub sized_so : (moves : List Move) → AllByRecursion IsSizedMove moves → (old new : List Entry) (last : World F) → IsRun as_flash first moves old new last
+        → (entries : List Entry) → new ≡ old ++ entries → law entries
+    sized_so moves sized old new last it entries is =
+        subst law (added_is old new (opening_entry first ∷ entries_of first it.run) entries it.logged is)
+        (of_run it.run it.made (sized_run it.run (subst (AllByRecursion IsSizedMove) (sym it.are) sized)))
+
+    pub sized_cut : law [] → (moves : List Move) → AllByRecursion IsSizedMove moves → (old new : List Entry) → IsCut as_flash first moves old new
+        → (entries : List Entry) → new ≡ old ++ entries → law entries
+    sized_cut none moves sized old new (inl same) entries is = subst law (none_added old new entries same is) none
+    sized_cut none moves sized old new (inr it) entries is = sized_so (take it.0 moves) (sized_first it.0 moves sized) old new it.1 it.2 entries is
 
   -- The entries that were added, and the moves that are left.
   abbrev pub AreTurns : List Move → List Move → List Entry → List Entry → List Entry → Type 0

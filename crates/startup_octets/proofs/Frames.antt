@@ -22,7 +22,7 @@ use Rattle.rpc_core.specs.Pdu.{cut_off, pdu}
 use Rattle.rpc_core.specs.Sendable.{CanBeCalled}
 use Rattle.rpc_core.proofs.Sound.{call_takes}
 use Rattle.cyclic_data.specs.exchange.Frames.{plain_frame, tagged_frame}
-use Rattle.device_frames.specs.Sent.{Sent, IdentifyAnswer, GetAnswer, SetAnswer, ArpReply, CallAnswer, Again, ReadyCall, Ends, Exchanges, bytes_of}
+use Rattle.device_frames.specs.Sent.{Sent, IdentifyAnswer, GetAnswer, SetAnswer, ArpReply, CallAnswer, Again, ReadyCall, PlugReadyCall, Ends, Exchanges, bytes_of}
 use Rattle.device_frames.specs.Sendable.{AreSendable, IsSendable}
 use Rattle.octets_law.specs.Octets.{name_of, number, statuses}
 use Rattle.octets_law.proofs.CallPlaces.{IsCallRead, call_placed, skip}
@@ -160,6 +160,8 @@ message_silent identity asked (ArpReply asker address target) own can none =
 message_silent identity asked (CallAnswer caller address answer) own can none = absurd none
 message_silent identity asked (Again frame) own can none = absurd none
 message_silent identity asked (ReadyCall address ready) own can none =
+    call_silent asked _ identity.mac ready.partner.mac (calls_at address) (calls_at ready.partner.address) _ own can.destination can.content.0.0 can.content.1.0
+message_silent identity asked (PlugReadyCall address ready) own can none =
     call_silent asked _ identity.mac ready.partner.mac (calls_at address) (calls_at ready.partner.address) _ own can.destination can.content.0.0 can.content.1.0
 message_silent identity asked (Ends farewell) own can none = tagged_silent asked identity.mac farewell.initiator farewell.tag _ _ own can.destination
 message_silent identity asked (Exchanges route frame) own can none = tagged_silent asked identity.mac route.partner _ _ _ own can.destination

@@ -108,6 +108,22 @@ module _ {X : Type 0} (f : Output → X) (g : Place → X) (same : (offset : ℕ
           let output : Output = record { slot = sub.slot; subslot = sub.subslot; size = size } in
           ap (λ (x : X). x ∷ map f (outputs_for subs)) (same offset output) ∙ ap (λ (xs : List X). g (placed_at offset output) ∷ xs) (rest (offset + (size + 1)))
 
+module _ (P : ℕ → ℕ → Type 0) where
+  -- What holds of the slot and the subslot of each place, holds of those of each output.
+  pub all_mapped : (offset : ℕ) (subs : List ExpectedData) → AllByRecursion (λ (place : Place). P place.slot place.subslot) (places_from offset subs)
+      → AllByRecursion (λ (output : Output). P output.slot output.subslot) (outputs_for subs)
+  all_mapped offset [] all = tt
+  all_mapped offset (sub ∷ subs) all = by_size sub.io_data.output (λ next. all_mapped next subs) all
+    where
+      by_size : (size : Option ℕ)
+          → ((next : ℕ) → AllByRecursion (λ (place : Place). P place.slot place.subslot) (places_from next subs)
+          → AllByRecursion (λ (output : Output). P output.slot output.subslot) (outputs_for subs))
+          → AllByRecursion (λ (place : Place). P place.slot place.subslot)
+          (place_at Data offset sub (option_map (λ n. n + 1) size) ++ places_from (offset + unwrap_or (option_map (λ n. n + 1) size) 0) subs)
+          → AllByRecursion (λ (output : Output). P output.slot output.subslot) (output_if sub.slot sub.subslot size ++ outputs_for subs)
+      by_size None rest all = rest (offset + 0) all
+      by_size (Some size) rest all = (all.0, rest (offset + (size + 1)) all.1)
+
 -- What a frame carries at a place.
 abbrev pub read_at : List ℕ → ℕ → ℕ → List ℕ
 read_at frame place size = if get_or frame (place + size) 0 == 0x80 then part place size frame else replicate size 0

@@ -10,9 +10,12 @@ use Rattle.pn_values.specs.declared.real.RealSubmodule.{RealSubmodule}
 use Rattle.cyclic_data.specs.declared.place.Place.{Place}
 use Rattle.cyclic_data.specs.declared.place.PlaceKind.TheVariants.{Data}
 use Rattle.cyclic_data.specs.Image.{Shown as Image, cell_at, octets_of, output_of as output_of_cell, place_at}
+use Rattle.expected_places.specs.declared.place.ExpectedPlace.{ExpectedPlace}
 use Rattle.relations.specs.Exchanged.{output_in}
-use Rattle.relations.specs.Outputs.{module_at, output_of, output_part, zero_part, zeros_of}
+use Rattle.relations.specs.Outputs.{module_at, output_of, output_part, zero_output, zero_part, zeros_of}
+use Rattle.relations.specs.Plugging.{places_in}
 use Rattle.relations.specs.RelationState.{RelationState}
+use Rattle.relations.specs.exchange.Process.{output_at}
 use Rattle.device_core.specs.State.{State}
 use Rattle.controller_messages.specs.declared.setup.Setup.{Setup}
 use Rattle.controller_core.specs.declared.stored.event.Event.{Event}
@@ -24,12 +27,13 @@ use Rattle.network_world.specs.World.{AreMade, at_controller, Happens, last_worl
 use Rattle.both_ends.specs.startup.Played.{Begins, moves_of}
 use Rattle.both_ends.specs.exchange.Given.{AreOfOneFrame as OfOneFrame, image_given, places_for, zero_for, zeros_at}
 use Rattle.both_ends.specs.exchange.Shown.{has_accepted, zeros_for}
-use Rattle.both_ends.proofs.ExchangeOutputsMoves.{ArePlaced}
+use Rattle.both_ends.proofs.ExchangeOutputsMoves.{ArePlaced, all_long, values_of}
+use Rattle.both_ends.proofs.ExchangeOutputsValues.{outputs_shown as values_shown}
 use Rattle.both_ends.proofs.StartupRuns.{controller_is, delivered}
 use Rattle.startup_octets.specs.declared.outputs.Output.{Output}
 use Rattle.startup_octets.specs.Log.{Entry, moves_in}
-use Rattle.startup_octets.specs.Outputs.{AreOfOneFrame, AreShown, AreZeros, outputs_in, value_after}
-use Rattle.startup_octets.specs.OutputWorlds.{outputs_shown, shown_at}
+use Rattle.startup_octets.specs.Outputs.{AreOfOneFrame, AreShown, AreZeros, hidden, outputs_in, touched_by, value_after, zeroed}
+use Rattle.startup_octets.specs.OutputWorlds.{outputs_shown, places_shown, shown_at}
 use Rattle.startup_octets.specs.Played.{is_device}
 use Rattle.startup_octets.specs.Run.{entries_of, entry_by, opening_entry}
 use Rattle.startup_octets.specs.StartUp.{IsIn}
@@ -64,19 +68,60 @@ related_zeros real slot subslot (Some place) = zeros_are (place.size - 1)
 -- What is shown without a relation, and in one that has accepted no frame.
 unrelated_zeros : {F : Type 0} (device : State F) (output : Output) → device.live.rest.link ≡ None → IsZeros (shown_at device output)
 unrelated_zeros device output none =
-    subst (λ (l : Option RelationState). IsZeros (output_of device.station.real output.slot output.subslot (output_in output.slot output.subslot l))) (sym none)
-    (plugged_zeros output.subslot (module_at output.slot device.station.real.modules.items))
+    subst (λ (l : Option RelationState). IsZeros (output_of device.live.rest.real output.slot output.subslot (output_in output.slot output.subslot l))) (sym none)
+    (plugged_zeros output.subslot (module_at output.slot device.live.rest.real.modules.items))
 
 early_zeros : {F : Type 0} (setup : Setup) (device : State F) (output : Output) (link : RelationState) → device.live.rest.link ≡ Some link
     → ((slot subslot : ℕ) → output_in slot subslot (Some link) ≡ zero_for setup slot subslot) → IsZeros (shown_at device output)
 early_zeros setup device output link is early =
-    subst (λ (v : Option (List ℕ)). IsZeros (output_of device.station.real output.slot output.subslot v))
+    subst (λ (v : Option (List ℕ)). IsZeros (output_of device.live.rest.real output.slot output.subslot v))
     (sym (early output.slot output.subslot) ∙ ap (λ (l : Option RelationState). output_in output.slot output.subslot l) (sym is))
-    (related_zeros device.station.real output.slot output.subslot (place_at Data output.slot output.subslot (places_for setup)))
+    (related_zeros device.live.rest.real output.slot output.subslot (place_at Data output.slot output.subslot (places_for setup)))
 
 pub all_zeros : (f : Output → Option (List ℕ)) (outputs : List Output) → ((output : Output) → IsZeros (f output)) → AreZeros (map f outputs)
 all_zeros f [] so = tt
 all_zeros f (output ∷ outputs) so = (so output, all_zeros f outputs so)
+
+-- ---- what came in frames, and what is shown of it
+
+-- What the last cyclic frame that was accepted brought for an output, at a touched place or not.
+abbrev pub brought_in : ℕ → ℕ → Option RelationState → Option (List ℕ)
+brought_in slot subslot None = None
+brought_in slot subslot (Some link) = output_at link.flow slot subslot
+
+abbrev pub brought_at : {F : Type 0} → State F → Output → Option (List ℕ)
+brought_at device output = output_of device.live.rest.real output.slot output.subslot (brought_in output.slot output.subslot device.live.rest.link)
+
+not_hidden : (value : Option (List ℕ)) → value ≡ option_map (zeroed false) value
+not_hidden None = refl
+not_hidden (Some value) = refl
+
+zeros_hidden : (is_touched : Bool) (value : Option (List ℕ)) → IsZeros value → value ≡ option_map (zeroed is_touched) value
+zeros_hidden is_touched None zeros = refl
+zeros_hidden true (Some value) zeros = ap (λ (v : List ℕ). Some v) zeros
+zeros_hidden false (Some value) zeros = refl
+
+-- An output is shown as it came, or as zeros at a touched place.
+one_hidden : (real : Real) (output : Output) (link : Option RelationState) → output_of real output.slot output.subslot (output_in output.slot output.subslot link)
+    ≡ option_map (zeroed (touched_by (places_in link) output)) (output_of real output.slot output.subslot (brought_in output.slot output.subslot link))
+one_hidden real output None = not_hidden (zero_output real output.slot output.subslot)
+one_hidden real output (Some link) = by_value (output_at link.flow output.slot output.subslot)
+  where
+    by_value : (value : Option (List ℕ))
+        → output_of real output.slot output.subslot (option_map (zeroed (touched_by (places_in (Some link)) output)) value)
+        ≡ option_map (zeroed (touched_by (places_in (Some link)) output)) (output_of real output.slot output.subslot value)
+    by_value (Some value) = refl
+    by_value None =
+        zeros_hidden (touched_by (places_in (Some link)) output) (zero_output real output.slot output.subslot)
+        (plugged_zeros output.subslot (module_at output.slot real.modules.items))
+
+pub shown_hidden : {F : Type 0} (device : State F) (outputs : List Output)
+    → map (shown_at device) outputs ≡ hidden (places_in device.live.rest.link) outputs (map (brought_at device) outputs)
+shown_hidden device [] = refl
+shown_hidden device (output ∷ outputs) =
+    ap (λ (v : Option (List ℕ)). v ∷ map (shown_at device) outputs) (one_hidden device.live.rest.real output device.live.rest.link)
+    ∙ ap (λ (l : List (Option (List ℕ))). option_map (zeroed (touched_by (places_in device.live.rest.link) output)) (brought_at device output) ∷ l)
+    (shown_hidden device outputs)
 
 -- ---- lists
 
@@ -210,12 +255,13 @@ module _ {F : Type 0} (setup : Setup) (identity : Identity) (there : ArePlaced s
   moves_told = ap moves_in (sym (entries_append first it.before (it.one ∷ []))) ∙ moves_are first (it.before ++ it.one ∷ [])
 
   pub of_one_frame : (device : State F) → device.live.rest.link ≡ Some link
-      → AreOfOneFrame first.device.station.options outputs (opening_entry first ∷ entries_of first run) (map (shown_at device) outputs)
+      → AreOfOneFrame first.device.station.options outputs (opening_entry first ∷ entries_of first run) (map (brought_at device) outputs)
   of_one_frame device is =
-      let real = device.station.real in
-      let found = λ (slot subslot : ℕ). output_in slot subslot device.live.rest.link in
-      let taken = λ (slot subslot : ℕ). ap (λ (l : Option RelationState). output_in slot subslot l) is ∙ ap (λ (i : Image). option_map output_of_cell (cell_at Data slot subslot i.cells)) it.taken in
-      let given = λ (slot subslot : ℕ). ap (λ (l : Option RelationState). output_in slot subslot l) is ∙ it.shown slot subslot in
+      let real = device.live.rest.real in
+      let found = λ (slot subslot : ℕ). brought_in slot subslot device.live.rest.link in
+      let taken = λ (slot subslot : ℕ). ap (λ (l : Option RelationState). brought_in slot subslot l) is
+      ∙ ap (λ (i : Image). option_map output_of_cell (cell_at Data slot subslot i.cells)) it.taken in
+      let given = λ (slot subslot : ℕ). taken slot subslot ∙ values_shown slot subslot (values_of moves) (places_for setup) (all_long moves (places_for setup)) in
       record {
         before = opening_entry first ∷ entries_of first it.before;
         sending = sending;
@@ -248,22 +294,32 @@ module _ {F : Type 0} {S : ℕ} (as_flash : Flash F S) (setup : Setup) (identity
   abbrev planned : List Output
   planned = outputs_in setup.plan.real.modules.items
 
-  abbrev IsShown : List Entry → List (Option (List ℕ)) → Type 0
-  IsShown entries shown = AreZeros shown ⊎ AreOfOneFrame first.device.station.options planned entries shown
+  abbrev IsShown : List Entry → List (Option (List ℕ)) → Option (List ExpectedPlace) → Type 0
+  IsShown entries shown places = AreZeros shown
+      ⊎ ((values : List (Option (List ℕ))) × (shown ≡ hidden places planned values) × AreOfOneFrame first.device.station.options planned entries values)
 
-  at_end : (run : List (Move × World F)) → AreMade as_flash first run → IsShown (opening_entry first ∷ entries_of first run) (outputs_shown (last_world first run))
+  -- the outputs and the places of a world
+  abbrev IsShownIn : List Entry → World F → Type 0
+  IsShownIn entries world = IsShown entries (outputs_shown world) (places_shown world)
+
+  at_end : (run : List (Move × World F)) → AreMade as_flash first run → IsShownIn (opening_entry first ∷ entries_of first run) (last_world first run)
   at_end run made =
-      subst (λ (s : Setup). IsShown (opening_entry first ∷ entries_of first run) (map (shown_at device) (outputs_in s.plan.real.modules.items)))
+      subst (λ (s : Setup). IsShown (opening_entry first ∷ entries_of first run) (map (shown_at device) (outputs_in s.plan.real.modules.items))
+      (places_in device.live.rest.link))
       (sym (setup_stays as_flash first run made ∙ begins.of_setup)) (by_link device.live.rest.link refl)
     where
       device : State F
       device = (last_world first run).device
 
       Goal : Type 0
-      Goal = IsShown (opening_entry first ∷ entries_of first run) (map (shown_at device) planned)
+      Goal = IsShown (opening_entry first ∷ entries_of first run) (map (shown_at device) planned) (places_in device.live.rest.link)
 
       by_accepted : (link : RelationState) → device.live.rest.link ≡ Some link → (b : Bool) → has_accepted link ≡ b → Goal
-      by_accepted link is true some = inr (of_one_frame setup identity there first run link (values first run begins made link is some) device is)
+      by_accepted link is true some = inr (
+        map (brought_at device) planned,
+        shown_hidden device planned,
+        of_one_frame setup identity there first run link (values first run begins made link is some) device is,
+      )
       by_accepted link is false none =
           inl (all_zeros (shown_at device) planned (λ output. early_zeros setup device output link is (zeros first run begins made link is none)))
 
@@ -273,7 +329,7 @@ module _ {F : Type 0} {S : ℕ} (as_flash : Flash F S) (setup : Setup) (identity
 
   pub all_shown : (run : List (Move × World F)) → AreMade as_flash first run → AreShown first.device.station.options planned (opening_entry first ∷ entries_of first run)
   all_shown run made [] entry behind e =
-      subst (λ (one : Entry). IsShown (one ∷ []) one.outputs) (same_head (opening_entry first) entry (entries_of first run) behind e) (at_end [] tt)
+      subst (λ (one : Entry). IsShown (one ∷ []) one.outputs one.places) (same_head (opening_entry first) entry (entries_of first run) behind e) (at_end [] tt)
   all_shown run made (other ∷ front) entry behind e =
       let cut = cut_at first run front entry behind (same_tail (opening_entry first) other (entries_of first run) (front ++ entry ∷ behind) e) in
       let some = cut.some ++ cut.one ∷ [] in
@@ -282,9 +338,9 @@ module _ {F : Type 0} {S : ℕ} (as_flash : Flash F S) (setup : Setup) (identity
       ap (λ (l : List Entry). opening_entry first ∷ l) (entries_append first cut.some (cut.one ∷ []) ∙ ap (λ (l : List Entry). l ++ entry_by (last_world first cut.some) cut.one.0 cut.one.1 ∷ []) cut.front_is
       ∙ ap (λ (x : Entry). front ++ x ∷ []) cut.entry_is)
       ∙ ap (λ (x : Entry). x ∷ front ++ entry ∷ []) (same_head (opening_entry first) other (entries_of first run) (front ++ entry ∷ behind) e) in
-      let shown : outputs_shown (last_world first some) ≡ entry.outputs =
-      ap (λ (w : World F). outputs_shown w) (last_append first cut.some cut.one) ∙ ap (λ (x : Entry). x.outputs) cut.entry_is in
-      subst (λ (l : List Entry). IsShown l entry.outputs) entries (subst (λ (v : List (Option (List ℕ))). IsShown (opening_entry first ∷ entries_of first some) v) shown now)
+      subst (λ (l : List Entry). IsShown l entry.outputs entry.places) entries
+      (subst (λ (x : Entry). IsShown (opening_entry first ∷ entries_of first some) x.outputs x.places) cut.entry_is
+      (subst (λ (w : World F). IsShownIn (opening_entry first ∷ entries_of first some) w) (last_append first cut.some cut.one) now))
 
 pub none_shown : (options : DeviceOptions) (outputs : List Output) → AreShown options outputs []
 none_shown options outputs [] entry behind e = absurd cc

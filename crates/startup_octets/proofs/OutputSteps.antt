@@ -1,6 +1,7 @@
 -- How the outputs that a device shows change in a turn.
 use Rattle.std.proofs.Common.{◌≡◌, ◌⊎◌, inl, inr, ◌++◌, ℕ, Bool, true, false, cond, nat_eq, List, [], ◌∷◌, map, Option, Some, None, option_map, length, replicate, refl, sym, ap, subst, ◌∙◌}
 use Rattle.std.specs.Prelude.{IfSome, slice_get, unwrap_or}
+use Rattle.std.specs.List.{AllByRecursion}
 use Rattle.std.specs.Cmp.Lexicographic.{pointwise}
 use Rattle.wire.specs.Codec.{IsSound, IsSoundWhole}
 use Rattle.flash_model.specs.declared.flash.Flash.{Ghosts as Flash}
@@ -12,57 +13,35 @@ use Rattle.cyclic_data.specs.declared.place.Place.{Place}
 use Rattle.cyclic_data.specs.declared.place.PlaceKind.TheVariants.{Data}
 use Rattle.cyclic_data.specs.Layout.{is_of}
 use Rattle.cyclic_data.specs.Image.{Cell, Shown as Image, cell_at, cell_of, output_of as output_of_cell, place_at, with_frame, zero_cell}
-use Rattle.relations.specs.Exchanged.{output_in}
+use Rattle.expected_places.specs.declared.place.ExpectedPlace.{ExpectedPlace}
 use Rattle.relations.specs.Outputs.{module_at, output_of}
 use Rattle.relations.specs.RelationState.{RelationState}
-use Rattle.device_core.specs.State.{Station, State}
 use Rattle.controller_messages.specs.declared.setup.Setup.{Setup}
 use Rattle.network_world.specs.declared.moves.End.TheVariants.{Device, Controller}
 use Rattle.network_world.specs.declared.moves.Move.{Move}
 use Rattle.network_world.specs.declared.moves.Move.TheVariants as move
-use Rattle.network_world.specs.World.{AreMade, Happens, World}
+use Rattle.network_world.specs.World.{AreMade, World}
 use Rattle.end_laws.specs.both.Outputs.{BringsTo, GivesAtController, IsShownRun, Outputs, Shown, Shows, ShowsAtDevice, ShowsBehind}
 use Rattle.both_ends.specs.startup.Played.{AreMeant, Begins}
 use Rattle.both_ends.specs.startup.View.{move_of}
-use Rattle.both_ends.specs.exchange.Given.{places_for}
+use Rattle.both_ends.specs.exchange.Given.{places_for, zeros_at}
 use Rattle.both_ends.specs.exchange.Shown.{image_in, outputs_of, shown_of, shown_run, zeros_for}
 use Rattle.both_ends.proofs.ExchangeOutputsMoves.{ArePlaced}
 use Rattle.both_ends.proofs.ExchangeOutputsTurns.{KindsSo}
 use Rattle.both_ends.proofs.ExchangeOutputsValues.{zeros_are_shown}
 use Rattle.both_ends.proofs.ExchangeOutputsWorlds.{NumbersSo, TurnsSo, shown_runs}
-use Rattle.both_ends.proofs.StartupRuns.{delivered}
 use Rattle.startup_octets.specs.declared.outputs.Output.{Output}
 use Rattle.startup_octets.specs.Log.{Entry}
-use Rattle.startup_octets.specs.Outputs.{AreKept, AreZeros, Brings, outputs_in}
-use Rattle.startup_octets.specs.OutputWorlds.{outputs_shown}
+use Rattle.startup_octets.specs.Outputs.{AreKept, AreZeros, Brings, IsKept, hidden, outputs_in}
+use Rattle.startup_octets.specs.OutputWorlds.{outputs_shown, places_shown, shown_at}
 use Rattle.startup_octets.specs.Played.{turn_by}
 use Rattle.startup_octets.specs.Run.{entries_of, entry_by, opening_entry}
 use Rattle.startup_octets.specs.StartUp.{Turn}
 use Rattle.relations.specs.declared.options.DeviceOptions.{DeviceOptions}
 use Rattle.startup_octets.proofs.OutputFrames.{carrier}
-use Rattle.startup_octets.proofs.OutputPlaces.{all_so}
-use Rattle.startup_octets.proofs.OutputRuns.{all_zeros, plugged_zeros, related_zeros, same_head, same_tail, setup_kept}
-use Rattle.startup_octets.proofs.OutputValues.{IsTaken, IsThere, are_there, carried_if, places}
-
--- ---- the station stays the same
-
-module _ {F : Type 0} {S : ℕ} (as_flash : Flash F S) where
-  abbrev pub KeepsStation : World F → World F → Type 0
-  KeepsStation before after = after.device.station ≡ before.device.station
-
-  by_same : (before after : World F) → after ≡ before → KeepsStation before after
-  by_same before after same = ap (λ (w : World F). w.device.station) same
-
-  pub station_kept : (before after : World F) (one : Move) → Happens as_flash before one after → KeepsStation before after
-  station_kept before after (move.Deliver Device number) happens =
-      delivered as_flash before after Device (KeepsStation before after) (slice_get before.sent number) happens (by_same before after) (λ frame there comes. comes.hears.steps.same)
-  station_kept before after (move.Deliver Controller number) happens =
-      delivered as_flash before after Controller (KeepsStation before after) (slice_get before.sent number) happens (by_same before after)
-      (λ frame there comes. ap (λ (w : World F). w.device.station) comes)
-  station_kept before after (move.Tick Device) happens = happens.hears.steps.same
-  station_kept before after (move.Application local) happens = happens.hears.steps.same
-  station_kept before after (move.Neighbour neighbour) happens = happens.hears.steps.same
-  station_kept before after one happens = ap (λ (w : World F). w.device.station) happens
+use Rattle.startup_octets.proofs.OutputPlaces.{all_mapped, all_so, outputs_are}
+use Rattle.startup_octets.proofs.OutputRuns.{all_zeros, brought_at, brought_in, plugged_zeros, related_zeros, same_head, same_tail, setup_kept, shown_hidden}
+use Rattle.startup_octets.proofs.OutputValues.{IsTaken, IsThere, are_there, carried_if, places, subs}
 
 -- ---- what is shown of a relation
 
@@ -92,7 +71,7 @@ module _ (options : DeviceOptions) (setup : Setup) (identity : Identity) (there 
 
   -- what a device shows with this relation
   abbrev list_for : Real → Option RelationState → List (Option (List ℕ))
-  list_for real link = shown_in real (λ slot subslot. output_in slot subslot link)
+  list_for real link = shown_in real (λ slot subslot. brought_in slot subslot link)
 
   zero_image : (real : Real) (image : Image) → image ≡ zeros_for setup → AreZeros (shown_in real (value_in image))
   zero_image real image is =
@@ -108,12 +87,60 @@ module _ (options : DeviceOptions) (setup : Setup) (identity : Identity) (there 
   zeros_if real None is = no_relation real
   zeros_if real (Some link) is = zero_image real (image_in setup (Some link)) is
 
+  -- ---- each output has a place
+
+  -- there is something for an output in an image
+  abbrev pub HasValue : Image → ℕ → ℕ → Type 0
+  HasValue image slot subslot = (value : List ℕ) × (value_in image slot subslot ≡ Some value)
+
+  abbrev pub AreIn : Image → Type 0
+  AreIn image = AllByRecursion (λ (output : Output). HasValue image output.slot output.subslot) planned
+
+  in_places : (image : Image) → AllByRecursion (λ (place : Place). HasValue image place.slot place.subslot) (places setup there) → AreIn image
+  in_places image all =
+      subst (λ (outputs : List Output). AllByRecursion (λ (output : Output). HasValue image output.slot output.subslot) outputs)
+      (sym (outputs_are setup.plan.real.modules.items)) (all_mapped (HasValue image) 0 (subs setup there) all)
+
+  pub zeros_in : AreIn (zeros_for setup)
+  zeros_in =
+      in_places (zeros_for setup) (all_so (IsThere setup there) (λ (place : Place). HasValue (zeros_for setup) place.slot place.subslot)
+      (λ place here. (
+        zeros_at place,
+        zeros_are_shown place.slot place.subslot (places_for setup) ∙ ap (λ (p : Option Place). option_map zeros_at p) here,
+      ))
+      (places setup there) (are_there setup there))
+
+  frame_in : (octets : List ℕ) → AreIn (with_frame octets (zeros_for setup))
+  frame_in octets =
+      in_places (with_frame octets (zeros_for setup))
+      (all_so (IsThere setup there) (λ (place : Place). HasValue (with_frame octets (zeros_for setup)) place.slot place.subslot)
+      (λ place here. (
+        output_of_cell (cell_of octets place),
+        ap (λ (c : Option Cell). option_map output_of_cell c)
+            (frame_cell octets place.slot place.subslot (places_for setup) ∙ ap (λ (p : Option Place). option_map (cell_of octets) p) here),
+      ))
+      (places setup there) (are_there setup there))
+
+  -- then what is plugged does not count
+  real_free : (one other : Real) (found : ℕ → ℕ → Option (List ℕ)) (outputs : List Output)
+      → AllByRecursion (λ (output : Output). (value : List ℕ) × (found output.slot output.subslot ≡ Some value)) outputs
+      → map (λ (output : Output). output_of one output.slot output.subslot (found output.slot output.subslot)) outputs
+      ≡ map (λ (output : Output). output_of other output.slot output.subslot (found output.slot output.subslot)) outputs
+  real_free one other found [] all = refl
+  real_free one other found (output ∷ outputs) all =
+      ap (λ (v : Option (List ℕ)). v ∷ map (λ (o : Output). output_of one o.slot o.subslot (found o.slot o.subslot)) outputs)
+      (ap (λ (v : Option (List ℕ)). output_of one output.slot output.subslot v) all.0.1
+      ∙ sym (ap (λ (v : Option (List ℕ)). output_of other output.slot output.subslot v) all.0.1))
+      ∙ ap (λ (l : List (Option (List ℕ))). output_of other output.slot output.subslot (found output.slot output.subslot) ∷ l)
+      (real_free one other found outputs all.1)
+
   -- the same image
-  same_if : (real : Real) (before after : Option RelationState) → image_in setup after ≡ image_in setup before
-      → (list_for real after ≡ list_for real before) ⊎ AreZeros (list_for real after)
-  same_if real before None is = inr (no_relation real)
-  same_if real None (Some after) is = inr (zeros_if real (Some after) is)
-  same_if real (Some before) (Some after) is = inl (ap (λ (i : Image). shown_in real (value_in i)) is)
+  same_if : (was real : Real) (before after : Option RelationState) → AreIn (image_in setup before) → image_in setup after ≡ image_in setup before
+      → (list_for real after ≡ list_for was before) ⊎ AreZeros (list_for real after)
+  same_if was real before None are is = inr (no_relation real)
+  same_if was real None (Some after) are is = inr (zeros_if real (Some after) is)
+  same_if was real (Some before) (Some after) are is =
+      inl (ap (λ (i : Image). shown_in real (value_in i)) is ∙ real_free real was (value_in (image_in setup (Some before))) planned are)
 
   -- the image of a frame
   brought_if : (real : Real) (link : Option RelationState) (turn : Turn) (octets : List ℕ) → turn.at_device ≡ true → (outputs_of options setup identity).brought_by turn.came ≡ Some octets
@@ -121,7 +148,7 @@ module _ (options : DeviceOptions) (setup : Setup) (identity : Identity) (there 
   brought_if real None turn octets at brings is = inl (no_relation real)
   brought_if real (Some link) turn octets at brings is =
       let carries = carrier options setup identity octets turn.came brings in
-      let found = λ (slot subslot : ℕ). output_in slot subslot (Some link) in
+      let found = λ (slot subslot : ℕ). brought_in slot subslot (Some link) in
       inr (record {
         at_device = at;
         ether_type = carries.ether_type;
@@ -148,20 +175,25 @@ module _ (options : DeviceOptions) (setup : Setup) (identity : Identity) (there 
   abbrev rules : Outputs Image Image
   rules = outputs_of options setup identity
 
-  module _ (real : Real) (old new : Option RelationState) (before after : Point) (was : before.outputs ≡ image_in setup old) (is : after.outputs ≡ image_in setup new) (turn : Turn) where
+  module _ (plugged real : Real) (old new : Option RelationState) (before after : Point) (was : before.outputs ≡ image_in setup old)
+      (is : after.outputs ≡ image_in setup new) (turn : Turn) (are : AreIn (image_in setup old)) where
     abbrev Goal : Type 0
-    Goal = IsKeptBy turn (list_for real old) (list_for real new)
+    Goal = IsKeptBy turn (list_for plugged old) (list_for real new) × AreIn (image_in setup new)
 
     by_outputs : after.outputs ≡ before.outputs → Goal
-    by_outputs same = kept turn (list_for real old) (list_for real new) (same_if real old new (sym is ∙ same ∙ was))
+    by_outputs same =
+        let image : image_in setup new ≡ image_in setup old = sym is ∙ same ∙ was in
+        (kept turn (list_for plugged old) (list_for real new) (same_if plugged real old new are image), subst AreIn (sym image) are)
 
     by_shows : (brought : Option (List ℕ)) → ((octets : List ℕ) → brought ≡ Some octets → (turn.at_device ≡ true) × (rules.brought_by turn.came ≡ Some octets))
         → Shows rules brought before after → Goal
     by_shows brought so (inl same) = by_outputs same.1
-    by_shows brought so (inr (inl none)) = inr (inl (zeros_if real new (sym is ∙ none.1)))
+    by_shows brought so (inr (inl none)) = (inr (inl (zeros_if real new (sym is ∙ none.1))), subst AreIn (sym (sym is ∙ none.1)) zeros_in)
     by_shows brought so (inr (inr accepts)) =
-        let came = so accepts.octets accepts.brings in
-        inr (brought_if real new turn accepts.octets came.0 came.1 (sym is ∙ accepts.shown))
+        let came = so accepts.octets accepts.brings in (
+          inr (brought_if real new turn accepts.octets came.0 came.1 (sym is ∙ accepts.shown)),
+          subst AreIn (sym (sym is ∙ accepts.shown)) (frame_in accepts.octets),
+        )
 
     none_brought : (octets : List ℕ) → ◌≡◌ {A = Option (List ℕ)} None (Some octets) → (turn.at_device ≡ true) × (rules.brought_by turn.came ≡ Some octets)
     none_brought octets e = absurd cc
@@ -180,15 +212,19 @@ module _ (options : DeviceOptions) (setup : Setup) (identity : Identity) (there 
         by_shows (rules.brought_by brings.frame)
         (λ octets e. (at, ap (λ (f : List ℕ). rules.brought_by f) (came ∙ ap (λ (f : Option (List ℕ)). unwrap_or f []) brings.there) ∙ e)) brings.steps.shows
 
-  module _ {F : Type 0} (before after : World F) (one_setup : before.controller.setup ≡ setup) (other_setup : after.controller.setup ≡ setup) where
+  module _ {F : Type 0} (before after : World F) (one_setup : before.controller.setup ≡ setup) (other_setup : after.controller.setup ≡ setup)
+      (are : AreIn (image_in setup before.device.live.rest.link)) where
     abbrev old : Option RelationState
     old = before.device.live.rest.link
 
     abbrev new : Option RelationState
     new = after.device.live.rest.link
 
+    abbrev plugged : Real
+    plugged = before.device.live.rest.real
+
     abbrev real : Real
-    real = after.device.station.real
+    real = after.device.live.rest.real
 
     abbrev came_turn : Move → Turn
     came_turn one = turn_by before.sent one after.sent
@@ -203,61 +239,76 @@ module _ (options : DeviceOptions) (setup : Setup) (identity : Identity) (there 
     Steps one = ShowsBehind rules (shown_of before) (move_of one) (shown_of after)
 
     abbrev IsDone : Move → Type 0
-    IsDone one = IsKeptBy (came_turn one) (list_for real old) (list_for real new)
+    IsDone one = IsKeptBy (came_turn one) (list_for plugged old) (list_for real new) × AreIn (image_in setup new)
 
     by_move : (one : Move) → Steps one → IsDone one
-    by_move (move.Deliver Device number) steps = to_device real old new (shown_of before) (shown_of after) was is (came_turn (move.Deliver Device number)) number refl refl steps
-    by_move (move.Deliver Controller number) steps = at_controller real old new (shown_of before) (shown_of after) was is (came_turn (move.Deliver Controller number)) steps
-    by_move (move.Tick Device) steps = at_device real old new (shown_of before) (shown_of after) was is (came_turn (move.Tick Device)) steps
-    by_move (move.Tick Controller) steps = at_controller real old new (shown_of before) (shown_of after) was is (came_turn (move.Tick Controller)) steps
-    by_move (move.Application local) steps = at_device real old new (shown_of before) (shown_of after) was is (came_turn (move.Application local)) steps
-    by_move (move.Neighbour neighbour) steps = at_device real old new (shown_of before) (shown_of after) was is (came_turn (move.Neighbour neighbour)) steps
-    by_move (move.Give slot subslot value) steps = at_controller real old new (shown_of before) (shown_of after) was is (came_turn (move.Give slot subslot value)) steps
+    by_move (move.Deliver Device number) steps = to_device plugged real old new (shown_of before) (shown_of after) was is (came_turn (move.Deliver Device number)) are number refl refl steps
+    by_move (move.Deliver Controller number) steps = at_controller plugged real old new (shown_of before) (shown_of after) was is (came_turn (move.Deliver Controller number)) are steps
+    by_move (move.Tick Device) steps = at_device plugged real old new (shown_of before) (shown_of after) was is (came_turn (move.Tick Device)) are steps
+    by_move (move.Tick Controller) steps = at_controller plugged real old new (shown_of before) (shown_of after) was is (came_turn (move.Tick Controller)) are steps
+    by_move (move.Application local) steps = at_device plugged real old new (shown_of before) (shown_of after) was is (came_turn (move.Application local)) are steps
+    by_move (move.Neighbour neighbour) steps = at_device plugged real old new (shown_of before) (shown_of after) was is (came_turn (move.Neighbour neighbour)) are steps
+    by_move (move.Give slot subslot value) steps = at_controller plugged real old new (shown_of before) (shown_of after) was is (came_turn (move.Give slot subslot value)) are steps
     by_move (move.OutputStatus slot subslot is_good) steps =
-        at_controller real old new (shown_of before) (shown_of after) was is (came_turn (move.OutputStatus slot subslot is_good)) steps
-    by_move (move.Read slot subslot index) steps = at_controller real old new (shown_of before) (shown_of after) was is (came_turn (move.Read slot subslot index)) steps
+        at_controller plugged real old new (shown_of before) (shown_of after) was is (came_turn (move.OutputStatus slot subslot is_good)) are steps
+    by_move (move.Read slot subslot index) steps = at_controller plugged real old new (shown_of before) (shown_of after) was is (came_turn (move.Read slot subslot index)) are steps
     by_move (move.Write slot subslot index octets) steps =
-        at_controller real old new (shown_of before) (shown_of after) was is (came_turn (move.Write slot subslot index octets)) steps
-    by_move move.Stop steps = at_controller real old new (shown_of before) (shown_of after) was is (came_turn move.Stop) steps
+        at_controller plugged real old new (shown_of before) (shown_of after) was is (came_turn (move.Write slot subslot index octets)) are steps
+    by_move move.Stop steps = at_controller plugged real old new (shown_of before) (shown_of after) was is (came_turn move.Stop) are steps
 
-    abbrev list_of : Setup → State F → List (Option (List ℕ))
-    list_of s device = map (λ (output : Output). output_of device.station.real output.slot output.subslot (output_in output.slot output.subslot device.live.rest.link)) (outputs_in s.plan.real.modules.items)
-
-    pub turn_kept : (one : Move) → after.device.station ≡ before.device.station → Steps one → IsKeptBy (came_turn one) (outputs_shown before) (outputs_shown after)
-    turn_kept one same steps =
-        subst (λ (l : List (Option (List ℕ))). IsKeptBy (came_turn one) l (outputs_shown after))
-        (ap (λ (s : Station). list_for s.real old) same ∙ ap (λ (s : Setup). list_of s before.device) (sym one_setup))
-        (subst (λ (l : List (Option (List ℕ))). IsKeptBy (came_turn one) (list_for real old) l) (ap (λ (s : Setup). list_of s after.device) (sym other_setup)) (by_move one steps))
+    pub turn_kept : (one : Move) → Steps one
+        → IsKeptBy (came_turn one) (map (brought_at before.device) planned) (map (brought_at after.device) planned) × AreIn (image_in setup new)
+    turn_kept one steps = by_move one steps
 
   -- ---- runs
 
   module _ {F : Type 0} {S : ℕ} (as_flash : Flash F S) where
-    chain : (entry : Entry) (before : World F) (run : List (Move × World F)) → entry.outputs ≡ outputs_shown before → before.controller.setup ≡ setup → AreMade as_flash before run
-        → IsShownRun rules (shown_of before) (shown_run run)
+    -- an entry shows the outputs and the places of this world
+    record IsOfWorld (entry : Entry) (world : World F) : Type 0 where
+      outputs : entry.outputs ≡ outputs_shown world
+      places : entry.places ≡ places_shown world
+
+    is_hidden : (entry : Entry) (world : World F) → IsOfWorld entry world → world.controller.setup ≡ setup
+        → entry.outputs ≡ hidden entry.places planned (map (brought_at world.device) planned)
+    is_hidden entry world of at =
+        of.outputs
+        ∙ (ap (λ (s : Setup). map (shown_at world.device) (outputs_in s.plan.real.modules.items)) at
+        ∙ (shown_hidden world.device planned
+        ∙ ap (λ (p : Option (List ExpectedPlace)). hidden p planned (map (brought_at world.device) planned)) (sym of.places)))
+
+    chain : (entry : Entry) (before : World F) (run : List (Move × World F)) → IsOfWorld entry before → before.controller.setup ≡ setup
+        → AreIn (image_in setup before.device.live.rest.link) → AreMade as_flash before run → IsShownRun rules (shown_of before) (shown_run run)
         → (front : List Entry) (one other : Entry) (behind : List Entry) → entry ∷ entries_of before run ≡ front ++ one ∷ other ∷ behind
-        → IsKeptBy other.turn one.outputs other.outputs
-    chain entry before [] was at made shown [] one other behind e = absurd cc
-    chain entry before [] was at made shown (x ∷ []) one other behind e = absurd cc
-    chain entry before [] was at made shown (x ∷ y ∷ front) one other behind e = absurd cc
-    chain entry before (step ∷ run) was at made shown [] one other behind e =
+        → IsKept options planned one other
+    chain entry before [] was at are made shown [] one other behind e = absurd cc
+    chain entry before [] was at are made shown (x ∷ []) one other behind e = absurd cc
+    chain entry before [] was at are made shown (x ∷ y ∷ front) one other behind e = absurd cc
+    chain entry before (step ∷ run) was at are made shown [] one other behind e =
         let next = entry_by before step.0 step.1 in
         let first : entry ≡ one = same_head entry one (next ∷ entries_of step.1 run) (other ∷ behind) e in
         let second : next ≡ other = same_head next other (entries_of step.1 run) behind (same_tail entry one (next ∷ entries_of step.1 run) (other ∷ behind) e) in
-        let kept_setup = setup_kept as_flash before step.1 step.0 made.0 in
-        subst (λ (x : Entry). IsKeptBy x.turn one.outputs x.outputs) second
-        (subst (λ (l : List (Option (List ℕ))). IsKeptBy next.turn l next.outputs) (sym was ∙ ap (λ (x : Entry). x.outputs) first)
-        (turn_kept before step.1 at (kept_setup ∙ at) step.0 (station_kept as_flash before step.1 step.0 made.0) shown.0))
-    chain entry before (step ∷ run) was at made shown (x ∷ front) one other behind e =
+        let at_next : step.1.controller.setup ≡ setup = setup_kept as_flash before step.1 step.0 made.0 ∙ at in
+        subst (λ (x : Entry). IsKept options planned one x) second (subst (λ (x : Entry). IsKept options planned x next) first (record {
+          before = map (brought_at before.device) planned;
+          after = map (brought_at step.1.device) planned;
+          was = is_hidden entry before was at;
+          is = is_hidden next step.1 (record { outputs = refl; places = refl }) at_next;
+          kept = (turn_kept before step.1 at at_next are step.0 shown.0).0;
+        }))
+    chain entry before (step ∷ run) was at are made shown (x ∷ front) one other behind e =
         let next = entry_by before step.0 step.1 in
-        chain next step.1 run refl (setup_kept as_flash before step.1 step.0 made.0 ∙ at) made.1 shown.1 front one other behind
-        (same_tail entry x (next ∷ entries_of step.1 run) (front ++ one ∷ other ∷ behind) e)
+        let at_next : step.1.controller.setup ≡ setup = setup_kept as_flash before step.1 step.0 made.0 ∙ at in
+        chain next step.1 run (record { outputs = refl; places = refl }) at_next (turn_kept before step.1 at at_next are step.0 shown.0).1 made.1 shown.1
+        front one other behind (same_tail entry x (next ∷ entries_of step.1 run) (front ++ one ∷ other ∷ behind) e)
 
 pub all_kept : (setup : Setup) (identity : Identity) (there : ArePlaced setup) (turns : TurnsSo) (numbers : NumbersSo) (kinds : KindsSo) (sound : IsSound ethernet) (whole : IsSoundWhole layers)
     (apart : pointwise nat_eq identity.mac.octets setup.plan.controller.mac.octets ≡ false) (six : IsMac setup.plan.controller.mac) {F : Type 0} {S : ℕ} (as_flash : Flash F S) (first : World F)
     → Begins setup identity first → (run : List (Move × World F)) → AreMade as_flash first run → AreMeant first run
     → AreKept first.device.station.options (outputs_in setup.plan.real.modules.items) (opening_entry first ∷ entries_of first run)
 all_kept setup identity there turns numbers kinds sound whole apart six as_flash first begins run made meant =
-    chain first.device.station.options setup identity there as_flash (opening_entry first) first run refl begins.of_setup made
+    chain first.device.station.options setup identity there as_flash (opening_entry first) first run (record { outputs = refl; places = refl }) begins.of_setup
+    (subst (λ (l : Option RelationState). AreIn first.device.station.options setup identity there (image_in setup l)) (sym begins.unrelated)
+    (zeros_in first.device.station.options setup identity there)) made
     (shown_runs turns numbers kinds sound whole setup identity apart six first begins as_flash run made meant)
 
 pub none_kept : (options : DeviceOptions) (outputs : List Output) → AreKept options outputs []

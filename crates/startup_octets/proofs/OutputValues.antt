@@ -112,7 +112,7 @@ all_data offset (sub ∷ subs) = by_size sub.io_data.output (λ next. all_data n
 -- ---- what is shown
 
 module _ (setup : Setup) (there : ArePlaced setup) where
-  abbrev subs : List ExpectedData
+  abbrev pub subs : List ExpectedData
   subs = data_of setup.plan.real.modules.items
 
   abbrev pub places : List Place

@@ -15,7 +15,7 @@ use Rattle.relations.specs.Ready.{ready_of}
 use Rattle.relations.specs.RelationState.{RelationState}
 use Rattle.device_frames.specs.Heard.{Heard}
 use Rattle.device_frames.specs.Sendable.{AreSendable, IsSendable}
-use Rattle.device_frames.specs.Sent.{Sent, IdentifyAnswer, GetAnswer, SetAnswer, ArpReply, CallAnswer, Again, ReadyCall, Ends, Exchanges, bytes_of}
+use Rattle.device_frames.specs.Sent.{Sent, IdentifyAnswer, GetAnswer, SetAnswer, ArpReply, CallAnswer, Again, ReadyCall, PlugReadyCall, Ends, Exchanges, bytes_of}
 use Rattle.device_core.specs.State.{Live, Station}
 use Rattle.controller_messages.specs.declared.setup.Setup.{Setup}
 use Rattle.controller_messages.specs.Heard.{heard_of as controller_hears}
@@ -87,6 +87,7 @@ module _ (so : HeardSo) (calls_read : AreCallsRead) (setup : Setup) (station : S
     message_ready (Again frame) owed met can = again_fine frame owed
     message_ready (CallAnswer caller address answer) owed met can = other_says _ _ (λ e. absurd cc) met.says_at_most
     message_ready (ReadyCall address ready) owed met can = λ readies. ready_is address owed.link ready (plans owed.link owed.is) owed.header owed.block can
+    message_ready (PlugReadyCall address ready) owed met can = other_says _ small.Nothing no_nothing met.says_at_most
     message_ready (IdentifyAnswer asker running xid) owed met can = other_says _ small.Nothing no_nothing met.says_at_most
     message_ready (GetAnswer asker running alias request) owed met can = other_says _ small.Nothing no_nothing met.says_at_most
     message_ready (SetAnswer asker request answers) owed met can = other_says _ small.Nothing no_nothing met.says_at_most

@@ -51,7 +51,10 @@ module _ {T Q : Type 0} (rules : Rules T Q) where
   device_frames (Call sequence ask) before after frames (inl it) fine =
       let no = no_answer sequence it.positive it.frame it.to_controller in
       let first : IsOfDevice after it.frame = record { idle = it.to_device; ready = λ readies. absurd (no readies) } in (
-        subst (λ (l : List (List ℕ)). AllByRecursion (IsOfDevice after) l) (sym it.sent) (first, each_frame (IsReady rules after) after it.others (ready_frame after) it.readies),
+        subst (λ (l : List (List ℕ)). AllByRecursion (IsOfDevice after) l) (sym it.sent) (
+          first,
+          each_frame (λ frame. IsDull rules frame ⊎ IsReady rules after frame) after it.others (either_frame after) it.readies,
+        ),
         λ answer is. subst (λ (k : Kept). (rules.to_device k.frame ≡ Idle) × (rules.to_controller k.frame ≡ Readies → ⊥))
             (some_kept (record { sequence = sequence; frame = it.frame }) answer (sym it.keeps ∙ is)) (it.to_device, no),
       )
@@ -64,7 +67,7 @@ module _ {T Q : Type 0} (rules : Rules T Q) where
   device_frames Confirms before after frames (inl it) fine =
       (each_frame (IsDull rules) after frames (dull_frame after) it.dull, subst (λ (d : Device T Q). IsKeptFine d.kept) (sym it.becomes) fine)
   device_frames Confirms before after frames (inr it) fine =
-      (subst (λ (l : List (List ℕ)). AllByRecursion (IsOfDevice after) l) (sym it.1) tt, subst (λ (d : Device T Q). IsKeptFine d.kept) (sym it.0) fine)
+      (each_frame (λ frame. IsDull rules frame ⊎ IsReady rules after frame) after frames (either_frame after) it.sent, subst IsKeptFine (sym it.keeps) fine)
   device_frames Idle before after frames it fine =
       (each_frame (λ frame. IsDull rules frame ⊎ IsReady rules after frame) after frames (either_frame after) it.sent, subst IsKeptFine (sym it.keeps) fine)
 
@@ -80,7 +83,7 @@ module _ {T Q : Type 0} (rules : Rules T Q) where
   stored_of (Call sequence ask) before after frames (inr (inl it)) kept is = inl (sym (ap (λ (d : Device T Q). d.kept) it.unchanged) ∙ is)
   stored_of (Call sequence ask) before after frames (inr (inr it)) kept is = inl (sym (ap (λ (d : Device T Q). d.kept) it.0) ∙ is)
   stored_of Confirms before after frames (inl it) kept is = inl (sym (ap (λ (d : Device T Q). d.kept) it.becomes) ∙ is)
-  stored_of Confirms before after frames (inr it) kept is = inl (sym (ap (λ (d : Device T Q). d.kept) it.0) ∙ is)
+  stored_of Confirms before after frames (inr it) kept is = inl (sym it.keeps ∙ is)
   stored_of Idle before after frames it kept is = inl (sym it.keeps ∙ is)
 
   -- ---- the controller

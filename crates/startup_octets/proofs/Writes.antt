@@ -160,8 +160,8 @@ pub record IsAdding (blocks octets : List ℕ) (relation : List ℕ) (before aft
   pub grown : IsGrown before after now
   pub granted : granted_in (zip (parameters_by blocks) (0 ∷ statuses_in 16 (drop 64 octets))) ≡ map written_of now
 
-abbrev pub IsWriteEffect : Station → List ℕ → List ℕ → Option RelationState → Option RelationState → Type 0
-IsWriteEffect station blocks octets before after = Grown station blocks before after ⊎ (Stored station blocks before after ⊎ WrittenEach station blocks octets before after)
+abbrev pub IsWriteEffect : Real → List ℕ → List ℕ → Option RelationState → Option RelationState → Type 0
+IsWriteEffect real blocks octets before after = Grown real blocks before after ⊎ (Stored real blocks before after ⊎ WrittenEach real blocks octets before after)
 
 some_value : (one other : TakenRecord) → Keeps one ≡ Keeps other → one ≡ other
 some_value one other e = cc
@@ -176,7 +176,8 @@ restarted_more : (source : Partner) (link after : Option RelationState) (now : L
 restarted_more source None after now grown = (ap (option_map (restarted source)) grown.0, grown.1)
 restarted_more source (Some link) after now grown = (restarted source grown.0, ap (option_map (restarted source)) grown.1, grown.2, grown.3, grown.4)
 
-module _ (undone : AreNotDone) (blocks_read : AreBlocksRead) (long : (block : Block) → length (block_bytes block) ≡ block_size block) (setup : Setup) (station : Station) (fit : IsFit setup) (number : ℕ) (listed : number < write_count setup.plan) where
+module _ (undone : AreNotDone) (blocks_read : AreBlocksRead) (long : (block : Block) → length (block_bytes block) ≡ block_size block) (setup : Setup) (station : Station) (real : Real) (fit : IsFit setup) (number : ℕ)
+    (listed : number < write_count setup.plan) where
   abbrev pub records : List PlanRecord
   records = setup.plan.records.items
 
@@ -185,7 +186,7 @@ module _ (undone : AreNotDone) (blocks_read : AreBlocksRead) (long : (block : Bl
 
   -- What the Writes of the plan ask for.
   abbrev pub IsMeant : Option RelationState → List ℕ → Type 0
-  IsMeant before blocks = (writing : Writing) → writing_of (uuid_of before) station.real blocks ≡ Ok writing → IsWritingOf (rules_of setup station) station.real (uuid_of before) (suc number) values writing
+  IsMeant before blocks = (writing : Writing) → writing_of (uuid_of before) real blocks ≡ Ok writing → IsWritingOf (rules_of setup station) real (uuid_of before) (suc number) values writing
 
   below_count : (b : Bool) (count : ℕ) → count ≤ 32 → number < cond b ((count + 9) / 10) count → number < 65535
   below_count true count few below = omega (arith, few, below)
@@ -234,12 +235,12 @@ module _ (undone : AreNotDone) (blocks_read : AreBlocksRead) (long : (block : Bl
       not_several : is_several (write_of setup number entry) ≡ false
       not_several = ap (λ (b : Bool). b && (0 == 0xFFFFFFFF && (entry.slot == 0xFFFF && entry.subslot == 0xFFFF))) (ne_eqb entry.index 0xE040 (λ same. omega (arith, good.0, same)))
 
-      meant_value : (blocks : List ℕ) → IsMeant before blocks → (write : Write) → writing_of (uuid_of before) station.real blocks ≡ Ok (One write) → write.effect ≡ Keeps (taken_for entry)
+      meant_value : (blocks : List ℕ) → IsMeant before blocks → (write : Write) → writing_of (uuid_of before) real blocks ≡ Ok (One write) → write.effect ≡ Keeps (taken_for entry)
       meant_value blocks meant write judged =
           let it = meant (One write) judged in
           it.2 ∙ ap (λ (v : TakenRecord). Keeps v) (sym (same_head (taken_for entry) it.0 [] [] (sym values_are ∙ it.1)))
 
-      one_adds : IsMeant before (writing_blocks setup number) → IsWriteEffect station (writing_blocks setup number) octets before after
+      one_adds : IsMeant before (writing_blocks setup number) → IsWriteEffect real (writing_blocks setup number) octets before after
           → IsAdding (writing_blocks setup number) octets setup.ar before after
       one_adds meant (inl it) =
           let value_is : it.value ≡ taken_for entry = some_value it.value (taken_for entry) (sym it.keeps ∙ meant_value (writing_blocks setup number) meant it.write it.judged) in
@@ -256,8 +257,8 @@ module _ (undone : AreNotDone) (blocks_read : AreBlocksRead) (long : (block : Bl
           }
       one_adds meant (inr (inl it)) = absurd (stores_keeps it.value (taken_for entry) (sym it.stores ∙ meant_value (writing_blocks setup number) meant it.write it.judged))
       one_adds meant (inr (inr it)) =
-          absurd (no_each (uuid_of before) station.real (write_of setup number entry) entry.data.items it.header it.entries not_several
-          (request_known (uuid_of before) station.real (writing_blocks setup number) entry.data.items (write_of setup number entry) (Each it.header it.entries)
+          absurd (no_each (uuid_of before) real (write_of setup number entry) entry.data.items it.header it.entries not_several
+          (request_known (uuid_of before) real (writing_blocks setup number) entry.data.items (write_of setup number entry) (Each it.header it.entries)
           (ap block_of blocks_are ∙ blocks_read (is.IodWriteReq (write_of setup number entry)) entry.data.items can) it.judged))
 
     -- ---- a list of records
@@ -306,20 +307,20 @@ module _ (undone : AreNotDone) (blocks_read : AreBlocksRead) (long : (block : Bl
       can_list : IsRecord header.header
       can_list = list_can blocks_read setup number long (first ∷ others) fit.named (omega (arith, number_small)) few_listed (short_each (first ∷ others) all_fit)
 
-      known : (writing : Writing) → writing_of (uuid_of before) station.real (writing_blocks setup number) ≡ Ok writing
-          → handled_writing (uuid_of before) station.real header inside_octets ≡ Ok writing
+      known : (writing : Writing) → writing_of (uuid_of before) real (writing_blocks setup number) ≡ Ok writing
+          → handled_writing (uuid_of before) real header inside_octets ≡ Ok writing
       known writing e =
-          request_known (uuid_of before) station.real (writing_blocks setup number) inside_octets header writing
+          request_known (uuid_of before) real (writing_blocks setup number) inside_octets header writing
           (ap block_of list_is ∙ blocks_read (is.IodWriteReq header) inside_octets (record { header = can_list })) e
 
-      list_adds : IsMeant before (writing_blocks setup number) → IsWriteEffect station (writing_blocks setup number) octets before after
+      list_adds : IsMeant before (writing_blocks setup number) → IsWriteEffect real (writing_blocks setup number) octets before after
           → IsAdding (writing_blocks setup number) octets setup.ar before after
-      list_adds meant (inl it) = absurd (no_one (uuid_of before) station.real header inside_octets it.write refl (known (One it.write) it.judged))
-      list_adds meant (inr (inl it)) = absurd (no_one (uuid_of before) station.real header inside_octets it.write refl (known (One it.write) it.judged))
+      list_adds meant (inl it) = absurd (no_one (uuid_of before) real header inside_octets it.write refl (known (One it.write) it.judged))
+      list_adds meant (inr (inl it)) = absurd (no_one (uuid_of before) real header inside_octets it.write refl (known (One it.write) it.judged))
       list_adds meant (inr (inr it)) =
-          let judged : List Judged = judged_each (uuid_of before) station.real it.entries in
+          let judged : List Judged = judged_each (uuid_of before) real it.entries in
           let each = each_taken undone judged values it.answers before (meant (Each it.header it.entries) it.judged).0 started in
-          let list = each_listed (uuid_of before) station.real (writing_blocks setup number) it.header it.entries it.judged in
+          let list = each_listed (uuid_of before) real (writing_blocks setup number) it.header it.entries it.judged in
           let told : statuses_in 16 (drop 64 octets) ≡ numbers (statuses_of judged it.answers before) =
           ap (λ l. statuses_in 16 (drop 64 l)) it.tells ∙ several_read it.header judged it.answers before list.wide list.judged list.few in
           let carried : List (Option Written) = map (λ value. Some (written_of value)) values in
@@ -338,7 +339,7 @@ module _ (undone : AreNotDone) (blocks_read : AreBlocksRead) (long : (block : Bl
           }
 
     -- The records that a Write adds.
-    pub write_adds : IsMeant before (writing_blocks setup number) → IsWriteEffect station (writing_blocks setup number) octets before after
+    pub write_adds : IsMeant before (writing_blocks setup number) → IsWriteEffect real (writing_blocks setup number) octets before after
         → IsAdding (writing_blocks setup number) octets setup.ar before after
     write_adds meant effect = by_kind setup.plan.multiple_write refl
       where

@@ -1,18 +1,21 @@
 -- What a witness of both ends learns: a turn of an end for each move.
 use Rattle.std.specs.Prelude.{◌≡◌, ◌++◌, ℕ, false, List, [], ◌∷◌, map, filter_map, flat_map, Option, Some, None}
 use Rattle.record_blocks.specs.declared.alarm_notification.AlarmNotification.{AlarmNotification}
+use Rattle.expected_places.specs.declared.place.ExpectedPlace.{ExpectedPlace}
 use Rattle.network_world.specs.declared.moves.Move.{Move}
 use Rattle.network_world.specs.World.{end_at}
 use Rattle.startup_octets.specs.StartUp.{Turn}
 use Rattle.startup_octets.specs.Played.{came_by, is_device}
 
--- A turn; the move that it belongs to, which the controller's opening frame has not; the last alarm that the controller shows then; and
--- what the device shows then as each output of the plan.
+-- A turn; the move that it belongs to, which the controller's opening frame has not; the last alarm that the controller shows then; what
+-- the device shows then as each output of the plan; and the places of its relation, if it has one, and how far each is since something was
+-- pulled or plugged there.
 pub record Entry : Type 0 where
   pub turn : Turn
   pub said : Option Move
   pub alarm : Option AlarmNotification
   pub outputs : List (Option (List ℕ))
+  pub places : Option (List ExpectedPlace)
 
 -- The turns, and the moves.
 abbrev pub turns_in : List Entry → List Turn

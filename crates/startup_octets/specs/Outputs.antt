@@ -1,8 +1,11 @@
 -- The outputs that a device shows, said of the frames that were sent and that came.
-use Rattle.std.specs.Prelude.{◌≡◌, ◌⊎◌, ◌+◌, ◌==◌, ◌&&◌, ℕ, Bool, true, false, List, [], ◌∷◌, ◌++◌, length, map, get_or, replicate, flat_map, Option, Some, None, IfSome, unwrap_or, if◌then◌else◌}
+use Rattle.std.specs.Prelude.{◌≡◌, ◌⊎◌, ◌+◌, ◌==◌, ◌&&◌, ℕ, Bool, true, false, List, [], ◌∷◌, ◌++◌, length, map, get_or, replicate, flat_map, Option, Some, None, IfSome, option_map, unwrap_or, if◌then◌else◌}
 use Rattle.std.specs.List.{AllByRecursion, fold}
 use Rattle.pn_values.specs.declared.real.RealModule.{RealModule}
 use Rattle.pn_values.specs.declared.real.RealSubmodule.{RealSubmodule}
+use Rattle.expected_places.specs.declared.place.ExpectedPlace.{ExpectedPlace}
+use Rattle.expected_places.specs.Machine.{touches}
+use Rattle.expected_places.specs.Places.{place_at}
 use Rattle.relations.specs.declared.options.DeviceOptions.{DeviceOptions}
 use Rattle.relations.specs.Numbers.{is_own_id}
 use Rattle.network_world.specs.declared.moves.Move.{Move}
@@ -55,6 +58,24 @@ rated_by output last other = last
 abbrev pub value_after : List Move → Output → List ℕ
 value_after moves output = if fold (rated_by output) true moves then unwrap_or (fold (given_by output) None moves) (zeros_for output) else zeros_for output
 
+-- ---- what is pulled and plugged
+
+-- Whether something was pulled or plugged at the place of an output that the controller has not released since, by the places that the
+-- device shows.
+abbrev pub touched_by : Option (List ExpectedPlace) → Output → Bool
+touched_by None output = false
+touched_by (Some places) output = touches (place_at output.slot output.subslot places)
+
+-- A value, or as many zeros at a touched place.
+abbrev pub zeroed : Bool → List ℕ → List ℕ
+zeroed is_touched value = if is_touched then replicate (length value) 0 else value
+
+-- The values of outputs, with zeros at touched places.
+abbrev pub hidden : Option (List ExpectedPlace) → List Output → List (Option (List ℕ)) → List (Option (List ℕ))
+hidden places [] values = []
+hidden places (output ∷ outputs) [] = []
+hidden places (output ∷ outputs) (value ∷ values) = option_map (zeroed (touched_by places output)) value ∷ hidden places outputs values
+
 -- ---- the law
 
 -- A cyclic frame comes to a device with these options, with a FrameID that it chooses for outputs: 0xC000, or any of 0xC000 to
@@ -83,14 +104,28 @@ pub record AreOfOneFrame (options : DeviceOptions) (outputs : List Output) (entr
 abbrev pub AreZeros : List (Option (List ℕ)) → Type 0
 AreZeros shown = AllByRecursion (λ one. IfSome one (λ octets. octets ≡ replicate (length octets) 0)) shown
 
--- After each turn the outputs that the device shows are all zeros, or all come from one frame.
+-- The outputs of an entry are zeros at touched places, and the others all come from one frame.
+abbrev pub AreBrought : DeviceOptions → List Output → List Entry → Entry → Type 0
+AreBrought options outputs entries entry =
+    (values : List (Option (List ℕ))) × (entry.outputs ≡ hidden entry.places outputs values) × AreOfOneFrame options outputs entries values
+
+-- After each turn the outputs that the device shows are all zeros, or all come from one frame, with zeros at touched places.
 abbrev pub AreShown : DeviceOptions → List Output → List Entry → Type 0
 AreShown options outputs entries =
     (front : List Entry) (entry : Entry) (behind : List Entry) → entries ≡ front ++ entry ∷ behind
-    → AreZeros entry.outputs ⊎ AreOfOneFrame options outputs (front ++ entry ∷ []) entry.outputs
+    → AreZeros entry.outputs ⊎ AreBrought options outputs (front ++ entry ∷ []) entry
 
--- In each turn the outputs stay the same, or they become zeros, or all become those of the frame that comes in this turn.
+-- The outputs before a turn and after it are these values, with zeros at touched places. With the turn the values stay the same, or they
+-- become zeros, or all become those of the frame that comes in it.
+pub record IsKept (options : DeviceOptions) (outputs : List Output) (one other : Entry) : Type 0 where
+  pub before : List (Option (List ℕ))
+  pub after : List (Option (List ℕ))
+  pub was : one.outputs ≡ hidden one.places outputs before
+  pub is : other.outputs ≡ hidden other.places outputs after
+  pub kept : (after ≡ before) ⊎ (AreZeros after ⊎ Brings options outputs other.turn after)
+
+-- In each turn the outputs stay the same, or they become zeros, or all become those of the frame that comes in this turn. At touched places
+-- they are zeros meanwhile.
 abbrev pub AreKept : DeviceOptions → List Output → List Entry → Type 0
 AreKept options outputs entries =
-    (front : List Entry) (one other : Entry) (behind : List Entry) → entries ≡ front ++ one ∷ other ∷ behind
-    → (other.outputs ≡ one.outputs) ⊎ (AreZeros other.outputs ⊎ Brings options outputs other.turn other.outputs)
+    (front : List Entry) (one other : Entry) (behind : List Entry) → entries ≡ front ++ one ∷ other ∷ behind → IsKept options outputs one other

@@ -6,16 +6,28 @@ use Rattle.network_world.specs.World.{AreMade, last_world, World}
 use Rattle.both_ends.specs.startup.Played.{moves_of}
 use Rattle.startup_octets.specs.Played.{turn_by}
 use Rattle.startup_octets.specs.Log.{Entry}
-use Rattle.startup_octets.specs.OutputWorlds.{outputs_shown}
+use Rattle.startup_octets.specs.OutputWorlds.{outputs_shown, places_shown}
 
 module _ {F : Type 0} where
   -- the first turn: the controller sends its opening frame
   abbrev pub opening_entry : World F → Entry
-  opening_entry first = record { turn = record { at_device = false; came = []; sent = first.sent }; said = None; alarm = first.controller.live.alarm; outputs = outputs_shown first }
+  opening_entry first = record {
+    turn = record { at_device = false; came = []; sent = first.sent };
+    said = None;
+    alarm = first.controller.live.alarm;
+    outputs = outputs_shown first;
+    places = places_shown first;
+  }
 
   -- a move in a world, and the world after it
   abbrev pub entry_by : World F → Move → World F → Entry
-  entry_by before one after = record { turn = turn_by before.sent one after.sent; said = Some one; alarm = after.controller.live.alarm; outputs = outputs_shown after }
+  entry_by before one after = record {
+    turn = turn_by before.sent one after.sent;
+    said = Some one;
+    alarm = after.controller.live.alarm;
+    outputs = outputs_shown after;
+    places = places_shown after;
+  }
 
   -- the moves of a run, each with the world after it
   abbrev pub entries_of : World F → List (Move × World F) → List Entry

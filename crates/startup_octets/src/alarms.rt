@@ -4,6 +4,7 @@ ghost use Rattle.network_world.specs.declared.moves.Move.{Move};
 ghost use Rattle.network_world.specs.World.{AreMade, World};
 ghost use Rattle.both_ends.specs.startup.Played.{Begins, CanMeet};
 ghost use Rattle.both_ends.specs.exchange.Sized.{AreSizedModules};
+ghost use Rattle.both_ends.specs.exchange.Told.{AreSizedMoves};
 ghost use Rattle.startup_octets.specs.Alarms.{AreAlarmsTaken};
 ghost use Rattle.startup_octets.specs.Run.{entries_of, opening_entry};
 
@@ -11,9 +12,9 @@ use both_ends::{answers_choose_well, worlds_start_up, worlds_take_alarms};
 use controller_messages::Setup;
 use end_laws::{
     alarms_are_heard, calls_are_heard, calls_can_be_sent, confirmations_are_heard, device_goes_on,
-    device_turns, ends_are_heard, messages_can_be_sent, ready_answers_are_heard,
-    ready_calls_are_heard, requests_are_heard, responses_are_heard, stations_are_real,
-    turns_are_of_a_kind,
+    device_turns, ends_are_heard, messages_can_be_sent, plug_calls_are_heard,
+    ready_answers_are_heard, ready_calls_are_heard, requests_are_heard, responses_are_heard,
+    stations_are_real, turns_are_of_a_kind,
 };
 use flash_model::Flash;
 use frame_codec::{formats_are_sound, frames_are_read};
@@ -28,7 +29,7 @@ pub fn alarms_are_read<F: Flash<S>, const S: usize>(setup: &Setup, identity: &Id
     // accepted.
     ensures taken { CanMeet setup.now identity.now →
         (first : World F) (run : List (Move × World F)) → Begins setup.now identity.now first
-        → AreMade F.Flash first run → AreSizedModules first.device.station.real.modules.items
+        → AreMade F.Flash first run → AreSizedModules first.device.live.rest.real.modules.items → AreSizedMoves run
         → AreAlarmsTaken (opening_entry first ∷ entries_of first run) }
 {
     stations_are_real(setup, identity);
@@ -39,6 +40,7 @@ pub fn alarms_are_read<F: Flash<S>, const S: usize>(setup: &Setup, identity: &Id
     calls_are_heard();
     ready_answers_are_heard();
     ready_calls_are_heard();
+    plug_calls_are_heard();
     responses_are_heard();
     answers_choose_well();
     calls_and_responses_differ();

@@ -9,7 +9,7 @@ ghost use Rattle.startup_octets.specs.Alarms.{AreAlarmsTaken};
 ghost use Rattle.startup_octets.specs.StartUp.{AreDelivered, AreStartUps};
 ghost use Rattle.startup_octets.specs.Log.{AreOfMoves, Entry, moves_in, sent_in, turns_in};
 ghost use Rattle.startup_octets.specs.Outputs.{AreKept, AreShown, outputs_in};
-ghost use Rattle.startup_octets.specs.OutputWorlds.{octets_in, outputs_shown};
+ghost use Rattle.startup_octets.specs.OutputWorlds.{octets_in, outputs_shown, places_shown};
 ghost use Rattle.startup_octets.specs.Played.{came_by, is_device, records_for};
 ghost use Rattle.startup_octets.specs.Run.{IsCut, IsRun, entry_by, opening_entry};
 
@@ -17,9 +17,10 @@ use crate::alarms::alarms_are_read;
 use crate::outputs::{outputs_are_shown, shown_outputs};
 use crate::start_up::start_ups_are_read;
 use block_codec::AlarmNotification;
-use both_ends::{begin_world, can_meet, modules_are_sized};
+use both_ends::{begin_world, can_meet, modules_are_sized, moves_are_sized};
 use controller_messages::Setup;
 use device_core::Device;
+use expected_places::ExpectedPlace;
 use flash_model::Flash;
 use frame_codec::{Bytes, Frame};
 use network_world::{End, Move, World};
@@ -33,6 +34,9 @@ use std::alloc::{AllocError, Global};
 pub struct Shown<'a> {
     /// What the device shows as each output of the plan, in the order of slots and subslots.
     pub outputs: Vec<Option<Bytes>>,
+    /// The places of the device's relation, and how far each is since something was pulled or plugged there. `None` if there is no
+    /// relation.
+    pub places: Option<&'a [ExpectedPlace]>,
     /// The last alarm of high priority that the controller accepted, if there was one.
     pub alarm: Option<AlarmNotification<'a>>,
 }
@@ -57,6 +61,7 @@ pub trait Witness {
           said = option_map (λ one. one.now) said.entry;
           alarm = shown.now.alarm;
           outputs = octets_in shown.now.outputs.items;
+          places = option_map (λ places. places.now) shown.now.places;
         } ∷ [] };
 }
 
@@ -112,11 +117,12 @@ pub fn play<F: Flash<S>, const S: usize, W: Witness>(
     ensures alarms { (entries : List Entry) → W.log witness.new ≡ W.log witness.old ++ entries → AreAlarmsTaken entries }
     // After each turn all outputs that the device shows are zeros, or all come from one frame: a cyclic frame of the relation that
     // the controller had sent, and that came to the device in a later turn. Each is what the frame carries for it: the value that
-    // was given last when the frame was sent; zeros if none was given, or if the application had said that it is bad.
+    // was given last when the frame was sent; zeros if none was given, or if the application had said that it is bad. At a touched
+    // place, where something was pulled or plugged that the controller has not released since, zeros are shown.
     ensures outputs { (entries : List Entry) → W.log witness.new ≡ W.log witness.old ++ entries
         → AreShown station.options (outputs_in setup.plan.real.modules.items) entries }
     // In each turn the outputs stay the same, or they become zeros, or all become what a cyclic frame of the relation carries that
-    // comes to the device in this turn.
+    // comes to the device in this turn. At touched places they are zeros meanwhile.
     ensures changes { (entries : List Entry) → W.log witness.new ≡ W.log witness.old ++ entries
         → AreKept station.options (outputs_in setup.plan.real.modules.items) entries }
     // A set-up that can meet the device is not refused, nor is a flash that a device left, unless it cannot be read.
@@ -128,6 +134,7 @@ pub fn play<F: Flash<S>, const S: usize, W: Witness>(
     alarms_are_read::<F, S>(&setup, &station.identity);
     let world = begin(alloc, station, flash, setup)?;
     modules_are_sized(world.device().real());
+    moves_are_sized(moves);
     match play_all(alloc, world, moves, witness) {
         Ok(last) => Ok(last),
         Err(AllocError) => Err(PlayFault::OutOfMemory),
@@ -229,9 +236,11 @@ fn shown_by<F: Flash<S>, const S: usize>(
 ) -> Result<Shown<'_>, AllocError>
     ensures alarm { IfOk result (λ shown. shown.alarm ≡ world.now.controller.live.alarm) }
     ensures outputs { IfOk result (λ shown. octets_in shown.outputs.items ≡ outputs_shown world.now) }
+    ensures places { IfOk result (λ shown. option_map (λ places. places.now) shown.places ≡ places_shown world.now) }
 {
     Ok(Shown {
         outputs: shown_outputs(alloc, world)?,
+        places: world.device().expected(),
         alarm: world.controller().alarm(),
     })
 }

@@ -13,8 +13,9 @@ use controller_messages::Setup;
 use end_laws::{
     calls_are_heard, calls_can_be_sent, controller_goes_on, datagrams_alone_are_calls,
     device_goes_on, device_sends_what_it_owes, device_turns, frames_are_messages,
-    messages_are_addressed, packets_are_heard, ready_answers_are_heard, ready_calls_are_heard,
-    responses_are_heard, start_up_is_kept, stations_are_real, turns_are_of_a_kind,
+    messages_are_addressed, packets_are_heard, plug_calls_are_heard, ready_answers_are_heard,
+    ready_calls_are_heard, responses_are_heard, start_up_is_kept, stations_are_real,
+    turns_are_of_a_kind,
 };
 use flash_model::Flash;
 use frame_codec::formats_are_sound;
@@ -72,6 +73,7 @@ pub fn start_ups_are_read<F: Flash<S>, const S: usize>(setup: &Setup, identity: 
     calls_are_read();
     responses_are_heard();
     ready_calls_are_heard();
+    plug_calls_are_heard();
     ready_answers_are_heard();
     blocks_are_read();
     messages_are_addressed();

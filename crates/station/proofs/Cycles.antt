@@ -51,7 +51,7 @@ refused_cycled as_flash power_up station flash booted begun ended events before 
 
 -- what a start of a device says
 pub begins_from : {F : Type 0} {S : ℕ} (as_flash : Flash F S) (station : Station) (flash : F) (booted : device.State F) → booted.station ≡ station
-    → ((settings : Settings) (room : ℕ) → StartsWith (as_flash.image flash) settings room → booted.live ≡ started settings room) → booted.live ≡ started booted.live.values.stored booted.live.values.room
+    → ((settings : Settings) (room : ℕ) → StartsWith (as_flash.image flash) settings room → booted.live ≡ started station.real settings room) → booted.live ≡ started station.real booted.live.values.stored booted.live.values.room
     → StartsWith (as_flash.image flash) booted.live.values.stored booted.live.values.room → as_flash.image booted.flash ≡ as_flash.image flash → as_flash.failures booted.flash ≡ as_flash.failures flash → as_flash.asked flash [] booted.flash
     → IsStartedFrom as_flash station flash booted
 begins_from as_flash station flash booted is known fresh starts image failures none_asked = record {

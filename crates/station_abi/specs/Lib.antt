@@ -3,3 +3,4 @@ pub mod Made
 pub mod Reasons
 pub mod Serves
 pub mod Stations
+pub mod Submodules

@@ -1,16 +1,23 @@
 -- Why a device refuses what its application says: from what is plugged, what the relation waits for, and the diagnoses that exist, all
 -- before the event. Each reason is that of an event that was refused: the last one of each list is then the only one that remains.
-use Rattle.std.specs.Prelude.{◌==◌, ℕ, nat_le, nat_lt, List, length, if◌then◌else◌, Option, Some, None, is_some, option_map}
+use Rattle.std.specs.Prelude.{◌==◌, ℕ, nat_le, nat_lt, not, List, length, if◌then◌else◌, Option, Some, None, is_some, option_map}
 use Rattle.std.specs.List.{find}
 use Rattle.diagnosis.specs.Existing.{exists, is_valid}
 use Rattle.diagnosis.specs.declared.diagnosis.Change.{Change}
 use Rattle.diagnosis.specs.declared.diagnosis.Diagnosis.{Diagnosis}
-use Rattle.module_diff.specs.Plugged.{module_in, submodule_ident}
+use Rattle.expected_places.specs.declared.place.ExpectedPlace.{ExpectedPlace}
+use Rattle.expected_places.specs.declared.place.Step.{Step}
+use Rattle.expected_places.specs.declared.place.Step.TheVariants as step
+use Rattle.expected_places.specs.Places.{place_at}
+use Rattle.module_diff.specs.Changes.{is_pluggable}
+use Rattle.module_diff.specs.Plugged.{module_in, part_ident, submodule_ident}
 use Rattle.pn_values.specs.declared.real.RealModule.{RealModule}
+use Rattle.pn_values.specs.declared.real.RealSubmodule.{RealSubmodule}
 use Rattle.relations.specs.declared.phase.Phase.{Phase}
 use Rattle.relations.specs.declared.phase.Phase.TheVariants.{Started, Preparing, Awaiting, Exchanging}
 use Rattle.station_abi.specs.declared.reason.Reason.{Reason}
 use Rattle.station_abi.specs.declared.reason.Reason.TheVariants.{NotPlugged, NoRelation, BadLength, NoPlace, NoExchange, AlarmOpen, BadNumber, Exists, Absent, Full, ChangesWait, TooEarly, TooLate}
+use Rattle.station_abi.specs.declared.reason.Reason.TheVariants.{AccessPoint, OtherModule, IsPlugged, NoRoom, BadSubmodule, NoPlug}
 
 -- The number of each reason, as C sees it.
 abbrev pub reason_number : Reason → ℕ
@@ -27,6 +34,12 @@ reason_number Full = 10
 reason_number ChangesWait = 11
 reason_number TooEarly = 12
 reason_number TooLate = 13
+reason_number AccessPoint = 14
+reason_number OtherModule = 15
+reason_number IsPlugged = 16
+reason_number NoRoom = 17
+reason_number BadSubmodule = 18
+reason_number NoPlug = 19
 
 -- ---- inputs
 
@@ -108,3 +121,48 @@ why_not_ready (Some Started) = TooEarly
 why_not_ready (Some Preparing) = TooLate
 why_not_ready (Some Awaiting) = TooLate
 why_not_ready (Some Exchanging) = TooLate
+
+-- ---- modules that come and go
+
+-- Why a submodule is not pulled: slot 0, the access point, stays, or nothing is plugged there; otherwise too many changes wait.
+abbrev pub why_no_pull : List RealModule → ℕ → ℕ → Reason
+why_no_pull modules slot subslot =
+    if slot == 0 then AccessPoint else (if is_some (submodule_ident modules slot subslot) then ChangesWait else NotPlugged)
+
+-- Why a module is not pulled.
+abbrev pub why_no_slot_pull : List RealModule → ℕ → Reason
+why_no_slot_pull modules slot = if slot == 0 then AccessPoint else (if is_some (module_in modules slot) then ChangesWait else NotPlugged)
+
+-- Why a submodule does not fit into a slot: it has another module, a submodule in this subslot, or four of them; otherwise a number of the
+-- submodule is not in its range.
+abbrev pub why_unfit : Option RealModule → ℕ → ℕ → Reason
+why_unfit None ident subslot = BadSubmodule
+why_unfit (Some entry) ident subslot =
+    if not (entry.ident == ident) then OtherModule else
+    (if is_some (part_ident entry.submodules.items subslot) then IsPlugged else (if nat_lt (length entry.submodules.items) 4 then BadSubmodule else NoRoom))
+
+-- Why a submodule is not plugged: slot 0 stays, or it does not fit; otherwise too many changes wait.
+abbrev pub why_no_plug : List RealModule → ℕ → ℕ → RealSubmodule → Reason
+why_no_plug modules slot ident part =
+    if slot == 0 then AccessPoint else
+    (if is_pluggable slot ident part modules then ChangesWait else why_unfit (module_in modules slot) ident part.subslot)
+
+-- Why the application is not ready for the plug at a place that is this far: nothing was plugged there or it was released, its parameters
+-- have not ended, or its ApplicationReady was sent or waits for others.
+abbrev pub why_unready : Step → Reason
+why_unready step.Settled = NoPlug
+why_unready step.Pulled = NoPlug
+why_unready step.Plugged = TooEarly
+why_unready (step.Told number) = TooEarly
+why_unready (step.Ended number) = TooLate
+why_unready step.Refused = TooLate
+
+-- The same of a place, if the relation expects a submodule there.
+abbrev pub why_not_ready_for : Option ExpectedPlace → Reason
+why_not_ready_for None = NoPlug
+why_not_ready_for (Some place) = why_unready place.step
+
+-- Why the application is not ready at a place, if these are those of the relation: there is no relation, or no plug there waits for it.
+abbrev pub why_not_ready_at : Option (List ExpectedPlace) → ℕ → ℕ → Reason
+why_not_ready_at None slot subslot = NoRelation
+why_not_ready_at (Some places) slot subslot = why_not_ready_for (place_at slot subslot places)

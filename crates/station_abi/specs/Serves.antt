@@ -8,20 +8,26 @@ use Rattle.flash_model.specs.Calls.{Call, Programs, Erases, Arms}
 use Rattle.flash_model.specs.declared.flash.Sector.{Sector}
 use Rattle.flash_model.specs.declared.flash.Sector.TheVariants.{First, Second}
 use Rattle.pn_values.specs.declared.real.RealModule.{RealModule}
+use Rattle.pn_values.specs.declared.real.RealSubmodule.{RealSubmodule}
 use Rattle.pn_values.specs.declared.settings.Settings.{Settings}
 use Rattle.cyclic_data.specs.declared.exchange.exchange.ProviderStatus.{ProviderStatus}
 use Rattle.lldp.specs.declared.station.Link.{Link}
 use Rattle.records.specs.declared.writes.taken.TakenRecord.{TakenRecord}
+use Rattle.expected_places.specs.declared.place.ExpectedPlace.{ExpectedPlace}
+use Rattle.expected_places.specs.declared.place.Progress.{Progress}
+use Rattle.expected_places.specs.declared.place.Progress.TheVariants as progress
+use Rattle.expected_places.specs.Places.{progress_of}
 use Rattle.relations.specs.declared.phase.Phase.{Phase}
 use Rattle.relations.specs.declared.phase.Phase.TheVariants.{Started, Preparing, Awaiting, Exchanging}
 use Rattle.relations.specs.Exchanged.{output_in, provider_in}
+use Rattle.relations.specs.Plugging.{places_in}
 use Rattle.relations.specs.RelationState.{passed_of, phase_of, taken_of}
 use Rattle.relations.specs.Outputs.{output_of}
 use Rattle.device_frames.specs.declared.event.Event.{Event}
 use Rattle.device_frames.specs.declared.event.Event.TheVariants.{Frame, Application}
 use Rattle.arrayvec.specs.ArrayVec.{ArrayVec}
 use Rattle.device_frames.specs.declared.local.Local.{Local}
-use Rattle.device_frames.specs.declared.local.Local.TheVariants.{Input, Alarm, Status, Diagnosis, ProviderState, Ready}
+use Rattle.device_frames.specs.declared.local.Local.TheVariants.{Input, Alarm, Status, Diagnosis, Plug, ProviderState, Pull, PullModule, Ready, ReadyAt}
 use Rattle.device_core.specs.Handled.{change_of}
 use Rattle.device_frames.specs.declared.note.Note.{Note}
 use Rattle.device_frames.specs.Notes.{note_number}
@@ -39,7 +45,9 @@ use Rattle.station_abi.specs.declared.confirmation.Confirmation.{Confirmation}
 use Rattle.station_abi.specs.declared.confirmation.Confirmation.TheVariants.{Nothing}
 use Rattle.station_abi.specs.declared.reason.Reason.{Reason}
 use Rattle.station_abi.specs.Confirmed.{confirmed_by, confirmed_in_time, with_confirmation}
-use Rattle.station_abi.specs.Reasons.{reason_number, why_no_alarm, why_no_diagnosis, why_no_input, why_no_status, why_not_ready}
+use Rattle.station_abi.specs.Reasons.{reason_number, why_no_alarm, why_no_diagnosis, why_no_input, why_no_plug, why_no_pull, why_no_slot_pull, why_no_status}
+use Rattle.station_abi.specs.Reasons.{why_not_ready, why_not_ready_at}
+use Rattle.station_abi.specs.Submodules.{plug_in}
 use Rattle.station_abi.specs.declared.operation.Operation.{Operation}
 use Rattle.station_abi.specs.declared.operation.Operation.TheVariants as operation
 
@@ -71,7 +79,12 @@ operation_of what =
     if what == 24 then Some operation.FrameAfter else
     if what == 25 then Some operation.Received else
     if what == 26 then Some operation.Run else
-    if what == 27 then Some operation.Stop else None
+    if what == 27 then Some operation.Stop else
+    if what == 28 then Some operation.Pull else
+    if what == 29 then Some operation.PullModule else
+    if what == 30 then Some operation.Plug else
+    if what == 31 then Some operation.ReadyAt else
+    if what == 32 then Some operation.Expected else None
 
 -- The result of what was done, or of what was refused.
 abbrev pub answer_of : {T : Type 0} → Result T Refusal → ℕ
@@ -137,9 +150,9 @@ IsSaid old said why asked answer new reported =
     (result : Result Note Refusal) × AnswersBoth old (Application said) result new × KeepsIf (is_refused result) old.port new.port
     × IsOutcome result why new asked answer reported
 
--- The modules that are plugged in a device, and the phase of its relation.
+-- The modules that are plugged in a device now.
 abbrev pub plugged_in : Served → List RealModule
-plugged_in served = served.port.device.station.real.modules.items
+plugged_in served = served.port.device.live.rest.real.modules.items
 
 -- The phase of the relation of a device, if there is one.
 abbrev pub reached_in : Served → Option Phase
@@ -172,6 +185,35 @@ IsDiagnosis (Some place) (Some what) old asked answer new reported =
     (why_no_diagnosis (plugged_in old) old.port.device.live.rest.diagnoses (change_of place.0 place.1 what.0 what.1 (not (asked.appears == 0)))) asked answer new reported
 IsDiagnosis (Some place) None old asked answer new reported = (answer ≡ 9) × (new ≡ old) × (reported ≡ asked)
 IsDiagnosis None what old asked answer new reported = (answer ≡ 9) × (new ≡ old) × (reported ≡ asked)
+
+-- The submodule is pulled. Its module stays.
+abbrev pub IsPull : Option (ℕ × ℕ) → Served → Op → ℕ → Served → Op → Type 0
+IsPull (Some place) old asked answer new reported =
+    IsSaid old (Pull place.0 place.1) (why_no_pull (plugged_in old) place.0 place.1) asked answer new reported
+IsPull None old asked answer new reported = (answer ≡ 9) × (new ≡ old) × (reported ≡ asked)
+
+-- The module is pulled, with all its submodules.
+abbrev pub IsSlotPull : Option (ℕ × ℕ) → Served → Op → ℕ → Served → Op → Type 0
+IsSlotPull (Some place) old asked answer new reported =
+    IsSaid old (PullModule place.0) (why_no_slot_pull (plugged_in old) place.0) asked answer new reported
+IsSlotPull None old asked answer new reported = (answer ≡ 9) × (new ≡ old) × (reported ≡ asked)
+
+-- The submodule is plugged, with a module of its ident number if the slot is empty; or nothing is, if the octets describe none.
+abbrev pub IsPlugOf : Option (ℕ × RealSubmodule) → ℕ → Served → Op → ℕ → Served → Op → Type 0
+IsPlugOf (Some plug) slot old asked answer new reported =
+    IsSaid old (Plug slot plug.0 plug.1) (why_no_plug (plugged_in old) slot plug.0 plug.1) asked answer new reported
+IsPlugOf None slot old asked answer new reported = (answer ≡ 8) × (new ≡ old) × (reported ≡ asked)
+
+-- What the operation Plug does: the octets describe the submodule.
+abbrev pub IsPlug : Option (ℕ × ℕ) → Served → List ℕ → Op → ℕ → Served → Op → Type 0
+IsPlug (Some place) old given asked answer new reported = IsPlugOf (plug_in place.1 given) place.0 old asked answer new reported
+IsPlug None old given asked answer new reported = (answer ≡ 9) × (new ≡ old) × (reported ≡ asked)
+
+-- The application is ready for the plug at a place.
+abbrev pub IsReadyAt : Option (ℕ × ℕ) → Served → Op → ℕ → Served → Op → Type 0
+IsReadyAt (Some place) old asked answer new reported =
+    IsSaid old (ReadyAt place.0 place.1) (why_not_ready_at (places_in old.port.device.live.rest.link) place.0 place.1) asked answer new reported
+IsReadyAt None old asked answer new reported = (answer ≡ 9) × (new ≡ old) × (reported ≡ asked)
 
 -- The number of units that remain, what is due, the kind of the first piece of work, and what became of the open alarm. The note is 0, done.
 -- Due is the number of units up to and including the next one with which anything is due.
@@ -297,7 +339,7 @@ IsValue None asked answer reported = (answer ≡ 9) × (reported ≡ asked)
 
 -- The output of a submodule, zeros before the first frame.
 abbrev pub value_of : State → ℕ → ℕ → Option (List ℕ)
-value_of port slot subslot = output_of port.device.station.real slot subslot (output_in slot subslot port.device.live.rest.link)
+value_of port slot subslot = output_of port.device.live.rest.real slot subslot (output_in slot subslot port.device.live.rest.link)
 
 -- What an operation returns of a value, unless the port refuses it.
 abbrev pub IsValueOf : Option Refusal → Option (List ℕ) → Op → ℕ → Op → Type 0
@@ -380,6 +422,36 @@ abbrev pub IsConflicts : Option Refusal → ℕ → Op → ℕ → Op → Type 0
 IsConflicts (Some refusal) conflicts asked answer reported = (answer ≡ refusal_number refusal) × (reported ≡ asked)
 IsConflicts None conflicts asked answer reported = (answer ≡ 0) × (reported ≡ record asked { count = min conflicts 4294967295 })
 
+-- ---- places of the relation
+
+-- How far a place is, as C sees it.
+abbrev pub progress_number : Progress → ℕ
+progress_number progress.Good = 0
+progress_number progress.Differs = 1
+progress_number progress.Plugged = 2
+progress_number progress.Told = 3
+progress_number progress.Ended = 4
+progress_number progress.Refused = 5
+
+-- The place with this number of those of the relation, in the order of its Connect.
+abbrev pub place_numbered : Option (List ExpectedPlace) → ℕ → Option ExpectedPlace
+place_numbered None number = None
+place_numbered (Some places) number = slice_get places number
+
+-- A place: its slot and subslot, and how far it is.
+abbrev pub with_place : ExpectedPlace → Op → Op
+with_place place asked = record asked { slot = place.slot; subslot = place.subslot; progress = progress_number (progress_of place) }
+
+-- What is returned of a place, if it exists; 45 if no place has this number.
+abbrev pub IsPlaceAt : Option ExpectedPlace → Op → ℕ → Op → Type 0
+IsPlaceAt (Some place) asked answer reported = (answer ≡ 0) × (reported ≡ with_place place asked)
+IsPlaceAt None asked answer reported = (answer ≡ 45) × (reported ≡ asked)
+
+-- What is returned of a place, unless the port refuses it.
+abbrev pub IsPlaceOf : Option Refusal → Option ExpectedPlace → Op → ℕ → Op → Type 0
+IsPlaceOf (Some refusal) place asked answer reported = (answer ≡ refusal_number refusal) × (reported ≡ asked)
+IsPlaceOf None place asked answer reported = IsPlaceAt place asked answer reported
+
 -- ---- the link
 
 -- Which link some octets say, if they say one: what is supported and enabled, what is advertised, and the type of the MAU. 8 if
@@ -449,4 +521,10 @@ Serves (Some operation.PassedOn) old asked given answer new reported =
 Serves (Some operation.FrameAfter) old asked given answer new reported = IsFrameAfter old given asked answer new reported
 Serves (Some operation.Received) old asked given answer new reported =
     (new ≡ old) × IsReceived (place_in asked.slot asked.subslot) old.port asked answer reported
+Serves (Some operation.Pull) old asked given answer new reported = IsPull (place_in asked.slot asked.subslot) old asked answer new reported
+Serves (Some operation.PullModule) old asked given answer new reported = IsSlotPull (place_in asked.slot 0) old asked answer new reported
+Serves (Some operation.Plug) old asked given answer new reported = IsPlug (place_in asked.slot asked.subslot) old given asked answer new reported
+Serves (Some operation.ReadyAt) old asked given answer new reported = IsReadyAt (place_in asked.slot asked.subslot) old asked answer new reported
+Serves (Some operation.Expected) old asked given answer new reported =
+    (new ≡ old) × IsPlaceOf (closed old.port.stage) (place_numbered (places_in old.port.device.live.rest.link) asked.number) asked answer reported
 Serves None old asked given answer new reported = (answer ≡ 10) × (new ≡ old) × (reported ≡ asked)

@@ -17,13 +17,13 @@ use pn_values::{Identity, Mac, Real};
 use relations::DeviceOptions;
 
 /// The version of the header.
-const ABI: u32 = 6;
+const ABI: u32 = 7;
 
 /// The number of octets of the memory for a port.
-const ROOM: usize = 73728;
+const ROOM: usize = 75776;
 
 /// The number of octets of an operation.
-const OP_SIZE: usize = 1668;
+const OP_SIZE: usize = 1672;
 
 /// The identity that a device has from the factory, and the modules that are plugged, at most 16.
 #[repr(C)]

@@ -1,16 +1,18 @@
 //! A station as a host in C drives it: the operations of the library for C.
 //!
-//! `serving` carries out an operation, `reason` says why the device refused what its
-//! application said, `confirmation` what became of an open alarm, `plugged` and
-//! `c_station` are what a host writes of a station.
+//! `serving` carries out an operation, `modules` those of pulls and plugs, `reason` says why
+//! the device refused what its application said, `confirmation` what became of an open alarm,
+//! `plugged` and `c_station` are what a host writes of a station, `submodule` what it plugs.
 #![tactic(auto)]
 
 mod c_station;
 mod confirmation;
+mod modules;
 mod operation;
 mod plugged;
 mod reason;
 mod serving;
+mod submodule;
 
 pub use c_station::{Station, judge, port_of};
 pub use confirmation::Confirmation;

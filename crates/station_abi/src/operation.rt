@@ -31,6 +31,11 @@ pub enum Operation {
     Received,
     Run,
     Stop,
+    Pull,
+    PullModule,
+    Plug,
+    ReadyAt,
+    Expected,
 }
 
 // The operation of this number, if it exists.
@@ -64,6 +69,11 @@ pub(crate) fn operation_of(what: u32) -> Option<Operation>
         25 => Some(Operation::Received),
         26 => Some(Operation::Run),
         27 => Some(Operation::Stop),
+        28 => Some(Operation::Pull),
+        29 => Some(Operation::PullModule),
+        30 => Some(Operation::Plug),
+        31 => Some(Operation::ReadyAt),
+        32 => Some(Operation::Expected),
         _ => None,
     }
 }

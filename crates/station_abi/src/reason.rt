@@ -1,15 +1,19 @@
 //! Why a device refuses what its application says.
 ghost use Rattle.std.specs.Prelude.{◌≡◌, Some};
 ghost use Rattle.diagnosis.specs.Existing.{exists as is_one};
+ghost use Rattle.relations.specs.Plugging.{places_in};
 ghost use Rattle.relations.specs.RelationState.{phase_of};
 ghost use Rattle.station_abi.specs.Reasons.{input_size, part_size as size_of_part, reason_number, why_no_alarm, why_no_diagnosis, why_no_input};
-ghost use Rattle.station_abi.specs.Reasons.{why_no_status, why_no_value, why_not_added, why_not_ready, why_not_removed, why_unchanged, why_unraised};
+ghost use Rattle.station_abi.specs.Reasons.{why_no_plug, why_no_pull, why_no_slot_pull, why_no_status, why_no_value, why_not_added, why_not_ready, why_not_ready_at, why_not_ready_for};
+ghost use Rattle.station_abi.specs.Reasons.{why_not_removed, why_unchanged, why_unfit, why_unraised, why_unready};
+ghost use Rattle.expected_places.specs.Places.{place_at};
 
 use device_abi::RecordedFlash;
 use device_core::Device;
 use diagnosis::{Change, Diagnosis};
-use module_diff::module_in;
-use pn_values::RealModule;
+use expected_places::{ExpectedPlace, Step};
+use module_diff::{can_plug, module_in, part_ident};
+use pn_values::{RealModule, RealSubmodule};
 use relations::{Phase, is_plugged};
 
 /// A device over the flash that records its calls.
@@ -38,12 +42,24 @@ pub enum Reason {
     Absent = 9,
     /// The list is full: 32 diagnoses exist.
     Full = 10,
-    /// 32 changes of diagnosis wait for their alarms.
+    /// 32 changes wait for their alarms: of diagnosis, pulls and plugs.
     ChangesWait = 11,
-    /// The parameters of the relation have not ended.
+    /// The parameters of the relation, or of the plug, have not ended.
     TooEarly = 12,
     /// The relation does not wait for its application: ApplicationReady was sent.
     TooLate = 13,
+    /// Slot 0, the access point, stays.
+    AccessPoint = 14,
+    /// A module with another ident number is plugged in this slot.
+    OtherModule = 15,
+    /// A submodule is plugged in this subslot.
+    IsPlugged = 16,
+    /// Four submodules are plugged in this module.
+    NoRoom = 17,
+    /// A number of the submodule is not in its range.
+    BadSubmodule = 18,
+    /// The relation knows of no plug there.
+    NoPlug = 19,
 }
 
 impl Reason {
@@ -59,7 +75,7 @@ impl Reason {
 
 /// Why the device refuses an input of this size.
 pub(crate) fn why_no_input(device: &Recording, slot: u16, subslot: u16, size: usize) -> Reason
-    ensures { result ≡ why_no_input device.now.station.real.modules.items slot subslot size (phase_of device.now.live.rest.link) }
+    ensures { result ≡ why_no_input device.now.live.rest.real.modules.items slot subslot size (phase_of device.now.live.rest.link) }
 {
     match input_size(device, slot, subslot) {
         Some(input) => why_no_value(input, size, device.phase()),
@@ -69,7 +85,7 @@ pub(crate) fn why_no_input(device: &Recording, slot: u16, subslot: u16, size: us
 
 // The octets of the input of the submodule that is plugged there, if one is.
 fn input_size(device: &Recording, slot: u16, subslot: u16) -> Option<u16>
-    ensures { result ≡ input_size device.now.station.real.modules.items slot subslot }
+    ensures { result ≡ input_size device.now.live.rest.real.modules.items slot subslot }
 {
     part_size(module_in(device.real(), slot)?, subslot)
 }
@@ -103,7 +119,7 @@ fn why_no_value(input: u16, size: usize, phase: Option<Phase>) -> Reason
 
 /// Why the device refuses an alarm with this many octets.
 pub(crate) fn why_no_alarm(device: &Recording, slot: u16, subslot: u16, size: usize) -> Reason
-    ensures { result ≡ why_no_alarm device.now.station.real.modules.items slot subslot size (phase_of device.now.live.rest.link) }
+    ensures { result ≡ why_no_alarm device.now.live.rest.real.modules.items slot subslot size (phase_of device.now.live.rest.link) }
 {
     if !is_plugged(device.real(), slot, subslot) {
         return Reason::NotPlugged;
@@ -128,7 +144,7 @@ fn why_unraised(phase: Option<Phase>) -> Reason
 
 /// Why the device refuses a status.
 pub(crate) fn why_no_status(device: &Recording, slot: u16, subslot: u16) -> Reason
-    ensures { result ≡ why_no_status device.now.station.real.modules.items slot subslot }
+    ensures { result ≡ why_no_status device.now.live.rest.real.modules.items slot subslot }
 {
     if is_plugged(device.real(), slot, subslot) {
         Reason::Full
@@ -141,7 +157,7 @@ pub(crate) fn why_no_status(device: &Recording, slot: u16, subslot: u16) -> Reas
 
 /// Why the device refuses a change of diagnosis.
 pub(crate) fn why_no_diagnosis(device: &Recording, change: &Change) -> Reason
-    ensures { result ≡ why_no_diagnosis device.now.station.real.modules.items device.now.live.rest.diagnoses change.now }
+    ensures { result ≡ why_no_diagnosis device.now.live.rest.real.modules.items device.now.live.rest.diagnoses change.now }
 {
     if is_plugged(
         device.real(),
@@ -208,5 +224,105 @@ pub(crate) fn why_not_ready(device: &Recording) -> Reason
         Some(Phase::Started) => Reason::TooEarly,
         Some(Phase::Preparing | Phase::Awaiting | Phase::Exchanging) => Reason::TooLate,
         None => Reason::NoRelation,
+    }
+}
+
+// ---- modules that come and go
+
+/// Why the device refuses the pull of a submodule.
+pub(crate) fn why_no_pull(device: &Recording, slot: u16, subslot: u16) -> Reason
+    ensures { result ≡ why_no_pull device.now.live.rest.real.modules.items slot subslot }
+{
+    if slot == 0 {
+        return Reason::AccessPoint;
+    }
+    if is_plugged(device.real(), slot, subslot) {
+        Reason::ChangesWait
+    } else {
+        Reason::NotPlugged
+    }
+}
+
+/// Why the device refuses the pull of a module.
+pub(crate) fn why_no_slot_pull(device: &Recording, slot: u16) -> Reason
+    ensures { result ≡ why_no_slot_pull device.now.live.rest.real.modules.items slot }
+{
+    if slot == 0 {
+        return Reason::AccessPoint;
+    }
+    if module_in(device.real(), slot).is_some() {
+        Reason::ChangesWait
+    } else {
+        Reason::NotPlugged
+    }
+}
+
+/// Why the device refuses the plug of a submodule.
+pub(crate) fn why_no_plug(
+    device: &Recording,
+    slot: u16,
+    ident: u32,
+    submodule: &RealSubmodule,
+) -> Reason
+    ensures { result ≡ why_no_plug device.now.live.rest.real.modules.items slot ident submodule.now }
+{
+    if slot == 0 {
+        return Reason::AccessPoint;
+    }
+    if can_plug(device.real(), slot, ident, submodule) {
+        return Reason::ChangesWait;
+    }
+    match module_in(device.real(), slot) {
+        Some(entry) => why_unfit(entry, ident, submodule.subslot),
+        None => Reason::BadSubmodule,
+    }
+}
+
+// Why a submodule does not fit into this module.
+fn why_unfit(entry: &RealModule, ident: u32, subslot: u16) -> Reason
+    ensures { result ≡ why_unfit (Some entry.now) ident subslot }
+{
+    if entry.ident != ident {
+        return Reason::OtherModule;
+    }
+    if part_ident(entry, subslot).is_some() {
+        return Reason::IsPlugged;
+    }
+    if entry.submodules.len() < 4 {
+        Reason::BadSubmodule
+    } else {
+        Reason::NoRoom
+    }
+}
+
+/// Why the application is not ready for the plug at a place.
+pub(crate) fn why_not_ready_at(device: &Recording, slot: u16, subslot: u16) -> Reason
+    ensures { result ≡ why_not_ready_at (places_in device.now.live.rest.link) slot subslot }
+{
+    match device.expected() {
+        Some(places) => why_not_ready_in(places, slot, subslot),
+        None => Reason::NoRelation,
+    }
+}
+
+// The same of a place of these.
+fn why_not_ready_in(places: &[ExpectedPlace], slot: u16, subslot: u16) -> Reason
+    ensures { result ≡ why_not_ready_for (place_at slot subslot places.now) }
+{
+    for place in places {
+        if place.is_for(slot, subslot) {
+            return why_unready(place.step);
+        }
+    }
+    Reason::NoPlug
+}
+
+fn why_unready(step: Step) -> Reason
+    ensures { result ≡ why_unready step }
+{
+    match step {
+        Step::Settled | Step::Pulled => Reason::NoPlug,
+        Step::Plugged | Step::Told(_) => Reason::TooEarly,
+        Step::Ended(_) | Step::Refused => Reason::TooLate,
     }
 }

@@ -26,6 +26,7 @@ ghost use Rattle.station_abi.specs.Serves.{noted as is_noted, operation_of as op
 ghost use Rattle.station_abi.specs.Serves.{sector_number as number_of, sector_of, settings_octets, value_of};
 
 use crate::confirmation::{Confirmation, acknowledged_in, is_open, over_by};
+use crate::modules::{plug, pull, pull_module, ready_at, tell_expected};
 use crate::operation::{Operation, operation_of};
 use crate::reason::{
     Reason, why_no_alarm, why_no_diagnosis, why_no_input, why_no_status, why_not_ready,
@@ -113,6 +114,11 @@ fn perform(operation: Operation, port: &mut Port, op: &mut Op, given: &[u8]) -> 
         Operation::Received => received(port, op),
         Operation::Run => provider_state(port, op, true),
         Operation::Stop => provider_state(port, op, false),
+        Operation::Pull => pull(port, op),
+        Operation::PullModule => pull_module(port, op),
+        Operation::Plug => plug(port, op, given),
+        Operation::ReadyAt => ready_at(port, op),
+        Operation::Expected => tell_expected(port, op),
     }
 }
 
@@ -367,7 +373,7 @@ fn provider_state(port: &mut Port, op: &mut Op, is_running: bool) -> u32
 
 // The outcome of what the application said. This is why, if the device refused it.
 #[inline(never)]
-fn conclude(outcome: Result<Note, Refusal>, why: Reason, port: &Port, op: &mut Op) -> u32
+pub(crate) fn conclude(outcome: Result<Note, Refusal>, why: Reason, port: &Port, op: &mut Op) -> u32
     ensures { IsOutcome outcome why port.now op.old result op.new }
 {
     if is_refused(&outcome) {

@@ -24,7 +24,7 @@ use Rattle.strangers_law.proofs.Floods.{step_left, step_silent}
 use Rattle.strangers_law.proofs.Sending.{DatagramsAreRead, PacketsAreRead, RealTimeIsRead, ResponsesAreRead}
 
 kept_of : (old new : Live) → IsLeft old new → IsKept old new
-kept_of old new left = record { values = left.values; link = left.link; units = left.units; is_running = left.is_running; statuses = left.statuses; diagnoses = left.diagnoses; made = left.made }
+kept_of old new left = record { values = left.values; link = left.link; units = left.units; is_running = left.is_running; statuses = left.statuses; diagnoses = left.diagnoses; made = left.made; real = left.real }
 
 kept_both : (a b c : Live) → IsKept a b → IsKept b c → IsKept a c
 kept_both a b c one two = record {
@@ -35,17 +35,18 @@ kept_both a b c one two = record {
   statuses = two.statuses ∙ one.statuses;
   diagnoses = two.diagnoses ∙ one.diagnoses;
   made = two.made ∙ one.made;
+  real = two.real ∙ one.real;
 }
 
 kept_same : (a b : Live) → b ≡ a → IsKept a b
-kept_same a b is = subst (IsKept a) (sym is) (record { values = refl; link = refl; units = refl; is_running = refl; statuses = refl; diagnoses = refl; made = refl })
+kept_same a b is = subst (IsKept a) (sym is) (record { values = refl; link = refl; units = refl; is_running = refl; statuses = refl; diagnoses = refl; made = refl; real = refl })
 
 -- ---- the neighbour
 
 told_kept : (station : Station) (live : Live) (services : Serving) (news : Bool) → IsKept live (told_if news station live services).live
 unfolding heard_of heard_step handled_step
-told_kept station live services true = record { values = refl; link = refl; units = refl; is_running = refl; statuses = refl; diagnoses = refl; made = refl }
-told_kept station live services false = record { values = refl; link = refl; units = refl; is_running = refl; statuses = refl; diagnoses = refl; made = refl }
+told_kept station live services true = record { values = refl; link = refl; units = refl; is_running = refl; statuses = refl; diagnoses = refl; made = refl; real = refl }
+told_kept station live services false = record { values = refl; link = refl; units = refl; is_running = refl; statuses = refl; diagnoses = refl; made = refl; real = refl }
 
 told_calls : (station : Station) (live : Live) (services : Serving) (news : Bool) → (told_if news station live services).live.rest.calls ≡ live.rest.calls
 unfolding heard_of heard_step handled_step

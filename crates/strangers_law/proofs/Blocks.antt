@@ -7,6 +7,9 @@ use Rattle.wire.specs.blocks.Fields.{body, version}
 use Rattle.wire.specs.declared.blocks.fault.BlockFault.{BlockFault}
 use Rattle.connect_blocks.specs.Control.{control}
 use Rattle.connect_blocks.specs.declared.control.ControlBlock.{ControlBlock}
+use Rattle.connect_blocks.specs.declared.plug_control.PlugControlBlock.{PlugControlBlock}
+use Rattle.connect_blocks.specs.PlugControl.{plug_control}
+use Rattle.connect_blocks.proofs.Sound.{plug_control_sound}
 use Rattle.record_blocks.specs.RecordHeader.{record_header}
 use Rattle.record_blocks.specs.ReadRecord.{iod_read_req}
 use Rattle.record_blocks.specs.WriteRecord.{iod_write_req}
@@ -24,6 +27,7 @@ use Rattle.records.specs.declared.status.call_fault.CallFault.TheVariants as fau
 use Rattle.records.specs.calls.Single.{formed, single_of}
 use Rattle.records.specs.reads.Handled.{request_of}
 use Rattle.relations.specs.Calls.{control_block, in_control}
+use Rattle.relations.specs.Plugging.{block_in}
 use Rattle.octets_law.specs.Octets.{part}
 use Rattle.octets_law.proofs.CallPlaces.{skip}
 use Rattle.octets_law.proofs.CallReads.{tested}
@@ -148,6 +152,36 @@ release_named blocks value e =
     let fields = at.spelled in
     let same : fields.0 ≡ value = let e : Ok fields.0 ≡ Ok value = ap (λ v. or_fault fault.BlockForm (in_control v)) fields.1 ∙ one.2 in cc in
     ap (take 16) (at.after 4) ∙ control_named None at.inside fields.0 one.0.1 fields.2 ∙ ap (λ c. c.ar_uuid) same
+
+-- PrmEnd after a plug, which is read as a whole block.
+plug_at : (bytes : List ℕ) (value : PlugControlBlock) (rest : List ℕ) → (plug_control 0x0111).Spells bytes value rest → part 8 16 bytes ≡ value.ar_uuid
+unfolding plug_control
+plug_at bytes value rest spells =
+    let type = spells.2 in
+    let size = type.2 in
+    let high = size.2 in
+    let low = high.2 in
+    let reserved = low.2 in
+    let fields = reserved.2 in
+    let uuid = fields.1 in
+    ap (take 16) (past (2 + (1 + (1 + (2 + 0)))) 2 bytes type.1.2.1.0 type.0 type.1.2.1.2 type.1.2.1.1
+    ∙ past (1 + (1 + (2 + 0))) 2 type.0 size.1.2.1.0 size.0 size.1.2.1.2 size.1.2.1.1
+    ∙ past (1 + (2 + 0)) 1 size.0 high.1.2.1.0 high.0 high.1.2.1.2 high.1.2.1.1
+    ∙ past (2 + 0) 1 high.0 low.1.2.1.0 low.0 low.1.2.1.2 low.1.2.1.1
+    ∙ past 0 2 low.0 reserved.1.0 reserved.0 reserved.1.2.1 reserved.1.2.0)
+    ∙ sixteen_of reserved.0 spells.0.1.1.1.1.1.0 fields.0 uuid.1 uuid.0 ∙ ap (λ b. b.ar_uuid) spells.1
+  where
+    sixteen_of : (octets uuid more : List ℕ) → octets ≡ uuid ++ more → length uuid ≡ 16 → take 16 octets ≡ uuid
+    sixteen_of octets uuid more is wide = ap (take 16) is ∙ subst (λ n. take n (uuid ++ more) ≡ uuid) wide (take_front uuid more)
+
+pub plug_end_named : (blocks : List ℕ) (value : PlugControlBlock) → block_in ((plug_control 0x0111).read blocks) ≡ Ok value → part 8 16 blocks ≡ value.ar_uuid
+plug_end_named blocks value = by_read ((plug_control 0x0111).read blocks) refl
+  where
+    by_read : (r : Result (PlugControlBlock × List ℕ) BlockFault) → (plug_control 0x0111).read blocks ≡ r → block_in r ≡ Ok value → part 8 16 blocks ≡ value.ar_uuid
+    by_read (Ok x) is e =
+        let same : x.0 ≡ value = cc in
+        plug_at blocks x.0 x.1 ((plug_control_sound 0x0111).takes blocks x.0 x.1 is) ∙ ap (λ b. b.ar_uuid) same
+    by_read (Err why) is e = absurd cc
 
 -- A Read.
 pub request_named : (blocks : List ℕ) (value : IodReadReq) → request_of blocks ≡ Ok value → part 8 16 blocks ≡ value.header.ar_uuid

@@ -2,12 +2,16 @@
 use Rattle.std.proofs.Common.{◌≡◌, ◌&&◌, ℕ, Bool, true, false, List, Option, Some, None, Result, Ok, Err, if◌then◌else◌, refl, sym, ap, subst, ◌∙◌}
 use Rattle.arrayvec.specs.ArrayVec.{ArrayVec}
 use Rattle.pn_values.specs.declared.mac.Mac.{Mac}
+use Rattle.pn_values.specs.declared.real.RealModule.{RealModule}
+use Rattle.module_diff.specs.declared.changes.RealChange.{RealChange}
+use Rattle.module_diff.specs.Changes.{affected_by, plugged_with, pulled, slot_pulled}
 use Rattle.frame_codec.specs.declared.udp.Caller.{Caller}
 use Rattle.dcp_core.specs.declared.request.Service.{Service}
 use Rattle.dcp_core.specs.declared.request.Service.TheVariants as service
 use Rattle.dcp_core.specs.Identify.{matches}
 use Rattle.dcp_core.specs.Request.{Asked}
 use Rattle.rpc_core.specs.Call.{Asked as Call}
+use Rattle.rpc_core.specs.Response.{Answered}
 use Rattle.rpc_core.specs.Cache.{Kept, Reported as Looked, again, kept_more, kept_of, looked, new, old, reported_by}
 use Rattle.record_blocks.specs.declared.write_record.IodWriteReq.{IodWriteReq}
 use Rattle.records.specs.declared.status.call_fault.CallFault.{CallFault}
@@ -37,12 +41,16 @@ use Rattle.relations.specs.Diagnosed.{has_sent_low, heard_low, hearing_low}
 use Rattle.relations.specs.Exchanged.{given_to, heard_by, hearing, raised_to, received_by, receiving}
 use Rattle.relations.specs.Phases.{updated}
 use Rattle.relations.specs.Ready.{answer_of as ready_answer}
-use Rattle.relations.specs.RelationState.{RelationState, is_alarm_of, is_preparing, phase_of, uuid_of}
+use Rattle.relations.specs.declared.plugging.PlugAnswer.{PlugAnswer}
+use Rattle.relations.specs.declared.plugging.PlugAnswer.TheVariants as to_plug
+use Rattle.relations.specs.Plugging.{is_crowded, is_plug_control, is_readied_in, plug_answer_in}
+use Rattle.relations.specs.RelationState.{RelationState, is_alarm_of, is_in_exchange, is_preparing, phase_of, uuid_of}
 use Rattle.device_frames.specs.Heard.{Heard, Ticks, Unreadable, Elsewhere, Asks, Resolves, Reported, Cyclic, Alarms, LowReplies, LowConfirms, Met, Applied, Said, Calls, Responds, Garbled}
 use Rattle.device_frames.specs.declared.local.Local.{Local}
 use Rattle.device_frames.specs.declared.local.Local.TheVariants as local
 use Rattle.device_core.specs.State.{Live, Station, alias_in}
-use Rattle.device_core.specs.Handled.{Handled, Refuses, Sets, Writes, WritesEach, Moves, change_of, handled, handled_alarm, handled_answer, handled_blocks, handled_call, handled_change, handled_effect, handled_input, handled_local, handled_looked, handled_low, handled_low_pdu, handled_new, handled_notice, handled_pdu, handled_received, handled_request, handled_said, handled_write, is_request, is_running, kept_status, may_be_diagnosed}
+use Rattle.device_core.specs.Handled.{Handled, Refuses, Sets, Writes, WritesEach, Moves, change_of, handled, handled_alarm, handled_answer, handled_blocks, handled_call, handled_change, handled_effect, handled_input, handled_local, handled_looked, handled_low, handled_low_pdu, handled_modules, handled_new, handled_notice, handled_pdu, handled_plug_answer, handled_received, handled_request, handled_response, handled_said, handled_write, is_request, is_running, kept_status, may_be_diagnosed}
+use Rattle.device_core.specs.Modules.{outside, plug_of, pull_of, slot_pull_of}
 use Rattle.strangers_law.specs.Calling.{IsOwn, IsRecent}
 use Rattle.strangers_law.proofs.CallingStore.{own_first, own_recent}
 
@@ -93,8 +101,9 @@ module _ (own : List ℕ) (others : List (List ℕ)) (station : Station) (live :
     new_same blocks Connect = (_, refl, first_same _ refl, own_recent own others _ live.rest.calls is)
     new_same blocks Release = (_, refl, first_same _ refl, own_recent own others _ live.rest.calls is)
     new_same blocks Read = (_, refl, first_same _ refl, own_recent own others _ live.rest.calls is)
-    new_same blocks Write = write_same (writing_of (uuid_of live.rest.link) station.real blocks)
-    new_same blocks Control = (_, refl, first_same _ refl, own_recent own others _ live.rest.calls is)
+    new_same blocks Write = write_same (writing_of (uuid_of live.rest.link) live.rest.real blocks)
+    new_same blocks Control = either (is_plug_control blocks live.rest.link) _ _ _ _ (_, refl, first_same _ refl, own_recent own others _ live.rest.calls is)
+        (_, refl, first_same _ refl, own_recent own others _ live.rest.calls is)
     new_same blocks ReadImplicit = (_, refl, first_same _ refl, own_recent own others _ live.rest.calls is)
 
     looked_same : (blocks : List ℕ) (operation : Operation) (found : Looked)
@@ -135,10 +144,21 @@ module _ (own : List ℕ) (others : List (List ℕ)) (station : Station) (live :
   answer_same to_ready.Confirmed = (calls, refl, kept, recent)
   answer_same (to_ready.Refused farewell) = (calls, refl, kept, recent)
 
+  plug_answer_same : (response : Answered) (answer : PlugAnswer) → Alike (handled_plug_answer live response answer) (handled_plug_answer there response answer)
+  plug_answer_same response to_plug.NotWanted = refl
+  plug_answer_same response to_plug.Garbled = refl
+  plug_answer_same response to_plug.Confirmed = (calls, refl, kept, recent)
+  plug_answer_same response to_plug.Refused = (calls, refl, kept, recent)
+
+  response_same : (response : Answered) → Alike (handled_response station live response) (handled_response station there response)
+  response_same response =
+      either (is_in_exchange live.rest.link) _ _ _ _ (plug_answer_same response (plug_answer_in response live.rest.link))
+      (answer_same (ready_answer response live.rest.link))
+
   said_same : (caller : Caller) (address : List ℕ) (said : Said) → IsOwn own (Reported caller address said)
       → Alike (handled_said station live caller said) (handled_said station there caller said)
   said_same caller address (Calls call) is = call_same caller call is (operation_of call.header.operation)
-  said_same caller address (Responds response) is = answer_same (ready_answer response live.rest.link)
+  said_same caller address (Responds response) is = response_same response
   said_same caller address Garbled is = refl
 
   received_same : (came : Received) (link : Option RelationState) → Alike (handled_received live came link) (handled_received there came link)
@@ -188,15 +208,25 @@ module _ (own : List ℕ) (others : List (List ℕ)) (station : Station) (live :
   change_same change (Some diagnoses) = (calls, refl, kept, recent)
   change_same change None = refl
 
+  modules_same : (made : RealChange) (real : Option (List RealModule)) → Alike (handled_modules live made real) (handled_modules there made real)
+  modules_same made None = refl
+  modules_same made (Some real) = either (is_crowded (affected_by made) live.rest.link) _ _ _ _ refl (calls, refl, kept, recent)
+
   local_same : (said : Local (ArrayVec ℕ)) → Alike (handled_local station live said) (handled_local station there said)
   local_same (local.Input slot subslot value) = input_same (given_to slot subslot value.items live.rest.link)
-  local_same (local.Alarm slot subslot octets) = notice_same (raised_to station.real.modules.items slot subslot octets.items live.rest.link)
+  local_same (local.Alarm slot subslot octets) = notice_same (raised_to live.rest.real.modules.items slot subslot octets.items live.rest.link)
   local_same (local.Status slot subslot is_good) =
       status_same slot subslot is_good
-      (statuses_at station.real.modules.items (record { slot = slot; subslot = subslot; is_good = is_good }) live.rest.statuses)
+      (statuses_at live.rest.real.modules.items (record { slot = slot; subslot = subslot; is_good = is_good }) live.rest.statuses)
   local_same (local.Diagnosis slot subslot channel error appears) =
       let change : Change = change_of slot subslot channel error appears in
       either (may_be_diagnosed station live change) _ _ _ _ (change_same change (changed change live.rest.diagnoses)) refl
+  local_same (local.Pull slot subslot) =
+      let real = live.rest.real.modules.items in modules_same (pull_of real slot subslot) (outside slot (pulled slot subslot real))
+  local_same (local.PullModule slot) =
+      let real = live.rest.real.modules.items in modules_same (slot_pull_of real slot) (outside slot (slot_pulled slot real))
+  local_same (local.Plug slot ident part) = modules_same (plug_of slot ident part) (plugged_with slot ident part live.rest.real.modules.items)
+  local_same (local.ReadyAt slot subslot) = either (is_readied_in slot subslot live.rest.link) _ _ _ _ (calls, refl, kept, recent) refl
   local_same local.Ready = either (is_preparing (phase_of live.rest.link)) _ _ _ _ (calls, refl, kept, recent) refl
   local_same (local.ProviderState is_running) = (calls, refl, kept, recent)
 

@@ -1,5 +1,5 @@
 -- What is stated of a run alone holds of the moves in a run with callers beside it.
-use Rattle.std.proofs.Common.{◌≡◌, ℕ, List, [], ◌∷◌, ◌++◌, Option, Some, None, refl, sym, ap, subst, ◌∙◌}
+use Rattle.std.proofs.Common.{◌≡◌, ℕ, List, [], ◌∷◌, ◌++◌, Option, Some, None, option_map, refl, sym, ap, subst, ◌∙◌}
 use Rattle.std.specs.Prelude.{slice_get}
 use Rattle.pn_values.specs.declared.identity.Identity.{Identity}
 use Rattle.record_blocks.specs.declared.alarm_notification.AlarmNotification.{AlarmNotification}
@@ -13,7 +13,8 @@ use Rattle.network_world.specs.declared.moves.End.TheVariants.{Device, Controlle
 use Rattle.network_world.specs.declared.moves.Move.{Move}
 use Rattle.network_world.specs.declared.moves.Move.TheVariants as move
 use Rattle.network_world.specs.World.{World, end_at, is_skipped, last_world}
-use Rattle.relations.specs.Exchanged.{raised_to}
+use Rattle.expected_places.specs.Machine.{is_touched_at}
+use Rattle.relations.specs.Exchanged.{raised_to, shown_as}
 use Rattle.both_ends.specs.exchange.Given.{AreOfOneFrame, given_for, image_given}
 use Rattle.both_ends.specs.exchange.Over.{raised_in, raised_over, raised_with, reported_by, reported_over, reported_with}
 use Rattle.both_ends.specs.exchange.Over.{taken_from, taken_in, taken_over, taken_with}
@@ -110,14 +111,15 @@ module _ {F : Type 0} (others : List (List ℕ)) where
         brings = subst (λ (ms : List Move). (outputs_of first.device.station.options setup identity).brought_by frame.frame
             ≡ Some ((outputs_of first.device.station.options setup identity).octets_of (image_given setup ms))) moves frame.brings;
         taken = frame.taken ∙ ap (λ (ms : List Move). image_given setup ms) moves;
-        shown = λ slot subslot. frame.shown slot subslot ∙ ap (λ (ms : List Move). given_for setup ms slot subslot) moves;
+        shown = λ slot subslot. frame.shown slot subslot
+            ∙ ap (λ (ms : List Move). option_map (shown_as (is_touched_at slot subslot link.plugs)) (given_for setup ms slot subslot)) moves;
       }
 
   -- ---- alarms
 
   same_raised : (called alone : World F) → AreAlike others called alone → (one : Move) → raised_with called one ≡ raised_with alone one
   same_raised called alone like (move.Application (local.Alarm slot subslot octets)) =
-      sym (ap (λ (d : State F). raised_in (raised_to d.station.real.modules.items slot subslot octets.items d.live.rest.link)) like.device.is)
+      sym (ap (λ (d : State F). raised_in (raised_to d.live.rest.real.modules.items slot subslot octets.items d.live.rest.link)) like.device.is)
   same_raised called alone like one = refl
 
   pub all_raised : (called alone : World F) (run beside : List (Move × World F)) → AreAlike others called alone → AreBeside others run beside

@@ -5,7 +5,9 @@ use Rattle.frame_codec.specs.declared.udp.Caller.{Caller}
 use Rattle.wire.specs.Codec.{◌>>=◌}
 use Rattle.rpc_core.specs.Call.{Asked as Call}
 use Rattle.rpc_core.specs.Cache.{Kept, Reported as Looked, again, kept_more, looked, new as fresh, old as late}
+use Rattle.pn_values.specs.declared.real.Real.{Real}
 use Rattle.connect_blocks.specs.declared.control.ControlBlock.{ControlBlock}
+use Rattle.connect_blocks.specs.declared.plug_control.PlugControlBlock.{PlugControlBlock}
 use Rattle.records.specs.declared.status.call_fault.CallFault.{CallFault}
 use Rattle.records.specs.declared.status.operation.Operation.{Operation}
 use Rattle.records.specs.declared.status.operation.Operation.TheVariants.{Connect, Release, Read, Write, Control, ReadImplicit}
@@ -17,6 +19,7 @@ use Rattle.block_codec.specs.declared.block.Block.TheVariants as answers
 use Rattle.block_codec.specs.Block.{block_bytes}
 use Rattle.relations.specs.Calls.{done_of, prm_end_of, release_answer, release_of}
 use Rattle.relations.specs.Phases.{Handled as Moving, Ended, Named, Parameterized, answered, updated}
+use Rattle.relations.specs.Plugging.{ended_by, is_plug_control, plug_end_in}
 use Rattle.relations.specs.RelationState.{RelationState, uuid_of}
 use Rattle.relations.specs.declared.phase.Partner.{Partner}
 use Rattle.device_records.specs.Reading.{implicit_read, relation_read}
@@ -25,11 +28,12 @@ use Rattle.device_frames.specs.Heard.{Heard, Unreadable, Elsewhere, Resolves, Re
 use Rattle.device_core.specs.State.{Live, Rest, Station}
 use Rattle.device_core.specs.Handled.{Handled, Refuses, Sets, Writes, WritesEach, Moves, handled, handled_blocks, handled_call, handled_looked, handled_new, handled_said, handled_write, implicitly, is_request, is_running, known_of, partner_of}
 use Rattle.device_core.specs.Log.{release_log}
+use Rattle.device_core.specs.Modules.{calling_after}
 use Rattle.octets_law.specs.Octets.{activity_of}
 use Rattle.strangers_law.specs.Calling.{is_among, operation_in}
 use Rattle.strangers_law.proofs.CallingHeard.{IsCallHeard}
 use Rattle.strangers_law.proofs.Harmless.{IsHarmless, Names}
-use Rattle.strangers_law.proofs.Unnamed.{no_prm_end, no_read, no_release, no_write, no_writing, unnamed_read}
+use Rattle.strangers_law.proofs.Unnamed.{no_plug_end, no_prm_end, no_read, no_release, no_write, no_writing, unnamed_read}
 
 -- ---- what it leaves
 
@@ -98,6 +102,15 @@ prm_end_stays partner by_application None blocks other = by_result (prm_end_of N
     by_result (Err why) = refl
 prm_end_stays partner by_application (Some link) blocks other = rw (no_prm_end link blocks other).is refl
 
+plug_end_stays : (partner : Partner) (by_application : Bool) (link : Option RelationState) (blocks : List ℕ) → IsApart link blocks
+    → calling_after (plug_end_in blocks link) (updated (answered (Named partner) (plug_end_in blocks link)) (ended_by by_application (plug_end_in blocks link) link)) ≡ link
+plug_end_stays partner by_application None blocks other = by_result (plug_end_in blocks None)
+  where
+    by_result : (r : Result PlugControlBlock CallFault) → calling_after r (updated (answered (Named partner) r) (ended_by by_application r None)) ≡ None
+    by_result (Ok block) = refl
+    by_result (Err why) = refl
+plug_end_stays partner by_application (Some link) blocks other = rw (no_plug_end link blocks other).is refl
+
 implicit_stays : (partner : Partner) (link : Option RelationState) (blocks : List ℕ) (r : Result (List ℕ) CallFault) → IsApart link blocks
     → updated (answered (implicitly partner link blocks) r) link ≡ link
 implicit_stays partner None blocks (Ok octets) other =
@@ -106,10 +119,10 @@ implicit_stays partner (Some link) blocks (Ok octets) other =
     ap (λ (m : Moving). updated m (Some link)) (cond-false (names_relation (uuid_of (Some link)) blocks) _ _ (unnamed_read link blocks other))
 implicit_stays partner link blocks (Err why) other = refl
 
-no_writes : (station : Station) (link : Option RelationState) (blocks : List ℕ) (writing : Writing) → IsApart link blocks
-    → writing_of (uuid_of link) station.real blocks ≡ Ok writing → ⊥
-no_writes station None blocks writing other e = no_writing (uuid_of None) station.real blocks writing (λ uuid at. refl) e
-no_writes station (Some link) blocks writing other e = no_write link station.real blocks writing other e
+no_writes : (real : Real) (link : Option RelationState) (blocks : List ℕ) (writing : Writing) → IsApart link blocks
+    → writing_of (uuid_of link) real blocks ≡ Ok writing → ⊥
+no_writes real None blocks writing other e = no_writing (uuid_of None) real blocks writing (λ uuid at. refl) e
+no_writes real (Some link) blocks writing other e = no_write link real blocks writing other e
 
 not_connect : (number : ℕ) → (number == 0) ≡ false → operation_of number ≡ Some Connect → ⊥
 unfolding operation_of
@@ -151,27 +164,29 @@ module _ (others : List (List ℕ)) (station : Station) (live : Live) where
         stored _ _ _ refl (by_link live.rest.link refl other read refl) refl
       where
         read : Result (List ℕ) CallFault
-        read = relation_read (known_of station live) station.identity station.real live.values.running blocks
+        read = relation_read (known_of station live) station.identity live.rest.real live.values.running blocks
 
         by_link : (link : Option RelationState) → live.rest.link ≡ link → IsApart link blocks → (r : Result (List ℕ) CallFault)
             → read ≡ r → updated (answered (Named (partner_of caller)) r) link ≡ link
         by_link None is other (Ok octets) e = refl
         by_link (Some link) is other (Ok octets) e =
-            absurd (no_read (known_of station live) station.identity station.real live.values.running link blocks octets is other e)
+            absurd (no_read (known_of station live) station.identity live.rest.real live.values.running link blocks octets is other e)
         by_link link is other (Err why) e = refl
-    new_left blocks Write other none = by_result (writing_of (uuid_of live.rest.link) station.real blocks) refl
+    new_left blocks Write other none = by_result (writing_of (uuid_of live.rest.link) live.rest.real blocks) refl
       where
-        by_result : (r : Result Writing CallFault) → writing_of (uuid_of live.rest.link) station.real blocks ≡ r
+        by_result : (r : Result Writing CallFault) → writing_of (uuid_of live.rest.link) live.rest.real blocks ≡ r
             → Left (handled_write station live caller call r)
-        by_result (Ok writing) is = absurd (no_writes station live.rest.link blocks writing other is)
+        by_result (Ok writing) is = absurd (no_writes live.rest.real live.rest.link blocks writing other is)
         by_result (Err why) is = stored _ _ _ refl refl refl
     new_left blocks Control other none =
-        stored _ _ _ refl (prm_end_stays (partner_of caller) station.options.ready_by_application live.rest.link blocks other) refl
+        cond_both (is_plug_control blocks live.rest.link) _ _ Left
+        (λ _. stored _ _ _ refl (plug_end_stays (partner_of caller) station.options.ready_by_application live.rest.link blocks other) refl)
+        (λ _. stored _ _ _ refl (prm_end_stays (partner_of caller) station.options.ready_by_application live.rest.link blocks other) refl)
     new_left blocks ReadImplicit other none =
         stored _ _ _ refl (implicit_stays (partner_of caller) live.rest.link blocks read other) refl
       where
         read : Result (List ℕ) CallFault
-        read = implicit_read (known_of station live) station.identity station.real live.values.running blocks
+        read = implicit_read (known_of station live) station.identity live.rest.real live.values.running blocks
 
     looked_left : (blocks : List ℕ) (operation : Operation) (found : Looked) → IsApart live.rest.link blocks → (operation ≡ Connect → ⊥)
         → Left (handled_looked station live caller call blocks operation found)

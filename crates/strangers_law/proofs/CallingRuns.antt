@@ -41,7 +41,7 @@ own_heard rules activity real (Reported caller address (Calls call)) planned = p
 own_heard rules activity real heard planned = tt
 
 own_meant : {F : Type 0} (world : World F) (heard : Heard) → IsMeantAtDevice world heard → IsOwn world.controller.setup.activity heard
-own_meant world heard meant = own_heard _ world.controller.setup.activity world.device.station.real heard meant.planned
+own_meant world heard meant = own_heard _ world.controller.setup.activity world.device.live.rest.real heard meant.planned
 
 setup_still : (old : Controlling) (event : Event) → (step_of old event).controller.setup ≡ old.setup
 unfolding step_of

@@ -3,6 +3,9 @@ use Rattle.std.proofs.Common.{◌≡◌, ℕ, Bool, true, false, List, [], ◌�
 use Rattle.std.proofs.lemmas.Bool.{cond_both}
 use Rattle.pn_values.specs.declared.mac.Mac.{Mac}
 use Rattle.pn_values.specs.declared.real.RealModule.{RealModule}
+use Rattle.rpc_core.specs.Response.{Answered}
+use Rattle.connect_blocks.specs.declared.plug_control.PlugControlBlock.{PlugControlBlock}
+use Rattle.expected_places.specs.Machine.{next_called}
 use Rattle.records.specs.declared.status.call_fault.CallFault.{CallFault}
 use Rattle.records.specs.declared.writes.write.Effect.{Effect}
 use Rattle.records.specs.declared.writes.write.Effect.TheVariants.{Stores, Keeps}
@@ -27,7 +30,11 @@ use Rattle.relations.specs.Diagnosed.{beginning, hearing_low, reporting}
 use Rattle.relations.specs.Exchanged.{hearing, hearing_as, receiving, receiving_as}
 use Rattle.relations.specs.Phases.{Confirmed, Handled as Event, Named, Parameterized, Records, answered, keeping, phase_behind}
 use Rattle.relations.specs.Phases.{parameterized_from, restarted, taking, updated, with_records}
+use Rattle.relations.specs.declared.plugging.PlugAnswer.{PlugAnswer}
+use Rattle.relations.specs.declared.plugging.PlugAnswer.TheVariants as to_plug
+use Rattle.relations.specs.Plugging.{answered_with, calling_next, ended_by, plug_answer_in, plug_answering, plug_ended}
 use Rattle.relations.specs.RelationState.{RelationState}
+use Rattle.device_core.specs.Modules.{calling_after}
 use Rattle.device_core.specs.Several.{Judged}
 use Rattle.device_core.specs.Machine.{effect_link, link_behind, one_link}
 use Rattle.relations.specs.Timers.{is_timed}
@@ -113,6 +120,32 @@ stays_confirmed real diagnoses None = tt
 stays_confirmed real diagnoses (Some link) =
     record { request = refl; route = refl; endpoint = refl; timed = λ is. record { runs = λ exchanges. refl; limit = is.limit } }
 
+-- ---- the parameters after a plug
+
+pub stays_ended : (by_application : Bool) (result : Result PlugControlBlock CallFault) (link : Option RelationState) → Stays link (ended_by by_application result link)
+stays_ended by_application (Ok block) link =
+    stays_map (plug_ended by_application block)
+    (λ l. record { request = refl; route = refl; endpoint = refl; timed = λ is. record { runs = is.runs; limit = is.limit } }) link
+stays_ended by_application (Err why) link = stays link
+
+pub stays_calling : (link : Option RelationState) → Stays link (calling_next link)
+stays_calling link =
+    stays_map (λ l. record l { plugs = next_called l.plugs })
+    (λ l. record { request = refl; route = refl; endpoint = refl; timed = λ is. record { runs = is.runs; limit = is.limit } }) link
+
+pub stays_called : {A : Type 0} (result : Result A CallFault) (link : Option RelationState) → Stays link (calling_after result link)
+stays_called (Ok it) link = stays_calling link
+stays_called (Err why) link = stays link
+
+same_answered : (heard : PlugAnswer) (link : RelationState) → IsSame link (answered_with heard link)
+same_answered to_plug.NotWanted link = record { request = refl; route = refl; endpoint = refl; timed = λ is. record { runs = is.runs; limit = is.limit } }
+same_answered to_plug.Garbled link = record { request = refl; route = refl; endpoint = refl; timed = λ is. record { runs = is.runs; limit = is.limit } }
+same_answered to_plug.Confirmed link = record { request = refl; route = refl; endpoint = refl; timed = λ is. record { runs = is.runs; limit = is.limit } }
+same_answered to_plug.Refused link = record { request = refl; route = refl; endpoint = refl; timed = λ is. record { runs = is.runs; limit = is.limit } }
+
+pub stays_plug_answered : (response : Answered) (link : Option RelationState) → Stays link (plug_answering response link)
+stays_plug_answered response link = stays_map (answered_with (plug_answer_in response link)) (same_answered (plug_answer_in response link)) link
+
 -- ---- a cyclic frame
 
 heard_limit : (hearing : Hearing) (counter data_status transfer_status : ℕ) → (heard hearing counter data_status transfer_status).limit ≡ hearing.limit
@@ -170,6 +203,6 @@ pub stays_low : (message : ToDevice) (link : Option RelationState) → Stays lin
 stays_low message None = tt
 stays_low message (Some link) = record { request = refl; route = refl; endpoint = refl; timed = λ is. record { runs = is.runs; limit = is.limit } }
 
-pub stays_reporting : (real : List RealModule) (link : Option RelationState) → Stays link (updated (reporting real link) link)
-stays_reporting real None = tt
-stays_reporting real (Some link) = record { request = refl; route = refl; endpoint = refl; timed = λ is. record { runs = is.runs; limit = is.limit } }
+pub stays_reporting : (link : Option RelationState) → Stays link (updated (reporting link) link)
+stays_reporting None = tt
+stays_reporting (Some link) = record { request = refl; route = refl; endpoint = refl; timed = λ is. record { runs = is.runs; limit = is.limit } }

@@ -43,6 +43,7 @@ left_both a b c one two = record {
   peer = two.peer ∙ one.peer;
   diagnoses = two.diagnoses ∙ one.diagnoses;
   made = two.made ∙ one.made;
+  real = two.real ∙ one.real;
 }
 
 -- ---- a unit of time
@@ -59,6 +60,7 @@ tick_left outcomes station one other left = record {
   peer = left.peer;
   diagnoses = left.diagnoses;
   made = left.made;
+  real = left.real;
 }
 
 tick_frames : (outcomes : List Outcome) (station : Station) (one other : Live) → IsLeft one other
@@ -155,7 +157,7 @@ module _ (station : Station) where
 
 pub runs_as_alone : RunsAsAlone
 runs_as_alone station live link outcomes events exists are some =
-    runs station outcomes events live live link exists (record { values = refl; link = refl; units = refl; is_running = refl; statuses = refl; peer = refl; diagnoses = refl; made = refl }) are some
+    runs station outcomes events live live link exists (record { values = refl; link = refl; units = refl; is_running = refl; statuses = refl; peer = refl; diagnoses = refl; made = refl; real = refl }) are some
 
 -- ---- a step of a device
 

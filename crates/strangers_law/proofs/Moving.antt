@@ -8,7 +8,7 @@ use Rattle.relations.specs.Timers.{ending_of}
 use Rattle.relations.specs.Phases.{made_of, passing, passing_by, Ended, Handled as Event, Named, Parameterized, answered, keeping, taking, updated}
 use Rattle.relations.specs.Connect.{connect_blocks, differing_of, rows_of, connect_within, making}
 use Rattle.relations.specs.Exchanged.{heard_by, hearing, received_by, receiving}
-use Rattle.relations.specs.RelationState.{RelationState, is_alarm_of, uuid_of}
+use Rattle.relations.specs.RelationState.{RelationState, is_alarm_of, is_in_exchange, uuid_of}
 use Rattle.device_core.specs.State.{Rest, Live, Station}
 use Rattle.device_core.specs.Handled.{count_after, number_now, Handled, Refuses, Writes, handled, handled_alarm, handled_answer, handled_blocks}
 use Rattle.std.proofs.lemmas.Bool.{cond_both}
@@ -17,6 +17,7 @@ use Rattle.pn_values.specs.declared.set_item.BlockError.{BlockError}
 use Rattle.pn_values.specs.declared.im_value.ImValue.{ImValue}
 use Rattle.frame_codec.specs.declared.udp.Caller.{Caller}
 use Rattle.rpc_core.specs.Call.{Asked as Call}
+use Rattle.rpc_core.specs.Response.{Answered}
 use Rattle.rpc_core.specs.Cache.{Reported as Looked, again, looked, new, old}
 use Rattle.connects.specs.requests.Request.{Request}
 use Rattle.records.specs.declared.status.call_fault.CallFault.{CallFault}
@@ -42,6 +43,9 @@ use Rattle.relations.specs.declared.hearing.ReadyAnswer.TheVariants as to_ready
 use Rattle.relations.specs.Calls.{prm_end_of, release_of}
 use Rattle.relations.specs.Diagnosed.{has_sent_low, heard_low, hearing_low}
 use Rattle.relations.specs.Ready.{answer_of as ready_answer}
+use Rattle.relations.specs.declared.plugging.PlugAnswer.{PlugAnswer}
+use Rattle.relations.specs.declared.plugging.PlugAnswer.TheVariants as to_plug
+use Rattle.relations.specs.Plugging.{calling_next, ended_by, is_plug_control, plug_answer_in, plug_answering, plug_end_in}
 use Rattle.device_records.specs.Reading.{implicit_read, relation_read}
 use Rattle.device_frames.specs.declared.note.Note.{Note}
 use Rattle.device_frames.specs.declared.note.Note.TheVariants as note
@@ -49,7 +53,8 @@ use Rattle.device_frames.specs.Heard.{Heard, Ticks, Reported, Cyclic, Alarms, Lo
 use Rattle.device_frames.specs.Heard.{Said, Calls, Responds, Garbled}
 use Rattle.settings_journal.specs.settings_store.Machine.{Outcome, carried}
 use Rattle.device_core.specs.Handled.{handled_call, handled_effect, handled_looked, handled_low, handled_low_message}
-use Rattle.device_core.specs.Handled.{handled_low_pdu, handled_message, handled_new, handled_pdu, handled_received, handled_said}
+use Rattle.device_core.specs.Handled.{handled_low_pdu, handled_message, handled_new, handled_pdu, handled_plug_answer, handled_plug_end, handled_prm_end}
+use Rattle.device_core.specs.Handled.{handled_received, handled_response, handled_said}
 use Rattle.device_core.specs.Handled.{handled_write, implicitly, is_running, known_of, partner_of, starting_of}
 use Rattle.device_core.specs.Several.{judged_each}
 use Rattle.device_core.specs.Machine.{finished, first_answer, handled_step, heard_step, items_in, link_behind, written_as}
@@ -58,6 +63,7 @@ use Rattle.strangers_law.proofs.FrameIds.{connect_cyclic, number_few}
 use Rattle.strangers_law.proofs.Unnamed.{no_request}
 use Rattle.strangers_law.specs.Silence.{IsTimed}
 use Rattle.strangers_law.proofs.Changes.{Stays, stays, stays_both, stays_named, stays_answered, stays_taking, stays_each, stays_parameterized, stays_confirmed, stays_receiving, stays_hearing, stays_low, stays_reporting}
+use Rattle.strangers_law.proofs.Changes.{stays_called, stays_calling, stays_ended, stays_plug_answered}
 use Rattle.strangers_law.proofs.Uncounted.{Uncounted, beside_uncounted}
 
 -- ---- a step
@@ -111,7 +117,7 @@ module _ (station : Station) (live : Live) where
   writes : (caller : Caller) (call : Call) (result : Result Writing CallFault) → Done (handled_write station live caller call result)
   writes caller call (Ok (One write)) = effects caller call write.request write.effect
   writes caller call (Ok (Each header entries)) = λ answers.
-      let judged = judged_each (uuid_of live.rest.link) station.real entries in
+      let judged = judged_each (uuid_of live.rest.link) live.rest.real entries in
       inl (
         refl,
         stays_both live.rest.link (link_behind judged live.rest.link) _ (stays_each judged live.rest.link)
@@ -123,8 +129,8 @@ module _ (station : Station) (live : Live) where
   abbrev Connects : Caller → Result Request CallFault → Type 0
   Connects caller result =
       let made = count_after (result >>= λ request. Ok (connect_blocks station.identity (number_now station live) request
-      (differing_of request station.real))) live.rest.made in
-      let link = updated (making station.real (partner_of caller) station.options (starting_of station live) result) live.rest.link in
+      (differing_of request live.rest.real))) live.rest.made in
+      let link = updated (making live.rest.real (partner_of caller) station.options (starting_of station live) result) live.rest.link in
       ((made ≡ live.rest.made) × Stays live.rest.link link) ⊎ ((made ≡ made_after live.rest.made) × IsFresh station live.rest.made live.rest.link link)
 
   connects : (caller : Caller) (blocks : List ℕ) (now : Option RelationState) → live.rest.link ≡ now → (result : Result Request CallFault)
@@ -134,7 +140,7 @@ module _ (station : Station) (live : Live) where
     refl,
     record {
       none = none;
-      next = made_of request (partner_of caller) (rows_of request station.real) station.options (starting_of station live);
+      next = made_of request (partner_of caller) (rows_of request live.rest.real) station.options (starting_of station live);
       is = refl;
       endpoint = refl;
       frame_id = refl;
@@ -147,17 +153,8 @@ module _ (station : Station) (live : Live) where
       absurd (no_request station.options.smallest_interval link.request.ar.uuid blocks request
       (subst (λ l. connect_within station.options caller.mac l blocks ≡ Ok request) exists is))
 
-  calls_new : (caller : Caller) (call : Call) (blocks : List ℕ) (which : Operation) → Done (handled_new station live caller call blocks which)
-  calls_new caller call blocks operation.Connect = λ answers.
-      connects caller blocks live.rest.link refl (connect_within station.options caller.mac live.rest.link blocks) refl
-  calls_new caller call blocks operation.Release = λ answers. inl (refl, stays_answered Ended (release_of live.rest.link blocks) live.rest.link tt)
-  calls_new caller call blocks operation.Read = λ answers. inl (
-    refl,
-    stays_answered (Named (partner_of caller)) (relation_read (known_of station live) station.identity station.real live.values.running blocks) live.rest.link
-        (stays_named (partner_of caller) live.rest.link),
-  )
-  calls_new caller call blocks operation.Write = writes caller call (writing_of (uuid_of live.rest.link) station.real blocks)
-  calls_new caller call blocks operation.Control = λ answers.
+  ends_parameters : (caller : Caller) (call : Call) (blocks : List ℕ) → Done (handled_prm_end station live caller call blocks)
+  ends_parameters caller call blocks = λ answers.
       let ended = prm_end_of live.rest.link blocks in
       let by_application = station.options.ready_by_application in
       let link = updated (answered (Parameterized by_application) ended) live.rest.link in
@@ -167,10 +164,35 @@ module _ (station : Station) (live : Live) where
             (stays_answered (Parameterized by_application) ended live.rest.link (stays_parameterized by_application live.rest.link))
             (stays_answered (Named (partner_of caller)) ended link (stays_named (partner_of caller) link)),
       )
+
+  ends_plug : (caller : Caller) (call : Call) (blocks : List ℕ) → Done (handled_plug_end station live caller call blocks)
+  ends_plug caller call blocks = λ answers.
+      let result = plug_end_in blocks live.rest.link in
+      let ended = ended_by station.options.ready_by_application result live.rest.link in
+      let named = updated (answered (Named (partner_of caller)) result) ended in
+      inl (
+        refl,
+        stays_both live.rest.link ended _ (stays_ended station.options.ready_by_application result live.rest.link)
+            (stays_both ended named _ (stays_answered (Named (partner_of caller)) result ended (stays_named (partner_of caller) ended))
+            (stays_called result named)),
+      )
+
+  calls_new : (caller : Caller) (call : Call) (blocks : List ℕ) (which : Operation) → Done (handled_new station live caller call blocks which)
+  calls_new caller call blocks operation.Connect = λ answers.
+      connects caller blocks live.rest.link refl (connect_within station.options caller.mac live.rest.link blocks) refl
+  calls_new caller call blocks operation.Release = λ answers. inl (refl, stays_answered Ended (release_of live.rest.link blocks) live.rest.link tt)
+  calls_new caller call blocks operation.Read = λ answers. inl (
+    refl,
+    stays_answered (Named (partner_of caller)) (relation_read (known_of station live) station.identity live.rest.real live.values.running blocks) live.rest.link
+        (stays_named (partner_of caller) live.rest.link),
+  )
+  calls_new caller call blocks operation.Write = writes caller call (writing_of (uuid_of live.rest.link) live.rest.real blocks)
+  calls_new caller call blocks operation.Control =
+      cond_both (is_plug_control blocks live.rest.link) _ _ Done (λ _. ends_plug caller call blocks) (λ _. ends_parameters caller call blocks)
   calls_new caller call blocks operation.ReadImplicit = λ answers. inl (
     refl,
     stays_answered (implicitly (partner_of caller) live.rest.link blocks) (implicit_read
-        (known_of station live) station.identity station.real live.values.running blocks) live.rest.link
+        (known_of station live) station.identity live.rest.real live.values.running blocks) live.rest.link
         (cond_both (names_relation (uuid_of live.rest.link) blocks) _ _ (λ (m : Event). Stays live.rest.link (updated m live.rest.link))
         (λ _. stays_named (partner_of caller) live.rest.link) (λ _. stays live.rest.link)),
   )
@@ -189,15 +211,32 @@ module _ (station : Station) (live : Live) where
   calls caller call None = refuses note.Fault
   calls caller call (Some which) = calls_counted caller call which call.blocks
 
+  -- The relation after an answer to the ApplicationReady of a plug, with the next one.
+  calls_on : (response : Answered) → Stays live.rest.link (calling_next (plug_answering response live.rest.link))
+  calls_on response =
+      stays_both live.rest.link (plug_answering response live.rest.link) _ (stays_plug_answered response live.rest.link)
+      (stays_calling (plug_answering response live.rest.link))
+
   answers_ready : (answer : ReadyAnswer) → Done (handled_answer station live answer)
   answers_ready to_ready.NotWanted = refuses note.NoRelation
   answers_ready to_ready.Garbled = refuses note.Fault
-  answers_ready to_ready.Confirmed = λ answers. inl (refl, stays_confirmed station.real.modules.items live.rest.diagnoses live.rest.link)
+  answers_ready to_ready.Confirmed = λ answers. inl (refl, stays_confirmed live.rest.real.modules.items live.rest.diagnoses live.rest.link)
   answers_ready (to_ready.Refused farewell) = λ answers. inl (refl, tt)
+
+  answers_plug : (response : Answered) (answer : PlugAnswer) → Done (handled_plug_answer live response answer)
+  answers_plug response to_plug.NotWanted = refuses note.NoRelation
+  answers_plug response to_plug.Garbled = refuses note.Fault
+  answers_plug response to_plug.Confirmed = λ answers. inl (refl, calls_on response)
+  answers_plug response to_plug.Refused = λ answers. inl (refl, calls_on response)
+
+  responds : (response : Answered) → Done (handled_response station live response)
+  responds response =
+      cond_both (is_in_exchange live.rest.link) _ _ Done (λ _. answers_plug response (plug_answer_in response live.rest.link))
+      (λ _. answers_ready (ready_answer response live.rest.link))
 
   says : (caller : Caller) (said : Said) → Done (handled_said station live caller said)
   says caller (Calls call) = calls caller call (operation_of call.header.operation)
-  says caller (Responds response) = answers_ready (ready_answer response live.rest.link)
+  says caller (Responds response) = responds response
   says caller Garbled = refuses note.Fault
 
   datagrams : (caller : Caller) (said : Said) (b : Bool) → Done (if b then handled_said station live caller said else Refuses note.NotMine)
@@ -221,7 +260,7 @@ module _ (station : Station) (live : Live) where
   alarms message false = refuses note.NoRelation
 
   low_pdus : (what : PduFate) (after : Option RelationState) → Stays live.rest.link after → Done (handled_low_pdu station live what after)
-  low_pdus (fate.Data taken) after is = λ answers. inl (refl, stays_both live.rest.link after _ is (stays_reporting station.real.modules.items after))
+  low_pdus (fate.Data taken) after is = λ answers. inl (refl, stays_both live.rest.link after _ is (stays_reporting after))
   low_pdus fate.Done after is = λ answers. inl (refl, is)
   low_pdus fate.Ignored after is = refuses note.Filter
   low_pdus (fate.Aborted status) after is = refuses note.Filter

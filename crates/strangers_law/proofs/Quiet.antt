@@ -51,18 +51,19 @@ use Rattle.relations.specs.declared.hearing.ReadyAnswer.TheVariants as to_ready
 use Rattle.relations.specs.Diagnosed.{has_sent_low}
 use Rattle.relations.specs.Exchanged.{received_by, receiving}
 use Rattle.relations.specs.Phases.{updated}
+use Rattle.relations.specs.Plugging.{plug_answer_in}
 use Rattle.relations.specs.Ready.{answer_of as ready_answer, is_wanted}
-use Rattle.relations.specs.RelationState.{RelationState, is_alarm_of, is_awaiting}
+use Rattle.relations.specs.RelationState.{RelationState, is_alarm_of, is_awaiting, is_in_exchange}
 use Rattle.device_frames.specs.declared.event.Event.TheVariants.{Frame}
 use Rattle.device_frames.specs.Heard.{Heard, Unreadable, Elsewhere, Asks, Resolves, Reported, Cyclic, Alarms, LowReplies, LowConfirms, Said, Calls, Responds, Garbled}
 use Rattle.device_frames.specs.Heard.{broadcast, heard_alarm, heard_content, heard_frame, heard_low, heard_of, heard_reply, heard_request, is_own, is_taken, said_by, said_else, said_first}
-use Rattle.device_frames.specs.Sent.{Sent, IdentifyAnswer, GetAnswer, SetAnswer, ArpReply, CallAnswer, Again, ReadyCall, Ends, Exchanges, bytes_of}
+use Rattle.device_frames.specs.Sent.{Sent, IdentifyAnswer, GetAnswer, SetAnswer, ArpReply, CallAnswer, Again, ReadyCall, PlugReadyCall, Ends, Exchanges, bytes_of}
 use Rattle.device_frames.specs.Sendable.{AreSendable, IsSendable}
 use Rattle.settings_journal.specs.settings_store.Machine.{Outcome, carried, rest_of}
 use Rattle.settings_journal.specs.settings_store.Carries.{OneByOne}
 use Rattle.settings_journal.specs.settings_store.State as store
 use Rattle.device_core.specs.State.{Live, Rest, State, Station, alias_in, store_of}
-use Rattle.device_core.specs.Handled.{Handled, Refuses, Sets, Writes, WritesEach, Moves, handled, handled_alarm, handled_answer, handled_low, handled_received, handled_request, handled_said, is_request, is_running}
+use Rattle.device_core.specs.Handled.{Handled, Refuses, Sets, Writes, WritesEach, Moves, handled, handled_alarm, handled_answer, handled_low, handled_plug_answer, handled_received, handled_request, handled_said, is_request, is_running}
 use Rattle.device_core.specs.Log.{err_log, with_log}
 use Rattle.device_core.specs.Machine.{farewell_at, farewells_at, handled_step, heard_step, is_signal, items_in, lamp_after, link_after, resets}
 use Rattle.device_core.specs.Steps.{Steps}
@@ -83,6 +84,7 @@ use Rattle.strangers_law.proofs.Marked.{sender_of}
 use Rattle.strangers_law.proofs.Ports.{datagram_is}
 use Rattle.strangers_law.proofs.Remaining.{quiet_carried, quiet_resets}
 use Rattle.strangers_law.proofs.Sending.{PacketsAreRead, RealTimeIsRead}
+use Rattle.strangers_law.proofs.Unnamed.{plug_unwanted}
 
 -- ---- Bools
 
@@ -269,6 +271,7 @@ IsFor asker (ArpReply to address target) = to.octets ≡ asker
 IsFor asker (CallAnswer caller address answer) = ⊥
 IsFor asker (Again frame) = ⊥
 IsFor asker (ReadyCall address ready) = ⊥
+IsFor asker (PlugReadyCall address ready) = ⊥
 IsFor asker (Ends farewell) = ⊥
 IsFor asker (Exchanges route frame) = ⊥
 
@@ -307,8 +310,13 @@ module _ (asker : List ℕ) (station : Station) (live : Live) where
   response_stays : (caller : Caller) (address : List ℕ) (response : Answered) → IsForeign live.rest.link (Reported caller address (Responds response))
       → Leaves (handled_said station live caller (Responds response))
   unfolding ready_answer
-  response_stays caller address response other = by_link live.rest.link other
+  response_stays caller address response other =
+      cond_both (is_in_exchange live.rest.link) _ _ Leaves (λ _. by_plug live.rest.link other) (λ _. by_link live.rest.link other)
     where
+      by_plug : (link : Option RelationState) → IsForeign link (Reported caller address (Responds response)) → Leaves (handled_plug_answer live response (plug_answer_in response link))
+      by_plug None other = tt
+      by_plug (Some link) other = subst (λ answer. Leaves (handled_plug_answer live response answer)) (sym (plug_unwanted response link other)) tt
+
       not_all : (a b c : Bool) → b ≡ false → a && (b && c) ≡ false
       not_all true false c is = refl
       not_all false false c is = refl
@@ -485,6 +493,7 @@ module _ (identity : Identity) (real_time : RealTimeIsRead) (packets : PacketsAr
   sent_back (CallAnswer caller address answer) is can = absurd is
   sent_back (Again frame) is can = absurd is
   sent_back (ReadyCall address ready) is can = absurd is
+  sent_back (PlugReadyCall address ready) is can = absurd is
   sent_back (Ends farewell) is can = absurd is
   sent_back (Exchanges route frame) is can = absurd is
 

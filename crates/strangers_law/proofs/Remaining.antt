@@ -17,6 +17,7 @@ use Rattle.rpc_core.specs.Call.{Asked as Call}
 use Rattle.rpc_core.specs.Cache.{Kept, Reported as Looked, again, is_of, looked, new, old, reported_by}
 use Rattle.rpc_core.specs.Response.{Answered}
 use Rattle.connect_blocks.specs.declared.control.ControlBlock.{ControlBlock}
+use Rattle.connect_blocks.specs.declared.plug_control.PlugControlBlock.{PlugControlBlock}
 use Rattle.records.specs.declared.status.call_fault.CallFault.{CallFault}
 use Rattle.records.specs.declared.status.operation.Operation.{Operation}
 use Rattle.records.specs.declared.status.operation.Operation.TheVariants.{Connect, Release, Read, Write, Control, ReadImplicit}
@@ -36,20 +37,22 @@ use Rattle.relations.specs.Diagnosed.{has_sent_low}
 use Rattle.relations.specs.Exchanged.{received_by, receiving}
 use Rattle.relations.specs.Phases.{Handled as Moving, Ended, Named, Parameterized, Unmoved, answered, updated}
 use Rattle.relations.specs.declared.hearing.ReadyAnswer.TheVariants as to_ready
+use Rattle.relations.specs.Plugging.{ended_by, is_plug_control, plug_answer_in, plug_end_answer, plug_end_in}
 use Rattle.relations.specs.Ready.{answer_of as ready_answer, is_wanted}
-use Rattle.relations.specs.RelationState.{RelationState, is_alarm_of, is_awaiting, uuid_of}
+use Rattle.relations.specs.RelationState.{RelationState, is_alarm_of, is_awaiting, is_in_exchange, uuid_of}
 use Rattle.device_records.specs.Reading.{implicit_read, relation_read}
 use Rattle.device_frames.specs.Heard.{Heard, Unreadable, Elsewhere, Asks, Resolves, Reported, Cyclic, Alarms, LowReplies, LowConfirms, Said, Calls, Responds, Garbled}
-use Rattle.device_frames.specs.Sent.{Sent, IdentifyAnswer, GetAnswer, SetAnswer, ArpReply, CallAnswer, Again, ReadyCall, Ends, Exchanges}
+use Rattle.device_frames.specs.Sent.{Sent, IdentifyAnswer, GetAnswer, SetAnswer, ArpReply, CallAnswer, Again, ReadyCall, PlugReadyCall, Ends, Exchanges}
 use Rattle.settings_journal.specs.settings_store.State.{Values}
 use Rattle.settings_journal.specs.settings_store.Machine.{Outcome, carried, rest_of}
 use Rattle.device_core.specs.State.{Live, Rest, Station, alias_in}
-use Rattle.device_core.specs.Handled.{Handled, Refuses, Sets, Writes, WritesEach, Moves, handled, handled_alarm, handled_answer, handled_blocks, handled_call, handled_cyclic, handled_looked, handled_low, handled_new, handled_received, handled_request, handled_said, handled_write, answer_from, counted_by, kept_behind, implicitly, is_running, is_request, known_of, number_now, partner_of, ready_behind, starting_of}
+use Rattle.device_core.specs.Handled.{Handled, Refuses, Sets, Writes, WritesEach, Moves, handled, handled_alarm, handled_answer, handled_blocks, handled_call, handled_cyclic, handled_looked, handled_low, handled_new, handled_plug_answer, handled_received, handled_request, handled_response, handled_said, handled_write, answer_from, counted_by, kept_behind, implicitly, is_running, is_request, known_of, number_now, partner_of, ready_behind, served, starting_of}
 use Rattle.device_core.specs.Log.{connect_log, with_log}
+use Rattle.device_core.specs.Modules.{call_after, calling_after}
 use Rattle.device_core.specs.Machine.{farewells_at, handled_step, link_after, resets}
 use Rattle.strangers_law.specs.Device.{IsIn, IsLeft, frames_stored}
 use Rattle.strangers_law.proofs.Harmless.{IsHarmless, IsQuiet, IsUnnamed, Names}
-use Rattle.strangers_law.proofs.Unnamed.{IsNoEnd, connect_still, connect_uncounted, no_prm_end, no_read, no_write, release_still, unnamed_read}
+use Rattle.strangers_law.proofs.Unnamed.{IsNoEnd, connect_still, connect_uncounted, no_plug_end, no_prm_end, no_read, no_write, plug_unwanted, release_still, unnamed_read}
 
 -- ---- what remains
 
@@ -62,6 +65,7 @@ pub record RestStays (old new : Rest) : Type 0 where
   pub peer : new.peer ≡ old.peer
   pub diagnoses : new.diagnoses ≡ old.diagnoses
   pub made : new.made ≡ old.made
+  pub real : new.real ≡ old.real
 
 -- A message that answers, or one of these frames again.
 abbrev pub IsAnswer : List (List ℕ) → Sent → Type 0
@@ -72,6 +76,7 @@ IsAnswer stored (ArpReply asker address target) = Unit {0}
 IsAnswer stored (CallAnswer caller address answer) = Unit {0}
 IsAnswer stored (Again frame) = IsIn frame stored
 IsAnswer stored (ReadyCall address ready) = ⊥
+IsAnswer stored (PlugReadyCall address ready) = ⊥
 IsAnswer stored (Ends farewell) = ⊥
 IsAnswer stored (Exchanges route frame) = ⊥
 
@@ -93,13 +98,14 @@ record IsCount (old new : Rest) : Type 0 where
   statuses : new.statuses ≡ old.statuses
   peer : new.peer ≡ old.peer
   diagnoses : new.diagnoses ≡ old.diagnoses
+  real : new.real ≡ old.real
 
 count_alone : {A : Type 0} (answer : Result A CallFault) (rest : Rest) → IsCount rest (counted_by answer rest)
-count_alone (Ok answer) rest = record { units = refl; is_running = refl; statuses = refl; peer = refl; diagnoses = refl }
-count_alone (Err why) rest = record { units = refl; is_running = refl; statuses = refl; peer = refl; diagnoses = refl }
+count_alone (Ok answer) rest = record { units = refl; is_running = refl; statuses = refl; peer = refl; diagnoses = refl; real = refl }
+count_alone (Err why) rest = record { units = refl; is_running = refl; statuses = refl; peer = refl; diagnoses = refl; real = refl }
 
 stays_as_is : (rest : Rest) → RestStays rest rest
-stays_as_is rest = record { link = refl; units = refl; is_running = refl; statuses = refl; peer = refl; diagnoses = refl; made = refl }
+stays_as_is rest = record { link = refl; units = refl; is_running = refl; statuses = refl; peer = refl; diagnoses = refl; made = refl; real = refl }
 
 looked_stored : (activity : List ℕ) (sequence : ℕ) (calls : List Kept) (frame : List ℕ) → looked activity sequence calls ≡ again frame → IsIn frame (frames_stored calls)
 looked_stored activity sequence [] frame e = absurd cc
@@ -128,7 +134,7 @@ quiet_resets (Answer error ∷ items) (answer ∷ answers) quiet = quiet_resets 
 
 pub remains_left : (outcomes : List Outcome) (station : Station) (live : Live) (what : Handled) → Remains live what → IsLeft live (handled_step outcomes station live what).live
 unfolding handled_step
-remains_left outcomes station live (Refuses note) remains = record { values = refl; link = refl; units = refl; is_running = refl; statuses = refl; peer = refl; diagnoses = refl; made = refl }
+remains_left outcomes station live (Refuses note) remains = record { values = refl; link = refl; units = refl; is_running = refl; statuses = refl; peer = refl; diagnoses = refl; made = refl; real = refl }
 remains_left outcomes station live (Sets asker request in_operation) remains = record {
   values = quiet_carried outcomes live.values (plan_of in_operation request) remains;
   link = ap (λ ends. link_after ends live.rest.link)
@@ -139,11 +145,12 @@ remains_left outcomes station live (Sets asker request in_operation) remains = r
   peer = refl;
   diagnoses = refl;
   made = refl;
+  real = refl;
 }
 remains_left outcomes station live (Writes caller address call header value) remains = absurd remains
 remains_left outcomes station live (WritesEach caller address call header judged) remains = absurd remains
 remains_left outcomes station live (Moves rest sent) remains =
-    record { values = refl; link = remains.0.link; units = remains.0.units; is_running = remains.0.is_running; statuses = remains.0.statuses; peer = remains.0.peer; diagnoses = remains.0.diagnoses; made = remains.0.made }
+    record { values = refl; link = remains.0.link; units = remains.0.units; is_running = remains.0.is_running; statuses = remains.0.statuses; peer = remains.0.peer; diagnoses = remains.0.diagnoses; made = remains.0.made; real = remains.0.real }
 
 pub remains_sent : (outcomes : List Outcome) (station : Station) (live : Live) (what : Handled) → Remains live what → AllByRecursion (IsAnswer (stored_in live)) (handled_step outcomes station live what).sent
 unfolding handled_step
@@ -162,21 +169,22 @@ module _ (station : Station) (live : Live) (link : RelationState) (exists : live
   new_remains : (caller : Caller) (call : Call) (blocks : List ℕ) (operation : Operation) → Names link blocks ≡ false → Remains live (handled_new station live caller call blocks operation)
   new_remains caller call blocks Connect other = (
     record {
-      link = subst (λ (l : Option RelationState). updated (making station.real (partner_of caller) station.options (starting_of station live) (connect_within station.options caller.mac l blocks)) l ≡ l)
-          (sym exists) (connect_still station.real (partner_of caller) station.options (starting_of station live) caller.mac link blocks);
+      link = subst (λ (l : Option RelationState). updated (making live.rest.real (partner_of caller) station.options (starting_of station live) (connect_within station.options caller.mac l blocks)) l ≡ l)
+          (sym exists) (connect_still live.rest.real (partner_of caller) station.options (starting_of station live) caller.mac link blocks);
       units = (count_alone answer logged).units;
       is_running = (count_alone answer logged).is_running;
       statuses = (count_alone answer logged).statuses;
       peer = (count_alone answer logged).peer;
       diagnoses = (count_alone answer logged).diagnoses;
-      made = subst (λ (l : Option RelationState). (counted_by (connect_answer station.identity station.real station.options (number_now station live) caller.mac l blocks) logged).made ≡ live.rest.made)
-          (sym exists) (connect_uncounted station.identity station.real station.options (number_now station live) caller.mac link blocks logged);
+      real = (count_alone answer logged).real;
+      made = subst (λ (l : Option RelationState). (counted_by (connect_answer station.identity live.rest.real station.options (number_now station live) caller.mac l blocks) logged).made ≡ live.rest.made)
+          (sym exists) (connect_uncounted station.identity live.rest.real station.options (number_now station live) caller.mac link blocks logged);
     },
     (tt, tt),
   )
     where
       answer : Result (List ℕ) CallFault
-      answer = connect_answer station.identity station.real station.options (number_now station live) caller.mac live.rest.link blocks
+      answer = connect_answer station.identity live.rest.real station.options (number_now station live) caller.mac live.rest.link blocks
 
       logged : Rest
       logged = with_log (connect_log blocks answer) live.rest
@@ -189,35 +197,47 @@ module _ (station : Station) (live : Live) (link : RelationState) (exists : live
       peer = refl;
       diagnoses = refl;
       made = refl;
+      real = refl;
     },
     (tt, tt),
   )
   new_remains caller call blocks Read other = (
     record {
-      link = by_result (relation_read (known_of station live) station.identity station.real live.values.running blocks) refl;
+      link = by_result (relation_read (known_of station live) station.identity live.rest.real live.values.running blocks) refl;
       units = refl;
       is_running = refl;
       statuses = refl;
       peer = refl;
       diagnoses = refl;
       made = refl;
+      real = refl;
     },
     (tt, tt),
   )
     where
-      by_result : (r : Result (List ℕ) CallFault) → relation_read (known_of station live) station.identity station.real live.values.running blocks ≡ r
+      by_result : (r : Result (List ℕ) CallFault) → relation_read (known_of station live) station.identity live.rest.real live.values.running blocks ≡ r
           → updated (answered (Named (partner_of caller)) r) live.rest.link ≡ live.rest.link
-      by_result (Ok octets) is = absurd (no_read (known_of station live) station.identity station.real live.values.running link blocks octets exists other is)
+      by_result (Ok octets) is = absurd (no_read (known_of station live) station.identity live.rest.real live.values.running link blocks octets exists other is)
       by_result (Err why) is = refl
   new_remains caller call blocks Write other =
-      by_result (writing_of (uuid_of live.rest.link) station.real blocks) refl
+      by_result (writing_of (uuid_of live.rest.link) live.rest.real blocks) refl
     where
-      by_result : (r : Result Writing CallFault) → writing_of (uuid_of live.rest.link) station.real blocks ≡ r → Remains live (handled_write station live caller call r)
+      by_result : (r : Result Writing CallFault) → writing_of (uuid_of live.rest.link) live.rest.real blocks ≡ r → Remains live (handled_write station live caller call r)
       by_result (Ok writing) is =
-          absurd (no_write link station.real blocks writing other (subst (λ (l : Option RelationState). writing_of (uuid_of l) station.real blocks ≡ Ok writing) exists is))
-      by_result (Err why) is = (record { link = refl; units = refl; is_running = refl; statuses = refl; peer = refl; diagnoses = refl; made = refl }, (tt, tt))
-  new_remains caller call blocks Control other = by_result (prm_end_of live.rest.link blocks) refl
+          absurd (no_write link live.rest.real blocks writing other (subst (λ (l : Option RelationState). writing_of (uuid_of l) live.rest.real blocks ≡ Ok writing) exists is))
+      by_result (Err why) is = (record { link = refl; units = refl; is_running = refl; statuses = refl; peer = refl; diagnoses = refl; made = refl; real = refl }, (tt, tt))
+  new_remains caller call blocks Control other =
+      cond_both (is_plug_control blocks live.rest.link) _ _ (Remains live) (λ _. by_end (plug_end_in blocks live.rest.link) refl)
+      (λ _. by_result (prm_end_of live.rest.link blocks) refl)
     where
+      by_end : (r : Result PlugControlBlock CallFault) → plug_end_in blocks live.rest.link ≡ r
+          → let next = updated (answered (Named (partner_of caller)) r) (ended_by station.options.ready_by_application r live.rest.link) in
+          Remains live (served station live caller call Control (plug_end_answer r) (calling_after r next) (call_after r live.values.running.suite.address next))
+      by_end (Ok block) is =
+          absurd (let e : plug_end_in blocks (Some link) ≡ Ok block = subst (λ (l : Option RelationState). plug_end_in blocks l ≡ Ok block) exists is in
+          let n = (no_plug_end link blocks other).is in cc)
+      by_end (Err why) is = (record { link = refl; units = refl; is_running = refl; statuses = refl; peer = refl; diagnoses = refl; made = refl; real = refl }, (tt, tt))
+
       none : IsNoEnd link blocks
       none = no_prm_end link blocks other
 
@@ -230,16 +250,17 @@ module _ (station : Station) (live : Live) (link : RelationState) (exists : live
           ∷ ready_behind station.options.ready_by_application live.values.running.suite.address
           (updated (answered (Named (partner_of caller)) r) (updated (answered (Parameterized station.options.ready_by_application) r) live.rest.link)) r)
       by_result (Ok block) is = absurd (let e : prm_end_of (Some link) blocks ≡ Ok block = subst (λ (l : Option RelationState). prm_end_of l blocks ≡ Ok block) exists is in let n = none.is in cc)
-      by_result (Err why) is = (record { link = refl; units = refl; is_running = refl; statuses = refl; peer = refl; diagnoses = refl; made = refl }, (tt, tt))
+      by_result (Err why) is = (record { link = refl; units = refl; is_running = refl; statuses = refl; peer = refl; diagnoses = refl; made = refl; real = refl }, (tt, tt))
   new_remains caller call blocks ReadImplicit other = (
     record {
-      link = by_result (implicit_read (known_of station live) station.identity station.real live.values.running blocks);
+      link = by_result (implicit_read (known_of station live) station.identity live.rest.real live.values.running blocks);
       units = refl;
       is_running = refl;
       statuses = refl;
       peer = refl;
       diagnoses = refl;
       made = refl;
+      real = refl;
     },
     (tt, tt),
   )
@@ -262,7 +283,7 @@ module _ (station : Station) (live : Live) (link : RelationState) (exists : live
 
   blocks_remain : (caller : Caller) (call : Call) (operation : Operation) (blocks : Option (List ℕ)) → call.blocks ≡ blocks → IsUnnamed link call
       → Remains live (handled_blocks station live caller call operation blocks)
-  blocks_remain caller call operation None is other = (record { link = refl; units = refl; is_running = refl; statuses = refl; peer = refl; diagnoses = refl; made = refl }, (tt, tt))
+  blocks_remain caller call operation None is other = (record { link = refl; units = refl; is_running = refl; statuses = refl; peer = refl; diagnoses = refl; made = refl; real = refl }, (tt, tt))
   blocks_remain caller call operation (Some blocks) is other =
       looked_remains caller call blocks operation (looked call.header.activity call.header.sequence live.rest.calls) refl (other blocks is)
 
@@ -271,11 +292,14 @@ module _ (station : Station) (live : Live) (link : RelationState) (exists : live
   call_remains caller call (Some operation) other = blocks_remain caller call operation call.blocks refl other
 
   response_remains : (response : Answered) → pointwise nat_eq response.header.activity link.request.ar.uuid ≡ false
-      → Remains live (handled_answer station live (ready_answer response live.rest.link))
+      → Remains live (handled_response station live response)
   unfolding ready_answer
   response_remains response other =
-      subst (λ (l : Option RelationState). Remains live (handled_answer station live (ready_answer response l))) (sym exists)
-      (subst (λ answer. Remains live (handled_answer station live answer)) (sym unwanted) tt)
+      cond_both (is_in_exchange live.rest.link) _ _ (Remains live) (λ _.
+      subst (λ (l : Option RelationState). Remains live (handled_plug_answer live response (plug_answer_in response l))) (sym exists)
+      (subst (λ answer. Remains live (handled_plug_answer live response answer)) (sym (plug_unwanted response link other)) tt))
+      (λ _. subst (λ (l : Option RelationState). Remains live (handled_answer station live (ready_answer response l))) (sym exists)
+      (subst (λ answer. Remains live (handled_answer station live answer)) (sym unwanted) tt))
     where
       not_all : (a b c : Bool) → b ≡ false → a && (b && c) ≡ false
       not_all true false c is = refl

@@ -15,7 +15,7 @@ use Rattle.frame_codec.specs.Sendable.{CanBeSent, carrying}
 use Rattle.frame_codec.proofs.Frames.{frame_takes}
 use Rattle.rpc_core.specs.Response.{Answered, response_bytes, response_of}
 use Rattle.rpc_core.proofs.Sound.{response_behind, response_takes}
-use Rattle.device_frames.specs.Sent.{Sent, IdentifyAnswer, GetAnswer, SetAnswer, ArpReply, CallAnswer, Again, ReadyCall, Ends, Exchanges, bytes_of}
+use Rattle.device_frames.specs.Sent.{Sent, IdentifyAnswer, GetAnswer, SetAnswer, ArpReply, CallAnswer, Again, ReadyCall, PlugReadyCall, Ends, Exchanges, bytes_of}
 use Rattle.device_frames.specs.Sendable.{AreSendable, IsSendable}
 use Rattle.octets_law.specs.Octets.{number, untagged}
 use Rattle.octets_law.proofs.Bare.{bare_of}
@@ -94,6 +94,7 @@ module _ (identity : Identity) (real_time : RealTimeIsRead) (packets : PacketsAr
       (subst (λ l. response_of l ≡ Ok answer) (append-nil (response_bytes answer)) (responses answer [] can.1)))
   answer_quiet (Again frame) is can = inr is
   answer_quiet (ReadyCall address ready) is can = absurd is
+  answer_quiet (PlugReadyCall address ready) is can = absurd is
   answer_quiet (Ends farewell) is can = absurd is
   answer_quiet (Exchanges route frame) is can = absurd is
 

@@ -1,6 +1,6 @@
 -- Calls that do not name a relation leave it.
-use Rattle.std.proofs.Common.{◌≡◌, ℕ, true, false, not, nat_eq, List, [], ◌∷◌, Option, Some, Result, Ok, Err, refl, ap, subst, if◌then◌else◌}
-use Rattle.std.proofs.lemmas.Bool.{cond_both, cond-true}
+use Rattle.std.proofs.Common.{◌≡◌, ◌&&◌, ℕ, Bool, true, false, not, nat_eq, List, [], ◌∷◌, Option, Some, None, Result, Ok, Err, refl, ap, subst, if◌then◌else◌}
+use Rattle.std.proofs.lemmas.Bool.{cond_both, cond-false, cond-true}
 use Rattle.std.specs.Cmp.Lexicographic.{pointwise}
 use Rattle.pn_values.specs.declared.mac.Mac.{Mac}
 use Rattle.pn_values.specs.declared.real.Real.{Real}
@@ -11,8 +11,12 @@ use Rattle.wire.specs.Checks.{or_fault}
 use Rattle.block_codec.specs.declared.block_type.BlockType.TheVariants as kind
 use Rattle.block_codec.specs.Block.{in_iod_write_req}
 use Rattle.connect_blocks.specs.declared.control.ControlBlock.{ControlBlock}
+use Rattle.connect_blocks.specs.declared.plug_control.PlugControlBlock.{PlugControlBlock}
+use Rattle.connect_blocks.specs.PlugControl.{plug_control}
 use Rattle.record_blocks.specs.declared.read_record.IodReadReq.{IodReadReq}
 use Rattle.record_blocks.specs.declared.write_record.IodWriteReq.{IodWriteReq}
+use Rattle.expected_places.specs.declared.calls.PlugCall.{PlugCall}
+use Rattle.rpc_core.specs.Response.{Answered}
 use Rattle.records.specs.declared.status.call_fault.CallFault.{CallFault}
 use Rattle.records.specs.declared.status.call_fault.CallFault.TheVariants as fault
 use Rattle.records.specs.declared.writes.writing.Writing.{Writing}
@@ -33,13 +37,15 @@ use Rattle.relations.specs.exchange.Marks.{Starting}
 use Rattle.relations.specs.Calls.{control_block, in_started, named_of, prm_end_of, release_of}
 use Rattle.relations.specs.Connect.{connect_answer, connect_blocks, connect_within, differing_of, making}
 use Rattle.relations.specs.Phases.{Ended, answered, updated}
+use Rattle.relations.specs.declared.plugging.PlugAnswer.TheVariants as to_plug
+use Rattle.relations.specs.Plugging.{answer_to, block_in, is_plug_answer, plug_answer_in, plug_end_in, plug_named, plug_told}
 use Rattle.relations.specs.RelationState.{RelationState, uuid_of}
 use Rattle.device_core.specs.State.{Rest}
 use Rattle.device_core.specs.Handled.{counted_by}
 use Rattle.device_records.specs.Reading.{relation_read}
 use Rattle.device_records.specs.Sources.{Known}
 use Rattle.strangers_law.proofs.Harmless.{Names}
-use Rattle.strangers_law.proofs.Blocks.{header_named, prm_end_named, release_named, request_named}
+use Rattle.strangers_law.proofs.Blocks.{header_named, plug_end_named, prm_end_named, release_named, request_named}
 use Rattle.octets_law.specs.Octets.{part}
 use Rattle.octets_law.proofs.WriteCalls.{bind_ok, fault_ok}
 
@@ -126,6 +132,41 @@ no_prm_end link blocks other = by_result (prm_end_of (Some link) blocks) refl
         let two = bind_ok (named_of (Some link) one.0 1) (λ _. in_started (Some link) >>= λ _. Ok one.0) block one.2 in
         let refused = named_refused link blocks one.0 1 other (prm_end_named blocks one.0 one.1) in
         let is = two.1 in absurd cc
+
+-- A PrmEnd after a plug.
+plug_refused : (link : RelationState) (blocks : List ℕ) (block : PlugControlBlock) → Names link blocks ≡ false → part 8 16 blocks ≡ block.ar_uuid
+    → plug_named (Some link) block ≡ Err fault.UnknownRelation
+plug_refused link blocks block other at = cond-true _ _ _ (ap not (unnamed link blocks block.ar_uuid other at))
+
+pub record IsNoPlugEnd (link : RelationState) (blocks : List ℕ) : Type 0 where
+  pub why : CallFault
+  pub is : plug_end_in blocks (Some link) ≡ Err why
+
+pub no_plug_end : (link : RelationState) (blocks : List ℕ) → Names link blocks ≡ false → IsNoPlugEnd link blocks
+unfolding plug_end_in
+no_plug_end link blocks other = by_result (plug_end_in blocks (Some link)) refl
+  where
+    by_result : (r : Result PlugControlBlock CallFault) → plug_end_in blocks (Some link) ≡ r → IsNoPlugEnd link blocks
+    by_result (Err why) is = record { why = why; is = is }
+    by_result (Ok block) e =
+        let one = bind_ok (block_in ((plug_control 0x0111).read blocks)) (λ block. plug_named (Some link) block >>= λ _. plug_told (Some link) block >>= λ _. Ok block) block e in
+        let two = bind_ok (plug_named (Some link) one.0) (λ _. plug_told (Some link) one.0 >>= λ _. Ok one.0) block one.2 in
+        let refused = plug_refused link blocks one.0 other (plug_end_named blocks one.0 one.1) in
+        let is = two.1 in absurd cc
+
+-- A response to another call answers no ApplicationReady of a plug.
+pub plug_unwanted : (response : Answered) (link : RelationState) → pointwise nat_eq response.header.activity link.request.ar.uuid ≡ false
+    → plug_answer_in response (Some link) ≡ to_plug.NotWanted
+plug_unwanted response link other = by_call link.plugs.calls.standing
+  where
+    first_not : (a b : Bool) → a ≡ false → a && b ≡ false
+    first_not true b is = absurd cc
+    first_not false b is = refl
+
+    by_call : (call : Option PlugCall) → answer_to link.request.ar.uuid call response ≡ to_plug.NotWanted
+    by_call None = refl
+    by_call (Some call) = cond-false (is_plug_answer link.request.ar.uuid call response.header) _ _
+        (first_not (pointwise nat_eq response.header.activity link.request.ar.uuid) _ other)
 
 pub no_read : (known : Known) (identity : Identity) (real : Real) (settings : Settings) (link : RelationState) (blocks octets : List ℕ) → known.link ≡ Some link → Names link blocks ≡ false
     → relation_read known identity real settings blocks ≡ Ok octets → ⊥

@@ -9,6 +9,7 @@ use Rattle.network_world.specs.declared.moves.Move.{Move}
 use Rattle.network_world.specs.World.{AreMade, World, last_world}
 use Rattle.end_laws.specs.both.StartUp.{WasHanded}
 use Rattle.both_ends.specs.exchange.Sized.{AreSizedModules}
+use Rattle.both_ends.specs.exchange.Told.{AreSizedMoves}
 use Rattle.both_ends.specs.startup.Played.{Begins, CanMeet, viewed}
 use Rattle.both_ends.specs.startup.View.{rules_of, view_of}
 use Rattle.strangers_law.specs.Calling.{AreOthers, IsCallOf, IsLike}
@@ -99,7 +100,8 @@ abbrev pub RelatesWithCallers : {F : Type 0} {S : ℕ} → Flash F S → Setup �
 RelatesWithCallers as_flash setup identity holds = HoldsWithCallers as_flash setup identity (λ others first run.
     (link : RelationState) → (last_with_callers first run).device.live.rest.link ≡ Some link → holds first (moves_in run) link)
 
--- If the modules of the device have their sizes, this holds of the moves of both ends in a run with callers and of its last world.
+-- If the modules that are plugged at first and the moves have their sizes, this holds of the moves of both ends in a run with callers and of
+-- its last world.
 abbrev pub TakesWithCallers : {F : Type 0} {S : ℕ} → Flash F S → Setup → Identity → (World F → List (Move × World F) → World F → Type 0) → Type 0
 TakesWithCallers as_flash setup identity holds = HoldsWithCallers as_flash setup identity (λ others first run.
-    AreSizedModules first.device.station.real.modules.items → holds first (moves_in run) (last_with_callers first run))
+    AreSizedModules first.device.live.rest.real.modules.items → AreSizedMoves (moves_in run) → holds first (moves_in run) (last_with_callers first run))

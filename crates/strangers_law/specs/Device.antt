@@ -27,8 +27,8 @@ abbrev pub IsStrange : Station → RelationState → Event → Type 0
 IsStrange station link event = is_own station.identity.mac.octets (marks_of link) event ≡ false
 
 -- The settings are as they were, and the relation with its phase, outputs, records, alarms, numbers and times; so are the units,
--- whether the application runs, the statuses, the neighbour, the diagnoses and the number of relations since the start. The lamp, the stored
--- answers to calls and the log may have changed.
+-- whether the application runs, the statuses, the neighbour, the diagnoses, the number of relations since the start and the modules that are
+-- plugged. The lamp, the stored answers to calls and the log may have changed.
 pub record IsLeft (old new : Live) : Type 0 where
   pub values : new.values ≡ old.values
   pub link : new.rest.link ≡ old.rest.link
@@ -38,6 +38,7 @@ pub record IsLeft (old new : Live) : Type 0 where
   pub peer : new.rest.peer ≡ old.rest.peer
   pub diagnoses : new.rest.diagnoses ≡ old.rest.diagnoses
   pub made : new.rest.made ≡ old.rest.made
+  pub real : new.rest.real ≡ old.rest.real
 
 -- A frame that is no cyclic frame, no alarm frame and no call.
 abbrev pub IsNoExchange : List ℕ → Type 0

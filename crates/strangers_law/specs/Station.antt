@@ -30,7 +30,7 @@ abbrev pub IsStrangeAt : Station → Serving → RelationState → Event → Typ
 IsStrangeAt station services link event = IsStrange station link event × IsStrangeOrNone station link (completing services event)
 
 -- The settings are as they were, and so are the relation with its times, the units, whether the application runs, the statuses, the
--- diagnoses and the number of relations since the start. The neighbour may be another one.
+-- diagnoses, the number of relations since the start and the modules that are plugged. The neighbour may be another one.
 pub record IsKept (old new : Live) : Type 0 where
   pub values : new.values ≡ old.values
   pub link : new.rest.link ≡ old.rest.link
@@ -39,6 +39,7 @@ pub record IsKept (old new : Live) : Type 0 where
   pub statuses : new.rest.statuses ≡ old.rest.statuses
   pub diagnoses : new.rest.diagnoses ≡ old.rest.diagnoses
   pub made : new.rest.made ≡ old.rest.made
+  pub real : new.rest.real ≡ old.rest.real
 
 -- A step of a station at the event of a stranger leaves the relation of its device as it was, and what the device sends at it is no cyclic
 -- frame, no alarm frame and no call, or a stored answer again.

@@ -2,7 +2,8 @@
 //! no line with the sources; tshark read them.
 
 use arrayvec::ArrayVec;
-use diagnosis::{Change, Diagnoses, Diagnosis, Notice, Notices, Places, WHOLE_SUBMODULE, put_diagnosis_data};
+use diagnosis::{Change, Diagnoses, Diagnosis, Notice, Places, WHOLE_SUBMODULE, put_diagnosis_data};
+use module_diff::Affected;
 use pn_values::demo_modules;
 
 /// Submodules of a relation in a test.
@@ -87,27 +88,26 @@ fn an_alarm_says_what_its_change_left() {
     let appears = change(1, 1, 3, 1, true);
     assert!(diagnoses.change(&appears));
     let notice = Notice::of(appears, &diagnoses, &ALL);
-    assert_eq!((notice.alarm_type(), notice.specifier(0)), (1, 0xA800));
-    assert_eq!(notice.octets(), [0x00, 0x03, 0x08, 0x00, 0x00, 0x01]);
+    assert_eq!((appears.alarm_type(), notice.is_any_at_submodule, notice.is_any_in_relation), (1, true, true));
+    assert_eq!(appears.octets(), [0x00, 0x03, 0x08, 0x00, 0x00, 0x01]);
     let goes = change(1, 1, 3, 1, false);
     assert!(diagnoses.change(&goes));
     let notice = Notice::of(goes, &diagnoses, &ALL);
-    assert_eq!((notice.alarm_type(), notice.specifier(1)), (0x000C, 0x0001));
-    assert_eq!(notice.octets(), [0x00, 0x03, 0x10, 0x00, 0x00, 0x01]);
+    assert_eq!((goes.alarm_type(), notice.is_any_at_submodule, notice.is_any_in_relation), (0x000C, false, false));
+    assert_eq!(goes.octets(), [0x00, 0x03, 0x10, 0x00, 0x00, 0x01]);
 }
 
 #[test]
-fn changes_wait_in_order() {
-    let mut waiting = Notices::new();
-    waiting.begin(&three(), &Listed(&[(1, 1)]));
-    assert_eq!(waiting.as_slice().len(), 2);
-    let mut taken = Vec::new();
-    while let Some(notice) = waiting.take_first() {
-        taken.push((notice.change.diagnosis.channel, notice.specifier(0)));
+fn diagnoses_of_what_is_pulled_are_forgotten() {
+    let mut diagnoses = Diagnoses::new();
+    for (slot, subslot, channel) in [(1, 1, 3), (1, 2, 3), (2, 1, 3), (1, 1, 4)] {
+        assert!(diagnoses.change(&change(slot, subslot, channel, 1, true)));
     }
-    assert_eq!(taken, [(3, 0xA800), (0x7FFF, 0xA800)]);
-    for _ in 0..32 {
-        assert!(waiting.push(Notice::default()));
-    }
-    assert!(!waiting.push(Notice::default()));
+    let left = |diagnoses: &Diagnoses| diagnoses.as_slice().iter().map(|it| (it.slot, it.subslot, it.channel)).collect::<Vec<_>>();
+    diagnoses.forget(Affected { slot: 1, subslot: Some(1) });
+    assert_eq!(left(&diagnoses), [(1, 2, 3), (2, 1, 3)]);
+    diagnoses.forget(Affected { slot: 2, subslot: Some(2) });
+    assert_eq!(left(&diagnoses), [(1, 2, 3), (2, 1, 3)]);
+    diagnoses.forget(Affected { slot: 1, subslot: None });
+    assert_eq!(left(&diagnoses), [(2, 1, 3)]);
 }

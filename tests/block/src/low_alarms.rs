@@ -1,12 +1,13 @@
-//! The alarms of low priority of a device: changes of diagnosis, one active at a time, the others waiting. The octets of the first alarm
-//! are those of a reference model that shares no line with the sources; tshark read them.
+//! The alarms of low priority of a device: changes of diagnosis, pulls and plugs, one active at a time, the others waiting. The octets of
+//! the first alarm are those of a reference model that shares no line with the sources; tshark read them. Those of a pull were written by
+//! hand from IEC 61158-6-10, 5.2.5.
 
 use diagnosis::{Priority, read_low_message, read_report};
 use block_codec::AlarmAck;
 use diagnosis::{Change, Diagnoses, Diagnosis};
-use diagnosis::{DiagnosisAlarms, Terms};
+use diagnosis::{DiagnosisAlarms, LowChange, ModuleChange, Terms};
 use connect_blocks::{ExpectedModule, ExpectedSubmodule};
-use module_diff::{Expected, diff};
+use module_diff::{ChangeKind, Expected, RealChange, diff};
 use pn_alarms::{Due, Message, PduFate, PduType, Taken, read_message, read_pdu};
 use pn_values::{Real, demo_modules};
 
@@ -15,6 +16,11 @@ const TERMS: Terms = Terms { timeout_factor: 1, retries: 3, tag: 0xA000 };
 /// What follows the FrameID of the alarm that a diagnosis of channel 3 with the error 1 appears at slot 1, subslot 1.
 const ALARM: &str = "000100011111fffffffe00220002001e010000010000000000010001000000100000\
                      0010a8008000000308000001";
+
+/// The same of the alarm that the submodule with the ident numbers 0x10 and 0x11 is pulled there, while a diagnosis exists elsewhere in
+/// the relation.
+const PULL: &str = "000100011111fffffffe001a000200160100000300000000000100010000001000000011\
+                    8000";
 
 fn change(slot: u16, channel: u16, appears: bool) -> Change {
     let diagnosis = Diagnosis { slot, subslot: 1, channel, error: 1 };
@@ -63,7 +69,6 @@ fn confirms(number: u16, low: &DiagnosisAlarms) -> Message {
     let pdu = read_pdu(&bytes).ok().expect("is a PDU");
     let report = read_report(pdu.body).ok().expect("is an alarm");
     assert_eq!(report.priority, Priority::Low);
-    assert_eq!(report.user_structure, Some(0x8000));
     let alarm = report.notification;
     let ack = AlarmAck {
         alarm_type: alarm.alarm_type,
@@ -105,18 +110,18 @@ fn a_change_waits_until_the_alarm_is_acknowledged() {
     // the second one under the next number and sequence, and the third is a diagnosis that disappears while another exists
     let first = confirms(0xFFFF, &low);
     assert_eq!(low.hear(&first), PduFate::Data(Taken::New));
-    assert!(low.next(&real));
+    assert!(low.next());
     assert_eq!(&octets(&low)[12..20], "0000ffff");
     assert_eq!(&octets(&low)[72..], "a8018000000408000001");
-    assert!(!low.next(&real));
+    assert!(!low.next());
     let second = confirms(0, &low);
     assert_eq!(low.hear(&second), PduFate::Data(Taken::New));
-    assert!(low.next(&real));
+    assert!(low.next());
     assert_eq!(&octets(&low)[36..40], "000c");
     assert_eq!(&octets(&low)[72..], "a8028000000310000001");
     let third = confirms(1, &low);
     assert_eq!(low.hear(&third), PduFate::Data(Taken::New));
-    assert!(!low.next(&real));
+    assert!(!low.next());
 }
 
 #[test]
@@ -131,7 +136,7 @@ fn only_submodules_of_the_relation_are_reported() {
     assert!(diagnoses.change(&other));
     assert!(!low.change(&real, true, &other, &diagnoses));
     assert!(!low.has_problem());
-    assert!(!low.next(&real));
+    assert!(!low.next());
     // before data is exchanged none is reported, and the problem counts
     let own = change(1, 0, true);
     assert!(diagnoses.change(&own));
@@ -157,6 +162,58 @@ fn thirty_two_changes_wait_beside_the_active_alarm() {
     assert!(!low.is_full());
     assert!(!low.has_sent());
     assert!(low.has_problem());
+}
+
+/// A submodule that was pulled or plugged at slot 1, subslot 1.
+fn made(kind: ChangeKind) -> RealChange {
+    RealChange { kind, slot: 1, subslot: 1, module_ident_number: 0x10, submodule_ident_number: 0x11 }
+}
+
+#[test]
+fn a_pull_is_reported_with_what_was_pulled() {
+    let (real, expected) = (demo_modules(), expected(0));
+    let mut diagnoses = Diagnoses::new();
+    assert!(diagnoses.change(&change(2, 0, true)));
+    let mut low = opened(&expected, &diagnoses, &real);
+    let pull = made(ChangeKind::Pull);
+    let change = ModuleChange::of(&pull, false, true);
+    assert!(!low.change_modules(false, change, &pull, &diagnoses));
+    assert_eq!(low.sent(), None);
+    // what exists when the alarm is sent does not count
+    assert!(low.begin(&real, &Diagnoses::new()));
+    assert_eq!(octets(&low), PULL);
+    assert_eq!(low.sent().map(|sent| (sent.change, sent.number)), Some((LowChange::Module(change), 0)));
+}
+
+#[test]
+fn pulls_and_plugs_wait_before_what_exists() {
+    let (real, expected) = (demo_modules(), expected(0));
+    let mut diagnoses = Diagnoses::new();
+    for channel in 0..32 {
+        assert!(diagnoses.change(&change(1, channel, true)));
+    }
+    let mut low = opened(&expected, &diagnoses, &real);
+    for number in 0..32 {
+        assert!(!low.is_full());
+        let it = made(if number % 2 == 0 { ChangeKind::Pull } else { ChangeKind::Plug });
+        assert!(!low.change_modules(false, ModuleChange::of(&it, false, false), &it, &diagnoses));
+    }
+    assert!(low.is_full());
+    assert!(low.waits_for_plug(1, 1));
+    assert!(!low.waits_for_plug(1, 2) && !low.waits_for_plug(2, 1));
+    let mut is_active = low.begin(&real, &diagnoses);
+    let mut types = Vec::new();
+    while is_active {
+        let sent = low.sent().expect("is sent");
+        assert_eq!(usize::from(sent.number), types.len());
+        types.push((sent.change.alarm_type(), sent.change.slot(), sent.change.subslot()));
+        let ack = confirms(sent.number.wrapping_sub(1), &low);
+        assert_eq!(low.hear(&ack), PduFate::Data(Taken::New));
+        is_active = low.next();
+    }
+    let wanted: Vec<_> = (0..64).map(|number| (if number >= 32 { 1 } else { 3 + number % 2 }, 1, 1)).collect();
+    assert_eq!(types, wanted);
+    assert!(!low.waits_for_plug(1, 1));
 }
 
 #[test]

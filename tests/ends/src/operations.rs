@@ -62,6 +62,7 @@ pub(crate) fn asked(what: u32) -> Op {
         structure: 0,
         sequence: 0,
         confirmed: 0,
+        progress: 0,
         port_length: 0,
         chassis_length: 0,
         work: 0,

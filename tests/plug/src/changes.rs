@@ -31,7 +31,7 @@ fn a_module_stays_with_no_submodules_and_goes_as_a_whole() {
     assert!(pull(&mut real, 1, 1));
     assert_eq!(listed(&real), [access_point(), (1, 16, vec![]), (2, 32, vec![1])]);
     assert!(!pull(&mut real, 1, 1));
-    // It accepts no module of another ident number.
+    // It takes no module of another ident number.
     assert!(!plug(&mut real, 1, 17, &submodule(1, 16)));
     assert!(pull_module(&mut real, 1));
     assert!(!pull_module(&mut real, 1));

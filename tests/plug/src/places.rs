@@ -84,7 +84,7 @@ fn a_refused_place_stays_touched() {
     plugs.answer(false);
     assert_eq!(progress(&plugs)[1], Progress::Refused);
     assert!(plugs.is_touched(2, 1));
-    // After a later pull it begins again.
+    // A later pull begins anew.
     plugs.pull(at(2));
     plugs.plug(at(2));
     assert_eq!(progress(&plugs)[1], Progress::Plugged);
@@ -99,7 +99,7 @@ fn the_alarm_of_an_earlier_plug_tells_nothing() {
     assert!(plugs.has_told());
     assert!(!plugs.end(0, true));
     plugs.plug(at(1));
-    // The alarm of this plug still waits.
+    // The alarm of this plug waits still.
     plugs.tell(1, 1, 1, false);
     assert_eq!(progress(&plugs)[0], Progress::Plugged);
     plugs.tell(1, 1, 3, true);

@@ -47,6 +47,7 @@ pub(crate) fn asked(what: u32) -> Op {
         structure: 0,
         sequence: 0,
         confirmed: 0,
+        progress: 0,
         port_length: 0,
         chassis_length: 0,
         work: 0,
@@ -68,9 +69,11 @@ fn answer(port: &mut Port, what: u32) -> u32 {
 fn before_a_start_and_behind_a_loss() {
     let mut early = made();
     let mut late = lost();
-    for what in (3..28).filter(|what| *what != 7) {
-        assert_eq!(answer(&mut early, what), 5);
-        assert_eq!(answer(&mut late, what), 14);
+    for what in (3..33).filter(|what| *what != 7) {
+        // A plug is described by 12 octets.
+        let octets = vec![0; if what == 30 { 12 } else { 0 }];
+        assert_eq!(serve(&mut early, &mut asked(what), &octets), 5);
+        assert_eq!(serve(&mut late, &mut asked(what), &octets), 14);
     }
     // Nothing is handed out, and the operation stays as it was.
     for (port, wanted) in [(&mut early, 5), (&mut late, 14)] {
@@ -84,7 +87,7 @@ fn before_a_start_and_behind_a_loss() {
 #[test]
 fn no_such_operation_sector_or_slot() {
     let mut port = made();
-    for what in [0, 7, 28, u32::MAX] {
+    for what in [0, 7, 33, u32::MAX] {
         assert_eq!(answer(&mut port, what), 10);
     }
     let mut op = asked(1);
@@ -99,6 +102,7 @@ fn no_such_operation_sector_or_slot() {
     }
     assert_eq!(answer(&mut port, 13), 15);
     assert_eq!(answer(&mut port, 22), 15);
+    assert_eq!(answer(&mut port, 32), 45);
 }
 
 #[test]
@@ -370,6 +374,7 @@ fn the_fields_are_those_of_the_header() {
         ("structure", offset_of!(Op, structure)),
         ("sequence", offset_of!(Op, sequence)),
         ("confirmed", offset_of!(Op, confirmed)),
+        ("progress", offset_of!(Op, progress)),
         ("port_length", offset_of!(Op, port_length)),
         ("chassis_length", offset_of!(Op, chassis_length)),
         ("work", offset_of!(Op, work)),
@@ -382,7 +387,7 @@ fn the_fields_are_those_of_the_header() {
     for (place, (name, offset)) in fields.into_iter().enumerate() {
         assert_eq!((named[place], 4 * place), (name, offset));
     }
-    assert_eq!((offset_of!(Op, octets), size_of::<Op>()), (4 * named.len(), 1668));
+    assert_eq!((offset_of!(Op, octets), size_of::<Op>()), (4 * named.len(), 1672));
 }
 
 #[test]
@@ -405,6 +410,12 @@ fn the_reasons_are_those_of_the_header() {
         ("CHANGES_WAIT", Reason::ChangesWait),
         ("TOO_EARLY", Reason::TooEarly),
         ("TOO_LATE", Reason::TooLate),
+        ("ACCESS_POINT", Reason::AccessPoint),
+        ("OTHER_MODULE", Reason::OtherModule),
+        ("PLUGGED", Reason::IsPlugged),
+        ("NO_ROOM", Reason::NoRoom),
+        ("BAD_SUBMODULE", Reason::BadSubmodule),
+        ("NO_PLUG", Reason::NoPlug),
     ];
     assert_eq!(numbers, reasons.map(|(name, reason)| (name, reason.number())));
 }

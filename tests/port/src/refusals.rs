@@ -4,7 +4,7 @@ use crate::calls::{
 };
 use crate::stations::{booted, busy, lost, made};
 use c_layout::{BAD_ABI, BAD_DATA, BAD_LENGTH, BAD_MAC, BAD_PARAMETER, BAD_PLAN, BAD_SLOT, BAD_STATION, BAD_SUBSLOT};
-use c_layout::{HAS_WORK, NO_RECORD, NO_SLOT, PLAN_FAULT, REFUSED, SMALL_ROOM, UNKNOWN};
+use c_layout::{HAS_WORK, NO_PLACE, NO_RECORD, NO_SLOT, PLAN_FAULT, REFUSED, SMALL_ROOM, UNKNOWN};
 use device_abi::{Port, Refusal};
 use flash_model::Sector;
 use test_stations::{IDENTIFY, SET};
@@ -21,7 +21,7 @@ fn header() -> Vec<(&'static str, u32)> {
 #[test]
 fn each_number_of_the_header_has_one_meaning() {
     let numbers = header();
-    assert_eq!(numbers.len(), 44);
+    assert_eq!(numbers.len(), 45);
     for (place, (name, number)) in numbers.iter().enumerate() {
         for (other, same) in &numbers[place + 1..] {
             assert!(name != other && number != same, "{name} and {other} are {number} and {same}");
@@ -47,6 +47,7 @@ fn numbers_are_those_of_the_header() {
         ("NO_SLOT", NO_SLOT),
         ("UNKNOWN", UNKNOWN),
         ("NO_RECORD", NO_RECORD),
+        ("NO_PLACE", NO_PLACE),
         ("REFUSED", REFUSED),
         ("BAD_PLAN", BAD_PLAN),
         ("BAD_MAC", BAD_MAC),

@@ -7,7 +7,8 @@ use Rattle.cyclic_data.specs.declared.place.PlaceKind.{PlaceKind}
 use Rattle.cyclic_data.specs.declared.place.PlaceKind.TheVariants.{Data, Iocs}
 use Rattle.cyclic_data.specs.Image.{Cell, Shown as Image, good, place_at}
 use Rattle.both_ends.specs.startup.request.Request.{iocr_for}
-use Rattle.relations.specs.Exchanged.{output_in}
+use Rattle.expected_places.specs.Machine.{is_touched_at}
+use Rattle.relations.specs.Exchanged.{output_in, shown_as}
 use Rattle.relations.specs.RelationState.{RelationState}
 use Rattle.controller_messages.specs.declared.setup.Setup.{Setup}
 use Rattle.network_world.specs.declared.moves.End.TheVariants.{Device, Controller}
@@ -83,9 +84,9 @@ abbrev pub given_for : Setup → List Move → ℕ → ℕ → Option (List ℕ)
 given_for setup moves slot subslot =
     option_map (λ place. value_or_zeros place (if_good (last_rated place true moves) (last_given place None moves))) (place_at Data slot subslot (places_for setup))
 
--- All outputs of this relation that a device shows come from one frame. The controller sent it with one of its moves.
--- It brings for each submodule the value set last at that point, or zeros if none was set or if the application said last
--- that the output is bad. It was delivered to the device by a later move.
+-- All outputs of this relation that a device shows come from one frame, or are zeros of a touched place. The controller sent the
+-- frame with one of its moves. It brings for each submodule the value set last at that point, or zeros if none was set or if the
+-- application said last that the output is bad. It was delivered to the device by a later move.
 pub record AreOfOneFrame {F : Type 0} (setup : Setup) (identity : Identity) (first : World F) (run : List (Move × World F)) (link : RelationState) : Type 0 where
   pub before : List (Move × World F)
   pub one : Move × World F
@@ -108,4 +109,5 @@ pub record AreOfOneFrame {F : Type 0} (setup : Setup) (identity : Identity) (fir
   -- the frame brings these outputs to a device with the options of this one, and they are what is shown
   pub brings : (outputs_of first.device.station.options setup identity).brought_by frame ≡ Some ((outputs_of first.device.station.options setup identity).octets_of (image_given setup (moves_of (before ++ one ∷ []))))
   pub taken : taken_in link ≡ image_given setup (moves_of (before ++ one ∷ []))
-  pub shown : (slot subslot : ℕ) → output_in slot subslot (Some link) ≡ given_for setup (moves_of (before ++ one ∷ [])) slot subslot
+  pub shown : (slot subslot : ℕ) → output_in slot subslot (Some link)
+      ≡ option_map (shown_as (is_touched_at slot subslot link.plugs)) (given_for setup (moves_of (before ++ one ∷ [])) slot subslot)

@@ -39,7 +39,7 @@ module _ {F : Type 0} where
   -- an alarm is raised if the device has a relation in which it may be, and then it is the unconfirmed one
   abbrev pub raised_with : World F → Move → List AlarmNotification
   raised_with world (move.Application (local.Alarm slot subslot octets)) =
-      raised_in (raised_to world.device.station.real.modules.items slot subslot octets.items world.device.live.rest.link)
+      raised_in (raised_to world.device.live.rest.real.modules.items slot subslot octets.items world.device.live.rest.link)
   raised_with world other = []
 
   -- the alarms raised over a run, in order
@@ -65,8 +65,8 @@ is_same_number None None = true
 is_same_number (Some one) (Some other) = one == other
 is_same_number _ _ = false
 
--- A change of diagnosis is reported when data of low priority is sent under another number: it is then the active alarm. The
--- relation before a move, and after it.
+-- A change of diagnosis, a pull or a plug is reported when data of low priority is sent under another number: it is then the active
+-- alarm. The relation before a move, and after it.
 abbrev pub reported_by : Option RelationState → Option RelationState → List AlarmNotification
 reported_by before after = if is_same_number (number_in after) (number_in before) then [] else active_in after
 

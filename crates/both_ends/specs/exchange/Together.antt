@@ -21,7 +21,7 @@ use Rattle.both_ends.specs.startup.View.{rules_of, view_of}
 use Rattle.both_ends.specs.exchange.Given.{AreOfOneFrame, zero_for}
 use Rattle.both_ends.specs.exchange.Shown.{has_accepted}
 use Rattle.both_ends.specs.exchange.Over.{IsOneOfTheLastTwo, raised_over, reported_over, taken_over}
-use Rattle.both_ends.specs.exchange.Told.{AreKnown, IsTold, known_at}
+use Rattle.both_ends.specs.exchange.Told.{AreKnown, AreNoPulls, IsTold, known_at}
 
 -- A world that was begun with this set-up and this device, and in which these moves were made, one after the other.
 pub record IsBegunAndPlayed {F : Type 0} {S : ℕ} (as_flash : Flash F S) (setup : Setup) (device : State F) (moves : List Move) (last : World F) : Type 0 where
@@ -41,7 +41,7 @@ pub record IsBegunAndPlayed {F : Type 0} {S : ℕ} (as_flash : Flash F S) (setup
   -- A relation of the device is the plan's.
   pub relation : (link : RelationState) → last.device.live.rest.link ≡ Some link → link.request ≡ request_for setup.plan setup.ar
   -- All outputs that the device shows are zeros as long as it accepted no cyclic frame in its relation, then they come
-  -- from one frame of the controller.
+  -- from one frame of the controller, or are zeros of a touched place.
   pub zeros : (link : RelationState) → last.device.live.rest.link ≡ Some link → has_accepted link ≡ false
       → (slot subslot : ℕ) → output_in slot subslot (Some link) ≡ zero_for setup slot subslot
   pub values : (link : RelationState) → last.device.live.rest.link ≡ Some link → has_accepted link ≡ true → AreOfOneFrame setup device.station.identity first run link
@@ -53,18 +53,19 @@ pub record IsBegunAndPlayed {F : Type 0} {S : ℕ} (as_flash : Flash F S) (setup
   -- raised or the one before it.
   pub shown : last.controller.live.alarm ≡ last_of (taken_over High first run)
   pub alarm : length (raised_over first run) ≤ 32768 → IsOneOfTheLastTwo (raised_over first run) last.controller.live.alarm
-  -- If at most 32,768 changes of diagnosis are reported, those that the controller accepted are a prefix of those that
-  -- the device reported, and lack at most the last.
+  -- If at most 32,768 changes of diagnosis, pulls and plugs are reported, those that the controller accepted are a prefix of those
+  -- that the device reported, and lack at most the last.
   pub reports : length (reported_over first run) ≤ 32768 → IsPrefixOf (taken_over Low first run) (reported_over first run)
   pub reported_last : length (reported_over first run) ≤ 32768 → length (reported_over first run) ≤ length (taken_over Low first run) + 1
   -- While the device exchanges data, the changes that it reported, and then those that wait, lead from no diagnosis to
   -- those that exist at the submodules of the relation.
   pub told : AreKnown device.live.rest.diagnoses → (link : RelationState) → last.device.live.rest.link ≡ Some link → is_exchanging link.phase ≡ true
       → IsTold link.flow.low last.device.live.rest.diagnoses (reported_over first run)
-  -- If at most 32,768 changes are reported, no alarm of a change is unconfirmed and none waits, then a controller whose
-  -- relation is established has in its list what exists at the submodules of the relation.
-  pub list : AreKnown device.live.rest.diagnoses → length (reported_over first run) ≤ 32768 → (link : RelationState) → last.device.live.rest.link ≡ Some link
-      → is_exchanging link.phase ≡ true → link.flow.low.alarms.sender.standing ≡ None → link.flow.low.waiting ≡ [] → last.controller.live.stands ≡ true
+  -- If at most 32,768 changes are reported and none of them is a pull, no alarm of a change is unconfirmed and none waits, then a
+  -- controller whose relation is established has in its list what exists at the submodules of the relation.
+  pub list : AreKnown device.live.rest.diagnoses → length (reported_over first run) ≤ 32768 → AreNoPulls (reported_over first run)
+      → (link : RelationState) → last.device.live.rest.link ≡ Some link → is_exchanging link.phase ≡ true → link.flow.low.alarms.sender.standing ≡ None
+      → link.flow.low.waiting ≡ [] → last.controller.live.stands ≡ true
       → last.controller.live.diagnosis ≡ known_at link.flow.low last.device.live.rest.diagnoses
   -- The device is the same, and has stored no answer to a call of another activity that it had not stored before. So when it has no
   -- relation, a controller can begin whose calls have such an activity; `told` and `list` hold of its relation if they hold of this one.

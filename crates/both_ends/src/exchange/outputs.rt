@@ -26,8 +26,9 @@ pub fn worlds_show_what_is_given<F: Flash<S>, const S: usize>(setup: &Setup, ide
         → (link : RelationState) → (last_world first run).device.live.rest.link ≡ Some link → has_accepted link ≡ false
         → (slot subslot : ℕ) → output_in slot subslot (Some link) ≡ zero_for setup.now slot subslot }
     // After that, all outputs come from one frame, which the controller sent with one of its moves and which was
-    // delivered to the device by a later move. Each is the value set last for its submodule when the frame was sent, or
-    // zeros if none was set or if the application had said that the output is bad.
+    // delivered to the device by a later move, or are zeros of a touched place: where something was pulled or plugged that was not
+    // released since. Each is the value set last for its submodule when the frame was sent, or zeros if none was set or if the
+    // application had said that the output is bad.
     ensures values { CanMeet setup.now identity.now →
         (first : World F) (run : List (Move × World F)) → Begins setup.now identity.now first
         → AreMade F.Flash first run

@@ -59,11 +59,15 @@ fn move_is_sized(one: &Move)
     if let Move::Application(Local::Diagnosis(_, _, _, error, _)) = one {
         has_16_bits(*error);
     }
+    if let Move::Application(Local::Plug(_, ident, part)) = one {
+        has_32_bits(*ident);
+        has_32_bits(part.ident);
+    }
 }
 
-/// Any moves meet the premise of the law of reported diagnosis about them. This is a law of the definitions.
+/// Any moves meet the premise of the laws of alarms and of reported diagnosis about them. This is a law of the definitions.
 pub fn moves_are_sized(moves: &[Move])
-    // A ChannelErrorType has 16 bits.
+    // A ChannelErrorType has 16 bits, and an ident number has 32.
     ensures { AllByRecursion IsSizedMove moves.now }
 {
     for one in moves {

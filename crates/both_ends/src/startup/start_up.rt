@@ -18,9 +18,9 @@ use connects::ConnectRequest;
 use controller_messages::Setup;
 use end_laws::{
     calls_are_heard, calls_can_be_sent, controller_goes_on, datagrams_alone_are_calls,
-    device_goes_on, device_sends_what_it_owes, frames_are_messages, messages_are_addressed,
-    packets_are_heard, ready_answers_are_heard, ready_calls_are_heard, responses_are_heard,
-    start_up_is_kept, stations_are_real,
+    device_goes_on, device_sends_what_it_owes, device_turns, frames_are_messages,
+    messages_are_addressed, packets_are_heard, plug_calls_are_heard, ready_answers_are_heard,
+    ready_calls_are_heard, responses_are_heard, start_up_is_kept, stations_are_real,
 };
 use flash_model::Flash;
 use frame_codec::formats_are_sound;
@@ -111,11 +111,13 @@ pub fn worlds_start_up<F: Flash<S>, const S: usize>(setup: &Setup, identity: &Id
     calls_are_heard();
     responses_are_heard();
     ready_calls_are_heard();
+    plug_calls_are_heard();
     ready_answers_are_heard();
     blocks_are_read();
     messages_are_addressed();
     frames_are_messages();
     controller_goes_on();
+    device_turns();
     device_goes_on();
     device_sends_what_it_owes();
     start_up_is_kept::<TakenRecord, ConnectRequest>();

@@ -85,7 +85,7 @@ after begun heard = cycle_of [] begun.station begun.first begun.room heard
 
 -- What these events of the cycle were to the device and the services beside it.
 unfoldable pub hosted : Begun → List Event → Hosted
-hosted begun events = hosted_from begun.station (started begun.first begun.room) begun.services events
+hosted begun events = hosted_from begun.station (started begun.station.real begun.first begun.room) begun.services events
 
 -- What the device heard of these events: the events, and the Neighbour events and the joined calls where the services gave them.
 abbrev pub heard : Begun → List Event → List Event
@@ -137,7 +137,7 @@ pub record IsFresh (port : Served) (chip : Image) : Type 0 where
   pub stage : port.port.stage ≡ Booted
   pub idle : IsFetched port
   pub holds : image_of port.port.device.flash ≡ chip
-  pub live : port.port.device.live ≡ started port.port.device.live.values.stored port.port.device.live.values.room
+  pub live : port.port.device.live ≡ started port.port.device.station.real port.port.device.live.values.stored port.port.device.live.values.room
   pub starts : StartsWith chip port.port.device.live.values.stored port.port.device.live.values.room
   pub left : LeftByDevice chip
 

@@ -66,14 +66,15 @@ pub record Leaves (old new : State) : Type 0 where
   pub station : new.device.station ≡ old.device.station
   pub idle : IsIdle new
 
--- The device started: the running settings are those that the chip is read as, and nothing else remains of an earlier
--- cycle.
+-- The device started: the running settings are those that the chip is read as, the given modules are plugged, and nothing else
+-- remains of an earlier cycle.
 pub record Starts (old new : State) : Type 0 where
   pub stage : new.stage ≡ Booted
   pub leaves : Leaves old new
   pub starts : StartsWith (image_of old.device.flash) new.device.live.values.stored new.device.live.values.room
-  pub fresh : new.device.live ≡ started new.device.live.values.stored new.device.live.values.room
-  pub known : (settings : Settings) (room : ℕ) → StartsWith (image_of old.device.flash) settings room → new.device.live ≡ started settings room
+  pub fresh : new.device.live ≡ started old.device.station.real new.device.live.values.stored new.device.live.values.room
+  pub known : (settings : Settings) (room : ℕ) → StartsWith (image_of old.device.flash) settings room →
+      new.device.live ≡ started old.device.station.real settings room
 
 -- The content of the chip was not written by a device with this layout.
 pub record IsStrange (old new : State) : Type 0 where

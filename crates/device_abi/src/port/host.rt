@@ -134,6 +134,18 @@ fn hand_on(port: &mut Port, local: &Local<Octets<'_, 1519>>)
         Local::Diagnosis(slot, subslot, channel, error, appears) => {
             let _ = port.diagnosis(*slot, *subslot, *channel, *error, *appears);
         }
+        Local::Pull(slot, subslot) => {
+            let _ = port.pull(*slot, *subslot);
+        }
+        Local::PullModule(slot) => {
+            let _ = port.pull_module(*slot);
+        }
+        Local::Plug(slot, ident, submodule) => {
+            let _ = port.plug(*slot, *ident, submodule.copy());
+        }
+        Local::ReadyAt(slot, subslot) => {
+            let _ = port.ready_at(*slot, *subslot);
+        }
         Local::Ready => {
             let _ = port.ready();
         }

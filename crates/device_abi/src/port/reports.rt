@@ -6,6 +6,7 @@ ghost use Rattle.relations.specs.Outputs.{output_of};
 ghost use Rattle.device_abi.specs.port.State.{IsRead, IsUnreported, closed};
 
 use crate::port::{Port, Refusal};
+use expected_places::ExpectedPlace;
 use pn_values::Settings;
 use records::TakenRecord;
 use relations::{Phase, ProviderStatus, ReceivedValue};
@@ -48,6 +49,18 @@ impl Port {
     {
         match self.open() {
             Ok(device) => Ok(device.phase()),
+            Err(refusal) => Err(refusal),
+        }
+    }
+
+    /// The places of the relation: the submodules that its Connect expects, in its order, and how far each is since something was
+    /// pulled or plugged there. `None` if there is no relation.
+    pub fn expected(&self) -> Result<Option<&[ExpectedPlace]>, Refusal>
+        ensures { IsRead (closed self.now.port.stage) (λ expected. option_map (λ places. places.now) expected
+            ≡ option_map (λ link. link.plugs.places) self.now.port.device.live.rest.link) result }
+    {
+        match self.open() {
+            Ok(device) => Ok(device.expected()),
             Err(refusal) => Err(refusal),
         }
     }
@@ -124,7 +137,7 @@ impl Port {
 
     /// The output of a submodule. Returns NoSlot if no submodule with an output is plugged there.
     pub fn output(&self, slot: u16, subslot: u16) -> Result<&[u8], Refusal>
-        ensures value { let value = output_of self.now.port.device.station.real slot subslot
+        ensures value { let value = output_of self.now.port.device.live.rest.real slot subslot
             (output_in slot subslot self.now.port.device.live.rest.link) in
             MatchResult result (λ reported. (closed self.now.port.stage ≡ None)
             × (value ≡ Some reported.now)) (λ refusal. IsUnreported (closed self.now.port.stage) value refusal) }

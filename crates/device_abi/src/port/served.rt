@@ -4,7 +4,7 @@ ghost use Rattle.std.specs.Option.{option_map};
 ghost use Rattle.device_abi.specs.port.State.{IsIdle, IsRead, closed, has_some, has_work as is_left, waiting as waiting_in};
 ghost use Rattle.device_abi.specs.declared.port.stage.Stage.TheVariants.{Booted, Made};
 ghost use Rattle.device_frames.specs.declared.event.Event.TheVariants.{Application, Frame as Framed};
-ghost use Rattle.device_frames.specs.declared.local.Local.TheVariants.{Alarm, Diagnosis, Input, ProviderState, Ready, Status};
+ghost use Rattle.device_frames.specs.declared.local.Local.TheVariants.{Alarm, Diagnosis, Input, Plug, ProviderState, Pull, PullModule, Ready, ReadyAt, Status};
 ghost use Rattle.device_abi.specs.port.Pace.{AreCalm};
 ghost use Rattle.device_abi.specs.port.Served.{IsFetched, IsNextBoth, advanced_both, barred_both, conflicts_of, due_both, frames_of, linked_both, lost_both, or_own as kind_or_own, waiting_both};
 ghost use Rattle.device_abi.specs.port.ServedSteps.{AnswersBoth, HearsBoth, IsOfApplication, KnowsBothOrNot, PassesBothOrNot, PassesOneOrNot, QuietOrNot, SkipsOrNot};
@@ -21,7 +21,7 @@ use device_core::{Device, Event, Note, Octets};
 use flash_model::Sector;
 use frame_codec::Frame;
 use lldp::Link;
-use pn_values::{Identity, Real};
+use pn_values::{Identity, Real, RealSubmodule};
 use relations::DeviceOptions;
 use services::only_conflicts_are_counted;
 use station::{DeviceServices, conflicts_are_noticed, quiet_units_are_ticks};
@@ -312,6 +312,43 @@ impl Port {
         ensures { AnswersBoth self.old (Application (Diagnosis slot subslot channel error appears)) result self.new }
     {
         self.apply(&Event::diagnosis(slot, subslot, channel, error, appears))
+    }
+
+    /// The submodule in this slot and subslot is pulled. Its module stays, also without submodules.
+    #[inline(never)]
+    pub fn pull(&mut self, slot: u16, subslot: u16) -> Result<Note, Refusal>
+        ensures { AnswersBoth self.old (Application (Pull slot subslot)) result self.new }
+    {
+        self.apply(&Event::pull(slot, subslot))
+    }
+
+    /// The module in this slot is pulled, with all its submodules.
+    #[inline(never)]
+    pub fn pull_module(&mut self, slot: u16) -> Result<Note, Refusal>
+        ensures { AnswersBoth self.old (Application (PullModule slot)) result self.new }
+    {
+        self.apply(&Event::pull_module(slot))
+    }
+
+    /// This submodule is plugged into this slot, with a module of this ident number if the slot is empty.
+    #[inline(never)]
+    pub fn plug(
+        &mut self,
+        slot: u16,
+        module_ident: u32,
+        submodule: RealSubmodule,
+    ) -> Result<Note, Refusal>
+        ensures { AnswersBoth self.old (Application (Plug slot module_ident submodule)) result self.new }
+    {
+        self.apply(&Event::plug(slot, module_ident, submodule))
+    }
+
+    /// The application is ready for the plug in this slot and subslot.
+    #[inline(never)]
+    pub fn ready_at(&mut self, slot: u16, subslot: u16) -> Result<Note, Refusal>
+        ensures { AnswersBoth self.old (Application (ReadyAt slot subslot)) result self.new }
+    {
+        self.apply(&Event::ready_at(slot, subslot))
     }
 
     /// The application is ready.

@@ -1,8 +1,8 @@
 -- Alarms as a controller takes them: of both priorities, of each type, with any UserStructureIdentifier or none
 -- (IEC 61158-6-10, 5.2.5); and the AlarmAck of low priority (5.2.6).
-use Rattle.std.specs.Prelude.{◌≡◌, ◌+◌, ◌==◌, ℕ, List, [], length, Option, Some, None, Result, Ok, Err, if◌then◌else◌}
+use Rattle.std.specs.Prelude.{◌≡◌, ◌==◌, ℕ, List, [], length, Option, Some, None, Result, Ok, Err, if◌then◌else◌}
 use Rattle.wire.specs.Codec.{Codec, Whole, ◌>>=◌}
-use Rattle.wire.specs.Formats.{number, ◌⨾◌, then_by, seen, framed}
+use Rattle.wire.specs.Formats.{number, ◌⨾◌, seen, framed}
 use Rattle.wire.specs.Checks.{fixed, named}
 use Rattle.wire.specs.Whole.{ends_by, everything, loose, seen_whole}
 use Rattle.wire.specs.declared.blocks.fault.BlockFault.{BlockFault}
@@ -160,6 +160,23 @@ diagnosed alarm = record { priority = Low; notification = alarm; user_structure 
 -- Data that carries such an alarm.
 abbrev pub diagnosis_pdu : Header → AlarmNotification → Said
 diagnosis_pdu header alarm = record { header = header; body = report.write (diagnosed alarm) [] }
+
+-- An alarm of low priority without a UserStructureIdentifier: what a device of this product sends as a pull or a plug. It has no
+-- data.
+abbrev pub bare : AlarmNotification → Report
+bare alarm = record { priority = Low; notification = alarm; user_structure = None }
+
+-- Data that carries such an alarm.
+abbrev pub bare_pdu : Header → AlarmNotification → Said
+bare_pdu header alarm = record { header = header; body = report.write (bare alarm) [] }
+
+-- An alarm of low priority of this product: that of a change of diagnosis has data, and that of a pull or a plug has none.
+abbrev pub low_report : AlarmNotification → Report
+low_report alarm = if length alarm.alarm_data == 0 then bare alarm else diagnosed alarm
+
+-- Data that carries it.
+abbrev pub low_pdu : Header → AlarmNotification → Said
+low_pdu header alarm = record { header = header; body = report.write (low_report alarm) [] }
 
 -- ---- AlarmAck
 

@@ -5,17 +5,20 @@ ghost use Rattle.pn_alarms.specs.Device.{end_later, header_now, heard_as};
 ghost use Rattle.pn_alarms.specs.Leaps.{NothingDue, after, data_due_in, device_due};
 ghost use Rattle.pn_alarms.specs.Sending.{due, is_again, is_repeated};
 ghost use Rattle.diagnosis.specs.alarms.Own.{is_own};
-ghost use Rattle.diagnosis.specs.alarms.Alarms.{after_next, alarm_bytes, begun, behind, changed, closed, is_full, is_next, is_sent, later, noted, opened, reported};
+ghost use Rattle.diagnosis.specs.alarms.Alarms.{behind, closed, is_full, later, noted, opened};
+ghost use Rattle.diagnosis.specs.Queue.{after_next, alarm_bytes, begun, changed, is_module_sent, is_next, is_sent, modules_changed, reported, restated, waits_for_plug};
 
 use crate::alarms::own::Own;
 use crate::diagnoses::Diagnoses;
 use crate::diagnosis::Change;
+use crate::module_change::ModuleChange;
 use crate::notice::Notice;
-use crate::notices::Notices;
 use crate::places::Places;
-use crate::reports::diagnosis_front;
+use crate::queue::{LowChange, Queue, QueuedAlarm};
+use crate::reports::low_alarm_front;
+use arrayvec::ArrayVec;
 use block_codec::{AlarmData, AlarmNotification};
-use module_diff::{DiffRows, Expected, module_in, part_ident};
+use module_diff::{DiffRows, Expected, RealChange};
 use pn_alarms::{DeviceAlarms, Due, Header, Message, PduFate, PduType};
 use pn_values::Real;
 use std::marker::Model;
@@ -31,11 +34,22 @@ pub struct Terms {
     pub tag: u16,
 }
 
-/// The alarms of low priority of a relation: the one that is active, and the changes of diagnosis that wait.
+/// An alarm that became active, and must be sent.
+#[derive(Clone, Copy, Debug, PartialEq, Eq)]
+pub struct SentAlarm {
+    /// What it reports.
+    pub change: LowChange,
+    /// The sequence in its AlarmSpecifier, without flags.
+    pub number: u16,
+}
+
+/// The alarms of low priority of a relation: the one that is active, and the changes that wait in one queue: those of
+/// diagnosis, pulls and plugs.
 #[derive(Drop)]
 pub struct DiagnosisAlarms {
     alarms: DeviceAlarms,
-    notices: Notices,
+    queue: Queue,
+    sent: Option<SentAlarm>,
     own: Own,
     has_problem: bool,
     tag: u16,
@@ -49,7 +63,8 @@ impl Model for DiagnosisAlarms {
 
     ghost view = { λ low. record {
       alarms = low.alarms;
-      waiting = low.notices;
+      waiting = low.queue;
+      sent = low.sent;
       places = low.own;
       has_problem = low.has_problem;
       tag = low.tag;
@@ -63,7 +78,8 @@ impl DiagnosisAlarms {
     {
         DiagnosisAlarms {
             alarms: DeviceAlarms::new(1, 1),
-            notices: Notices::new(),
+            queue: Queue::new(),
+            sent: None,
             own: Own::new(),
             has_problem: false,
             tag: 0,
@@ -84,7 +100,8 @@ impl DiagnosisAlarms {
         ensures { self.new ≡ opened terms expected.now rows.now diagnoses.now }
     {
         self.alarms = DeviceAlarms::new(terms.timeout_factor, terms.retries);
-        self.notices = Notices::new();
+        self.queue.clear();
+        self.sent = None;
         self.own.fill(expected, rows);
         self.tag = terms.tag;
         self.note(diagnoses);
@@ -97,13 +114,22 @@ impl DiagnosisAlarms {
         self.has_problem = diagnoses.is_any_in(&self.own);
     }
 
-    /// Data exchange begins: each diagnosis of the relation that exists is reported. Returns whether an alarm must be sent.
-    pub fn begin(&mut self, real: &Real, diagnoses: &Diagnoses) -> bool
-        ensures sent { result ≡ is_next real.now.modules.items (begun diagnoses.now self.old) }
-        ensures state { self.new ≡ after_next real.now.modules.items (begun diagnoses.now self.old) }
+    /// The modules changed: `rows` lists the submodules that differ now, and these diagnoses exist.
+    pub fn restate(&mut self, expected: &Expected, rows: &DiffRows, diagnoses: &Diagnoses)
+        ensures { self.new ≡ restated expected.now rows.now diagnoses.now self.old }
     {
-        self.notices.begin(diagnoses, &self.own);
-        self.next(real)
+        self.own.fill(expected, rows);
+        self.note(diagnoses);
+    }
+
+    /// Data exchange begins: what waits is reported, and then each diagnosis of the relation that exists. Returns whether an
+    /// alarm must be sent.
+    pub fn begin(&mut self, real: &Real, diagnoses: &Diagnoses) -> bool
+        ensures sent { result ≡ is_next (begun real.now.modules.items diagnoses.now self.old) }
+        ensures state { self.new ≡ after_next (begun real.now.modules.items diagnoses.now self.old) }
+    {
+        self.queue.begin(diagnoses.as_slice(), &self.own, real);
+        self.next()
     }
 
     /// A diagnosis changed, and these exist now. It is reported if data is exchanged and its submodule belongs to the
@@ -123,55 +149,79 @@ impl DiagnosisAlarms {
             return false;
         }
         let notice = Notice::of(*change, diagnoses, &self.own);
-        self.notices.push(notice);
-        self.next(real)
+        self.queue.push(QueuedAlarm::of_diagnosis(&notice, real));
+        self.next()
     }
 
-    /// The first change that waits becomes the active alarm, if none is active and its submodule is plugged. Returns whether
-    /// it must be sent.
-    pub fn next(&mut self, real: &Real) -> bool
-        ensures sent { result ≡ is_next real.now.modules.items self.old }
-        ensures state { self.new ≡ after_next real.now.modules.items self.old }
+    /// A module or a submodule of the relation was pulled or plugged, these diagnoses exist now, and what differs was stated.
+    /// It waits until data is exchanged. Returns whether an alarm must be sent.
+    pub fn change_modules(
+        &mut self,
+        has_begun: bool,
+        change: ModuleChange,
+        made: &RealChange,
+        diagnoses: &Diagnoses,
+    ) -> bool
+        ensures sent { result ≡ is_module_sent has_begun change made.now diagnoses.now self.old }
+        ensures state { self.new ≡ modules_changed has_begun change made.now diagnoses.now self.old }
     {
-        let Some(notice) = self.notices.first() else {
-            return false;
-        };
-        let Some(module) = module_in(real, notice.change.diagnosis.slot) else {
-            return false;
-        };
-        let Some(submodule_ident_number) = part_ident(module, notice.change.diagnosis.subslot)
-        else {
-            return false;
-        };
-        self.report(&notice, module.ident, submodule_ident_number)
+        let alarm = QueuedAlarm::of_modules(change, made, diagnoses, &self.own);
+        self.queue.push(alarm);
+        has_begun && self.next()
+    }
+
+    /// The first change that waits becomes the active alarm, if none is active. Returns whether it must be sent.
+    pub fn next(&mut self) -> bool
+        ensures sent { result ≡ is_next self.old }
+        ensures state { self.new ≡ after_next self.old }
+    {
+        match self.queue.first() {
+            Some(alarm) => self.report(&alarm),
+            None => false,
+        }
     }
 
     /// This change, the first that waits, becomes the active alarm, if none is active. Returns whether it does.
-    fn report(
-        &mut self,
-        notice: &Notice,
-        module_ident_number: u32,
-        submodule_ident_number: u32,
-    ) -> bool
-        ensures done { result ≡ is_some (reported self.old notice.now module_ident_number submodule_ident_number) }
-        ensures state { self.new ≡ unwrap_or (reported self.old notice.now module_ident_number submodule_ident_number) self.old }
+    fn report(&mut self, queued: &QueuedAlarm) -> bool
+        ensures done { result ≡ is_some (reported self.old queued.now) }
+        ensures state { self.new ≡ unwrap_or (reported self.old queued.now) self.old }
     {
-        let octets = notice.octets();
+        let number = self.alarms.specifier();
+        let mut octets = ArrayVec::new();
+        queued.change.put_octets(&mut octets);
         let alarm = AlarmNotification {
-            alarm_type: notice.alarm_type(),
+            alarm_type: queued.change.alarm_type(),
             api: 0,
-            slot_number: notice.change.diagnosis.slot,
-            subslot_number: notice.change.diagnosis.subslot,
-            module_ident_number,
-            submodule_ident_number,
-            alarm_specifier: notice.specifier(self.alarms.specifier()),
-            alarm_data: AlarmData::new(&octets),
+            slot_number: queued.change.slot(),
+            subslot_number: queued.change.subslot(),
+            module_ident_number: queued.module_ident_number,
+            submodule_ident_number: queued.submodule_ident_number,
+            alarm_specifier: queued.specifier(number),
+            alarm_data: AlarmData::new(octets.as_slice()),
         };
         if self.alarms.raise_block(&alarm).is_err() {
             return false;
         }
-        self.notices.take_first();
+        self.queue.drop_first();
+        self.sent = Some(SentAlarm {
+            change: queued.change,
+            number,
+        });
         true
+    }
+
+    /// The alarm that became active last, if one did.
+    pub fn sent(&self) -> Option<SentAlarm>
+        ensures { result ≡ self.now.sent }
+    {
+        self.sent
+    }
+
+    /// Whether a change that waits is a plug of the expected submodule in this slot and subslot.
+    pub fn waits_for_plug(&self, slot: u16, subslot: u16) -> bool
+        ensures { result ≡ waits_for_plug slot subslot self.now.waiting }
+    {
+        self.queue.waits_for_plug(slot, subslot)
     }
 
     /// Receives a PDU of low priority. Returns what happens to it.
@@ -216,11 +266,11 @@ impl DiagnosisAlarms {
         self.alarms.pass(units);
     }
 
-    /// Whether no further change can wait.
+    /// Whether no further change can wait, since 32 or more wait already.
     pub fn is_full(&self) -> bool
         ensures { result ≡ is_full self.now }
     {
-        32 <= self.notices.as_slice().len()
+        32 <= self.queue.len()
     }
 
     /// Whether an alarm was sent.
@@ -258,18 +308,18 @@ impl DiagnosisAlarms {
         self.alarms.header(kind, destination, source)
     }
 
-    /// The octets that follow the FrameID of the active alarm, if there is one, with this header: 40 octets, and after them
-    /// its data, at most 32.
+    /// The octets that follow the FrameID of the active alarm, if there is one, with this header: at most 40 octets, and after
+    /// them its data, at most 32.
     #[inline(always)]
-    pub fn alarm(&self, header: &Header) -> Option<([u8; 40], &[u8])>
+    pub fn alarm(&self, header: &Header) -> Option<(ArrayVec<u8, 40>, &[u8])>
         requires kind { header.now.kind ≡ Data }
         ensures stands { is_some result ≡ is_some self.now.alarms.sender.standing }
-        ensures exact { IfSome result (λ octets. octets.0 ++ octets.1.now ≡ alarm_bytes header.now self.now.alarms.sender.standing) }
-        ensures len { IfSome result (λ octets. length octets.0 ≡ 40) }
+        ensures exact { IfSome result (λ octets. octets.0.items ++ octets.1.now ≡ alarm_bytes header.now self.now.alarms.sender.standing) }
+        ensures len { IfSome result (λ octets. length octets.0.items ≤ 40) }
         ensures few { IfSome result (λ octets. length octets.1.now ≤ 32) }
     {
         let alarm = self.alarms.standing()?;
-        let front = diagnosis_front(header, &alarm);
+        let front = low_alarm_front(header, &alarm);
         Some((front, alarm.alarm_data.octets()))
     }
 }

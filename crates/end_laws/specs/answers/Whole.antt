@@ -9,7 +9,7 @@ use Rattle.frame_codec.specs.Meaning.{UdpDatagram}
 use Rattle.frame_codec.specs.Sendable.{carrying}
 use Rattle.rpc_core.specs.Cache.{Kept}
 use Rattle.rpc_core.specs.Response.{Answered, response_of}
-use Rattle.device_frames.specs.Sent.{Sent, IdentifyAnswer, GetAnswer, SetAnswer, ArpReply, CallAnswer, Again, ReadyCall, Ends, Exchanges, bytes_of}
+use Rattle.device_frames.specs.Sent.{Sent, IdentifyAnswer, GetAnswer, SetAnswer, ArpReply, CallAnswer, Again, ReadyCall, PlugReadyCall, Ends, Exchanges, bytes_of}
 
 -- This frame is read as one datagram, whose body is read as this response, with at most 1,372 octets of blocks. A packet
 -- of IPv4 that is a fragment is not read, and neither is a response that is a fragment or lacks some of its blocks.
@@ -36,6 +36,7 @@ IsAnsweredWhole identity (GetAnswer asker running alias request) = ⊤
 IsAnsweredWhole identity (SetAnswer asker request answers) = ⊤
 IsAnsweredWhole identity (ArpReply asker address target) = ⊤
 IsAnsweredWhole identity (ReadyCall address ready) = ⊤
+IsAnsweredWhole identity (PlugReadyCall address ready) = ⊤
 IsAnsweredWhole identity (Ends farewell) = ⊤
 IsAnsweredWhole identity (Exchanges route frame) = ⊤
 

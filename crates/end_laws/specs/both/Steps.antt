@@ -75,12 +75,23 @@ module _ {T Q : Type 0} where
     pub was : before ≡ Some link
     pub becomes : after ≡ Some (record link { taken = link.taken ++ rules.group number })
 
-  -- a relation passes on the records of a Write, and keeps none: data is exchanged
+  -- data is exchanged, and nothing of the start-up changes: the records of a Write are passed on, or the parameters of a plug are
+  -- complete
   pub record PassesOn (before after : Option (RelationState T Q)) : Type 0 where
     pub link : RelationState T Q
     pub was : before ≡ Some link
     pub exchanges : link.phase ≡ Exchanging
     pub same : after ≡ before
+
+  -- data is exchanged, and the relation keeps some of the records that it accepted: those of a place are forgotten with a pull or a
+  -- plug there
+  pub record Forgets (before after : Option (RelationState T Q)) : Type 0 where
+    pub link : RelationState T Q
+    pub was : before ≡ Some link
+    pub exchanges : link.phase ≡ Exchanging
+    pub values : List T
+    pub part : IsPart values link.taken
+    pub becomes : after ≡ Some (record link { taken = values })
 
   -- a relation accepts some of them, in order
   pub record TakesSome (rules : Rules T Q) (number : ℕ) (before after : Option (RelationState T Q)) : Type 0 where
@@ -108,13 +119,14 @@ module _ {T Q : Type 0} where
   abbrev pub Carries : Rules T Q → Ask → Option (RelationState T Q) → Option (RelationState T Q) → Type 0
   Carries rules Connects before after = after ≡ Some (made rules)
   Carries rules (Writes number) before after = TakesRecords rules number before after ⊎ PassesOn before after
-  Carries rules Parameterized before after = IsParameterized before after
+  Carries rules Parameterized before after = IsParameterized before after ⊎ PassesOn before after
   Carries rules Releases before after = after ≡ None
   Carries rules Accesses before after = (after ≡ before) ⊎ TakesAny before after
 
   -- the effect of a call that succeeds, or of a Write of which only some records are accepted
   abbrev pub Partly : Rules T Q → Ask → Option (RelationState T Q) → Option (RelationState T Q) → Type 0
   Partly rules (Writes number) before after = TakesSome rules number before after
+  Partly rules Parameterized before after = IsParameterized before after
   Partly rules ask before after = Carries rules ask before after
 
   -- If the response says that all went well, the call had its whole effect. If not, it changed nothing, or it had some of
@@ -139,7 +151,8 @@ module _ {T Q : Type 0} where
   abbrev pub IsDull : Rules T Q → List ℕ → Type 0
   IsDull rules frame = (rules.to_device frame ≡ Idle) × (rules.to_controller frame ≡ Nothing)
 
-  -- A new call: it is answered, and the response is stored. After a PrmEnd that is accepted, ApplicationReady is sent.
+  -- A new call: it is answered, and the response is stored. After a PrmEnd that is accepted, ApplicationReady is sent. What is sent
+  -- for a plug says nothing of a start-up.
   pub record IsAnswered (rules : Rules T Q) (sequence : ℕ) (ask : Ask) (before after : Device T Q) (frames : List (List ℕ)) : Type 0 where
     pub new : IsNew sequence before.kept
     pub positive : Bool
@@ -150,7 +163,7 @@ module _ {T Q : Type 0} where
     pub to_controller : SaysAtMost rules (Answers sequence positive) frame
     pub others : List (List ℕ)
     pub sent : frames ≡ frame ∷ others
-    pub readies : AllByRecursion (IsReady rules after) others
+    pub readies : AllByRecursion (λ frame. IsDull rules frame ⊎ IsReady rules after frame) others
 
   -- The call that was answered last: the same frame is sent again.
   pub record IsAgain (sequence : ℕ) (before after : Device T Q) (frames : List (List ℕ)) : Type 0 where
@@ -164,27 +177,30 @@ module _ {T Q : Type 0} where
   abbrev pub Rests : Device T Q → Device T Q → List (List ℕ) → Type 0
   Rests before after frames = (after ≡ before) × (frames ≡ [])
 
-  -- the response that confirms ApplicationReady, while the relation waits for it: nothing of a start-up is sent
+  -- the response that confirms ApplicationReady, while the relation waits for it: nothing of a start-up is sent, and the relation
+  -- keeps the records that it accepted, or some of them if something was pulled or plugged before
   pub record IsConfirmed (rules : Rules T Q) (before after : Device T Q) (frames : List (List ℕ)) : Type 0 where
     pub link : RelationState T Q
     pub was : before.link ≡ Some link
     pub awaits : link.phase ≡ Awaiting
-    pub becomes : after ≡ record before { link = Some (record link { phase = Exchanging }) }
+    pub values : List T
+    pub part : IsPart values link.taken
+    pub becomes : after ≡ record before { link = Some (record link { phase = Exchanging; taken = values }) }
     pub dull : AllByRecursion (IsDull rules) frames
 
-  -- Anything else: the relation stays as it is or ends, and the frames say nothing of a start-up except
-  -- ApplicationReady.
+  -- Anything else: the relation stays as it is, forgets records while data is exchanged, or ends, and the frames say nothing of a
+  -- start-up except ApplicationReady.
   pub record GoesBy (rules : Rules T Q) (before after : Device T Q) (frames : List (List ℕ)) : Type 0 where
     pub keeps : after.kept ≡ before.kept
-    pub link : (after.link ≡ before.link) ⊎ (after.link ≡ None)
+    pub link : (after.link ≡ before.link) ⊎ ((after.link ≡ None) ⊎ Forgets before.link after.link)
     pub sent : AllByRecursion (λ frame. IsDull rules frame ⊎ IsReady rules after frame) frames
 
   -- a step of the device that hears this: a call that is older than the last, or that arrives while the device has no
-  -- address, is dropped
+  -- address, is dropped; a response that confirms nothing says nothing of a start-up
   abbrev pub DeviceSteps : Rules T Q → ToDevice → Device T Q → Device T Q → List (List ℕ) → Type 0
   DeviceSteps rules (Call sequence ask) before after frames =
       IsAnswered rules sequence ask before after frames ⊎ (IsAgain sequence before after frames ⊎ Rests before after frames)
-  DeviceSteps rules Confirms before after frames = IsConfirmed rules before after frames ⊎ Rests before after frames
+  DeviceSteps rules Confirms before after frames = IsConfirmed rules before after frames ⊎ GoesBy rules before after frames
   DeviceSteps rules Idle before after frames = GoesBy rules before after frames
 
   -- ---- the controller

@@ -12,6 +12,7 @@ use Rattle.records.specs.declared.status.operation.Operation.{Operation}
 use Rattle.records.specs.declared.status.operation.Operation.TheVariants as operation
 use Rattle.records.specs.status.Operation.{operation_of}
 use Rattle.pn_values.specs.declared.im_value.ImValue.{ImValue}
+use Rattle.pn_values.specs.declared.real.Real.{Real}
 use Rattle.records.specs.declared.writes.taken.TakenRecord.{TakenRecord}
 use Rattle.records.specs.declared.writes.write.Effect.TheVariants.{Stores, Keeps}
 use Rattle.records.specs.declared.writes.write.Write.{Write}
@@ -19,10 +20,12 @@ use Rattle.record_blocks.specs.declared.write_record.IodWriteReq.{IodWriteReq}
 use Rattle.records.specs.declared.writes.writing.Writing.TheVariants.{One, Each}
 use Rattle.records.specs.writes.Asked.{writing_of}
 use Rattle.records.specs.writes.Entry.{Entry}
+use Rattle.expected_places.specs.Machine.{PlugState}
 use Rattle.relations.specs.declared.options.DeviceOptions.{DeviceOptions}
 use Rattle.relations.specs.declared.phase.Partner.{Partner}
 use Rattle.relations.specs.Passed.{PassedOn}
-use Rattle.relations.specs.declared.phase.Phase.TheVariants.{Started, Awaiting}
+use Rattle.relations.specs.declared.phase.Phase.TheVariants.{Started, Awaiting, Exchanging}
+use Rattle.relations.specs.declared.plugging.PlugReady.{PlugReady}
 use Rattle.relations.specs.declared.ready.Ready.{Ready}
 use Rattle.relations.specs.Connect.{connect_blocks, connect_of, differing_of, rows_of}
 use Rattle.relations.specs.Phases.{Named, Records, exchanging_from, keeping, made_of, parameterized_from, restarted, updated, with_records}
@@ -30,14 +33,17 @@ use Rattle.relations.specs.RelationState.{RelationState, uuid_of}
 use Rattle.relations.specs.exchange.Marks.{Starting}
 use Rattle.relations.specs.Numbers.{IsNumber}
 use Rattle.device_frames.specs.Heard.{Heard, Calls, Reported}
-use Rattle.device_frames.specs.Sent.{Sent, CallAnswer, Again, Exchanges, ReadyCall}
+use Rattle.device_frames.specs.Sent.{Sent, CallAnswer, Again, Exchanges, ReadyCall, PlugReadyCall}
 use Rattle.pn_values.specs.declared.set_item.BlockError.{BlockError}
 use Rattle.device_core.specs.Handled.{answer_from, kept_for, outcome_of, partner_of}
 use Rattle.device_core.specs.Machine.{link_behind, several_answer}
 use Rattle.device_core.specs.Several.{judged_each}
 use Rattle.device_core.specs.State.{Live, Rest, Station}
 use Rattle.end_laws.specs.both.Small as small
-use Rattle.end_laws.specs.device.Owed.{IsOfRelation}
+use Rattle.end_laws.specs.both.Small.{ToDevice}
+use Rattle.end_laws.specs.both.Steps.{IsPart}
+use Rattle.end_laws.specs.device.Orderly.{AreNumbered, IsOrderly, keys_of}
+use Rattle.end_laws.specs.device.Owed.{IsOfPlug, IsOfRelation}
 use Rattle.end_laws.specs.device.Small.{Planned, heard_as, link_of}
 
 -- ---- messages
@@ -57,6 +63,7 @@ abbrev pub IsOther : Live → Option RelationState → Sent → Type 0
 IsOther live after (CallAnswer caller address answer) = ⊥
 IsOther live after (Again frame) = ⊥
 IsOther live after (ReadyCall address ready) = IsReadied live after ready
+IsOther live after (PlugReadyCall address ready) = IsOfPlug live.rest.link ready
 IsOther live after message = Unit {0}
 
 -- ---- turns without a call
@@ -66,11 +73,32 @@ pub record Rests (live : Live) (after : Rest) (sent : List Sent) : Type 0 where
   pub same : after ≡ live.rest
   pub silent : sent ≡ []
 
--- something happens that says nothing of a start-up: the relation keeps its phase, its request and its records, or ends
+-- what is heard is no call
+abbrev pub IsUncalled : ToDevice → Type 0
+IsUncalled (small.Call sequence ask) = ⊥
+IsUncalled small.Confirms = Unit {0}
+IsUncalled small.Idle = Unit {0}
+
+-- an alarm of low priority is first sent: the relation keeps some of its records, as those of the places of a pull or a plug are
+-- forgotten with its alarm; data is exchanged, if the relation is in order
+pub record Forgets (before after : Option RelationState) : Type 0 where
+  pub link : RelationState
+  pub was : before ≡ Some link
+  pub exchanges : IsOrderly link → link.phase ≡ Exchanging
+  pub values : List TakenRecord
+  pub part : IsPart values link.taken
+  pub becomes : option_map link_of after ≡ Some (record (link_of link) { taken = values })
+
+-- the relation keeps its phase, its request and its records, or it ends, or it forgets records
+abbrev pub IsKeptOr : Option RelationState → Option RelationState → Type 0
+IsKeptOr before after =
+    (option_map link_of after ≡ option_map link_of before) ⊎ ((option_map link_of after ≡ None) ⊎ Forgets before after)
+
+-- something happens that is no call, and confirms no ApplicationReady of the relation
 pub record GoesBy (live : Live) (heard : Heard) (after : Rest) (sent : List Sent) : Type 0 where
-  pub idle : (planned : Planned) → heard_as planned heard ≡ small.Idle
+  pub uncalled : (planned : Planned) → IsUncalled (heard_as planned heard)
   pub calls : after.calls ≡ live.rest.calls
-  pub link : (option_map link_of after.link ≡ option_map link_of live.rest.link) ⊎ (option_map link_of after.link ≡ None)
+  pub link : IsKeptOr live.rest.link after.link
   pub others : AllByRecursion (IsOther live after.link) sent
 
 -- a frame of the exchange
@@ -79,14 +107,16 @@ IsExchange (Exchanges route frame) = Unit {0}
 IsExchange message = ⊥
 
 -- the response that confirms ApplicationReady, while the relation waits for it: data is exchanged, and frames of the exchange may
--- be sent
+-- be sent; the relation keeps its records, or some of them if something was pulled or plugged before
 pub record Confirms (live : Live) (heard : Heard) (after : Rest) (sent : List Sent) : Type 0 where
   pub confirms : (planned : Planned) → heard_as planned heard ≡ small.Confirms
   pub link : RelationState
   pub was : live.rest.link ≡ Some link
   pub awaits : link.phase ≡ Awaiting
   pub next : RelationState
-  pub exchanges : link_of next ≡ link_of (exchanging_from link)
+  pub values : List TakenRecord
+  pub part : IsPart values link.taken
+  pub exchanges : link_of next ≡ record (link_of (exchanging_from link)) { taken = values }
   pub becomes : after ≡ record live.rest { link = Some next }
   pub others : AllByRecursion IsExchange sent
 
@@ -105,33 +135,33 @@ pub record Repeats (live : Live) (heard : Heard) (after : Rest) (sent : List Sen
   pub sends : sent ≡ Again kept.frame ∷ []
 
 -- a Connect is accepted, for a relation of a number that the device may give, and its response says what differs
-pub record Connected (station : Station) (caller : Caller) (blocks octets : List ℕ) (before after : Option RelationState) : Type 0 where
+pub record Connected (station : Station) (real : Real) (caller : Caller) (blocks octets : List ℕ) (before after : Option RelationState) : Type 0 where
   pub request : Request
   pub options : DeviceOptions
   pub starting : Starting
   pub read : connect_of before blocks ≡ Ok request
-  pub made : after ≡ Some (made_of request (partner_of caller) (rows_of request station.real) options starting)
+  pub made : after ≡ Some (made_of request (partner_of caller) (rows_of request real) options starting)
   pub numbered : IsNumber station.options starting.number
-  pub answer : octets ≡ connect_blocks station.identity starting.number request (differing_of request station.real)
+  pub answer : octets ≡ connect_blocks station.identity starting.number request (differing_of request real)
 
 -- a call that names the relation is accepted, of its own controller or of another station, and changes nothing else
 abbrev pub IsRestarted : Option RelationState → Option RelationState → Type 0
 IsRestarted before after = (source : Partner) × (after ≡ option_map (restarted source) before)
 
 -- a Write is accepted whose record the settings store
-pub record Stored (station : Station) (blocks : List ℕ) (before after : Option RelationState) : Type 0 where
+pub record Stored (real : Real) (blocks : List ℕ) (before after : Option RelationState) : Type 0 where
   pub write : Write
-  pub judged : writing_of (uuid_of before) station.real blocks ≡ Ok (One write)
+  pub judged : writing_of (uuid_of before) real blocks ≡ Ok (One write)
   pub value : ImValue
   pub stores : write.effect ≡ Stores value
   pub same : IsRestarted before after
 
 -- a Write is accepted, and the relation has one more record, or passes it on
-pub record Written (station : Station) (blocks : List ℕ) (before after : Option RelationState) : Type 0 where
+pub record Written (real : Real) (blocks : List ℕ) (before after : Option RelationState) : Type 0 where
   pub link : RelationState
   pub was : before ≡ Some link
   pub write : Write
-  pub judged : writing_of (uuid_of before) station.real blocks ≡ Ok (One write)
+  pub judged : writing_of (uuid_of before) real blocks ≡ Ok (One write)
   pub value : TakenRecord
   pub keeps : write.effect ≡ Keeps value
   pub source : Partner
@@ -145,14 +175,14 @@ with_more source passed values link = restarted source (with_records (record { t
 
 -- A Write of several records is accepted, and the relation has more records, if it accepted and kept any: each record is
 -- carried out and answered by itself, in order.
-pub record WrittenEach (station : Station) (blocks octets : List ℕ) (before after : Option RelationState) : Type 0 where
+pub record WrittenEach (real : Real) (blocks octets : List ℕ) (before after : Option RelationState) : Type 0 where
   pub header : IodWriteReq
   pub entries : List Entry
-  pub judged : writing_of (uuid_of before) station.real blocks ≡ Ok (Each header entries)
+  pub judged : writing_of (uuid_of before) real blocks ≡ Ok (Each header entries)
   pub answers : List BlockError
-  pub tells : octets ≡ several_answer header (judged_each (uuid_of before) station.real entries) answers before
+  pub tells : octets ≡ several_answer header (judged_each (uuid_of before) real entries) answers before
   pub source : Partner
-  pub carried : after ≡ updated (Named source) (link_behind (judged_each (uuid_of before) station.real entries) before)
+  pub carried : after ≡ updated (Named source) (link_behind (judged_each (uuid_of before) real entries) before)
   pub passed : PassedOn
   pub values : List TakenRecord
   pub becomes : after ≡ option_map (with_more source passed values) before
@@ -166,32 +196,51 @@ pub record Parameterized (before after : Option RelationState) : Type 0 where
   pub source : Partner
   pub becomes : after ≡ Some (restarted source (parameterized_from by_application link))
 
+-- a PrmEnd after a plug is accepted, and changes only how far the places of the relation are; data is exchanged, if the relation is in
+-- order
+pub record PlugEnded (before after : Option RelationState) : Type 0 where
+  pub link : RelationState
+  pub was : before ≡ Some link
+  pub exchanges : IsOrderly link → link.phase ≡ Exchanging
+  pub source : Partner
+  pub plugs : PlugState
+  pub numbered : AreNumbered link.plugs.calls → AreNumbered plugs.calls
+  pub keys : keys_of plugs.places ≡ keys_of link.plugs.places
+  pub becomes : after ≡ Some (record (restarted source link) { plugs = plugs })
+
 -- a Release is accepted
 pub record Released (before after : Option RelationState) : Type 0 where
   pub link : RelationState
   pub was : before ≡ Some link
   pub gone : after ≡ None
 
--- what a call does to the relation, by its outcome and its operation
-abbrev pub IsEffect : Station → Caller → List ℕ → Result (List ℕ) CallFault → Operation → Option RelationState → Option RelationState → Type 0
-IsEffect station caller blocks (Err fault) which before after = after ≡ before
-IsEffect station caller blocks (Ok octets) operation.Connect before after = Connected station caller blocks octets before after
-IsEffect station caller blocks (Ok octets) operation.Write before after =
-    Written station blocks before after ⊎ (Stored station blocks before after ⊎ WrittenEach station blocks octets before after)
-IsEffect station caller blocks (Ok octets) operation.Control before after = Parameterized before after
-IsEffect station caller blocks (Ok octets) operation.Release before after = Released before after
-IsEffect station caller blocks (Ok octets) operation.Read before after = IsRestarted before after
-IsEffect station caller blocks (Ok octets) operation.ReadImplicit before after = ⊥
+-- what a call does to the relation, by its outcome and its operation, at a device where these modules are plugged
+abbrev pub IsEffect : Station → Real → Caller → List ℕ → Result (List ℕ) CallFault → Operation → Option RelationState → Option RelationState → Type 0
+IsEffect station real caller blocks (Err fault) which before after = after ≡ before
+IsEffect station real caller blocks (Ok octets) operation.Connect before after = Connected station real caller blocks octets before after
+IsEffect station real caller blocks (Ok octets) operation.Write before after =
+    Written real blocks before after ⊎ (Stored real blocks before after ⊎ WrittenEach real blocks octets before after)
+IsEffect station real caller blocks (Ok octets) operation.Control before after = Parameterized before after ⊎ PlugEnded before after
+IsEffect station real caller blocks (Ok octets) operation.Release before after = Released before after
+IsEffect station real caller blocks (Ok octets) operation.Read before after = IsRestarted before after
+IsEffect station real caller blocks (Ok octets) operation.ReadImplicit before after = ⊥
+
+-- What follows a response: the call ApplicationReady, or that of a plug.
+pub data Following : Type 0 where
+  Readying : (ready : Ready) → Following
+  Plugging : (ready : PlugReady) → Following
 
 -- ApplicationReady after a response, if there is one
-abbrev pub AreReadied : Live → Option RelationState → Option Ready → Type 0
+abbrev pub AreReadied : Live → Option RelationState → Option Following → Type 0
 AreReadied live after None = Unit {0}
-AreReadied live after (Some ready) = IsReadied live after ready
+AreReadied live after (Some (Readying ready)) = IsReadied live after ready
+AreReadied live after (Some (Plugging ready)) = IsOfPlug live.rest.link ready
 
 -- The call ApplicationReady that a device sends from this address, if it is due.
-abbrev pub readied_from : List ℕ → Option Ready → List Sent
+abbrev pub readied_from : List ℕ → Option Following → List Sent
 readied_from address None = []
-readied_from address (Some ready) = ReadyCall address ready ∷ []
+readied_from address (Some (Readying ready)) = ReadyCall address ready ∷ []
+readied_from address (Some (Plugging ready)) = PlugReadyCall address ready ∷ []
 
 -- a new call is answered, and the response is stored
 pub record Serves (station : Station) (live : Live) (heard : Heard) (after : Rest) (sent : List Sent) : Type 0 where
@@ -206,8 +255,8 @@ pub record Serves (station : Station) (live : Live) (heard : Heard) (after : Res
   pub asks : operation_of call.header.operation ≡ Some which
   pub outcome : Result (List ℕ) CallFault
   pub status : IsStatus (outcome_of which outcome).0
-  pub effect : IsEffect station caller blocks outcome which live.rest.link after.link
-  pub ready : Option Ready
+  pub effect : IsEffect station live.rest.real caller blocks outcome which live.rest.link after.link
+  pub ready : Option Following
   pub readied : AreReadied live after.link ready
   pub keeps : after.calls ≡ kept_more 4 (kept_for station.identity call (answer_from live.values.running.suite.address caller call which outcome)) live.rest.calls
   pub sends : sent ≡ answer_from live.values.running.suite.address caller call which outcome ∷ readied_from live.values.running.suite.address ready

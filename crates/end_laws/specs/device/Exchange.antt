@@ -5,9 +5,10 @@ use Rattle.std.specs.List.{AllByRecursion, list_any}
 use Rattle.pn_alarms.specs.declared.abort.Abort.{Abort}
 use Rattle.pn_alarms.specs.declared.abort.Abort.TheVariants.{DataHold, Activity, Other}
 use Rattle.cyclic_data.specs.declared.place.Place.{Place}
+use Rattle.cyclic_data.specs.declared.place.PlaceKind.{PlaceKind}
 use Rattle.cyclic_data.specs.declared.place.PlaceKind.TheVariants.{Data}
 use Rattle.cyclic_data.specs.declared.exchange.received.Received.TheVariants as received
-use Rattle.cyclic_data.specs.Image.{cell_at, place_at}
+use Rattle.cyclic_data.specs.Image.{Shown, cell_at, good, place_at}
 use Rattle.cyclic_data.specs.exchange.Runs.{later_one}
 use Rattle.connects.specs.requests.Request.{Request}
 use Rattle.wire.specs.blocks.modules.Lists.{Listed}
@@ -23,6 +24,14 @@ use Rattle.relations.specs.declared.phase.Partner.{Partner}
 use Rattle.relations.specs.declared.phase.Phase.TheVariants.{Exchanging}
 use Rattle.relations.specs.Phases.{made_of}
 use Rattle.relations.specs.RelationState.{RelationState, phase_of}
+use Rattle.relations.specs.Plugging.{is_crowded, rows_now}
+use Rattle.relations.specs.exchange.Shut.{AreEachOnce}
+use Rattle.pn_values.specs.declared.real.RealModule.{RealModule}
+use Rattle.module_diff.specs.declared.changes.RealChange.{RealChange}
+use Rattle.module_diff.specs.Changes.{affected_by, covers}
+use Rattle.module_diff.specs.Diff.{diff_of, is_listed}
+use Rattle.expected_places.specs.declared.place.ExpectedPlace.{ExpectedPlace}
+use Rattle.expected_places.specs.Places.{is_touched, opened_places, place_at as expected_at}
 use Rattle.device_frames.specs.declared.event.Event.{Event}
 use Rattle.device_frames.specs.declared.local.Local.TheVariants.{Input}
 use Rattle.device_frames.specs.Heard.{Heard, Ticks, Cyclic, Applied, heard_of}
@@ -30,6 +39,7 @@ use Rattle.device_frames.specs.Sent.{Sent, Ends, Exchanges}
 use Rattle.settings_journal.specs.settings_store.Machine.{Outcome}
 use Rattle.device_core.specs.State.{Live, Station}
 use Rattle.device_core.specs.Machine.{Stepped, step_of}
+use Rattle.end_laws.specs.device.Turn.{change_by, modules_after}
 
 -- ---- any events at a device
 
@@ -71,21 +81,50 @@ units_in station (one ∷ more) = if is_unit (heard_of station.identity one.even
 -- ---- inputs
 
 -- The value that the application gives with an event to the input of a submodule, whose place has this many octets, the octet
--- of IOPS included; and the last one that it gave.
+-- of IOPS included.
 abbrev pub given_with : ℕ → ℕ → ℕ → Heard → Option (List ℕ)
 given_with slot subslot size (Applied (Input to_slot to_subslot value)) =
     if ((slot == to_slot) && (subslot == to_subslot)) && (size == length value.items + 1) then Some value.items else None
 given_with slot subslot size heard = None
 
--- The value that the application gave last for the input of a submodule, of this size, if it gave one.
-abbrev pub last_given : Station → ℕ → ℕ → ℕ → List Happening → Option (List ℕ)
-last_given station slot subslot size [] = None
-last_given station slot subslot size (one ∷ more) =
-    later_one (last_given station slot subslot size more) (given_with slot subslot size (heard_of station.identity one.event))
+-- A change of the modules that is possible, unless its alarm could not wait.
+abbrev pub accepted : Option RealChange → Option (List RealModule) → Option RelationState → Option RealChange
+accepted None now link = None
+accepted (Some made) None link = None
+accepted (Some made) (Some now) link = if is_crowded (affected_by made) link then None else Some made
 
--- The value of an input: the one that was given last, and zeros if none was given.
-abbrev pub input_value : Station → List Happening → ℕ → ℕ → Place → List ℕ
-input_value station events slot subslot place = unwrap_or (last_given station slot subslot place.size events) (replicate (place.size - 1) 0)
+-- The change that an event makes of the modules, if it is a pull or a plug and is not refused.
+abbrev pub made_with : Live → Heard → Option RealChange
+made_with live heard =
+    let real = live.rest.real.modules.items in
+    accepted (change_by real heard) (modules_after real heard) live.rest.link
+
+-- Whether a change, if there is one, affects a submodule.
+abbrev pub affects : Option RealChange → ℕ → ℕ → Bool
+affects None slot subslot = false
+affects (Some made) slot subslot = covers (affected_by made) slot subslot
+
+-- What was given last for the input of a submodule, after one more event: its value if it gives one, nothing if it pulls or plugs
+-- something there, and as before by any other.
+abbrev pub given_then : Live → ℕ → ℕ → ℕ → Heard → Option (List ℕ) → Option (List ℕ)
+given_then live slot subslot size heard was =
+    if affects (made_with live heard) slot subslot then None else later_one (given_with slot subslot size heard) was
+
+-- The value that the application gave last for the input of a submodule, of this size, since something was pulled or plugged there
+-- last, if it gave one; it was this before these events.
+abbrev pub last_given : Station → Live → ℕ → ℕ → ℕ → List Happening → Option (List ℕ) → Option (List ℕ)
+last_given station live slot subslot size [] was = was
+last_given station live slot subslot size (one ∷ more) was =
+    last_given station (stepped station live one).live slot subslot size more (given_then live slot subslot size (heard_of station.identity one.event) was)
+
+-- The value of an input that was given this last: zeros if none was given.
+abbrev pub value_of : Place → Option (List ℕ) → List ℕ
+value_of place given = unwrap_or given (replicate (place.size - 1) 0)
+
+-- The value of an input after these events: the one that was given last, and zeros if none was given since the answer to the Connect, or
+-- since something was pulled or plugged there.
+abbrev pub input_value : Station → Live → List Happening → ℕ → ℕ → Place → List ℕ
+input_value station live events slot subslot place = value_of place (last_given station live slot subslot place.size events None)
 
 -- Whether a message is a frame of inputs, and whether one is sent.
 abbrev pub is_inputs : Sent → Bool
@@ -96,12 +135,29 @@ is_inputs message = false
 abbrev pub sends_inputs : List Sent → Bool
 sends_inputs sent = list_any is_inputs sent
 
--- A frame of inputs has for each input of the relation the value that was given last.
-abbrev pub HasTheLast : Station → List Happening → Request → Sent → Type 0
-HasTheLast station events request (Exchanges route (Inputs state inputs counter)) = (slot subslot : ℕ)
+-- If a message is a frame of inputs, this holds of what it sends.
+abbrev pub OfInputs : (Shown → Type 0) → Sent → Type 0
+OfInputs Has (Exchanges route (Inputs state inputs counter)) = Has inputs
+OfInputs Has message = Unit {0}
+
+-- These inputs have for each input of the relation the value that was given last.
+abbrev pub AreTheLastGiven : Station → Live → List Happening → Request → Shown → Type 0
+AreTheLastGiven station live events request inputs = (slot subslot : ℕ)
     → option_map (λ cell. cell.value) (cell_at Data slot subslot inputs.cells)
-    ≡ option_map (input_value station events slot subslot) (place_at Data slot subslot request.input.layout.places)
-HasTheLast station events request message = Unit {0}
+    ≡ option_map (input_value station live events slot subslot) (place_at Data slot subslot request.input.layout.places)
+
+-- ---- which are good
+
+-- A submodule that is a place of the relation is in no row of what differs from these modules, and is not touched: nothing was pulled
+-- or plugged there after which it was not released.
+abbrev pub IsOpen : List RealModule → RelationState → ℕ → ℕ → Type 0
+IsOpen real link slot subslot = (place : ExpectedPlace) → expected_at slot subslot link.plugs.places ≡ Some place
+    → (is_listed slot subslot (rows_now real link) ≡ false) × (is_touched place.step ≡ false)
+
+-- Of each place of which these inputs say that it is good, by IOPS or by IOCS, that holds.
+abbrev pub AreGoodWhereOpen : List RealModule → RelationState → Shown → Type 0
+AreGoodWhereOpen real link inputs = (kind : PlaceKind) (slot subslot : ℕ)
+    → option_map (λ cell. cell.status) (cell_at kind slot subslot inputs.cells) ≡ Some good → IsOpen real link slot subslot
 
 -- ---- the end of data
 
@@ -155,12 +211,21 @@ SendsEachInterval = (station : Station) (live : Live) (events : List Happening) 
     → sends_inputs (stepped station (after_all station events live) last).sent
     ≡ (is_unit (heard_of station.identity last.event) && ((units_in station events + 1) % interval_of answered.request.input == 0))
 
--- Each frame of inputs that is sent has for each input the value that was given last since the answer to the Connect, and zeros
--- if none was given.
+-- Each frame of inputs that is sent has for each input the value that was given last since the answer to the Connect, and since the last
+-- pull or plug there, and zeros if none was given.
 abbrev pub SendsTheLastGiven : Type 0
 SendsTheLastGiven = (station : Station) (live : Live) (events : List Happening) (last : Happening) → (answered : IsAnswered live)
     → StaysRelated station events live
-    → AllByRecursion (HasTheLast station events answered.request) (stepped station (after_all station events live) last).sent
+    → AllByRecursion (OfInputs (AreTheLastGiven station live events answered.request)) (stepped station (after_all station events live) last).sent
+
+-- If the answer to the Connect said what differs, and the Connect expects each submodule once: a frame of inputs says only of places
+-- that they are good which are in no row of what differs, with what is plugged when the frame is sent, and are not touched then.
+abbrev pub SendsGoodWhereOpen : Type 0
+SendsGoodWhereOpen = (station : Station) (live : Live) (events : List Happening) (last : Happening) (link : RelationState) → (answered : IsAnswered live)
+    → answered.rows ≡ diff_of answered.request.expected live.rest.real.modules.items → AreEachOnce (opened_places answered.request.expected answered.rows)
+    → StaysRelated station events live → (after_all station events live).rest.link ≡ Some link
+    → AllByRecursion (OfInputs (AreGoodWhereOpen (after_all station events live).rest.real.modules.items link))
+    (stepped station (after_all station events live) last).sent
 
 -- While data is exchanged, from its begin or an accepted frame on, for any events of which none is an accepted frame: the ERR for
 -- data hold is sent with a unit exactly from the one on that completes the data hold time, and with it the relation ends.

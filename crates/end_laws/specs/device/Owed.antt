@@ -1,16 +1,21 @@
--- Where the messages of a device come from: a response from a call that it heard, ApplicationReady from its relation.
-use Rattle.std.specs.Prelude.{◌≡◌, List, ℕ, Option, Some}
+-- Where the messages of a device come from: a response from a call that it heard, ApplicationReady, also that of a plug, from its
+-- relation.
+use Rattle.std.specs.Prelude.{◌≡◌, ◌<◌, List, ℕ, Option, Some}
 use Rattle.frame_codec.specs.declared.udp.Caller.{Caller}
 use Rattle.rpc_core.specs.Cache.{Kept, kept_of}
 use Rattle.rpc_core.specs.Call.{Asked as Call}
 use Rattle.rpc_core.specs.Response.{Answered as Response}
 use Rattle.rpc_core.specs.Sendable.{IsStatus}
+use Rattle.expected_places.specs.declared.calls.PlugCall.{PlugCall}
+use Rattle.relations.specs.declared.plugging.PlugReady.{PlugReady}
 use Rattle.relations.specs.declared.ready.Ready.{Ready}
+use Rattle.relations.specs.Plugging.{ready_for}
 use Rattle.relations.specs.RelationState.{RelationState}
 use Rattle.relations.specs.Ready.{ready_of}
 use Rattle.device_frames.specs.Heard.{Heard, Reported, Calls}
-use Rattle.device_frames.specs.Sent.{Sent, IdentifyAnswer, GetAnswer, SetAnswer, ArpReply, CallAnswer, Again, ReadyCall, Ends, Exchanges}
+use Rattle.device_frames.specs.Sent.{Sent, IdentifyAnswer, GetAnswer, SetAnswer, ArpReply, CallAnswer, Again, ReadyCall, PlugReadyCall, Ends, Exchanges}
 use Rattle.device_core.specs.State.{Live}
+use Rattle.end_laws.specs.device.Orderly.{AreNumbered, IsOrderlyIn}
 
 -- a response to this caller: to a call that it made, whose header it repeats, with a status of four octets
 pub record IsAnswering (heard : Heard) (caller : Caller) (answer : Response) : Type 0 where
@@ -38,11 +43,22 @@ pub record IsOfRelation (relation : Option RelationState) (ready : Ready) : Type
   pub header : ready.header ≡ (ready_of link).header
   pub block : ready.block ≡ (ready_of link).block
 
--- where a message comes from, if it is one of a start-up
+-- ApplicationReady for a plug in this relation, to any station. If the relation is in order, its number has four octets.
+pub record IsOfPlug (relation : Option RelationState) (ready : PlugReady) : Type 0 where
+  pub link : RelationState
+  pub is : relation ≡ Some link
+  pub call : PlugCall
+  pub header : ready.header ≡ (ready_for link call).header
+  pub block : ready.block ≡ (ready_for link call).block
+  pub sequence : IsOrderlyIn relation → call.sequence < 4294967296
+  pub numbered : AreNumbered link.plugs.calls → call.sequence < 4294967296
+
+-- where a message comes from, if it is a response or a call
 abbrev pub IsOwed : Heard → Live → Sent → Type 0
 IsOwed heard live (CallAnswer caller address answer) = IsAnswering heard caller answer
 IsOwed heard live (Again frame) = IsOfKept heard live frame
 IsOwed heard live (ReadyCall address ready) = IsOfRelation live.rest.link ready
+IsOwed heard live (PlugReadyCall address ready) = IsOfPlug live.rest.link ready
 IsOwed heard live (IdentifyAnswer asker running xid) = Unit {0}
 IsOwed heard live (GetAnswer asker running alias request) = Unit {0}
 IsOwed heard live (SetAnswer asker request answers) = Unit {0}

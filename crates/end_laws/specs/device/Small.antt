@@ -30,7 +30,7 @@ use Rattle.relations.specs.declared.phase.Phase.TheVariants.{Started, Preparing,
 use Rattle.relations.specs.RelationState.{RelationState}
 use Rattle.relations.specs.Ready.{confirmed_block}
 use Rattle.device_frames.specs.Heard.{Heard, Reported, Said, Calls, Responds, Garbled}
-use Rattle.device_frames.specs.Sent.{Sent, IdentifyAnswer, GetAnswer, SetAnswer, ArpReply, CallAnswer, Again, ReadyCall, Ends, Exchanges, bytes_of}
+use Rattle.device_frames.specs.Sent.{Sent, IdentifyAnswer, GetAnswer, SetAnswer, ArpReply, CallAnswer, Again, ReadyCall, PlugReadyCall, Ends, Exchanges, bytes_of}
 use Rattle.device_core.specs.State.{Live}
 use Rattle.device_core.specs.Several.{Judged, judged_each}
 use Rattle.end_laws.specs.both.Small as small
@@ -133,9 +133,9 @@ IsWritingOf rules real standing sequence values (Each header entries) =
     × ((outcomes : List (IodWriteReq × Status)) → AreOutcomesOf entries outcomes
     → rules.grants sequence (answer_of header ++ outcomes_of outcomes) ≡ true → AreDone outcomes)
 
--- A call with these blocks is one of the start-up. Its Connect is read as the expected request. Its Writes, if they are
--- accepted, store their records, each one. The contents of a PrmEnd or a Release are looked at when it arrives, and so are those of a
--- Read or of another Write, which is a call of the application.
+-- A call with these blocks is one of the start-up, at a device where these modules are plugged. Its Connect is read as the expected
+-- request. Its Writes, if they are accepted, store their records, each one. The contents of a PrmEnd or a Release are looked at when it
+-- arrives, and so are those of a Read or of another Write, which is a call of the application.
 pub record IsPlannedWrite (rules : Rules TakenRecord Request) (real : Real) (sequence : ℕ) (blocks : List ℕ) : Type 0 where
   pub number : ℕ
   pub is : sequence ≡ number + 1
@@ -176,11 +176,12 @@ IsPlanned rules activity real other = Unit {0}
 abbrev pub is_positive : Rules TakenRecord Request → Response → Bool
 is_positive rules response = is_done response.status && rules.grants response.header.sequence response.blocks
 
--- What the controller hears of a message: the response to a call, or ApplicationReady. A repeated response is not
--- covered here: what it says was said before.
+-- What the controller hears of a message: the response to a call, or ApplicationReady. That of a plug says nothing of a start-up. A
+-- repeated response is not covered here: what it says was said before.
 abbrev pub said_by : Rules TakenRecord Request → Sent → ToController
 said_by rules (CallAnswer caller address answer) = small.Answers answer.header.sequence (is_positive rules answer)
 said_by rules (ReadyCall address ready) = small.Readies
+said_by rules (PlugReadyCall address ready) = small.Nothing
 said_by rules (IdentifyAnswer asker running xid) = small.Nothing
 said_by rules (GetAnswer asker running alias request) = small.Nothing
 said_by rules (SetAnswer asker request answers) = small.Nothing
@@ -198,6 +199,7 @@ abbrev pub IsHeardAs : Rules TakenRecord Request → Identity → Sent → Type 
 IsHeardAs rules identity (Again frame) = Unit {0}
 IsHeardAs rules identity (CallAnswer caller address answer) = IsHeardBy rules (bytes_of identity (CallAnswer caller address answer)) (said_by rules (CallAnswer caller address answer))
 IsHeardAs rules identity (ReadyCall address ready) = IsHeardBy rules (bytes_of identity (ReadyCall address ready)) small.Readies
+IsHeardAs rules identity (PlugReadyCall address ready) = IsHeardBy rules (bytes_of identity (PlugReadyCall address ready)) small.Nothing
 IsHeardAs rules identity (IdentifyAnswer asker running xid) = IsHeardBy rules (bytes_of identity (IdentifyAnswer asker running xid)) small.Nothing
 IsHeardAs rules identity (GetAnswer asker running alias request) = IsHeardBy rules (bytes_of identity (GetAnswer asker running alias request)) small.Nothing
 IsHeardAs rules identity (SetAnswer asker request answers) = IsHeardBy rules (bytes_of identity (SetAnswer asker request answers)) small.Nothing

@@ -1,6 +1,6 @@
 -- One turn of a device: what it does, and what becomes of its relation, of the responses that it stores, and what it
 -- sends, as far as outputs and alarms are concerned.
-use Rattle.std.specs.Prelude.{◌≡◌, ◌<◌, ◌⊎◌, ◌&&◌, ◌++◌, ℕ, Bool, false, List, [], ◌∷◌, Option, Some, None, option_map, Ok}
+use Rattle.std.specs.Prelude.{◌≡◌, ◌<◌, ◌⊎◌, ◌&&◌, ◌++◌, ℕ, Bool, true, false, List, [], ◌∷◌, Option, Some, None, option_map, Ok}
 use Rattle.std.specs.List.{AllByRecursion}
 use Rattle.pn_values.specs.declared.identity.Identity.{Identity}
 use Rattle.pn_values.specs.declared.mac.Mac.{Mac}
@@ -25,7 +25,11 @@ use Rattle.pn_alarms.specs.Receiver.{taken_as}
 use Rattle.diagnosis.specs.Existing.{changed}
 use Rattle.diagnosis.specs.declared.diagnosis.Change.{Change}
 use Rattle.diagnosis.specs.declared.diagnosis.Diagnosis.{Diagnosis}
-use Rattle.diagnosis.specs.alarms.Alarms.{Low, is_next}
+use Rattle.diagnosis.specs.alarms.Alarms.{Low}
+use Rattle.diagnosis.specs.Existing.{remaining}
+use Rattle.diagnosis.specs.Queue.{is_next}
+use Rattle.module_diff.specs.declared.changes.RealChange.{RealChange}
+use Rattle.module_diff.specs.Changes.{affected_by}
 use Rattle.cyclic_data.specs.Image.{Shown as Image}
 use Rattle.cyclic_data.specs.declared.exchange.received.Received.TheVariants as received
 use Rattle.cyclic_data.specs.declared.exchange.route.Route.{Route}
@@ -42,18 +46,22 @@ use Rattle.relations.specs.declared.options.DeviceOptions.{DeviceOptions}
 use Rattle.relations.specs.declared.phase.Partner.{Partner}
 use Rattle.relations.specs.declared.phase.Phase.TheVariants.{Awaiting}
 use Rattle.relations.specs.Connect.{connect_of}
-use Rattle.relations.specs.Diagnosed.{diagnose_one, diagnosing, is_full_in}
+use Rattle.relations.specs.Diagnosed.{beginning, diagnose_one, diagnosing, has_sent_low, is_full_in, reporting}
 use Rattle.relations.specs.Exchanged.{raised_to}
 use Rattle.relations.specs.Farewells.{farewell_of}
+use Rattle.relations.specs.Plugging.{is_alarmed_by, is_crowded, modules_changing}
 use Rattle.relations.specs.RelationState.{RelationState, flow_of, is_exchanging}
 use Rattle.relations.specs.Phases.{exchanging_from, made_of, updated, with_flow}
 use Rattle.relations.specs.Timers.{unit_later}
 use Rattle.device_frames.specs.declared.local.Local.TheVariants as local
 use Rattle.device_frames.specs.Heard.{Heard, Alarms, Calls, Cyclic, LowConfirms, LowReplies, Applied, Ticks, Reported}
 use Rattle.device_frames.specs.Relation.{alarms_of, low_alarms_of, low_replies_of, replies_of, where_due}
-use Rattle.device_frames.specs.Sent.{Sent, IdentifyAnswer, GetAnswer, SetAnswer, ArpReply, CallAnswer, Again, ReadyCall, Ends, Exchanges}
+use Rattle.device_frames.specs.Sent.{Sent, IdentifyAnswer, GetAnswer, SetAnswer, ArpReply, CallAnswer, Again, ReadyCall, PlugReadyCall, Ends, Exchanges}
+use Rattle.device_core.specs.Local.{modules_by}
+use Rattle.device_core.specs.Modules.{plug_of, pull_of, slot_pull_of}
 use Rattle.device_core.specs.State.{Live, Rest, Station}
 use Rattle.device_core.specs.Handled.{kept_for}
+use Rattle.end_laws.specs.device.Orderly.{IsOrderlyIn, keys_of}
 use Rattle.end_laws.specs.device.Owed.{IsOwed}
 use Rattle.end_laws.specs.device.Does.{Does}
 
@@ -61,7 +69,7 @@ use Rattle.end_laws.specs.device.Does.{Does}
 
 -- The request of the Connect, the device's end of alarms, of either priority, whether data is exchanged, by the exchange and by
 -- the phase, the stations between which frames go, the endpoint of its alarms, the counter of the last cyclic frame accepted, if
--- there is one, and the image of the outputs.
+-- there is one, the image of the outputs, and the slot and subslot of each of its places.
 pub record Standing : Type 0 where
   pub request : Request
   pub alarms : DeviceEnd
@@ -72,6 +80,7 @@ pub record Standing : Type 0 where
   pub endpoint : ℕ
   pub last : Option ℕ
   pub outputs : Image
+  pub keys : List (ℕ × ℕ)
 
 -- what outputs and alarms depend on in a relation
 abbrev pub standing_of : RelationState → Standing
@@ -85,6 +94,7 @@ standing_of link = record {
   endpoint = link.flow.endpoint;
   last = link.flow.cyclic.hearing.last;
   outputs = link.flow.cyclic.taken;
+  keys = keys_of link.plugs.places;
 }
 
 -- these stay the same, or the relation has ended
@@ -108,6 +118,7 @@ IsCalm before (ArpReply asker address target) = Unit {0}
 IsCalm before (CallAnswer caller address answer) = Unit {0}
 IsCalm before (Again frame) = Unit {0}
 IsCalm before (ReadyCall address ready) = Unit {0}
+IsCalm before (PlugReadyCall address ready) = Unit {0}
 
 -- each of these messages is calm
 abbrev pub AreCalm : Option RelationState → List Sent → Type 0
@@ -203,37 +214,43 @@ pub record HearsData (before : Option RelationState) (heard : Heard) (after : Op
   pub becomes : after ≡ Some (with_flow (behind_message link.flow (notice.Data number ack)) link)
   pub sends : sent ≡ replies_of (taken_as link.flow.alarms.seen number) (Some (behind_message link.flow (notice.Data number ack)))
 
--- an ACK of low priority arrives
+-- an ACK of low priority arrives, after an alarm of that priority was sent
 pub record HearsLowAck (before : Option RelationState) (heard : Heard) (after : Option RelationState) (sent : List Sent) : Type 0 where
   pub source : Mac
   pub header : Header
   pub number : ℕ
   pub is : IsLow heard source header (notice.Ack number)
+  pub has_sent : has_sent_low before ≡ true
   pub link : RelationState
   pub was : before ≡ Some link
   pub becomes : after ≡ Some (with_flow (behind_low link.flow (notice.Ack number)) link)
   pub silent : sent ≡ []
 
+-- the relation after this PDU of low priority
+abbrev pub heard_low_in : RelationState → ToDevice → RelationState
+heard_low_in link message = with_flow (behind_low link.flow message) link
+
 -- an AlarmAck of low priority arrives: after the reply the next change is reported
-pub record HearsLowData (real : List RealModule) (before : Option RelationState) (heard : Heard) (after : Option RelationState) (sent : List Sent) : Type 0 where
+pub record HearsLowData (before : Option RelationState) (heard : Heard) (after : Option RelationState) (sent : List Sent) : Type 0 where
   pub source : Mac
   pub header : Header
   pub number : ℕ
   pub ack : AlarmAck
   pub is : IsLow heard source header (notice.Data number ack)
+  pub has_sent : has_sent_low before ≡ true
   pub link : RelationState
   pub was : before ≡ Some link
-  pub becomes : after ≡ Some (with_flow (next_reported real (behind_low link.flow (notice.Data number ack))) link)
+  pub becomes : after ≡ updated (reporting (Some (heard_low_in link (notice.Data number ack)))) (Some (heard_low_in link (notice.Data number ack)))
   pub sends : sent ≡ low_replies_of (taken_as link.flow.low.alarms.seen number) (Some (behind_low link.flow (notice.Data number ack)))
-      ++ where_due (is_next real (behind_low link.flow (notice.Data number ack)).low)
-      (low_alarms_of (Some (next_reported real (behind_low link.flow (notice.Data number ack)))))
+      ++ where_due (is_next (behind_low link.flow (notice.Data number ack)).low)
+      (low_alarms_of (Some (next_reported (behind_low link.flow (notice.Data number ack)))))
 
--- data is exchanged from now on: what exists of diagnosis is reported
+-- data is exchanged from now on: what waits and what exists of diagnosis is reported
 pub record Begins (real : List RealModule) (diagnoses : List Diagnosis) (before : Option RelationState) (after : Option RelationState) (sent : List Sent) : Type 0 where
   pub link : RelationState
   pub was : before ≡ Some link
   pub awaits : link.phase ≡ Awaiting
-  pub becomes : after ≡ Some (with_flow (diagnoses_begun real diagnoses (exchanging_from link).flow) (exchanging_from link))
+  pub becomes : after ≡ updated (beginning real diagnoses (Some (exchanging_from link))) (Some (exchanging_from link))
   pub sends : sent ≡ where_due (begins_with_one real diagnoses (exchanging_from link).flow)
       (low_alarms_of (Some (diagnoses_begun real diagnoses (exchanging_from link).flow)))
 
@@ -250,6 +267,31 @@ pub record Diagnoses (real : List RealModule) (diagnoses later : List Diagnosis)
   pub changes : changed change diagnoses ≡ Some later
   pub becomes : after ≡ updated (diagnosing real change later before) before
   pub sends : sent ≡ where_due (diagnose_one real change later before) (low_alarms_of (flow_of after))
+
+-- The change that a pull or a plug makes of the modules, if it is one: of what is plugged, with its ident numbers.
+abbrev pub change_by : List RealModule → Heard → Option RealChange
+change_by real (Applied (local.Pull slot subslot)) = Some (pull_of real slot subslot)
+change_by real (Applied (local.PullModule slot)) = Some (slot_pull_of real slot)
+change_by real (Applied (local.Plug slot ident part)) = Some (plug_of slot ident part)
+change_by real heard = None
+
+-- The modules after it, if it is possible.
+abbrev pub modules_after : List RealModule → Heard → Option (List RealModule)
+modules_after real (Applied said) = modules_by said real
+modules_after real heard = None
+
+-- Something is pulled or plugged: these are the modules then, and these diagnoses exist. What was pulled has no diagnosis. The change
+-- is reported to a relation that expects a submodule there, and after its alarm the next call ApplicationReady of a plug may be sent.
+pub record Changes (real now : List RealModule) (diagnoses later : List Diagnosis) (before : Option RelationState) (heard : Heard) (after : Option RelationState) (sent : List Sent) : Type 0 where
+  pub made : RealChange
+  pub is : change_by real heard ≡ Some made
+  pub modules : modules_after real heard ≡ Some now
+  pub open_room : is_crowded (affected_by made) before ≡ false
+  pub remains : later ≡ remaining (affected_by made) diagnoses
+  pub becomes : after ≡ modules_changing now made later before
+  pub others : List Sent
+  pub sends : sent ≡ where_due (is_alarmed_by now made later before) (low_alarms_of (flow_of after)) ++ others
+  pub calm : AreCalm before others
 
 -- a unit passes, and the relation stays
 pub record Passes (before : Option RelationState) (heard : Heard) (after : Option RelationState) (sent : List Sent) : Type 0 where
@@ -274,13 +316,14 @@ pub record Takes (before : Option RelationState) (heard : Heard) (after : Option
   pub becomes : after ≡ Some (with_flow (behind_frame link.flow source frame_id body) link)
   pub silent : sent ≡ []
 
--- the kinds of turns, as far as outputs and alarms are concerned, if these diagnoses existed, and these exist afterwards
-abbrev pub IsTurn : List RealModule → List Kept → List Diagnosis → List Diagnosis → Option RelationState → Heard → Option RelationState → List Sent → Type 0
-IsTurn real calls diagnoses later before heard after sent =
+-- the kinds of turns, as far as outputs and alarms are concerned, if these modules were plugged and these diagnoses existed, and these
+-- are and do afterwards
+abbrev pub IsTurn : List RealModule → List RealModule → List Kept → List Diagnosis → List Diagnosis → Option RelationState → Heard → Option RelationState → List Sent → Type 0
+IsTurn real now calls diagnoses later before heard after sent =
     Stays before after sent ⊎ (Makes calls before heard after sent ⊎ (Raises real before heard after sent
     ⊎ (HearsAck before heard after sent ⊎ (HearsData before heard after sent ⊎ (Passes before heard after sent ⊎ (Takes before heard after sent
-    ⊎ (HearsLowAck before heard after sent ⊎ (HearsLowData real before heard after sent ⊎ (Begins real diagnoses before after sent
-    ⊎ Diagnoses real diagnoses later before heard after sent)))))))))
+    ⊎ (HearsLowAck before heard after sent ⊎ (HearsLowData before heard after sent ⊎ (Begins real diagnoses before after sent
+    ⊎ (Diagnoses real diagnoses later before heard after sent ⊎ Changes real now diagnoses later before heard after sent))))))))))
 
 -- ---- responses
 
@@ -296,14 +339,18 @@ pub record Answers (identity : Identity) (before after : List Kept) (sent : List
 
 -- ---- a turn
 
--- one turn of a device: what it does, its kind, what becomes of its diagnoses, the response that it stores, and that each
--- message is owed
+-- one turn of a device: what it does, its kind, what becomes of its diagnoses and of its modules, the response that it stores, that its
+-- relation stays in order, and that each message is owed
 pub record Turn (station : Station) (live : Live) (heard : Heard) (after : Rest) (sent : List Sent) : Type 0 where
   pub does : Does station live heard after sent
-  pub is : IsTurn station.real.modules.items live.rest.calls live.rest.diagnoses after.diagnoses live.rest.link heard after.link sent
+  pub is : IsTurn live.rest.real.modules.items after.real.modules.items live.rest.calls live.rest.diagnoses after.diagnoses live.rest.link heard after.link sent
   pub diagnoses : (after.diagnoses ≡ live.rest.diagnoses)
-      ⊎ Diagnoses station.real.modules.items live.rest.diagnoses after.diagnoses live.rest.link heard after.link sent
+      ⊎ (Diagnoses live.rest.real.modules.items live.rest.diagnoses after.diagnoses live.rest.link heard after.link sent
+      ⊎ Changes live.rest.real.modules.items after.real.modules.items live.rest.diagnoses after.diagnoses live.rest.link heard after.link sent)
+  pub modules : (after.real ≡ live.rest.real)
+      ⊎ Changes live.rest.real.modules.items after.real.modules.items live.rest.diagnoses after.diagnoses live.rest.link heard after.link sent
   pub answers : (after.calls ≡ live.rest.calls) ⊎ Answers station.identity live.rest.calls after.calls sent
+  pub orderly : IsOrderlyIn live.rest.link → IsOrderlyIn after.link
   pub owed : AllByRecursion (IsOwed heard live) sent
 
 -- ---- the number of a relation

@@ -1,13 +1,16 @@
 -- Which stations and messages exist: each field has its size.
-use Rattle.std.specs.Prelude.{◌≡◌, ◌≤◌, ◌<◌, ℕ, true, List, length, Some, ⊤}
+use Rattle.std.specs.Prelude.{◌≡◌, ◌≤◌, ◌<◌, ℕ, true, List, [], length, Some, ⊤}
 use Rattle.pn_values.specs.declared.identity.Identity.{Identity}
 use Rattle.frame_codec.specs.declared.udp.Caller.{Caller}
 use Rattle.frame_codec.specs.FrameId.{is_cyclic}
+use Rattle.rpc_core.specs.declared.header.CallHeader.{CallHeader}
 use Rattle.rpc_core.specs.Call.{Asked as Call}
+use Rattle.connect_blocks.specs.PlugControl.{plug_control}
 use Rattle.block_codec.specs.declared.block.Block.TheVariants as is
 use Rattle.block_codec.specs.Block.{block_bytes}
 use Rattle.cyclic_data.specs.declared.exchange.route.Route.{Route}
 use Rattle.plans.specs.Plan.{IsPlan}
+use Rattle.relations.specs.declared.plugging.PlugReady.{PlugReady}
 use Rattle.relations.specs.declared.ready.Ready.{Ready}
 use Rattle.controller_messages.specs.declared.record_request.RecordRequest.{RecordRequest}
 use Rattle.controller_messages.specs.declared.request.Request.{Request}
@@ -69,6 +72,14 @@ pub record IsRoute (route : Route) : Type 0 where
   pub tag : route.sent_tag < 65536
   pub alarm_tag : route.alarm_tag < 65536
 
--- the call of an ApplicationReady
+-- the call of a device with these blocks
+abbrev pub own_call : CallHeader → List ℕ → Call
+own_call header blocks = record { header = header; args_maximum = 1372; blocks = Some blocks }
+
+-- The call of an ApplicationReady.
 abbrev pub ready_call : Ready → Call
-ready_call ready = record { header = ready.header; args_maximum = 1372; blocks = Some (block_bytes (is.ApplicationReady ready.block)) }
+ready_call ready = own_call ready.header (block_bytes (is.ApplicationReady ready.block))
+
+-- That of a plug.
+abbrev pub plug_ready_call : PlugReady → Call
+plug_ready_call ready = own_call ready.header ((plug_control 0x0113).write ready.block [])

@@ -1,6 +1,6 @@
 -- The alarms of one priority of a relation, between a device's end and a controller: what may happen to either, in any order
 -- and number.
-use Rattle.std.specs.Prelude.{◌≡◌, ◌≤◌, ◌+◌, ◌&&◌, ◌++◌, ℕ, Bool, true, false, List, [], ◌∷◌, length, slice_get, if◌then◌else◌, Option, Some, None}
+use Rattle.std.specs.Prelude.{◌≡◌, ◌≤◌, ◌+◌, ◌==◌, ◌&&◌, ◌++◌, ℕ, Bool, true, false, List, [], ◌∷◌, length, slice_get, if◌then◌else◌, Option, Some, None}
 use Rattle.std.specs.List.{AllByRecursion}
 use Rattle.pn_values.specs.declared.mac.Mac.{Mac}
 use Rattle.record_blocks.specs.declared.alarm_notification.AlarmNotification.{AlarmNotification}
@@ -34,14 +34,14 @@ is_priority Low Low = true
 is_priority _ _ = false
 
 -- What a device of this product sends as an alarm of a priority: a process alarm has the UserStructureIdentifier 1, a change
--- of diagnosis 0x8000.
-abbrev pub structure_of : Priority → ℕ
-structure_of High = 1
-structure_of Low = 0x8000
+-- of diagnosis 0x8000, and a pull or a plug, which has no data, none.
+abbrev pub structure_of : Priority → AlarmNotification → Option ℕ
+structure_of High alarm = Some 1
+structure_of Low alarm = if length alarm.alarm_data == 0 then None else Some 0x8000
 
 -- An AlarmNotification as the controller reads it, with this priority.
 abbrev pub report_as : Priority → AlarmNotification → Report
-report_as priority alarm = record { priority = priority; notification = alarm; user_structure = Some (structure_of priority) }
+report_as priority alarm = record { priority = priority; notification = alarm; user_structure = structure_of priority alarm }
 
 -- The last alarm of a priority that a controller accepted, as it stores it.
 abbrev pub shown_of : Priority → Live → Option AlarmNotification
@@ -164,7 +164,7 @@ last_of [] = None
 last_of (alarm ∷ []) = Some (kept_alarm alarm)
 last_of (alarm ∷ next ∷ alarms) = last_of (next ∷ alarms)
 
--- What these changes of diagnosis report, one after the other.
+-- What these alarms of low priority report of diagnoses, one after the other; a pull or a plug reports none.
 abbrev pub after_reports : List AlarmNotification → Reported → Reported
 after_reports [] reported = reported
 after_reports (alarm ∷ alarms) reported = after_reports alarms (after_report (report_as Low alarm) reported)

@@ -1,6 +1,7 @@
 //! The law of the answers to calls.
 ghost use Rattle.std.specs.Prelude.{List, ℕ};
 ghost use Rattle.std.specs.List.{AllByRecursion};
+ghost use Rattle.pn_values.specs.declared.real.Real.{Real};
 ghost use Rattle.pn_values.specs.declared.settings.Settings.{Settings};
 ghost use Rattle.device_frames.specs.Heard.{Heard};
 ghost use Rattle.device_frames.specs.declared.note.Note.{Note};
@@ -19,7 +20,7 @@ use rpc_core::responses_are_read;
 /// machine by which each step of a device is specified.
 pub fn answers_are_one_datagram<F: Flash<S>, const S: usize>()
     // A device that has just started stores no answer.
-    ensures first { (settings : Settings) (room : ℕ) → AreStoredWhole (started settings room).rest.calls }
+    ensures first { (given : Real) (settings : Settings) (room : ℕ) → AreStoredWhole (started given settings room).rest.calls }
     // If each stored answer is one whole datagram, then in each step, whatever the device hears, also a call that was joined
     // of fragments, and whatever the flash did: each answer that is sent is one whole datagram with at most 1,372 octets of
     // blocks, and each answer that is stored afterwards is one whole datagram.

@@ -17,9 +17,9 @@ use crate::device::turn::device_turns;
 /// machine by which each step of a device is specified.
 pub fn device_sends_what_it_owes()
     // If each call that a device hears is one of the start-up or of the application, a response is to a call that it heard, or the one stored
-    // for its activity, and ApplicationReady is of the relation that existed, whatever the flash did.
+    // for its activity, and ApplicationReady, also that of a plug, is of the relation that existed, whatever the flash did.
     ensures { (rules : Rules TakenRecord Request) (activity : List ℕ) (outcomes : List Outcome) (station : Station) (live : Live)
-        (heard : Heard) → IsPlanned rules activity station.real heard
+        (heard : Heard) → IsPlanned rules activity live.rest.real heard
         → AllByRecursion (IsOwed heard live) (heard_step outcomes station live heard).sent }
 {
     device_turns();

@@ -11,7 +11,7 @@ ghost use Rattle.pn_alarms.specs.declared.pdu.Header.{Header};
 ghost use Rattle.pn_alarms.specs.declared.pdu.PduType.TheVariants as pdu;
 ghost use Rattle.diagnosis.specs.declared.reports.priority.Priority.{Priority};
 ghost use Rattle.diagnosis.specs.declared.reports.priority.Priority.TheVariants.{High, Low};
-ghost use Rattle.diagnosis.specs.reports.Report.{diagnosed, ours};
+ghost use Rattle.diagnosis.specs.reports.Report.{low_report, ours};
 ghost use Rattle.cyclic_data.specs.declared.exchange.route.Route.{Route};
 ghost use Rattle.relations.specs.exchange.Frames.{Notifies, Replies as Answers, Reports, RepliesLow};
 ghost use Rattle.plans.specs.declared.parts.Controller.{Controller};
@@ -49,12 +49,12 @@ pub fn alarms_are_heard()
         → IsDevice identity → IsRoute route → header.kind ≡ pdu.Nack → IsHeader header
         → controller_hears mine (device_bytes identity (Exchanges route (Answers header)))
         ≡ mine_hears mine route.partner (Alarmed identity.mac High header notice.Nack) }
-    // Of a change of diagnosis the controller hears data with its number, and the alarm itself, as one of low priority with the
-    // UserStructureIdentifier 0x8000.
+    // Of an alarm of low priority the controller hears data with its number, and the alarm itself: a change of diagnosis with the
+    // UserStructureIdentifier 0x8000, a pull or a plug, which has no data, without one.
     ensures low { (mine : Controller) (identity : Identity) (route : Route) (tag : ℕ) (header : Header) (alarm : AlarmNotification)
         → IsDevice identity → IsRoute route → tag < 65536 → header.kind ≡ pdu.Data → IsHeader header → IsAlarm alarm
         → controller_hears mine (device_bytes identity (Exchanges route (Reports tag header alarm)))
-        ≡ mine_hears mine route.partner (Alarmed identity.mac Low header (notice.Data header.send_number (diagnosed alarm))) }
+        ≡ mine_hears mine route.partner (Alarmed identity.mac Low header (notice.Data header.send_number (low_report alarm))) }
     // The same of an ACK and of a NACK of low priority.
     ensures low_ack { (mine : Controller) (identity : Identity) (route : Route) (tag : ℕ) (header : Header)
         → IsDevice identity → IsRoute route → tag < 65536 → header.kind ≡ pdu.Ack → IsHeader header

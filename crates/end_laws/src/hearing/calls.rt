@@ -1,5 +1,5 @@
 //! Calls and responses.
-ghost use Rattle.std.specs.Prelude.{◌≡◌, ◌<◌, ℕ, length, List, Option};
+ghost use Rattle.std.specs.Prelude.{◌≡◌, ◌<◌, ℕ, length, List, None, Option};
 ghost use Rattle.pn_values.specs.declared.identity.Identity.{Identity};
 ghost use Rattle.pn_values.specs.declared.mac.Mac.{Mac};
 ghost use Rattle.frame_codec.specs.declared.udp.Caller.{Caller};
@@ -11,9 +11,11 @@ ghost use Rattle.rpc_core.specs.Interface.{interface_uuid};
 ghost use Rattle.rpc_core.specs.Response.{Answered};
 ghost use Rattle.connect_blocks.specs.declared.control.ControlBlock.{ControlBlock};
 ghost use Rattle.plans.specs.declared.parts.Controller.{Controller};
+ghost use Rattle.relations.specs.declared.plugging.PlugReady.{PlugReady};
 ghost use Rattle.relations.specs.declared.ready.Ready.{Ready};
 ghost use Rattle.device_frames.specs.Heard.{Calls, Garbled, Responds, Unreadable, heard_of as device_hears};
-ghost use Rattle.device_frames.specs.Sent.{ready_frame, response_frame};
+ghost use Rattle.device_frames.specs.Sent.{plug_ready_frame, ready_frame, response_frame};
+ghost use Rattle.controller_core.specs.start_up.Answers.{ready_in};
 ghost use Rattle.controller_messages.specs.declared.record_request.RecordRequest.{RecordRequest};
 ghost use Rattle.controller_messages.specs.declared.request.Request.{Request};
 ghost use Rattle.controller_messages.specs.declared.setup.Setup.{Setup};
@@ -24,7 +26,7 @@ ghost use Rattle.controller_messages.specs.Sent.{answer_frame, call_frame, calls
 ghost use Rattle.frame_codec.specs.Sendable.{IsMac, IsTag, carrying};
 ghost use Rattle.rpc_core.specs.Sendable.{CanBeAnswered, CanBeCalled, IsHeader, IsUuid};
 ghost use Rattle.end_laws.specs.hearing.Hearing.{IsUncalled, IsUnreported, comes, mine_reported, own_reported};
-ghost use Rattle.end_laws.specs.hearing.Stations.{IsAddress, IsCalled, IsCaller, IsDevice, IsNumbered, IsRecordCall, IsSetup, ready_call};
+ghost use Rattle.end_laws.specs.hearing.Stations.{IsAddress, IsCalled, IsCaller, IsDevice, IsNumbered, IsRecordCall, IsSetup, plug_ready_call, ready_call};
 
 use block_codec::blocks_are_read;
 use controller_messages::calls_are_no_refusals;
@@ -110,6 +112,34 @@ pub fn ready_calls_are_heard()
         → IsDevice identity → IsMac ready.partner.mac → IsAddress ready.partner.address → IsAddress address →
         CanBeCalled controllers (ready_call ready)
         → device_hears other (comes (ready_frame identity address ready))
+        ≡ own_reported other identity.mac ready.partner.mac (calls_at address) (calls_at ready.partner.address) Garbled }
+{
+    frames_are_read();
+    calls_are_read();
+    calls_and_responses_differ();
+    calls_name_their_interface();
+}
+
+/// What is heard of the ApplicationReady of a plug. These are laws of the definitions.
+pub fn plug_calls_are_heard()
+    // The call can be sent: it has one block, which fits.
+    ensures sent { (ready : PlugReady) → IsHeader ready.header → ready.header.interface ≡ interface_uuid controllers →
+        IsUuid ready.block.ar_uuid
+        → CanBeCalled controllers (plug_ready_call ready) }
+    // If it can be sent, the controller that it goes to hears it, from the device.
+    ensures controller { (mine : Controller) (identity : Identity) (address : List ℕ) (ready : PlugReady)
+        → IsDevice identity → IsMac ready.partner.mac → IsAddress ready.partner.address → IsAddress address →
+        CanBeCalled controllers (plug_ready_call ready)
+        → controller_hears mine (plug_ready_frame identity address ready)
+        ≡ mine_reported mine ready.partner.mac (calls_at ready.partner.address)
+        (Called (record { mac = identity.mac; endpoint = calls_at address }) (plug_ready_call ready)) }
+    // It is not the ApplicationReady of a relation: a controller finds no block of one in it.
+    ensures other { (ready : PlugReady) → ready_in (plug_ready_call ready) ≡ None }
+    // A device hears neither a call nor a response in it.
+    ensures device { (other identity : Identity) (address : List ℕ) (ready : PlugReady)
+        → IsDevice identity → IsMac ready.partner.mac → IsAddress ready.partner.address → IsAddress address →
+        CanBeCalled controllers (plug_ready_call ready)
+        → device_hears other (comes (plug_ready_frame identity address ready))
         ≡ own_reported other identity.mac ready.partner.mac (calls_at address) (calls_at ready.partner.address) Garbled }
 {
     frames_are_read();

@@ -11,7 +11,7 @@ use Rattle.diagnosis.specs.declared.reports.priority.Priority.TheVariants.{Low}
 use Rattle.pn_alarms.specs.Format.{frame_id_of, pdu_bytes}
 use Rattle.diagnosis.specs.reports.Priority.{frame_id_at}
 use Rattle.pn_alarms.specs.Receiver.{answer_to}
-use Rattle.diagnosis.specs.reports.Report.{diagnosis_pdu}
+use Rattle.diagnosis.specs.reports.Report.{low_pdu}
 use Rattle.cyclic_data.specs.declared.exchange.route.Route.{Route}
 use Rattle.cyclic_data.specs.exchange.Frames.{body_at}
 use Rattle.relations.specs.exchange.Flow.{Flow, state_of}
@@ -68,7 +68,7 @@ abbrev pub body_of : Frame → List ℕ
 body_of (Inputs state inputs counter) = body_at state inputs counter
 body_of (Notifies header alarm) = pdu_bytes (alarm_pdu header alarm)
 body_of (Replies header) = pdu_bytes (record { header = header; body = [] })
-body_of (Reports tag header alarm) = pdu_bytes (diagnosis_pdu header alarm)
+body_of (Reports tag header alarm) = pdu_bytes (low_pdu header alarm)
 body_of (RepliesLow tag header) = pdu_bytes (record { header = header; body = [] })
 
 -- The octets of a frame after its FrameID, none without a frame.

@@ -29,13 +29,14 @@ abbrev pub first_mark : Starting → Listed DiffModule DiffSubmodule → Place �
 first_mark starting rows place = record {
   place = place;
   differs = is_listed place.slot place.subslot rows;
+  is_touched = false;
   is_awaited = starting.begin_bad && nat_lt 1 place.size;
   is_bad = is_bad place.slot place.subslot starting.statuses;
 }
 
 -- The IOPS: good if nothing is against it.
 abbrev pub iops_by : Mark → ℕ
-iops_by mark = if mark.differs || (mark.is_awaited || mark.is_bad) then 0 else good
+iops_by mark = if mark.differs || (mark.is_touched || (mark.is_awaited || mark.is_bad)) then 0 else good
 
 -- The mark of the inputs of a submodule, its IOPS, and whether its first input is awaited.
 abbrev pub mark_at : ℕ → ℕ → List Mark → Option Mark

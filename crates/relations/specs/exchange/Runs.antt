@@ -26,8 +26,8 @@ use Rattle.relations.specs.exchange.Received.{behind_frame}
 use Rattle.relations.specs.exchange.Process.{given_at, rated_at, turned}
 use Rattle.relations.specs.exchange.Notices.{behind_message, raised_at}
 
--- What happens to an exchange that was opened: each call that changes it. A call that changes the alarms of low priority leaves
--- these, whatever they are.
+-- What happens to an exchange that was opened: each call that changes it, but for pulls and plugs, which `Shut` has beside these. A
+-- call that changes the alarms of low priority leaves these, whatever they are.
 pub data Event : Type 0 where
   Begins : Event
   Passes : Event

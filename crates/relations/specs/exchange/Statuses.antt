@@ -1,7 +1,9 @@
 -- The statuses that the application of a device gives to its inputs.
 use Rattle.std.specs.Prelude.{◌==◌, ◌&&◌, ◌++◌, ℕ, Bool, not, nat_lt, List, [], ◌∷◌, length, map, Option, Some, None, is_some, if◌then◌else◌}
-use Rattle.std.specs.List.{list_any}
+use Rattle.std.specs.List.{filter, list_any}
 use Rattle.pn_values.specs.declared.real.RealModule.{RealModule}
+use Rattle.module_diff.specs.declared.changes.Affected.{Affected}
+use Rattle.module_diff.specs.Changes.{covers}
 use Rattle.module_diff.specs.Plugged.{submodule_ident}
 use Rattle.relations.specs.declared.exchange.statuses.InputStatus.{InputStatus}
 
@@ -29,3 +31,7 @@ statuses_with status statuses =
 abbrev pub statuses_at : List RealModule → InputStatus → List InputStatus → Option (List InputStatus)
 statuses_at real status statuses =
     if is_some (submodule_ident real status.slot status.subslot) then statuses_with status statuses else None
+
+-- The statuses of inputs without those of submodules that were pulled.
+abbrev pub remaining_statuses : Affected → List InputStatus → List InputStatus
+remaining_statuses gone statuses = filter (λ status. not (covers gone status.slot status.subslot)) statuses

@@ -2,15 +2,17 @@
 ghost use Rattle.std.specs.Prelude.{◌≡◌, ◌<◌, ◌≤◌, IfSome, None, [], false, is_some, length, option_map, unwrap_or};
 ghost use Rattle.relations.specs.exchange.Opening.{begun_of, opened};
 ghost use Rattle.relations.specs.exchange.Process.{given_at, output_at, rated_at, remarked, turned};
+ghost use Rattle.relations.specs.exchange.Modules.{all_cleared, modules_restated, renewed, restated_flow};
 
-use crate::exchange::marks::{Mark, Starting, awaits, begin, change, iops_in};
-use crate::exchange::opening::{Differing, route_of};
+use crate::exchange::marks::{Mark, Starting, awaits, begin, change, iops_in, renew, restate};
+use crate::exchange::opening::{Differing, Stated, route_of};
 use crate::numbers::endpoint_of;
 use arrayvec::ArrayVec;
 use connects::ConnectRequest;
 use cyclic_data::{Consumer, CyclicExchange, Provider, Route, StationState};
-use diagnosis::{DiagnosisAlarms, Terms};
-use module_diff::DiffRows;
+use diagnosis::{Diagnoses, DiagnosisAlarms, Terms};
+use expected_places::Plugs;
+use module_diff::{Affected, DiffRows, Expected};
 use pn_alarms::DeviceAlarms;
 use std::marker::Model;
 
@@ -163,6 +165,33 @@ impl DataExchange {
         self.cyclic.state(slot, subslot, iops);
     }
 
+    /// The modules changed: `rows` lists the submodules that differ from those that are expected, and these diagnoses exist.
+    pub fn restate_modules(&mut self, expected: &Expected, rows: &DiffRows, diagnoses: &Diagnoses)
+        ensures { self.new ≡ modules_restated expected.now rows.now diagnoses.now self.old }
+    {
+        self.low.restate(expected, rows, diagnoses);
+    }
+
+    /// The inputs of affected submodules are zeros from now on, and none was given: with the option of the device their IOPS is
+    /// bad until one is.
+    pub fn renew(&mut self, affected: Affected, begin_bad: bool)
+        ensures { self.new ≡ renewed affected begin_bad self.old }
+    {
+        renew(self.marks.as_mut_slice(), affected, begin_bad);
+        clear_inputs(&mut self.cyclic, self.marks.as_slice(), affected);
+    }
+
+    /// What differs or is touched changed: IOPS and IOCS follow.
+    pub fn restate(&mut self, plugs: &Plugs)
+        ensures { self.new ≡ restated_flow plugs.now self.old }
+    {
+        restate(self.marks.as_mut_slice(), plugs);
+        self.cyclic.restate(&Stated {
+            plugs,
+            marks: self.marks.as_slice(),
+        });
+    }
+
     /// The output of a submodule, if it has one: its data in the last accepted frame. All zeros if no frame was
     /// accepted yet, or if the IOPS is not good.
     pub fn output(&self, slot: u16, subslot: u16) -> Option<&[u8]>
@@ -170,5 +199,16 @@ impl DataExchange {
         ensures short { IfSome result (λ value. length value.now ≤ 1440) }
     {
         self.cyclic.value(slot, subslot)
+    }
+}
+
+/// Sets the inputs of affected places to zeros.
+fn clear_inputs(cyclic: &mut CyclicExchange, marks: &[Mark], affected: Affected)
+    ensures { cyclic.new ≡ all_cleared affected marks.now cyclic.old }
+{
+    for mark in marks {
+        if affected.covers(mark.place.slot, mark.place.subslot) {
+            cyclic.clear(mark.place.slot, mark.place.subslot);
+        }
     }
 }

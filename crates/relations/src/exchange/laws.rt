@@ -1,10 +1,11 @@
 //! What holds for exchanges over many events.
 ghost use Rattle.relations.specs.exchange.Runs.{AreOfTheLast, AreStillTheIocs, AreTheIops, AreTheLastGiven, IsDueEachInterval, IsHeldSoLong, RunsAsSaid};
+ghost use Rattle.relations.specs.exchange.Shut.{AreConsumedWhereOpen, AreGoodWhereOpen};
 
 use cyclic_data::cyclic_data_is_kept;
 
 /// How data is exchanged over any list of events. These are laws of the definitions that specify `DataExchange`; the
-/// function has no code.
+/// function has no code. Pulls and plugs are among the events of the clauses `open` and `consumed` alone.
 pub fn exchange_is_kept()
     // A frame of inputs is due each interval, counted from the answer to the Connect, for any events.
     ensures interval { IsDueEachInterval }
@@ -24,6 +25,11 @@ pub fn exchange_is_kept()
     // Counted from its start, the data hold time is over from the unit on that completes it, and not before, unless
     // meanwhile a frame is accepted, or the exchange begins again or ends.
     ensures hold { IsHeldSoLong }
+    // While modules come and go, for any events, if the Connect expects each submodule once: the IOPS of a submodule is good only if
+    // its place neither differs nor is touched.
+    ensures open { AreGoodWhereOpen }
+    // So is the IOCS of an output.
+    ensures consumed { AreConsumedWhereOpen }
 {
     cyclic_data_is_kept();
 }

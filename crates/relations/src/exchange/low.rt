@@ -3,11 +3,15 @@ ghost use Rattle.std.specs.Prelude.{◌≡◌, ◌≤◌, ◌++◌, IfSome, is_s
 ghost use Rattle.pn_alarms.specs.Device.{heard_as};
 ghost use Rattle.relations.specs.exchange.Diagnosis.{begins_with_one, behind_low, diagnosed, diagnoses_begun, is_diagnosed, is_full, low_header_of, next_reported};
 ghost use Rattle.relations.specs.exchange.Frames.{body_in, body_of, low_alarm_frame, low_reply_frame};
-ghost use Rattle.diagnosis.specs.alarms.Alarms.{is_next};
+ghost use Rattle.diagnosis.specs.Queue.{is_module_sent, is_next, modules_changed, waits_for_plug};
+ghost use Rattle.relations.specs.exchange.Diagnosis.{with_low};
+ghost use Rattle.diagnosis.specs.alarms.Alarms.{is_full as is_low_full};
 ghost use Rattle.diagnosis.specs.alarms.Own.{is_own};
 
 use crate::exchange::data_exchange::DataExchange;
-use diagnosis::{Change, Diagnoses};
+use arrayvec::ArrayVec;
+use diagnosis::{Change, Diagnoses, ModuleChange, SentAlarm};
+use module_diff::RealChange;
 use pn_alarms::{Header, Message, Pdu, PduFate, PduType, Taken, pdu_front};
 use pn_values::Real;
 
@@ -58,11 +62,47 @@ impl DataExchange {
     }
 
     /// The first change that waits is reported, if no alarm of low priority is active. Returns whether an alarm must be sent.
-    pub fn report_next(&mut self, real: &Real) -> bool
-        ensures sent { result ≡ is_next real.now.modules.items self.old.low }
-        ensures state { self.new ≡ next_reported real.now.modules.items self.old }
+    pub fn report_next(&mut self) -> bool
+        ensures sent { result ≡ is_next self.old.low }
+        ensures state { self.new ≡ next_reported self.old }
     {
-        self.low.next(real)
+        self.low.next()
+    }
+
+    /// A module or a submodule of the relation was pulled or plugged: it is reported, now or as data is exchanged. Returns
+    /// whether an alarm must be sent.
+    pub fn report_modules(
+        &mut self,
+        change: ModuleChange,
+        made: &RealChange,
+        diagnoses: &Diagnoses,
+    ) -> bool
+        ensures sent { result ≡ is_module_sent self.old.cyclic.begun change made.now diagnoses.now self.old.low }
+        ensures state { self.new ≡ with_low self.old (modules_changed self.old.cyclic.begun change made.now diagnoses.now self.old.low) }
+    {
+        let has_begun = self.cyclic.has_begun();
+        self.low.change_modules(has_begun, change, made, diagnoses)
+    }
+
+    /// The alarm of low priority that became active last, if one did.
+    pub fn sent_low(&self) -> Option<SentAlarm>
+        ensures { result ≡ self.now.low.sent }
+    {
+        self.low.sent()
+    }
+
+    /// Whether 32 changes or more wait for their alarms.
+    pub fn is_crowded(&self) -> bool
+        ensures { result ≡ is_low_full self.now.low }
+    {
+        self.low.is_full()
+    }
+
+    /// Whether a change that waits is a plug of the expected submodule in this slot and subslot.
+    pub fn waits_for_plug(&self, slot: u16, subslot: u16) -> bool
+        ensures { result ≡ waits_for_plug slot subslot self.now.low.waiting }
+    {
+        self.low.waits_for_plug(slot, subslot)
     }
 
     /// Receives a PDU of low priority. Returns what happens to it.
@@ -81,13 +121,13 @@ impl DataExchange {
         self.low.header(kind, reference, self.endpoint)
     }
 
-    /// The octets that follow the FrameID of the active alarm of low priority, if there is one: 40 octets, and after them its
-    /// data, at most 32.
+    /// The octets that follow the FrameID of the active alarm of low priority, if there is one: at most 40 octets, and after
+    /// them its data, at most 32.
     #[inline(always)]
-    pub fn low_alarm(&self) -> Option<([u8; 40], &[u8])>
+    pub fn low_alarm(&self) -> Option<(ArrayVec<u8, 40>, &[u8])>
         ensures stands { is_some result ≡ is_some (low_alarm_frame self.now) }
-        ensures exact { IfSome result (λ octets. octets.0 ++ octets.1.now ≡ body_in (low_alarm_frame self.now)) }
-        ensures len { IfSome result (λ octets. length octets.0 ≡ 40) }
+        ensures exact { IfSome result (λ octets. octets.0.items ++ octets.1.now ≡ body_in (low_alarm_frame self.now)) }
+        ensures len { IfSome result (λ octets. length octets.0.items ≤ 40) }
         ensures few { IfSome result (λ octets. length octets.1.now ≤ 32) }
     {
         self.low.alarm(&self.low_header(PduType::Data))

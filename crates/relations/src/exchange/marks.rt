@@ -1,6 +1,7 @@
 //! Why the IOPS that a device sends are not good.
 ghost use Rattle.std.specs.Prelude.{◌≡◌, ◌≤◌, length, map};
 ghost use Rattle.relations.specs.exchange.Marks.{Starting as Begins, awaits, change_by, first_mark, iops_by, iops_of, mark_at, marked};
+ghost use Rattle.relations.specs.exchange.Modules.{renewed_mark, renewed_marks, restated_mark, restated_marks};
 ghost use Rattle.cyclic_data.specs.Layout.{is_of};
 ghost use Rattle.cyclic_data.specs.declared.place.PlaceKind.TheVariants.{Data};
 
@@ -8,15 +9,18 @@ use crate::exchange::statuses::{InputStatus, is_bad};
 use arrayvec::ArrayVec;
 use cyclic_data::{GOOD, Place, PlaceKind};
 use diagnosis::Diagnoses;
-use module_diff::DiffRows;
+use expected_places::Plugs;
+use module_diff::{Affected, DiffRows};
 
 /// Why the IOPS at a place of the inputs is not good, if it is not.
 #[derive(Clone, Copy, Default)]
 pub struct Mark {
     /// The place.
     pub place: Place,
-    /// The ModuleDiffBlock lists the submodule.
+    /// What is plugged there is not what is expected.
     pub differs: bool,
+    /// Something was pulled or plugged there, and it was not released since.
+    pub is_touched: bool,
     /// The first input of the relation is awaited.
     pub is_awaited: bool,
     /// The application says that the inputs are bad.
@@ -48,6 +52,7 @@ impl Mark {
         Mark {
             place: *place,
             differs: rows.is_listed(place.slot, place.subslot),
+            is_touched: false,
             is_awaited: starting.begin_bad && place.size > 1,
             is_bad: is_bad(starting.statuses, place.slot, place.subslot),
         }
@@ -67,7 +72,7 @@ impl Mark {
     fn iops(&self) -> u8
         ensures { result ≡ iops_by self.now }
     {
-        if self.differs || self.is_awaited || self.is_bad {
+        if self.differs || self.is_touched || self.is_awaited || self.is_bad {
             0
         } else {
             GOOD
@@ -87,6 +92,31 @@ impl Mark {
                 is_bad: !is_good,
                 ..self
             },
+        }
+    }
+
+    /// The mark while these places differ or are touched.
+    fn restated(self, plugs: &Plugs) -> Mark
+        ensures { result ≡ restated_mark plugs.now self }
+    {
+        Mark {
+            differs: plugs.differs(self.place.slot, self.place.subslot),
+            is_touched: plugs.is_touched(self.place.slot, self.place.subslot),
+            ..self
+        }
+    }
+
+    /// The mark after something was pulled or plugged at these places: begun again, if its place is affected.
+    fn renewed(self, affected: Affected, begin_bad: bool) -> Mark
+        ensures { result ≡ renewed_mark affected begin_bad self }
+    {
+        if !affected.covers(self.place.slot, self.place.subslot) {
+            return self;
+        }
+        Mark {
+            is_awaited: begin_bad && self.place.size > 1,
+            is_bad: false,
+            ..self
         }
     }
 }
@@ -121,6 +151,24 @@ pub(crate) fn change(marks: &mut ArrayVec<Mark, 128>, slot: u16, subslot: u16, s
         });
     }
     *marks = next;
+}
+
+/// Says which marks are of places that differ or are touched now.
+pub(crate) fn restate(marks: &mut [Mark], plugs: &Plugs)
+    ensures { marks.new ≡ restated_marks plugs.now marks.old }
+{
+    for mark in marks.iter_mut() {
+        *mark = mark.restated(plugs);
+    }
+}
+
+/// Begins the marks of affected places again: no input was given there, and no status, since the submodule came.
+pub(crate) fn renew(marks: &mut [Mark], affected: Affected, begin_bad: bool)
+    ensures { marks.new ≡ renewed_marks affected begin_bad marks.old }
+{
+    for mark in marks.iter_mut() {
+        *mark = mark.renewed(affected, begin_bad);
+    }
 }
 
 /// The IOPS of the inputs of a submodule, by the first of its marks; 0 without a mark.

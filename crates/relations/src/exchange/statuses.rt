@@ -2,10 +2,10 @@
 ghost use Rattle.std.specs.Prelude.{◌≡◌, is_some, unwrap_or};
 ghost use Rattle.std.specs.List.{list_any};
 ghost use Rattle.module_diff.specs.Plugged.{submodule_ident};
-ghost use Rattle.relations.specs.exchange.Statuses.{is_bad, is_for, replaced, statuses_at, statuses_with};
+ghost use Rattle.relations.specs.exchange.Statuses.{is_bad, is_for, remaining_statuses, replaced, statuses_at, statuses_with};
 
 use arrayvec::ArrayVec;
-use module_diff::{module_in, part_ident};
+use module_diff::{Affected, module_in, part_ident};
 use pn_values::Real;
 
 /// The status of the inputs of a submodule, as the application of a device gave it last.
@@ -92,6 +92,19 @@ fn replace(statuses: &mut ArrayVec<InputStatus, 64>, status: InputStatus)
         } else {
             *other
         });
+    }
+    *statuses = next;
+}
+
+/// Forgets the statuses of submodules that were pulled.
+pub fn forget_statuses(statuses: &mut ArrayVec<InputStatus, 64>, gone: Affected)
+    ensures { statuses.new.items ≡ remaining_statuses gone statuses.old.items }
+{
+    let mut next = ArrayVec::new();
+    for status in statuses.as_slice() {
+        if !gone.covers(status.slot, status.subslot) {
+            next.push(*status);
+        }
     }
     *statuses = next;
 }

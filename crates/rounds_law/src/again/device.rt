@@ -17,8 +17,8 @@ use crate::device::suite_is_valid;
 use block_codec::blocks_are_read;
 use controller_messages::Setup;
 use end_laws::{
-    calls_are_heard, calls_can_be_sent, ready_calls_are_heard, requests_are_heard,
-    stations_are_real,
+    calls_are_heard, calls_can_be_sent, plug_calls_are_heard, ready_calls_are_heard,
+    requests_are_heard, stations_are_real,
 };
 use frame_codec::{formats_are_sound, frames_are_read};
 use pn_values::Identity;
@@ -71,6 +71,7 @@ pub fn device_keeps_an_earlier_relation(setup: &Setup, identity: &Identity)
     calls_can_be_sent();
     calls_are_heard();
     ready_calls_are_heard();
+    plug_calls_are_heard();
     frames_are_read();
     formats_are_sound();
     blocks_are_read();

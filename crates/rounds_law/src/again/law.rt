@@ -17,6 +17,7 @@ use crate::device::{
 use crate::law::both_ends_start;
 use crate::middle::both_ends_go_on;
 use controller_messages::Setup;
+use device_core::only_pulls_and_plugs_change_modules;
 use flash_model::Flash;
 use pn_values::Identity;
 
@@ -53,6 +54,7 @@ pub fn both_ends_come_back<F: Flash<S>, const S: usize>(
         → (pause : ℕ) → 2 ≤ pause → (from : From) (plant : Plant F) → Comes setup.now next.now identity.now pause from plant
         → LeadsBack F.Flash pause (comes_within setup.now.plan pause from) plant }
 {
+    only_pulls_and_plugs_change_modules();
     both_ends_start::<F, S>(setup, identity);
     both_ends_start::<F, S>(next, identity);
     both_ends_go_on::<F, S>(setup, identity);

@@ -1,5 +1,5 @@
 //! The law of any state, with any pause before the next start.
-ghost use Rattle.std.specs.Prelude.{◌≤◌, ◌+◌, ◌*◌, ℕ, suc, length};
+ghost use Rattle.std.specs.Prelude.{◌≡◌, ◌≤◌, ◌+◌, ◌*◌, ℕ, suc, length};
 ghost use Rattle.device_core.specs.Cycle.{IsStartedFrom};
 ghost use Rattle.device_core.specs.State.{State};
 ghost use Rattle.rounds_law.specs.Again.{Plant};
@@ -13,11 +13,13 @@ use crate::anywhere::starts::all_starts_hold;
 use crate::controller::type_is_short;
 use block_codec::blocks_are_read;
 use controller_messages::Setup;
+use device_core::only_pulls_and_plugs_change_modules;
 use end_laws::{
     answers_are_heard, calls_are_heard, calls_can_be_sent, confirmations_are_heard,
     controller_goes_on, datagrams_alone_are_calls, ended_is_kept, ends_are_heard, inputs_are_heard,
-    no_state_outlasts_its_patience, ready_answers_are_heard, ready_calls_are_heard,
-    requests_are_heard, responses_are_heard, stations_are_real, turns_are_of_a_kind,
+    no_state_outlasts_its_patience, plug_calls_are_heard, ready_answers_are_heard,
+    ready_calls_are_heard, requests_are_heard, responses_are_heard, stations_are_real,
+    turns_are_of_a_kind,
 };
 use flash_model::Flash;
 use frame_codec::frames_are_read;
@@ -39,11 +41,13 @@ pub fn both_ends_come_back_after_any_pause<F: Flash<S>, const S: usize>(
         → (silence pause : ℕ) → 1920000 ≤ silence → hold_of setup.now.plan ≤ silence → 2 ≤ pause → silence + 3 ≤ length starts.now * suc pause
         → (plant : Plant F) → IsAnywhereAmong setup.now starts.now identity.now silence plant
         → LeadsAnywhereBack F.Flash identity.now pause (again_limit setup.now silence pause) plant }
-    // If the device loses its power and starts again from its flash, both ends are in any state again, and so the law holds.
+    // If the device, which was given the plan's modules, loses its power and starts again from its flash, both ends are in any state again,
+    // and so the law holds.
     ensures powered { (silence : ℕ) (plant : Plant F) (device : State F) → IsAnywhereAmong setup.now starts.now identity.now silence plant
-        → HasStored F.Flash setup.now plant.net.device.flash → IsStartedFrom F.Flash plant.net.device.station plant.net.device.flash device
+        → plant.net.device.station.real ≡ setup.now.plan.real → HasStored F.Flash setup.now plant.net.device.flash → IsStartedFrom F.Flash plant.net.device.station plant.net.device.flash device
         → IsAnywhereAmong setup.now starts.now identity.now silence (powered device plant) }
 {
+    only_pulls_and_plugs_change_modules();
     all_starts_hold::<F, S>(setup, starts, identity);
     stations_are_real(setup, identity);
     type_is_short(identity);
@@ -56,6 +60,7 @@ pub fn both_ends_come_back_after_any_pause<F: Flash<S>, const S: usize>(
     calls_are_heard();
     responses_are_heard();
     ready_calls_are_heard();
+    plug_calls_are_heard();
     ready_answers_are_heard();
     confirmations_are_heard();
     inputs_are_heard();

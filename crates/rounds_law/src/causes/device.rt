@@ -36,9 +36,9 @@ pub fn device_reports_its_modules(setup: &Setup, identity: &Identity)
         → (outcomes : List Outcome) (station : Station) (live : Live) → station.identity ≡ identity.now
         → AcceptsInterval station.options setup.now.plan → IsAddressed setup.now live → IsFree setup.now live
         → ((device_step outcomes station live (request_to setup.now identity.now Connect)).frames
-        ≡ differing_frame setup.now identity.now (number_now station live) station.real ∷ [])
+        ≡ differing_frame setup.now identity.now (number_now station live) live.rest.real ∷ [])
         × (AreSendable identity.now (device_step outcomes station live (request_to setup.now identity.now Connect)).sent
-        → CanBeAnswered (answer_to (call_for setup.now Connect) done (blocks_with setup.now identity.now (number_now station live) station.real))) }
+        → CanBeAnswered (answer_to (call_for setup.now Connect) done (blocks_with setup.now identity.now (number_now station live) live.rest.real))) }
 {
     stations_are_real(setup, identity);
     calls_can_be_sent();

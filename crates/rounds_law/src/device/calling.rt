@@ -17,7 +17,7 @@ ghost use Rattle.rounds_law.specs.Path.{device_step, ended_frame, readied_frame,
 ghost use Rattle.rounds_law.specs.Start.{IsOfPlan};
 
 use block_codec::blocks_are_read;
-use both_ends::{connect_is_taken, modules_are_sized};
+use both_ends::connect_is_taken;
 use controller_messages::Setup;
 use end_laws::{calls_are_heard, calls_can_be_sent, ready_answers_are_heard, stations_are_real};
 use pn_values::Identity;
@@ -27,7 +27,7 @@ use pn_values::Identity;
 pub fn device_takes_calls(setup: &Setup, identity: &Identity)
     // A device without a relation accepts the plan's Connect.
     ensures connected { CanMeet setup.now identity.now → is_zero setup.now.plan.station.suite.address ≡ false
-        → (outcomes : List Outcome) (station : Station) (live : Live) → station.identity ≡ identity.now → IsOfPlan setup.now station
+        → (outcomes : List Outcome) (station : Station) (live : Live) → station.identity ≡ identity.now → IsOfPlan setup.now station live.rest.real
         → IsAddressed setup.now live → IsFree setup.now live
         → ((device_step outcomes station live (request_to setup.now identity.now Connect)).frames
         ≡ answer_frame setup.now identity.now station.options (number_now station live) setup.now.plan.station.suite.address ∷ [])
@@ -36,16 +36,17 @@ pub fn device_takes_calls(setup: &Setup, identity: &Identity)
     // In the phase after the Connect it accepts PrmEnd, and sends ApplicationReady.
     ensures ended { CanMeet setup.now identity.now → is_zero setup.now.plan.station.suite.address ≡ false
         → (serial : ℕ) (outcomes : List Outcome) (station : Station) (live : Live) (taken : List TakenRecord) (last age : ℕ) → station.identity ≡ identity.now
-        → IsOfPlan setup.now station → IsAddressed setup.now live → last ≤ write_count setup.now.plan → HasRelation setup.now serial Started taken last age live
+        → IsOfPlan setup.now station live.rest.real → IsAddressed setup.now live → last ≤ write_count setup.now.plan → HasRelation setup.now serial Started taken last age live
         → ((device_step outcomes station live (request_to setup.now identity.now PrmEnd)).frames
         ≡ ended_frame setup.now identity.now ∷ readied_frame setup.now identity.now ∷ [])
         × ((device_step outcomes station live (request_to setup.now identity.now PrmEnd)).live.values ≡ live.values)
         × HasRelation setup.now serial Awaiting taken (write_count setup.now.plan + 1) 0
         (device_step outcomes station live (request_to setup.now identity.now PrmEnd)).live }
-    // With the response to ApplicationReady the exchange begins. The device reports a diagnosis, if one exists, and sends nothing else.
+    // With the response to ApplicationReady the exchange begins. The device reports a diagnosis, a pull or a plug, if there is one, and sends
+    // nothing else.
     ensures confirmed { CanMeet setup.now identity.now → is_zero setup.now.plan.station.suite.address ≡ false
         → (serial : ℕ) (outcomes : List Outcome) (station : Station) (live : Live) (taken : List TakenRecord) (last age : ℕ) → station.identity ≡ identity.now
-        → IsOfPlan setup.now station → IsAddressed setup.now live → HasRelation setup.now serial Awaiting taken last age live
+        → IsOfPlan setup.now station live.rest.real → IsAddressed setup.now live → HasRelation setup.now serial Awaiting taken last age live
         → AreSendable identity.now (device_step outcomes station live (confirmed_frame setup.now identity.now)).sent
         → AllByRecursion (IsReport setup.now identity.now) (device_step outcomes station live (confirmed_frame setup.now identity.now)).frames
         × ((device_step outcomes station live (confirmed_frame setup.now identity.now)).live.values ≡ live.values)
@@ -57,7 +58,4 @@ pub fn device_takes_calls(setup: &Setup, identity: &Identity)
     ready_answers_are_heard();
     blocks_are_read();
     connect_is_taken(&setup.plan, &setup.ar);
-    // The modules of the plan have their sizes.
-    let modules = setup.plan.real();
-    modules_are_sized(modules);
 }

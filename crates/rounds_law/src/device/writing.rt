@@ -48,7 +48,7 @@ pub fn device_takes_writes(setup: &Setup, identity: &Identity)
     // It accepts the plan's next Write: its response says for each record that it was written.
     ensures written { CanMeet setup.now identity.now → is_zero setup.now.plan.station.suite.address ≡ false → AreWritable setup.now
         → (serial : ℕ) (outcomes : List Outcome) (station : Station) (live : Live) (number age : ℕ) → station.identity ≡ identity.now
-        → IsOfPlan setup.now station → IsAddressed setup.now live → number < write_count setup.now.plan
+        → IsOfPlan setup.now station live.rest.real → IsAddressed setup.now live → number < write_count setup.now.plan
         → HasRelation setup.now serial Started (map taken_for (take (first_of setup.now.plan number) setup.now.plan.records.items)) number age live
         → (octets : List ℕ)
         × ((device_step outcomes station live (request_to setup.now identity.now (Write number))).frames ≡ octets ∷ [])

@@ -14,6 +14,7 @@ use crate::device::{
 use crate::middle::controller::controller_waits_for_ready;
 use crate::middle::device::device_waits_for_a_response;
 use controller_messages::Setup;
+use device_core::only_pulls_and_plugs_change_modules;
 use flash_model::Flash;
 use pn_values::Identity;
 
@@ -33,6 +34,7 @@ pub fn both_ends_go_on<F: Flash<S>, const S: usize>(setup: &Setup, identity: &Id
     // The response to ApplicationReady is under way: within a unit.
     ensures confirming { CanStart setup.now identity.now → (net : Net F) → IsConfirming setup.now identity.now net → Leads F.Flash 1 net }
 {
+    only_pulls_and_plugs_change_modules();
     device_answers_the_search(setup, identity);
     device_takes_calls(setup, identity);
     device_takes_writes(setup, identity);

@@ -50,6 +50,17 @@ impl<T> Vec<T> {
         }
     }
 
+    /// Inserts one at an index, before those from there on. Without memory it is handed back.
+    pub fn insert(&mut self, index: usize, item: T) -> Result<(), AllocFailed<T>> {
+        match self.items.try_reserve(1) {
+            Ok(()) => {
+                self.items.insert(index, item);
+                Ok(())
+            }
+            Err(_) => Err(AllocFailed(item)),
+        }
+    }
+
     /// Takes the last one away.
     pub fn pop(&mut self) -> Option<T> {
         self.items.pop()

@@ -1,6 +1,7 @@
 -- The response of a device to the Connect of a plan.
 use Rattle.std.specs.Prelude.{◌≡◌, ◌+◌, ◌≤◌, ◌*◌, ℕ, true, false, List, [], ◌∷◌, Some, None}
 use Rattle.pn_values.specs.declared.identity.Identity.{Identity}
+use Rattle.pn_values.specs.declared.real.Real.{Real}
 use Rattle.frame_codec.specs.declared.udp.Caller.{Caller}
 use Rattle.records.specs.declared.status.operation.Operation.TheVariants.{Connect}
 use Rattle.plans.specs.declared.parts.Controller.{Controller}
@@ -26,8 +27,8 @@ caller_of controller = record { mac = controller.mac; endpoint = calls_at contro
 abbrev pub AcceptsInterval : DeviceOptions → Parts → Type 0
 AcceptsInterval options plan = options.smallest_interval ≤ plan.times.send_clock_factor * plan.times.reduction_ratio
 
--- The message with which a device that has no relation, the modules of the plan, and these options, answers the Connect of the
--- plan from this address, for a relation of this number.
+-- The message with which a device that has no relation, in which the modules of the plan are plugged, and these options, answers the
+-- Connect of the plan from this address, for a relation of this number.
 abbrev pub answer_message : Setup → Identity → DeviceOptions → ℕ → List ℕ → Sent
 answer_message setup identity options number address =
     answer_from address (caller_of setup.plan.controller) (call_for setup asks.Connect) Connect
@@ -37,12 +38,15 @@ answer_message setup identity options number address =
 abbrev pub answer_frame : Setup → Identity → DeviceOptions → ℕ → List ℕ → List ℕ
 answer_frame setup identity options number address = bytes_of identity (answer_message setup identity options number address)
 
--- A device of this identity, with the modules of the plan, any options and no relation, judges a new call with the plan's
--- Connect and sends this message, from its running address, and no other.
+-- A device of this identity, in which the modules of the plan are plugged, with any options and no relation, judges a new call with
+-- the plan's Connect and sends this message, from its running address, and no other. It may have been given other modules.
 abbrev pub AnswersSo : Setup → Identity → Type 0
-AnswersSo setup identity = (options : DeviceOptions) → (device : Live) → device.rest.link ≡ None → (rest : Rest)
-    × (handled_new (station_with identity setup.plan.real options) device (caller_of setup.plan.controller) (call_for setup asks.Connect) (blocks_of setup asks.Connect) Connect
-    ≡ Moves rest (answer_message setup identity options (number_now (station_with identity setup.plan.real options) device) device.values.running.suite.address ∷ []))
+AnswersSo setup identity = (given : Real) → (options : DeviceOptions) → (device : Live) → device.rest.link ≡ None
+    → device.rest.real ≡ setup.plan.real → (rest : Rest)
+    × (handled_new (station_with identity given options) device (caller_of setup.plan.controller) (call_for setup asks.Connect)
+    (blocks_of setup asks.Connect) Connect
+    ≡ Moves rest
+    (answer_message setup identity options (number_now (station_with identity given options) device) device.values.running.suite.address ∷ []))
 
 -- the blocks of the response if the device accepts the plan's request: no module differs
 abbrev pub answer_blocks : Setup → Identity → ℕ → List ℕ

@@ -50,7 +50,7 @@ fn blocks_of(
 }
 
 /// The response of a device to the Connect of a plan whose ARUUID is not zero is a positive response for the plan's
-/// controller, if the device has no relation and has the plan's modules, whatever options it has, if its smallest interval is
+/// controller, if the device has no relation and the plan's modules are plugged, whatever options it has, if its smallest interval is
 /// not greater than the plan's interval. This is a law of the definitions by which the device responds and the controller goes on,
 /// for a relation of any number.
 pub fn connect_answer_is_read(setup: &Setup, identity: &Identity, address: [u8; 4], number: u16)

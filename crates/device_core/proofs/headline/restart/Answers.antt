@@ -10,10 +10,11 @@ returns-clause-headline g c = λ station flash first room begun events before no
     let parts = c.into_parts-identity.ensures in
     let again = rw (ap (λ t. t.0) parts, ap (λ t. t.1) parts, ap (λ t. t.2) parts) at c.boot_with.ensures.station in
     let powered = rw (ap (λ t. t.3) parts) at c.power_up.ensures in
+    let real_is : c.into_parts-identity.result.1 ≡ station.real = ap (λ t. t.1) parts ∙ ap (λ s. s.real) (run.same ∙ begins.station_is) in
     restarts_if g.F.Flash _ station flash first room events before now begun c.args.device c.power_up.result c.boot_with.result
     (begins.known first room starts) begins.station_is begins.image_is begins.failures_are begins.none_asked
     left run powered (c.requires.keeps c.args.device.flash c.power_up.result powered)
-    c.boot_with.ensures.known c.boot_with.ensures.fresh c.boot_with.ensures.starts again c.boot_with.ensures.same c.boot_with.ensures.cause c.boot_with.ensures.calls
+    (rw real_is at c.boot_with.ensures.known) (rw real_is at c.boot_with.ensures.fresh) c.boot_with.ensures.starts again c.boot_with.ensures.same c.boot_with.ensures.cause c.boot_with.ensures.calls
 
 pub returns-clause-refused : goal.returns-clause-refused
 returns-clause-refused g c = λ station flash begun events before now begins run.
@@ -26,8 +27,9 @@ pub returns-clause-fresh : goal.returns-clause-fresh
 returns-clause-fresh g c = λ station same.
     let parts = c.into_parts-identity.ensures in
     let again = rw (ap (λ t. t.0) parts, ap (λ t. t.1) parts, ap (λ t. t.2) parts) at c.boot_with.ensures.station in
+    let real_is : c.into_parts-identity.result.1 ≡ station.real = ap (λ t. t.1) parts ∙ ap (λ s. s.real) same in
     is_started_if g.F.Flash station c.args.device c.power_up.result c.boot_with.result
-    same again c.boot_with.ensures.fresh c.boot_with.ensures.starts c.boot_with.ensures.same
+    same again (rw real_is at c.boot_with.ensures.fresh) c.boot_with.ensures.starts c.boot_with.ensures.same
 
 pub returns-clause-left : goal.returns-clause-left
 returns-clause-left g c = λ left.

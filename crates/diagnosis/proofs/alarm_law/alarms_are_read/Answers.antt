@@ -1,6 +1,6 @@
 -- This follows from the laws of the formats.
-use Rattle.diagnosis.proofs.Blocks.{alarm_long, diagnosed_long}
-use Rattle.diagnosis.proofs.Pdus.{alarm_said, diagnosis_said}
+use Rattle.diagnosis.proofs.Blocks.{alarm_long, bare_long, diagnosed_long}
+use Rattle.diagnosis.proofs.Pdus.{alarm_said, bare_said, diagnosis_said, low_said}
 use Rattle.diagnosis.proofs.alarm_law.alarms_are_read.Goals as goal
 
 pub returns-clause-read : goal.returns-clause-read
@@ -14,3 +14,12 @@ returns-clause-low c = diagnosis_said c.fitting_pdus_are_read.ensures.read c.rep
 
 pub returns-clause-low_long : goal.returns-clause-low_long
 returns-clause-low_long c = diagnosed_long
+
+pub returns-clause-bare : goal.returns-clause-bare
+returns-clause-bare c = bare_said c.fitting_pdus_are_read.ensures.read c.reports_are_read.ensures.read
+
+pub returns-clause-any : goal.returns-clause-any
+returns-clause-any c = low_said c.fitting_pdus_are_read.ensures.read c.reports_are_read.ensures.read
+
+pub returns-clause-bare_long : goal.returns-clause-bare_long
+returns-clause-bare_long c = bare_long

@@ -38,6 +38,8 @@ hears_so g c = record {
   agreed_at_controller = c.ready_answers_are_heard.ensures.controller;
   ready_can = c.calls_can_be_sent.ensures.ready;
   ready_at_controller = c.ready_calls_are_heard.ensures.controller;
+  plug_can = c.plug_calls_are_heard.ensures.sent;
+  plug_at_controller = c.plug_calls_are_heard.ensures.controller;
   response_at_controller = c.responses_are_heard.ensures.controller;
   response_long = c.responses_are_heard.ensures.long;
   chosen = c.answers_choose_well.ensures;
@@ -49,11 +51,11 @@ there : (g : _) → goal.After-inputs_are_received g → (setup : Setup) → IsS
 there g c setup good = placed setup (c.packed_places_are_asked.ensures.good Input setup.plan.real.modules.items good.plan.good.ordered)
 
 pub returns-clause-zeros : goal.returns-clause-zeros
-returns-clause-zeros g c = λ can first run begins made real none.
+returns-clause-zeros g c = λ can first run begins made real sized none.
     shows_zeros c.device_turns.ensures.turn c.turns_are_of_a_kind.ensures.event (device_so g c) (hears_so g c) c.formats_are_sound.ensures.ethernet c.formats_are_sound.ensures.layers (there g c) first
-    c.args.setup.now c.args.identity.now c.stations_are_real.ensures.setup can begins real g.F.Flash run made (c.worlds_start_up.ensures.meant can first run begins made) c.inputs_are_received.ensures.none none
+    c.args.setup.now c.args.identity.now c.stations_are_real.ensures.setup can begins real g.F.Flash run made sized (c.worlds_start_up.ensures.meant can first run begins made) c.inputs_are_received.ensures.none none
 
 pub returns-clause-values : goal.returns-clause-values
-returns-clause-values g c = λ can first run begins made real has.
+returns-clause-values g c = λ can first run begins made real sized has.
     shows_one_frame c.device_turns.ensures.turn c.turns_are_of_a_kind.ensures.event (device_so g c) (hears_so g c) c.formats_are_sound.ensures.ethernet c.formats_are_sound.ensures.layers (there g c) first
-    c.args.setup.now c.args.identity.now c.stations_are_real.ensures.setup can begins real g.F.Flash run made (c.worlds_start_up.ensures.meant can first run begins made) c.outputs_are_given.ensures has
+    c.args.setup.now c.args.identity.now c.stations_are_real.ensures.setup can begins real g.F.Flash run made sized (c.worlds_start_up.ensures.meant can first run begins made) c.outputs_are_given.ensures has

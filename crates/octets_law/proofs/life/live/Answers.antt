@@ -31,7 +31,7 @@ returns-in_err-device-2-clause-left g c = λ blank.
     let here = c.in_ok-device.ensures in
     let ready = ready_blank g.F.Flash _ (station_with (g.T.Product.identity_of product) (g.T.Product.real_of product) c.args.options) c.in_ok-device.device (g.F.Flash.image c.args.flash) _
     here.station (ap (λ i. station_with i c.real.result c.args.options) c.identity.ensures ∙ ap (λ r. station_with (g.T.Product.identity_of product) r c.args.options) c.real.ensures)
-    (here.blank blank) here.known here.same in
+    (here.blank blank) (rw c.real.ensures at here.known) here.same in
     rw (p.1, p.2) (c.in_err-device-2.ensures.left (c.loop-events.invariant ready).ready.left)
 
 pub returns-clause-octets : goal.returns-clause-octets
@@ -40,7 +40,7 @@ returns-clause-octets g c = λ blank.
     let here = c.in_ok-device.ensures in
     let ready = ready_blank g.F.Flash _ (station_with (g.T.Product.identity_of product) (g.T.Product.real_of product) c.args.options) c.in_ok-device.device (g.F.Flash.image c.args.flash) _
     here.station (ap (λ i. station_with i c.real.result c.args.options) c.identity.ensures ∙ ap (λ r. station_with (g.T.Product.identity_of product) r c.args.options) c.real.ensures)
-    (here.blank blank) here.known here.same in
+    (here.blank blank) (rw c.real.ensures at here.known) here.same in
     is_life g.F.Flash (station_with (g.T.Product.identity_of product) (g.T.Product.real_of product) c.args.options) _ _ _ c.loop-events.device
     (subst (λ l. HasLived g.F.Flash (station_with (g.T.Product.identity_of product) (g.T.Product.real_of product) c.args.options) (map (λ events. events.items) l) (g.W.Witness.told c.args.witness.now) (g.W.Witness.told c.loop-events.witness) c.loop-events.device)
     (take_all c.loop-events.events-index c.args.cycles.now c.loop-events-test.false) (c.loop-events.invariant ready))

@@ -13,7 +13,7 @@ returns-clause-lives g c = λ first ready.
     lives_if g.F.Flash station c.args.device c.turn_all.new.device c.power_up-flash.result first c.args.events.now _ _ c.boot_with.result ready c.turn_all.ensures same
     (subst (λ s. IfOk c.boot_with.result (λ device. device.station ≡ s)) (ap (λ i. station_with i c.real.result c.args.options) c.identity.ensures
     ∙ ap (λ r. station_with (g.T.Product.identity_of product) r c.args.options) c.real.ensures) c.boot_with.ensures.station)
-    c.boot_with.ensures.known c.boot_with.ensures.same
+    (rw c.real.ensures at c.boot_with.ensures.known) c.boot_with.ensures.same
 
 pub returns-clause-left : goal.returns-clause-left
 returns-clause-left g c = λ left.

@@ -35,6 +35,7 @@ controller_laws g c = record {
 
 device_laws : (g : _) (c : goal.After-no_state_outlasts_its_patience g) → DeviceLaws c.args.setup.now c.args.identity.now
 device_laws g c = record {
+  modules = c.only_pulls_and_plugs_change_modules.ensures;
   hears = record {
     identify = c.requests_are_heard.ensures.identify;
     address = c.requests_are_heard.ensures.address;
@@ -53,6 +54,8 @@ device_laws g c = record {
     response = c.responses_are_heard.ensures.controller;
     ready = c.ready_calls_are_heard.ensures.controller;
     ready_can = c.calls_can_be_sent.ensures.ready;
+    plug = c.plug_calls_are_heard.ensures.controller;
+    plug_can = c.plug_calls_are_heard.ensures.sent;
   };
   negative = c.refusals_are_not_done.ensures;
   whole = c.connect_answers_are_whole.ensures;
@@ -117,6 +120,7 @@ next_device_laws : (g : _) (c : goal.After-no_state_outlasts_its_patience g) →
 next_device_laws g c starts =
     let laws = device_laws g c in
     record {
+      modules = laws.modules;
       hears = laws.hears;
       says = laws.says;
       negative = laws.negative;
@@ -193,7 +197,7 @@ returns-clause-device g c = λ can can_next starts silence active holds before a
     )
 
 pub returns-clause-powered : goal.returns-clause-powered
-returns-clause-powered g c = λ silence plant device at stored is. (
-  anywhere_again g.F.Flash c.args.setup.now c.args.next.now c.args.identity.now silence plant device at stored is,
+returns-clause-powered g c = λ silence plant device at given stored is. (
+  anywhere_again g.F.Flash c.args.setup.now c.args.next.now c.args.identity.now silence plant device at given stored is,
   λ same. powered_of_start g.F.Flash c.args.setup.now plant device same stored is,
 )

@@ -8,6 +8,7 @@ use Rattle.rounds_law.proofs.law.both_ends_start.Goals as goal
 
 laws_of : (g : _) (c : goal.After-controller_goes_on_in_time g) → Laws c.args.setup.now c.args.identity.now
 laws_of g c = record {
+  modules = c.only_pulls_and_plugs_change_modules.ensures;
   device_found = c.device_answers_the_search.ensures.found;
   device_set = c.device_answers_the_search.ensures.set;
   device_connected = c.device_takes_calls.ensures.connected;

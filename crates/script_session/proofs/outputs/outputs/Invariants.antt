@@ -6,5 +6,5 @@ use Rattle.script_session.proofs.outputs.outputs.Given as goal
 
 abbrev pub invariant-loop-entry : goal.invariant-loop-entry
 invariant-loop-entry l =
-    l.initial.text.items ++ flat_map (module_shown l.device.station.real l.device.live.rest.link) l.device.station.real.modules.items
-    ≡ l.text.items ++ flat_map (module_shown l.device.station.real l.device.live.rest.link) (drop l.entry-index l.device.station.real.modules.items)
+    l.initial.text.items ++ flat_map (module_shown l.device.live.rest.real l.device.live.rest.link) l.device.live.rest.real.modules.items
+    ≡ l.text.items ++ flat_map (module_shown l.device.live.rest.real l.device.live.rest.link) (drop l.entry-index l.device.live.rest.real.modules.items)

@@ -36,6 +36,8 @@ hears_so g c = record {
   agreed_at_controller = c.ready_answers_are_heard.ensures.controller;
   ready_can = c.calls_can_be_sent.ensures.ready;
   ready_at_controller = c.ready_calls_are_heard.ensures.controller;
+  plug_can = c.plug_calls_are_heard.ensures.sent;
+  plug_at_controller = c.plug_calls_are_heard.ensures.controller;
   response_at_controller = c.responses_are_heard.ensures.controller;
   response_long = c.responses_are_heard.ensures.long;
   chosen = c.answers_choose_well.ensures;
@@ -44,10 +46,10 @@ hears_so g c = record {
 
 pub returns : goal.returns
 returns g c = record {
-  taken = λ can first run begins made real.
-      alarms_taken g.F.Flash first run made
-      (λ some made_so. reads c.formats_are_sound.ensures.layers (device_so g c) (hears_so g c) c.args.setup.now c.args.identity.now c.stations_are_real.ensures.setup can g.F.Flash first begins real some made_so
+  taken = λ can first run begins made real sized.
+      alarms_taken g.F.Flash first run made sized
+      (λ some made_so sized_so. reads c.formats_are_sound.ensures.layers (device_so g c) (hears_so g c) c.args.setup.now c.args.identity.now c.stations_are_real.ensures.setup can g.F.Flash first begins real some made_so sized_so
       (c.worlds_start_up.ensures.meant can first some begins made_so))
-      (c.worlds_take_alarms.ensures.front can first run begins made real) (c.worlds_take_alarms.ensures.last can first run begins made real)
-      (λ some made_so. c.worlds_take_alarms.ensures.shown can first some begins made_so real);
+      (c.worlds_take_alarms.ensures.front can first run begins made real sized) (c.worlds_take_alarms.ensures.last can first run begins made real sized)
+      (λ some made_so sized_so. c.worlds_take_alarms.ensures.shown can first some begins made_so real sized_so);
 }

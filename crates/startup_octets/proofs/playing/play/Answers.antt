@@ -12,7 +12,7 @@ use Rattle.startup_octets.specs.Played.{records_for}
 use Rattle.startup_octets.specs.Log.{sent_in, turns_in}
 use Rattle.startup_octets.specs.Run.{entries_of, opening_entry}
 use Rattle.startup_octets.proofs.AlarmRuns.{none_taken}
-use Rattle.startup_octets.proofs.Entries.{added_is, cut_so, cut_turns, entries_delivered, entries_said, entries_sent, no_start_ups, none_added, run_so, run_turns}
+use Rattle.startup_octets.proofs.Entries.{added_is, cut_so, cut_turns, entries_delivered, entries_said, entries_sent, no_start_ups, none_added, run_so, run_turns, sized_cut, sized_so}
 use Rattle.startup_octets.proofs.OutputRuns.{none_shown}
 use Rattle.startup_octets.proofs.OutputSteps.{none_kept}
 use Rattle.startup_octets.proofs.playing.play.Goals as goal
@@ -82,10 +82,10 @@ returns-in-Ok-clause-start_ups g c = λ entries is strict.
 pub returns-in-Ok-clause-alarms : goal.returns-in-Ok-clause-alarms
 returns-in-Ok-clause-alarms g c =
     let first = c.in_ok-world.world in
-    run_so g.F.Flash first AreAlarmsTaken
+    sized_so g.F.Flash first AreAlarmsTaken
     (λ run made. c.alarms_are_read.ensures.taken c.in_ok-world.ensures.can first run c.in_ok-world.ensures.begins made
-    (subst (λ (r : Real). AreSizedModules r.modules.items) (c.real.ensures ∙ ap (λ d. d.station.real) c.device.ensures) c.modules_are_sized.ensures))
-    c.args.moves.now _ _ c.in-Ok.last c.in-Ok.ensures.played
+    (subst (λ (r : Real). AreSizedModules r.modules.items) (c.real.ensures ∙ ap (λ d. d.live.rest.real) c.device.ensures) c.modules_are_sized.ensures))
+    c.args.moves.now c.moves_are_sized.ensures _ _ c.in-Ok.last c.in-Ok.ensures.played
 
 pub returns-in-Ok-clause-outputs : goal.returns-in-Ok-clause-outputs
 returns-in-Ok-clause-outputs g c =
@@ -127,10 +127,10 @@ returns-in-Err-clause-start_ups g c = λ entries is strict.
 pub returns-in-Err-clause-alarms : goal.returns-in-Err-clause-alarms
 returns-in-Err-clause-alarms g c =
     let first = c.in_ok-world.world in
-    cut_so g.F.Flash first AreAlarmsTaken
+    sized_cut g.F.Flash first AreAlarmsTaken
     (λ run made. c.alarms_are_read.ensures.taken c.in_ok-world.ensures.can first run c.in_ok-world.ensures.begins made
-    (subst (λ (r : Real). AreSizedModules r.modules.items) (c.real.ensures ∙ ap (λ d. d.station.real) c.device.ensures) c.modules_are_sized.ensures))
-    none_taken c.args.moves.now _ _ c.in-Err.ensures.cut
+    (subst (λ (r : Real). AreSizedModules r.modules.items) (c.real.ensures ∙ ap (λ d. d.live.rest.real) c.device.ensures) c.modules_are_sized.ensures))
+    none_taken c.args.moves.now c.moves_are_sized.ensures _ _ c.in-Err.ensures.cut
 
 pub returns-in-Err-clause-outputs : goal.returns-in-Err-clause-outputs
 returns-in-Err-clause-outputs g c =

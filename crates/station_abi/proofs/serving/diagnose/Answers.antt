@@ -15,7 +15,7 @@ returns c =
     let old = c.args.port.now in
     let new = c.diagnosis-outcome.new.self in
     let said : Local (ArrayVec ℕ) = Diagnosis c.args.place.0 c.args.place.1 c.args.what.0 c.args.what.1 (not (c.args.op.now.appears == 0)) in
-    let why = λ (station : Station) (live : Live). why_no_diagnosis station.real.modules.items live.rest.diagnoses (change_of c.args.place.0 c.args.place.1 c.args.what.0 c.args.what.1 (not (c.args.op.now.appears == 0))) in
+    let why = λ (station : Station) (live : Live). why_no_diagnosis live.rest.real.modules.items live.rest.diagnoses (change_of c.args.place.0 c.args.place.1 c.args.what.0 c.args.what.1 (not (c.args.op.now.appears == 0))) in
     let before = why old.port.device.station old.port.device.live in
     said_with old new said c.diagnosis-outcome.result before c.why_no_diagnosis-why.result c.args.op.now c.conclude.new.op c.conclude.result c.diagnosis-outcome.ensures
     (reason_before why c.device.result.now old.port new.port c.why_no_diagnosis-why.result (λ station live peer. refl) c.device.ensures c.why_no_diagnosis-why.ensures) c.conclude.ensures

@@ -15,7 +15,7 @@ returns-in-Some c =
     let old = c.args.port.now in
     let new = c.input.new.self in
     let said : Local (ArrayVec ℕ) = Input c.args.place.0 c.args.place.1 (record { items = take 1519 c.args.given.now }) in
-    let why = λ (station : Station) (live : Live). why_no_input station.real.modules.items c.args.place.0 c.args.place.1 (length c.args.given.now) (phase_of live.rest.link) in
+    let why = λ (station : Station) (live : Live). why_no_input live.rest.real.modules.items c.args.place.0 c.args.place.1 (length c.args.given.now) (phase_of live.rest.link) in
     let before = why old.port.device.station old.port.device.live in
     said_with old new said c.in-Some.outcome before c.why_no_input-why.result c.args.op.now c.conclude.new.op c.conclude.result c.in-Some.ensures
     (reason_before why c.device.result.now old.port new.port c.why_no_input-why.result (λ station live peer. refl) c.device.ensures c.why_no_input-why.ensures) c.conclude.ensures

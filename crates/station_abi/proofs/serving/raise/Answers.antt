@@ -14,7 +14,7 @@ returns c =
     let old = c.args.port.now in
     let new = c.alarm-outcome.new.self in
     let said : Local (ArrayVec ℕ) = Alarm c.args.place.0 c.args.place.1 (record { items = take 1519 c.args.given.now }) in
-    let why = λ (station : Station) (live : Live). why_no_alarm station.real.modules.items c.args.place.0 c.args.place.1 (length c.args.given.now) (phase_of live.rest.link) in
+    let why = λ (station : Station) (live : Live). why_no_alarm live.rest.real.modules.items c.args.place.0 c.args.place.1 (length c.args.given.now) (phase_of live.rest.link) in
     let before = why old.port.device.station old.port.device.live in
     said_with old new said c.alarm-outcome.result before c.why_no_alarm-why.result c.args.op.now c.conclude.new.op c.conclude.result c.alarm-outcome.ensures
     (reason_before why c.device.result.now old.port new.port c.why_no_alarm-why.result (λ station live peer. refl) c.device.ensures c.why_no_alarm-why.ensures) c.conclude.ensures

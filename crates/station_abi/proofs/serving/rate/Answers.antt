@@ -14,7 +14,7 @@ returns c =
     let old = c.args.port.now in
     let new = c.status-outcome.new.self in
     let said : Local (ArrayVec ℕ) = Status c.args.place.0 c.args.place.1 (not (c.args.op.now.is_good == 0)) in
-    let why = λ (station : Station) (live : Live). why_no_status station.real.modules.items c.args.place.0 c.args.place.1 in
+    let why = λ (station : Station) (live : Live). why_no_status live.rest.real.modules.items c.args.place.0 c.args.place.1 in
     let before = why old.port.device.station old.port.device.live in
     said_with old new said c.status-outcome.result before c.why_no_status-why.result c.args.op.now c.conclude.new.op c.conclude.result c.status-outcome.ensures
     (reason_before why c.device.result.now old.port new.port c.why_no_status-why.result (λ station live peer. refl) c.device.ensures c.why_no_status-why.ensures) c.conclude.ensures

@@ -11,7 +11,7 @@ use Rattle.network_world.specs.declared.moves.Move.{Move}
 use Rattle.network_world.specs.World.{World, last_world}
 use Rattle.end_laws.specs.turns.Alarms.{last_of}
 use Rattle.both_ends.specs.exchange.Over.{IsOneOfTheLastTwo, raised_over, reported_over, taken_over}
-use Rattle.both_ends.specs.exchange.Told.{AreSizedMoves, IsTold, known_at}
+use Rattle.both_ends.specs.exchange.Told.{AreNoPulls, AreSizedMoves, IsTold, known_at}
 use Rattle.strangers_law.specs.CallingRuns.{IsRunBeside, Occurrence, last_with_callers, moves_in}
 use Rattle.strangers_law.proofs.CallingCarried.{all_raised, all_reported, all_sized, all_taken, one_frame, same_diagnoses, same_link}
 use Rattle.strangers_law.proofs.exchanges.callers_leave_exchanges.Goals as goal
@@ -47,6 +47,10 @@ module _ {F : Type 0} {S : ℕ} (as_flash : Flash F S) (others : List (List ℕ)
   few_alone few =
       subst (λ (reported : Taken). length reported ≤ 32768) (all_reported others first first moves beside.alone beside.begins beside.moves) few
 
+  no_pulls_alone : AreNoPulls (reported_over first moves) → AreNoPulls (reported_over first beside.alone)
+  no_pulls_alone none =
+      subst (λ (reported : Taken). AreNoPulls reported) (all_reported others first first moves beside.alone beside.begins beside.moves) none
+
   sized_alone : AreSizedMoves moves → AreSizedMoves beside.alone
   sized_alone sized = all_sized others moves beside.alone beside.moves sized
 
@@ -72,61 +76,68 @@ returns-clause-values g c = λ can others first run few begins are link is some.
     (c.worlds_show_what_is_given.ensures.values can first beside.alone begins beside.made link (link_alone g.F.Flash others first run beside link is) some)
 
 pub returns-clause-front : goal.returns-clause-front
-returns-clause-front g c = λ can others first run few begins are sized.
+returns-clause-front g c = λ can others first run few begins are sized few_bits.
     let beside = c.callers_leave_both_ends.ensures.runs can others first run few begins are in
     of_high g.F.Flash others first run beside (λ raised taken. length raised ≤ 32768 → IsPrefixOf taken raised)
-    (c.worlds_take_alarms.ensures.front can first beside.alone begins beside.made sized)
+    (c.worlds_take_alarms.ensures.front can first beside.alone begins beside.made sized
+    (sized_alone g.F.Flash others first run beside few_bits))
 
 pub returns-clause-last : goal.returns-clause-last
-returns-clause-last g c = λ can others first run few begins are sized.
+returns-clause-last g c = λ can others first run few begins are sized few_bits.
     let beside = c.callers_leave_both_ends.ensures.runs can others first run few begins are in
     of_high g.F.Flash others first run beside (λ raised taken. length raised ≤ 32768 → length raised ≤ length taken + 1)
-    (c.worlds_take_alarms.ensures.last can first beside.alone begins beside.made sized)
+    (c.worlds_take_alarms.ensures.last can first beside.alone begins beside.made sized
+    (sized_alone g.F.Flash others first run beside few_bits))
 
 pub returns-clause-shown : goal.returns-clause-shown
-returns-clause-shown g c = λ can others first run few begins are sized.
+returns-clause-shown g c = λ can others first run few begins are sized few_bits.
     let beside = c.callers_leave_both_ends.ensures.runs can others first run few begins are in
     of_high g.F.Flash others first run beside (λ raised taken. (last_with_callers first run).controller.live.alarm ≡ last_of taken)
     (of_last g.F.Flash others first run beside (λ control. control.live.alarm ≡ last_of (taken_over High first beside.alone))
-    (c.worlds_take_alarms.ensures.shown can first beside.alone begins beside.made sized))
+    (c.worlds_take_alarms.ensures.shown can first beside.alone begins beside.made sized
+    (sized_alone g.F.Flash others first run beside few_bits)))
 
 pub returns-clause-alarm : goal.returns-clause-alarm
-returns-clause-alarm g c = λ can others first run few begins are sized.
+returns-clause-alarm g c = λ can others first run few begins are sized few_bits.
     let beside = c.callers_leave_both_ends.ensures.runs can others first run few begins are in
     of_high g.F.Flash others first run beside
     (λ raised taken. length raised ≤ 32768 → IsOneOfTheLastTwo raised (last_with_callers first run).controller.live.alarm)
     (of_last g.F.Flash others first run beside
     (λ control. length (raised_over first beside.alone) ≤ 32768 → IsOneOfTheLastTwo (raised_over first beside.alone) control.live.alarm)
-    (c.worlds_take_alarms.ensures.alarm can first beside.alone begins beside.made sized))
+    (c.worlds_take_alarms.ensures.alarm can first beside.alone begins beside.made sized
+    (sized_alone g.F.Flash others first run beside few_bits)))
 
 pub returns-clause-reports : goal.returns-clause-reports
-returns-clause-reports g c = λ can others first run few begins are sized.
+returns-clause-reports g c = λ can others first run few begins are sized few_bits.
     let beside = c.callers_leave_both_ends.ensures.runs can others first run few begins are in
     of_low g.F.Flash others first run beside (λ reported taken. length reported ≤ 32768 → IsPrefixOf taken reported)
-    (c.worlds_take_alarms.ensures.reports can first beside.alone begins beside.made sized)
+    (c.worlds_take_alarms.ensures.reports can first beside.alone begins beside.made sized
+    (sized_alone g.F.Flash others first run beside few_bits))
 
 pub returns-clause-reported_last : goal.returns-clause-reported_last
-returns-clause-reported_last g c = λ can others first run few begins are sized.
+returns-clause-reported_last g c = λ can others first run few begins are sized few_bits.
     let beside = c.callers_leave_both_ends.ensures.runs can others first run few begins are in
     of_low g.F.Flash others first run beside (λ reported taken. length reported ≤ 32768 → length reported ≤ length taken + 1)
-    (c.worlds_take_alarms.ensures.reported_last can first beside.alone begins beside.made sized)
+    (c.worlds_take_alarms.ensures.reported_last can first beside.alone begins beside.made sized
+    (sized_alone g.F.Flash others first run beside few_bits))
 
 pub returns-clause-told : goal.returns-clause-told
-returns-clause-told g c = λ can others first run few begins are sized known few_bits link is exchanges.
+returns-clause-told g c = λ can others first run few begins are sized few_bits known link is exchanges.
     let beside = c.callers_leave_both_ends.ensures.runs can others first run few begins are in
     of_low g.F.Flash others first run beside (λ reported taken. IsTold link.flow.low (last_with_callers first run).device.live.rest.diagnoses reported)
     (of_diagnoses g.F.Flash others first run beside (λ diagnoses. IsTold link.flow.low diagnoses (reported_over first beside.alone))
-    (c.worlds_take_alarms.ensures.told can first beside.alone begins beside.made sized known
-    (sized_alone g.F.Flash others first run beside few_bits) link (link_alone g.F.Flash others first run beside link is) exchanges))
+    (c.worlds_take_alarms.ensures.told can first beside.alone begins beside.made sized
+    (sized_alone g.F.Flash others first run beside few_bits) known link (link_alone g.F.Flash others first run beside link is) exchanges))
 
 pub returns-clause-list : goal.returns-clause-list
-returns-clause-list g c = λ can others first run few begins are sized known few_bits few_reports link is exchanges confirmed none stands.
+returns-clause-list g c = λ can others first run few begins are sized few_bits known few_reports no_pulls link is exchanges confirmed none stands.
     let beside = c.callers_leave_both_ends.ensures.runs can others first run few begins are in
     of_diagnoses g.F.Flash others first run beside (λ diagnoses. (last_with_callers first run).controller.live.diagnosis ≡ known_at link.flow.low diagnoses)
     (of_last g.F.Flash others first run beside
     (λ control. control.live.diagnosis ≡ known_at link.flow.low (last_world first beside.alone).device.live.rest.diagnoses)
-    (c.worlds_take_alarms.ensures.list can first beside.alone begins beside.made sized known
-    (sized_alone g.F.Flash others first run beside few_bits)
+    (c.worlds_take_alarms.ensures.list can first beside.alone begins beside.made sized
+    (sized_alone g.F.Flash others first run beside few_bits) known
     (few_alone g.F.Flash others first run beside few_reports)
+    (no_pulls_alone g.F.Flash others first run beside no_pulls)
     link (link_alone g.F.Flash others first run beside link is) exchanges confirmed none
     (subst (λ (control : Controlling). control.live.stands ≡ true) beside.last.controller stands)))

@@ -37,6 +37,8 @@ hears_so g c = record {
   agreed_at_controller = c.ready_answers_are_heard.ensures.controller;
   ready_can = c.calls_can_be_sent.ensures.ready;
   ready_at_controller = c.ready_calls_are_heard.ensures.controller;
+  plug_can = c.plug_calls_are_heard.ensures.sent;
+  plug_at_controller = c.plug_calls_are_heard.ensures.controller;
   response_at_controller = c.responses_are_heard.ensures.controller;
   response_long = c.responses_are_heard.ensures.long;
   chosen = c.answers_choose_well.ensures;
@@ -44,56 +46,56 @@ hears_so g c = record {
 }
 
 pub returns-clause-front : goal.returns-clause-front
-returns-clause-front g c = λ can first run begins made real few.
+returns-clause-front g c = λ can first run begins made real sized few.
     let follows = high_so (device_so g c) (hears_so g c) c.args.setup.now c.args.identity.now c.stations_are_real.ensures.setup can
-    g.F.Flash first run begins real made (c.worlds_start_up.ensures.meant can first run begins made) in
+    g.F.Flash first run begins real made sized (c.worlds_start_up.ensures.meant can first run begins made) in
     in_order High (last_world first run) (raised_over first run) (taken_over High first run) follows c.alarms_are_taken_in_order.ensures.prefix few
 
 pub returns-clause-last : goal.returns-clause-last
-returns-clause-last g c = λ can first run begins made real few.
+returns-clause-last g c = λ can first run begins made real sized few.
     let follows = high_so (device_so g c) (hears_so g c) c.args.setup.now c.args.identity.now c.stations_are_real.ensures.setup can
-    g.F.Flash first run begins real made (c.worlds_start_up.ensures.meant can first run begins made) in
+    g.F.Flash first run begins real made sized (c.worlds_start_up.ensures.meant can first run begins made) in
     lacks_one High (last_world first run) (raised_over first run) (taken_over High first run) follows c.alarms_are_taken_in_order.ensures.last few
 
 pub returns-clause-shown : goal.returns-clause-shown
-returns-clause-shown g c = λ can first run begins made real.
+returns-clause-shown g c = λ can first run begins made real sized.
     let follows = high_so (device_so g c) (hears_so g c) c.args.setup.now c.args.identity.now c.stations_are_real.ensures.setup can
-    g.F.Flash first run begins real made (c.worlds_start_up.ensures.meant can first run begins made) in
+    g.F.Flash first run begins real made sized (c.worlds_start_up.ensures.meant can first run begins made) in
     shows High (last_world first run) (raised_over first run) (taken_over High first run) follows c.alarms_are_taken_in_order.ensures.shown
 
 pub returns-clause-alarm : goal.returns-clause-alarm
-returns-clause-alarm g c = λ can first run begins made real few.
+returns-clause-alarm g c = λ can first run begins made real sized few.
     let follows = high_so (device_so g c) (hears_so g c) c.args.setup.now c.args.identity.now c.stations_are_real.ensures.setup can
-    g.F.Flash first run begins real made (c.worlds_start_up.ensures.meant can first run begins made) in
+    g.F.Flash first run begins real made sized (c.worlds_start_up.ensures.meant can first run begins made) in
     last_shown (raised_over first run) (taken_over High first run) (last_world first run).controller.live.alarm
     (in_order High (last_world first run) (raised_over first run) (taken_over High first run) follows c.alarms_are_taken_in_order.ensures.prefix few)
     (lacks_one High (last_world first run) (raised_over first run) (taken_over High first run) follows c.alarms_are_taken_in_order.ensures.last few)
     (shows High (last_world first run) (raised_over first run) (taken_over High first run) follows c.alarms_are_taken_in_order.ensures.shown)
 
 pub returns-clause-reports : goal.returns-clause-reports
-returns-clause-reports g c = λ can first run begins made real few.
+returns-clause-reports g c = λ can first run begins made real sized few.
     let follows = low_so (device_so g c) (hears_so g c) c.args.setup.now c.args.identity.now c.stations_are_real.ensures.setup can
-    g.F.Flash first run begins real made (c.worlds_start_up.ensures.meant can first run begins made) in
+    g.F.Flash first run begins real made sized (c.worlds_start_up.ensures.meant can first run begins made) in
     in_order Low (last_world first run) (reported_over first run) (taken_over Low first run) follows c.alarms_are_taken_in_order.ensures.prefix few
 
 pub returns-clause-reported_last : goal.returns-clause-reported_last
-returns-clause-reported_last g c = λ can first run begins made real few.
+returns-clause-reported_last g c = λ can first run begins made real sized few.
     let follows = low_so (device_so g c) (hears_so g c) c.args.setup.now c.args.identity.now c.stations_are_real.ensures.setup can
-    g.F.Flash first run begins real made (c.worlds_start_up.ensures.meant can first run begins made) in
+    g.F.Flash first run begins real made sized (c.worlds_start_up.ensures.meant can first run begins made) in
     lacks_one Low (last_world first run) (reported_over first run) (taken_over Low first run) follows c.alarms_are_taken_in_order.ensures.last few
 
 pub returns-clause-told : goal.returns-clause-told
-returns-clause-told g c = λ can first run begins made real known sized link is on.
-    told_so (device_so g c) (hears_so g c) c.args.setup.now c.args.identity.now c.stations_are_real.ensures.setup can g.F.Flash first run begins real made
-    (c.worlds_start_up.ensures.meant can first run begins made) c.reports_are_followed.ensures.elsewhere known sized link is on
+returns-clause-told g c = λ can first run begins made real sized known link is on.
+    told_so (device_so g c) (hears_so g c) c.args.setup.now c.args.identity.now c.stations_are_real.ensures.setup can g.F.Flash first run begins real made sized
+    (c.worlds_start_up.ensures.meant can first run begins made) c.reports_are_followed.ensures.elsewhere known link is on
 
 pub returns-clause-list : goal.returns-clause-list
-returns-clause-list g c = λ can first run begins made real known sized few link is on none empty up.
-    list_so (device_so g c) (hears_so g c) c.args.setup.now c.args.identity.now c.stations_are_real.ensures.setup can g.F.Flash first run begins real made
+returns-clause-list g c = λ can first run begins made real sized known few pulls link is on none empty up.
+    list_so (device_so g c) (hears_so g c) c.args.setup.now c.args.identity.now c.stations_are_real.ensures.setup can g.F.Flash first run begins real made sized
     (c.worlds_start_up.ensures.meant can first run begins made) c.reports_are_followed.ensures.elsewhere c.reports_are_followed.ensures.follows
-    c.alarms_are_taken_in_order.ensures.all c.alarms_are_taken_in_order.ensures.listed known sized few link is on none empty up
+    c.alarms_are_taken_in_order.ensures.all c.alarms_are_taken_in_order.ensures.listed known few pulls link is on none empty up
 
 pub returns-clause-known : goal.returns-clause-known
-returns-clause-known g c = λ can first run begins made real known sized.
-    known_so (device_so g c) (hears_so g c) c.args.setup.now c.args.identity.now c.stations_are_real.ensures.setup can g.F.Flash first run begins real made
-    (c.worlds_start_up.ensures.meant can first run begins made) c.reports_are_followed.ensures.elsewhere known sized
+returns-clause-known g c = λ can first run begins made real sized known.
+    known_so (device_so g c) (hears_so g c) c.args.setup.now c.args.identity.now c.stations_are_real.ensures.setup can g.F.Flash first run begins real made sized
+    (c.worlds_start_up.ensures.meant can first run begins made) c.reports_are_followed.ensures.elsewhere known

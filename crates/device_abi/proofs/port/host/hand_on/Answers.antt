@@ -1,9 +1,10 @@
 -- What the application says is handed in as what it is.
 use Rattle.std.proofs.Common.{ℕ}
 use Rattle.arrayvec.specs.ArrayVec.{ArrayVec}
+use Rattle.pn_values.specs.declared.real.RealSubmodule.{RealSubmodule}
 use Rattle.device_frames.specs.declared.event.Event.TheVariants.{Application}
-use Rattle.device_frames.specs.declared.local.Local.TheVariants.{Alarm, Input}
-use Rattle.device_abi.proofs.PortHanded.{answered_in, heard_in, whole_in}
+use Rattle.device_frames.specs.declared.local.Local.TheVariants.{Alarm, Input, Plug}
+use Rattle.device_abi.proofs.PortHanded.{answered_in, copied_in, heard_in, whole_in}
 use Rattle.device_abi.proofs.port.host.hand_on.Goals as goal
 
 pub returns-in-Input : goal.returns-in-Input
@@ -19,6 +20,18 @@ returns-in-Status c = rw c.in-Status.is (answered_in _ _ _ _ c.status.ensures)
 
 pub returns-in-Diagnosis : goal.returns-in-Diagnosis
 returns-in-Diagnosis c = rw c.in-Diagnosis.is (answered_in _ _ _ _ c.diagnosis.ensures)
+
+pub returns-in-Pull : goal.returns-in-Pull
+returns-in-Pull c = rw c.in-Pull.is (answered_in _ _ _ _ c.pull.ensures)
+
+pub returns-in-PullModule : goal.returns-in-PullModule
+returns-in-PullModule c = rw c.in-PullModule.is (answered_in _ _ _ _ c.pull_module.ensures)
+
+pub returns-in-Plug : goal.returns-in-Plug
+returns-in-Plug c = rw c.in-Plug.is (copied_in (λ (part : RealSubmodule). Application (Plug c.in-Plug.slot c.in-Plug.ident part)) _ _ _ _ c.copy.ensures (answered_in _ _ _ _ c.plug.ensures))
+
+pub returns-in-ReadyAt : goal.returns-in-ReadyAt
+returns-in-ReadyAt c = rw c.in-ReadyAt.is (answered_in _ _ _ _ c.ready_at.ensures)
 
 pub returns-in-Ready : goal.returns-in-Ready
 returns-in-Ready c = rw c.in-Ready.is (answered_in _ _ _ _ c.ready.ensures)

@@ -44,7 +44,7 @@ returns-in-Status-clause-frames g c =
     let slot = c.in-Status.slot in
     let subslot = c.in-Status.subslot in
     let is_good = c.in-Status.is_good in
-    let statuses = statuses_at old.station.real.modules.items (record { slot = slot; subslot = subslot; is_good = is_good }) old.live.rest.statuses in
+    let statuses = statuses_at old.live.rest.real.modules.items (record { slot = slot; subslot = subslot; is_good = is_good }) old.live.rest.statuses in
     rw c.in-Status.is
     (ap (map (λ frame. frame.items)) c.requires.empty ∙ sym (ap (map (bytes_of old.station.identity)) (status_sends_nothing old.station old.live slot subslot is_good statuses)))
 
@@ -54,7 +54,7 @@ returns-in-Status-clause-sendable g c =
     let slot = c.in-Status.slot in
     let subslot = c.in-Status.subslot in
     let is_good = c.in-Status.is_good in
-    let statuses = statuses_at old.station.real.modules.items (record { slot = slot; subslot = subslot; is_good = is_good }) old.live.rest.statuses in
+    let statuses = statuses_at old.live.rest.real.modules.items (record { slot = slot; subslot = subslot; is_good = is_good }) old.live.rest.statuses in
     rw c.in-Status.is (none_sendable old.station.identity _ (status_sends_nothing old.station old.live slot subslot is_good statuses))
 
 pub returns-in-ProviderState-clause-frames : goal.returns-in-ProviderState-clause-frames

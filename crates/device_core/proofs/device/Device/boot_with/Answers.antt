@@ -2,7 +2,7 @@
 use Rattle.device_core.proofs.device.Device.boot_with.Goals as goal
 
 pub returns-in-Ok-clause-known : goal.returns-in-Ok-clause-known
-returns-in-Ok-clause-known g c = rw (← c.unstarted-device.ensures.flash) c.in-Ok.ensures.known
+returns-in-Ok-clause-known g c = rw (← c.unstarted-device.ensures.flash) (rw c.unstarted-device.ensures.station at c.in-Ok.ensures.known)
 
 pub returns-in-Ok-clause-strange : goal.returns-in-Ok-clause-strange
 returns-in-Ok-clause-strange g c = rw (← c.unstarted-device.ensures.flash) c.in-Ok.ensures.strange

@@ -17,7 +17,7 @@ returns-in-Some-clause-frames g c =
     let elapsed = c.args.elapsed.now in
     let link = c.args.self.now.live.rest.link in
     rw (c.end.ensures.frames, ← c.ending.ensures, c.in-Some.is)
-    (rw (idle (elapsed.tick.is_alarm && (repeated_by link).high), idle (elapsed.tick.is_alarm && (repeated_by link).low), idle elapsed.is_ready, idle elapsed.tick.is_cyclic, append-nil (farewells_in (option_map (farewell_of c.in-Some.reason) c.args.self.now.live.rest.link))) refl)
+    (rw (idle (elapsed.tick.is_alarm && (repeated_by link).high), idle (elapsed.tick.is_alarm && (repeated_by link).low), idle elapsed.is_ready, idle elapsed.is_plug_ready, idle elapsed.tick.is_cyclic, append-nil (farewells_in (option_map (farewell_of c.in-Some.reason) c.args.self.now.live.rest.link))) refl)
 
 pub returns-in-None-clause-frames : goal.returns-in-None-clause-frames
 returns-in-None-clause-frames g c =
@@ -37,7 +37,7 @@ returns-in-Some-clause-sendable g c =
     let elapsed = c.args.elapsed.now in
     let link = c.args.self.now.live.rest.link in
     rw (← c.ending.ensures, c.in-Some.is)
-    (rw (idle (elapsed.tick.is_alarm && (repeated_by link).high), idle (elapsed.tick.is_alarm && (repeated_by link).low), idle elapsed.is_ready, idle elapsed.tick.is_cyclic, append-nil (farewells_in (option_map (farewell_of c.in-Some.reason) c.args.self.now.live.rest.link))) c.end.ensures.sendable)
+    (rw (idle (elapsed.tick.is_alarm && (repeated_by link).high), idle (elapsed.tick.is_alarm && (repeated_by link).low), idle elapsed.is_ready, idle elapsed.is_plug_ready, idle elapsed.tick.is_cyclic, append-nil (farewells_in (option_map (farewell_of c.in-Some.reason) c.args.self.now.live.rest.link))) c.end.ensures.sendable)
 
 pub returns-in-None-clause-sendable : goal.returns-in-None-clause-sendable
 returns-in-None-clause-sendable g c =

@@ -12,12 +12,11 @@ use Rattle.device_core.proofs.device.Device.confirm.Goals as goal
 pub returns-clause-frames : goal.returns-clause-frames
 returns-clause-frames g c =
     let link = c.self.inside.relation in
-    let real = c.self.inside.real.modules.items in
-    let next = updated (reporting real link) link in
+    let next = updated (reporting link) link in
     let f = bytes_of c.self.inside.identity in
     rw (← c.self.view_is)
     (rw (c.send_low_alarm.ensures.frames, c.report_next-is_sent.ensures.sent, c.report_next-is_sent.ensures.state, c.send_low_reply.ensures.frames, c.requires)
-    (sym (map-append f (low_replies_of c.args.taken (flow_of link)) (where_due (report_one real link) (low_alarms_of (flow_of next))))))
+    (sym (map-append f (low_replies_of c.args.taken (flow_of link)) (where_due (report_one link) (low_alarms_of (flow_of next))))))
 
 pub returns-clause-sendable : goal.returns-clause-sendable
 returns-clause-sendable g c =

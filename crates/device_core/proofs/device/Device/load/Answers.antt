@@ -34,4 +34,4 @@ returns-clause-strange g c = rw (← c.self.view_is) c.in_ok-load.ensures.strang
 pub returns-clause-known : goal.returns-clause-known
 returns-clause-known g c = rw (← c.self.view_is) (λ settings room starts.
     let known = c.in_ok-load.ensures.known settings room starts in
-    rw c.forget.ensures (as_started c.load.new.self.values settings room c.in_ok-load.ensures.running c.in_ok-load.ensures.fresh.0 c.in_ok-load.ensures.fresh.1 known.0 known.1))
+    rw c.forget.ensures (as_started c.self.inside.given c.load.new.self.values settings room c.in_ok-load.ensures.running c.in_ok-load.ensures.fresh.0 c.in_ok-load.ensures.fresh.1 known.0 known.1))

@@ -1,8 +1,9 @@
 -- No operation except a Write asks anything of the settings.
-use Rattle.std.proofs.Common.{refl, ap, ◌∙◌}
+use Rattle.std.proofs.Common.{refl, sym, ap, ◌∙◌}
 use Rattle.rpc_core.specs.Call.{asked}
 use Rattle.records.specs.declared.status.operation.Operation.TheVariants as operation
 use Rattle.device_core.specs.Handled.{handled_new}
+use Rattle.device_core.proofs.Handled.{control_asks_nothing, control_done}
 use Rattle.device_core.proofs.Served.{new_steps}
 use Rattle.device_core.proofs.device.Device.serve_new.Goals as goal
 
@@ -20,7 +21,9 @@ returns-in-Read-clause-steps g c = new_steps g.F.Flash c.args.self.now _ c.args.
 
 pub returns-in-Control-clause-steps : goal.returns-in-Control-clause-steps
 returns-in-Control-clause-steps g c = new_steps g.F.Flash c.args.self.now _ c.args.serving.now.caller.now (asked c.args.serving.now.call.now)
-    c.args.serving.now.blocks.now _ operation.Control _ _ c.requires.stored c.in-Control.is refl c.control.ensures.state c.control.ensures.frames c.control.ensures.note c.control.ensures.sendable
+    c.args.serving.now.blocks.now _ operation.Control _ _ c.requires.stored c.in-Control.is
+    (control_asks_nothing c.args.self.now.station c.args.self.now.live c.args.serving.now.caller.now (asked c.args.serving.now.call.now) c.args.serving.now.blocks.now)
+    c.control.ensures.state c.control.ensures.frames (c.control.ensures.note ∙ sym (control_done c.args.self.now.station c.args.self.now.live c.args.serving.now.caller.now (asked c.args.serving.now.call.now) c.args.serving.now.blocks.now)) c.control.ensures.sendable
 
 pub returns-in-ReadImplicit-clause-steps : goal.returns-in-ReadImplicit-clause-steps
 returns-in-ReadImplicit-clause-steps g c = new_steps g.F.Flash c.args.self.now _ c.args.serving.now.caller.now (asked c.args.serving.now.call.now)

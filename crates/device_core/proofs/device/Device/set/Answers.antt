@@ -22,9 +22,9 @@ returns-clause-steps g c =
     let logged = c.log_err.ensures ∙ ap (λ (f : Option Farewell). err_log f c.self.inside.units c.self.inside.log) (c.end_if-farewell.ensures.farewell ∙ ap (λ e. farewell_at e link) ended) in
     rw (← c.self.view_is) (asked_set_steps g.F.Flash _ _ c.args.asker request answers _ _
     c.requires.service (rw plan at c.fill_plan.ensures.count) (rw (c.as_slice.ensures.value ∙ plan) at c.carry_out-answers.ensures.carries) refl
-    (ap (λ l. record { lamp = l; calls = c.self.inside.answers.kept; link = c.end_if-farewell.new.relation; units = c.self.inside.units; is_running = c.self.inside.is_running; statuses = c.self.inside.statuses.items; log = c.log_err.new.log; peer = option_map peer_as c.self.inside.neighbour; diagnoses = c.self.inside.diagnoses; made = c.self.inside.made }) lamp
-    ∙ ap (λ r. record { lamp = lamp_after c.self.inside.lamp (plan_of (is_some link) request); calls = c.self.inside.answers.kept; link = r; units = c.self.inside.units; is_running = c.self.inside.is_running; statuses = c.self.inside.statuses.items; log = c.log_err.new.log; peer = option_map peer_as c.self.inside.neighbour; diagnoses = c.self.inside.diagnoses; made = c.self.inside.made }) left
-    ∙ ap (λ l. record { lamp = lamp_after c.self.inside.lamp (plan_of (is_some link) request); calls = c.self.inside.answers.kept; link = link_after (resets (plan_of (is_some link) request) answers) link; units = c.self.inside.units; is_running = c.self.inside.is_running; statuses = c.self.inside.statuses.items; log = l; peer = option_map peer_as c.self.inside.neighbour; diagnoses = c.self.inside.diagnoses; made = c.self.inside.made }) logged)
+    (ap (λ l. record { lamp = l; calls = c.self.inside.answers.kept; link = c.end_if-farewell.new.relation; units = c.self.inside.units; is_running = c.self.inside.is_running; statuses = c.self.inside.statuses.items; log = c.log_err.new.log; peer = option_map peer_as c.self.inside.neighbour; diagnoses = c.self.inside.diagnoses; made = c.self.inside.made; real = c.self.inside.real }) lamp
+    ∙ ap (λ r. record { lamp = lamp_after c.self.inside.lamp (plan_of (is_some link) request); calls = c.self.inside.answers.kept; link = r; units = c.self.inside.units; is_running = c.self.inside.is_running; statuses = c.self.inside.statuses.items; log = c.log_err.new.log; peer = option_map peer_as c.self.inside.neighbour; diagnoses = c.self.inside.diagnoses; made = c.self.inside.made; real = c.self.inside.real }) left
+    ∙ ap (λ l. record { lamp = lamp_after c.self.inside.lamp (plan_of (is_some link) request); calls = c.self.inside.answers.kept; link = link_after (resets (plan_of (is_some link) request) answers) link; units = c.self.inside.units; is_running = c.self.inside.is_running; statuses = c.self.inside.statuses.items; log = l; peer = option_map peer_as c.self.inside.neighbour; diagnoses = c.self.inside.diagnoses; made = c.self.inside.made; real = c.self.inside.real }) logged)
     (rw (c.send_dcp_answer.ensures.frames, c.end_if-farewell.ensures.frames, c.requires.empty, ended, c.set_answer-answer.ensures.items) refl) refl
     (rw ended at c.end_if-farewell.ensures.sendable) (rw c.set_answer-answer.ensures.items at c.send_dcp_answer.ensures.sendable))
 

@@ -6,7 +6,7 @@ use Rattle.end_laws.proofs.AnswersWalking.{step_good}
 use Rattle.end_laws.proofs.answers.law.answers_are_one_datagram.Goals as goal
 
 pub returns-clause-first : goal.returns-clause-first
-returns-clause-first g c = λ settings room. tt
+returns-clause-first g c = λ given settings room. tt
 
 pub returns-clause-step : goal.returns-clause-step
 returns-clause-step g c = λ old new heard sent said steps stored.

@@ -5,14 +5,14 @@ use Rattle.diagnosis.specs.declared.reports.priority.Priority.{Priority}
 use Rattle.pn_alarms.specs.Format.{frame_id_of}
 use Rattle.diagnosis.specs.reports.Priority.{priority_of}
 use Rattle.diagnosis.specs.declared.reports.priority.Priority.TheVariants.{High, Low}
-use Rattle.diagnosis.specs.reports.Report.{diagnosed, diagnosis_pdu, ours}
+use Rattle.diagnosis.specs.reports.Report.{low_pdu, low_report, ours}
 use Rattle.controller_messages.specs.Heard.{Alarms}
 use Rattle.end_laws.specs.hearing.Hearing.{mine_hears}
 use Rattle.pn_alarms.specs.declared.message.Notice.TheVariants as notice
 use Rattle.pn_alarms.specs.declared.pdu.PduType.TheVariants as pdu
 use Rattle.pn_alarms.specs.Carried.{alarm_pdu}
 use Rattle.diagnosis.specs.Sendable.{empty_pdu}
-use Rattle.end_laws.proofs.HearingExchanges.{pdu_at_controller}
+use Rattle.end_laws.proofs.HearingExchanges.{low_few, pdu_at_controller}
 use Rattle.end_laws.proofs.hearing.alarms.alarms_are_heard.Goals as goal
 
 pub returns-clause-alarm : goal.returns-clause-alarm
@@ -38,8 +38,8 @@ returns-clause-nack c =
 pub returns-clause-low : goal.returns-clause-low
 returns-clause-low c =
     λ mine identity route tag header alarm is way small kind good whole.
-    pdu_at_controller c.frames_are_read.ensures.real_time c.pdus_are_read.ensures.long mine route.partner identity.mac tag Low pdu.Data (diagnosis_pdu header alarm) header (notice.Data header.send_number (diagnosed alarm))
-    way.partner is small (omega (arith, c.alarms_are_read.ensures.low_long alarm, whole.few)) (λ more. c.alarms_are_read.ensures.low header alarm more kind good whole)
+    pdu_at_controller c.frames_are_read.ensures.real_time c.pdus_are_read.ensures.long mine route.partner identity.mac tag Low pdu.Data (low_pdu header alarm) header (notice.Data header.send_number (low_report alarm))
+    way.partner is small (low_few c.alarms_are_read.ensures.bare_long c.alarms_are_read.ensures.low_long alarm whole.few) (λ more. c.alarms_are_read.ensures.any header alarm more kind good whole)
 
 pub returns-clause-low_ack : goal.returns-clause-low_ack
 returns-clause-low_ack c =

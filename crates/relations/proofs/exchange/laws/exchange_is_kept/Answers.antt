@@ -1,6 +1,7 @@
 use Rattle.relations.proofs.ExchangeKept.{are_of_the_last, is_due_each_interval, is_held_so_long}
 use Rattle.relations.proofs.ExchangeInputs.{are_still_the_iocs, are_the_iops, are_the_last_given}
 use Rattle.relations.proofs.ExchangeRuns.{runs_as_said}
+use Rattle.relations.proofs.ExchangeShut.{are_consumed_where_open, are_good_where_open}
 use Rattle.relations.proofs.exchange.laws.exchange_is_kept.Goals as goal
 
 pub returns-clause-interval : goal.returns-clause-interval
@@ -23,3 +24,9 @@ returns-clause-iocs c = are_still_the_iocs
 
 pub returns-clause-hold : goal.returns-clause-hold
 returns-clause-hold c = is_held_so_long c.cyclic_data_is_kept.ensures.hold
+
+pub returns-clause-open : goal.returns-clause-open
+returns-clause-open c = are_good_where_open
+
+pub returns-clause-consumed : goal.returns-clause-consumed
+returns-clause-consumed c = are_consumed_where_open

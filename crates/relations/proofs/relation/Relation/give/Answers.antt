@@ -15,7 +15,7 @@ returns-in-Some-clause-due c =
       waited = c.self.inside.waited;
       taken = c.self.inside.taken;
       passed = c.self.inside.passed;
-      differing = c.self.inside.differing.items;
+      plugs = c.self.inside.plugs;
       flow = c.self.inside.exchange;
     } in
     rw (← c.self.view_is, c.in-Some.is) (given_due link c.args.slot c.args.subslot c.args.value.now c.give.new.self c.give.ensures.state)

@@ -51,6 +51,9 @@ laws_of c = record {
   real_time = c.frames_are_read.ensures.real_time;
   ready = c.ready_calls_are_heard.ensures.controller;
   ready_can = c.calls_can_be_sent.ensures.ready;
+  plug = c.plug_calls_are_heard.ensures.controller;
+  plug_can = c.plug_calls_are_heard.ensures.sent;
+  plug_other = c.plug_calls_are_heard.ensures.other;
   block_read = c.blocks_are_read.ensures.alone;
 }
 

@@ -10,6 +10,7 @@ use Rattle.rounds_law.proofs.anywhere.again.both_ends_come_back_after_any_pause.
 device_laws : (g : _) (c : goal.After-no_state_outlasts_its_patience g) (setup : Setup) → StartLaws g.F.Flash c.args.identity.now setup
     → DeviceLaws setup c.args.identity.now
 device_laws g c setup laws = record {
+  modules = c.only_pulls_and_plugs_change_modules.ensures;
   hears = record {
     identify = c.requests_are_heard.ensures.identify;
     address = c.requests_are_heard.ensures.address;
@@ -28,6 +29,8 @@ device_laws g c setup laws = record {
     response = c.responses_are_heard.ensures.controller;
     ready = c.ready_calls_are_heard.ensures.controller;
     ready_can = c.calls_can_be_sent.ensures.ready;
+    plug = c.plug_calls_are_heard.ensures.controller;
+    plug_can = c.plug_calls_are_heard.ensures.sent;
   };
   negative = c.refusals_are_not_done.ensures;
   whole = laws.whole;
@@ -79,6 +82,8 @@ returns-clause-again g c = λ can apart patience silence pause active holds long
       real_time = c.frames_are_read.ensures.real_time;
       ready = c.ready_calls_are_heard.ensures.controller;
       ready_can = c.calls_can_be_sent.ensures.ready;
+      plug = c.plug_calls_are_heard.ensures.controller;
+      plug_can = c.plug_calls_are_heard.ensures.sent;
     }) (laws_of g c) active c.args.setup.now c.args.starts.now (record {
       laws = c.all_starts_hold.ensures.first;
       can = can;
@@ -87,5 +92,5 @@ returns-clause-again g c = λ can apart patience silence pause active holds long
     }) c.all_starts_hold.ensures.later apart pause long_pause enough plant at
 
 pub returns-clause-powered : goal.returns-clause-powered
-returns-clause-powered g c = λ silence plant device at stored is.
-    among_again g.F.Flash c.args.setup.now c.args.identity.now silence plant device stored is c.args.starts.now at
+returns-clause-powered g c = λ silence plant device at given stored is.
+    among_again g.F.Flash c.args.setup.now c.args.identity.now silence plant device given stored is c.args.starts.now at

@@ -1,7 +1,6 @@
 -- By the laws of what a device hears, and of the plan's Connect.
 use Rattle.std.proofs.Common.{◌≡◌, sym, subst, ◌∙◌, refl, arith}
 use Rattle.pn_values.specs.declared.identity.Identity.{Identity}
-use Rattle.pn_values.specs.declared.real.Real.{Real}
 use Rattle.block_codec.specs.declared.block.Block.TheVariants as is
 use Rattle.frame_codec.specs.Calls.{calls_at}
 use Rattle.device_frames.specs.Heard.{Calls, Reported, Responds, heard_of}
@@ -11,7 +10,6 @@ use Rattle.controller_messages.specs.Sent.{ready_done}
 use Rattle.end_laws.specs.hearing.Hearing.{comes}
 use Rattle.end_laws.specs.hearing.Stations.{ready_call}
 use Rattle.both_ends.specs.startup.answer.Answer.{caller_of}
-use Rattle.both_ends.specs.exchange.Sized.{AreSizedModules}
 use Rattle.rounds_law.specs.Path.{confirmed_frame, device_as_caller, ready_for, request_to}
 use Rattle.rounds_law.proofs.DeviceCallingConfirmed.{confirms, response_of}
 use Rattle.rounds_law.proofs.DeviceCallingConnected.{connects}
@@ -65,7 +63,6 @@ returns-clause-confirmed c = λ meets some serial outcomes station live taken la
     (record { object = refl; interface = refl; activity = real.ar; sequence = omega arith; operation = omega arith }) (omega arith) real.ar)
     ∙ own_heard identity setup.plan.controller.mac (calls_at setup.plan.controller.address) address (Responds response) in
     confirms setup identity station live taken last age serial relation outcomes same
-    (subst (λ (r : Real). AreSizedModules r.modules.items) (c.real-modules.ensures.value ∙ sym of_plan.plugged) c.modules_are_sized.ensures)
     (c.blocks_are_read.ensures.alone (is.ApplicationReadyRes (ready_done (ready_for setup).block))
     (record { ar_uuid = real.ar; session_key = omega arith; control_command = omega arith; control_block_properties = omega arith }, refl))
     (subst (λ (i : Identity). heard_of i (comes (confirmed_frame setup identity)) ≡ Reported (caller_of setup.plan.controller) address (Responds response))

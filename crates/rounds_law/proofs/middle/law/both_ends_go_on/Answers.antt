@@ -7,6 +7,7 @@ use Rattle.rounds_law.proofs.middle.law.both_ends_go_on.Goals as goal
 
 laws_of : (g : _) (c : goal.After-controller_waits_for_ready g) → Laws c.args.setup.now c.args.identity.now
 laws_of g c = record {
+  modules = c.only_pulls_and_plugs_change_modules.ensures;
   device_found = c.device_answers_the_search.ensures.found;
   device_set = c.device_answers_the_search.ensures.set;
   device_connected = c.device_takes_calls.ensures.connected;

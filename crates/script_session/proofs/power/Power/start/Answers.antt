@@ -1,5 +1,7 @@
-use Rattle.std.proofs.Common.{◌∙◌, refl, subst, sym, ap}
+use Rattle.std.proofs.Common.{◌≡◌, ◌∙◌, refl, subst, sym, ap}
+use Rattle.pn_values.specs.demo.Demo.{demo_real}
 use Rattle.settings_journal.specs.Image.{LeftByDevice, IsForeign, StartsWith}
+use Rattle.device_core.specs.Cycle.{started}
 use Rattle.script_session.specs.declared.power.Power.TheVariants.{On}
 use Rattle.script_session.specs.Power.{IsOver, Runs}
 use Rattle.script_session.specs.Said.{demo_started}
@@ -10,7 +12,8 @@ use Rattle.script_session.proofs.power.Power.start.Goals as goal
 pub returns-in-Ok-clause-stored : goal.returns-in-Ok-clause-stored
 returns-in-Ok-clause-stored c settings room reliable left starts =
     let made = c.unstarted-device.ensures.flash in
-    let live = (rw made at c.in-Ok.ensures.known) settings room starts in
+    let given : c.unstarted-device.result.station.real ≡ demo_real = ap (λ s. s.real) c.unstarted-device.ensures.station ∙ c.demo_modules-modules.ensures in
+    let live = (rw made at c.in-Ok.ensures.known) settings room starts ∙ ap (λ r. started r settings room) given in
     subst (Runs (demo_started c.args.options c.args.serves settings room)) (sym c.begin.ensures)
     (begun_runs c.args.options c.args.serves settings room c.load.new.self
     (c.in-Ok.ensures.station ∙ rw (c.demo_identity-identity.ensures, c.demo_modules-modules.ensures) at c.unstarted-device.ensures.station)
@@ -34,10 +37,11 @@ returns-in-Err-clause-back c =
 pub returns-in-Ok-clause-back : goal.returns-in-Ok-clause-back
 returns-in-Ok-clause-back c =
     let made = c.unstarted-device.ensures.flash in
+    let given : c.unstarted-device.result.station.real ≡ demo_real = ap (λ s. s.real) c.unstarted-device.ensures.station ∙ c.demo_modules-modules.ensures in
     let same = rw made at c.in-Ok.ensures.same in
     subst (λ demo. IsOver c.args.options c.args.serves c.args.flash (On demo)) (sym c.begin.ensures) (
       c.in-Ok.ensures.station ∙ rw (c.demo_identity-identity.ensures, c.demo_modules-modules.ensures) at c.unstarted-device.ensures.station,
-      c.in-Ok.ensures.fresh,
+      c.in-Ok.ensures.fresh ∙ ap (λ r. started r c.load.new.self.live.values.stored c.load.new.self.live.values.room) given,
       refl,
       subst (λ image. StartsWith image c.load.new.self.live.values.stored c.load.new.self.live.values.room) (sym same) (rw made at c.in-Ok.ensures.starts),
       (same, ap (λ chip. chip.armed) (rw made at c.in-Ok.ensures.calls)),

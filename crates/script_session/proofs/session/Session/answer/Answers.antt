@@ -108,3 +108,35 @@ returns-in-Read-clause-obeys c plans network right are plain = rw c.in-Read.is (
 pub returns-in-Write-clause-obeys : goal.returns-in-Write-clause-obeys
 unfolding said
 returns-in-Write-clause-obeys c plans network right are plain = rw c.in-Write.is (if_there_obeys _ _ _ _ _ _ (c.write.ensures.obeys network are) c.if_there-in-Write.ensures)
+
+pub returns-in-ReadyAt-clause-obeys : goal.returns-in-ReadyAt-clause-obeys
+unfolding said
+returns-in-ReadyAt-clause-obeys c plans network right are plain = rw c.in-ReadyAt.is (always_obeys _ _ _ _ _ _ (c.say-in-ReadyAt.ensures.obeys network are) c.always-in-ReadyAt.ensures)
+
+pub returns-in-ReadyAt-clause-lost : goal.returns-in-ReadyAt-clause-lost
+returns-in-ReadyAt-clause-lost c handed there gone = rw c.in-ReadyAt.is (always_tells _ _ _ (c.say-in-ReadyAt.ensures.lost there gone) c.always-in-ReadyAt.ensures)
+
+pub returns-in-Pull-clause-obeys : goal.returns-in-Pull-clause-obeys
+unfolding said
+returns-in-Pull-clause-obeys c plans network right are plain = rw c.in-Pull.is (always_obeys _ _ _ _ _ _ (c.say-in-Pull.ensures.obeys network are) c.always-in-Pull.ensures)
+
+pub returns-in-Pull-clause-lost : goal.returns-in-Pull-clause-lost
+returns-in-Pull-clause-lost c handed there gone = rw c.in-Pull.is (always_tells _ _ _ (c.say-in-Pull.ensures.lost there gone) c.always-in-Pull.ensures)
+
+pub returns-in-PullModule-clause-obeys : goal.returns-in-PullModule-clause-obeys
+unfolding said
+returns-in-PullModule-clause-obeys c plans network right are plain = rw c.in-PullModule.is (always_obeys _ _ _ _ _ _ (c.say-in-PullModule.ensures.obeys network are) c.always-in-PullModule.ensures)
+
+pub returns-in-PullModule-clause-lost : goal.returns-in-PullModule-clause-lost
+returns-in-PullModule-clause-lost c handed there gone = rw c.in-PullModule.is (always_tells _ _ _ (c.say-in-PullModule.ensures.lost there gone) c.always-in-PullModule.ensures)
+
+pub returns-in-Plug-clause-obeys : goal.returns-in-Plug-clause-obeys
+unfolding said
+returns-in-Plug-clause-obeys c plans network right are plain = rw c.in-Plug.is (always_obeys _ _ _ _ _ _ (c.say-in-Plug.ensures.obeys network are) c.always-in-Plug.ensures)
+
+pub returns-in-Plug-clause-lost : goal.returns-in-Plug-clause-lost
+returns-in-Plug-clause-lost c handed there gone = rw c.in-Plug.is (always_tells _ _ _ (c.say-in-Plug.ensures.lost there gone) c.always-in-Plug.ensures)
+
+pub returns-in-Expected-clause-obeys : goal.returns-in-Expected-clause-obeys
+unfolding said
+returns-in-Expected-clause-obeys c plans network right are plain = rw c.in-Expected.is (always_obeys _ _ _ _ _ _ (c.expected.ensures network are) c.always-in-Expected.ensures)

@@ -1,0 +1,8 @@
+-- One more mark is changed.
+use Rattle.std.proofs.Common.{rules}
+use Rattle.std.proofs.lemmas.List.Edits.{map_over_more}
+use Rattle.relations.specs.exchange.Modules.{renewed_mark}
+use Rattle.relations.proofs.exchange.marks.renew.Goals as goal
+
+pub loop-mark-preserved : goal.loop-mark-preserved
+loop-mark-preserved c = search (rules, map_over_more (renewed_mark c.args.affected c.args.begin_bad))
