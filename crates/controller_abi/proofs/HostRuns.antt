@@ -123,6 +123,7 @@ shown (Some operation.Report) port entry next is = tt
 shown (Some operation.Diagnoses) port entry next is = is.2
 shown (Some operation.Diagnosis) port entry next is = is.1
 shown (Some operation.Neighbour) port entry next is = tt
+shown (Some operation.Place) port entry next is = tt
 shown None port entry next is = tt
 
 -- ---- the controller alone

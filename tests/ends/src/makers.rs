@@ -19,7 +19,7 @@ use uuid::Uuid;
 const SCENARIOS: &str = include_str!("makers.txt");
 
 /// How many scenarios there are, so that a file that was cut off is found.
-const COUNT: usize = 41;
+const COUNT: usize = 51;
 
 /// The ARUUID and the activity of the controller, as Scapy's station expects them.
 const AR: &str = "11111111-2222-3333-4444-555555555555";
@@ -347,6 +347,19 @@ impl Scene {
         )
     }
 
+    /// What is known of a place of the plan, in a word. The library for C says the same.
+    fn place(&mut self, slot: u16, subslot: u16) -> &'static str {
+        const WORDS: [&str; 8] = ["-", "there", "differs", "gone", "wrong", "plugged", "ending", "refused"];
+        let known = self.controller.place(slot, subslot);
+        let mut op = placed(38, slot, subslot, 0);
+        let answer = serve(&mut self.port, &mut op, &[]);
+        match known {
+            Some(state) => assert_eq!((answer, op.phase), (0, state.number()), "{}", self.name),
+            None => assert_eq!((answer, op.phase), (9, 0), "{}", self.name),
+        }
+        WORDS[known.map_or(0, |state| state.number() as usize)]
+    }
+
     /// So many units, of which cyclic frames are not looked at.
     fn pass(&mut self, units: u32) {
         for _ in 0..units {
@@ -401,6 +414,11 @@ impl Scene {
             "diagnoses" => {
                 assert_eq!(self.diagnoses(), rest, "{name}");
                 assert_eq!(self.told_diagnoses(), rest, "{name}");
+            }
+            "place" => {
+                let words: std::vec::Vec<&str> = rest.split(' ').collect();
+                let number = |place: usize| words[place].parse::<u16>().expect("a number");
+                assert_eq!(self.place(number(0), number(1)), words[2], "{name}: {rest}");
             }
             "answer" => {
                 assert_eq!(self.answer(), rest, "{name}");
