@@ -1,5 +1,5 @@
 -- What is loaded is what the device starts with.
-use Rattle.device_core.proofs.device.Device.boot_with.Goals as goal
+use Rattle.device_core.proofs.device.Device.boot_named.Goals as goal
 
 pub returns-in-Ok-clause-known : goal.returns-in-Ok-clause-known
 returns-in-Ok-clause-known g c = rw (← c.unstarted-device.ensures.flash) (rw c.unstarted-device.ensures.station at c.in-Ok.ensures.known)
