@@ -305,7 +305,7 @@ typedef struct pn_op {
     uint32_t due;            /* units of time until something is due: at least 1; 4,294,967,295 if nothing ever is */
     uint32_t note;           /* enum pn_note: the result of an event */
     uint32_t reason;         /* enum pn_reason: why the device refused an event */
-    uint32_t phase;          /* enum pn_phase; of a controller enum pn_controller_phase */
+    uint32_t phase;          /* enum pn_phase; of a controller enum pn_controller_phase, of a place of its plan enum pn_known */
     uint32_t cause;          /* enum pn_cause: why a controller ended; 0 if it did not */
     uint32_t lamp;           /* units of time for which the lamp still flashes */
     uint32_t iops;           /* IOPS of the data of a submodule: an octet, PN_IOPS_GOOD if it is good */

@@ -62,6 +62,17 @@ enum pn_cause {
     PN_NO_PROGRESS = 8    /* a state lasted as long as its patience (patience, waiting_patience of pn_plan) */
 };
 
+/* What a controller knows of a place of its plan (pn_controller_place). */
+enum pn_known {
+    PN_KNOWN_THERE = 1,   /* the submodule is there, from the start or again */
+    PN_KNOWN_DIFFERS = 2, /* the ModuleDiffBlock of the answer to the Connect listed it */
+    PN_KNOWN_GONE = 3,    /* it was pulled */
+    PN_KNOWN_WRONG = 4,   /* another submodule was plugged */
+    PN_KNOWN_PLUGGED = 5, /* a submodule was plugged again; with parameters_after_plug its records wait or are written */
+    PN_KNOWN_ENDING = 6,  /* its records were written: the device must say that it is ready */
+    PN_KNOWN_REFUSED = 7  /* the device refused a record or the end of the parameters (pn_controller_refusal) */
+};
+
 /* A parameter record that the controller writes at start-up. The submodule in this slot and subslot must accept it (its `parameters`), with
  * the same index and exactly its length, 1 to 64 octets. No record may be written to the access point, in slot 0. */
 typedef struct pn_record {
@@ -109,6 +120,7 @@ typedef struct pn_plan {
     uint32_t release_on_refused_record;  /* not 0: the controller releases the relation when it ends after a record that the device refused */
     uint32_t patience;         /* not of a catalogue: for how many units (PN_UNIT_NS) a state of the start-up lasts at most; 0: no limit */
     uint32_t waiting_patience; /* the same for the state in which the controller waits for the ApplicationReady */
+    uint32_t parameters_after_plug; /* not 0: the controller writes the records of a submodule again after it was plugged (ParametersAfterPlug) */
 } pn_plan;
 
 /* The neighbour of a controller by LLDP: the texts of its PortID and its ChassisID (a MAC address as `02-00-00-00-00-01`), and the MAC
@@ -160,10 +172,10 @@ typedef struct pn_controller {
 } pn_controller;
 
 #if defined(__cplusplus)
-static_assert(sizeof(pn_plan) == 4292 && sizeof(pn_search) == 268 && sizeof(pn_tool) == 16 && sizeof(pn_target) == 14,
+static_assert(sizeof(pn_plan) == 4296 && sizeof(pn_search) == 268 && sizeof(pn_tool) == 16 && sizeof(pn_target) == 14,
               "another layout than the library's");
 #else
-_Static_assert(sizeof(pn_plan) == 4292 && sizeof(pn_search) == 268 && sizeof(pn_tool) == 16 && sizeof(pn_target) == 14,
+_Static_assert(sizeof(pn_plan) == 4296 && sizeof(pn_search) == 268 && sizeof(pn_tool) == 16 && sizeof(pn_target) == 14,
                "another layout than the library's");
 #endif
 
@@ -314,6 +326,7 @@ static inline uint32_t pn_controller_read(const pn_controller *controller, pn_op
  *   pn_controller_report                             is_low                         the same, structure, sequence
  *   pn_controller_diagnoses                          nothing                        count, left_out
  *   pn_controller_diagnosis                          number                         slot, subslot, channel, error
+ *   pn_controller_place                              slot, subslot                  phase
  *   pn_tool_ask, pn_tool_give                        nothing                        length, octets
  *   pn_tool_given                                    nothing                        block_error
  *   pn_tool_ask_record                               slot, subslot, index           length, octets
@@ -586,6 +599,22 @@ static inline uint32_t pn_controller_diagnosis(const pn_controller *controller, 
         return PN_NULL;
     op->number = number;
     return pn_controller_read(controller, op, 36);
+}
+
+/* What is known of a place of the plan (enum pn_known): of a submodule that the Connect expects, by the answer to the Connect and by the
+ * alarms of pulls and plugs. PN_NO_SLOT if the plan has no such submodule, before the relation is established, and after it ended. */
+static inline uint32_t pn_controller_place(const pn_controller *controller, pn_op *op, uint16_t slot, uint16_t subslot, uint32_t *place)
+{
+    uint32_t answer;
+
+    if (op == NULL || place == NULL)
+        return PN_NULL;
+    op->slot = slot;
+    op->subslot = subslot;
+    answer = pn_controller_read(controller, op, 38);
+    if (answer == PN_OK)
+        *place = op->phase;
+    return answer;
 }
 
 /* --- What a tool does before a controller starts. Frames that it writes are in `length` and `octets` of the operation. --- */

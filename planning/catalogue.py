@@ -31,6 +31,8 @@ prints what the file offers: its access points, their slots, modules and submodu
     --data-hold N                 after how many intervals without a frame a relation ends; 3 without it
     --on-refused-record WHAT      what the controller does if the device refuses a record: 'end', 'release' (it ends, and releases the relation) or
                                   'continue'; end without it
+    --after-plug WHAT             what the controller does after a submodule was plugged: 'parameters' (it writes the records again) or 'nothing';
+                                  nothing without it
     --record SLOT:SUBSLOT:INDEX=HEX  the octets of a parameter record, in place of those by default
     --without SLOT:SUBSLOT:INDEX  leaves a parameter record out
 
@@ -41,7 +43,7 @@ WRONG_WORDS, WRONG_FILE, NO_FILE = 64, 65, 1
 TEXTS = {"--access-point": "access_point", "--name": "name", "--address": "address", "--mask": "mask", "--gateway": "gateway",
          "--controller-name": "controller_name", "--controller-mac": "controller_mac", "--controller-address": "controller_address",
          "--interval-ms": "interval", "--send-clock": "send_clock", "--reduction": "reduction", "--data-hold": "data_hold",
-         "--on-refused-record": "refused"}
+         "--on-refused-record": "refused", "--after-plug": "after_plug"}
 LISTS = {"--slot": "slots", "--submodule": "submodules", "--record": "records", "--without": "without"}
 NEEDED = ("--name", "--address", "--controller-name", "--controller-mac", "--controller-address")
 
@@ -57,7 +59,7 @@ class Choice:
         self.access_point = self.name = self.address = self.controller_name = self.controller_mac = self.controller_address = None
         self.mask, self.gateway, self.data_hold = "255.255.255.0", "0.0.0.0", 3
         self.interval = self.send_clock = self.reduction = None
-        self.refused = "end"
+        self.refused, self.after_plug = "end", "nothing"
         self.slots, self.submodules, self.records, self.without = {}, {}, {}, set()
         self.named = set()
         if len(words) % 2:
@@ -91,6 +93,10 @@ class Choice:
         if word == "--on-refused-record":
             if value not in ("end", "release", "continue"):
                 raise WrongWords(f"{word} is 'end', 'release' or 'continue', and '{shown(value)}' is not")
+            return value
+        if word == "--after-plug":
+            if value not in ("parameters", "nothing"):
+                raise WrongWords(f"{word} is 'parameters' or 'nothing', and '{shown(value)}' is not")
             return value
         return number(word, value, 1, {"--send-clock": 128, "--reduction": 512, "--data-hold": 7_680}[word])
 

@@ -242,6 +242,7 @@ def project(tree, least, modules):
     slots = list_at(tree, "Slots", lambda _, entry: slot(modules, entry))
     flag_at(tree, "ContinueOnRefusedRecord")
     flag_at(tree, "ReleaseOnRefusedRecord")
+    flag_at(tree, "ParametersAfterPlug")
     return texts, slots
 
 

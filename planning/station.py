@@ -302,4 +302,5 @@ class Station:
             "Controller": {"NameOfStation": choice.controller_name, "MAC": choice.controller_mac, "IPAddress": choice.controller_address},
             "SendClockFactor": self.send_clock, "ReductionRatio": self.ratio, "DataHoldFactor": choice.data_hold, "Slots": slots}
         key = {"continue": "ContinueOnRefusedRecord", "release": "ReleaseOnRefusedRecord"}.get(choice.refused)
-        return {**said, **({key: True} if key else {}), "Signals": signals.of_station(self.parts, self.modules)}
+        after_plug = {"ParametersAfterPlug": True} if choice.after_plug == "parameters" else {}
+        return {**said, **({key: True} if key else {}), **after_plug, "Signals": signals.of_station(self.parts, self.modules)}

@@ -206,7 +206,7 @@ def flag_rows():
     yield changed(lambda catalogue: project(catalogue).update(ContinueOnRefusedRecord=1, NameOfStation="-")), KIND, where
     # Only the project has this key; elsewhere it is one of the keys that are ignored.
     yield changed(lambda catalogue: catalogue.update(ContinueOnRefusedRecord=1)), NONE, ""
-    # Whether the controller releases the relation then: the key after it, and the last one of the project.
+    # Whether the controller releases the relation then: the key after it.
     where = "Project.ReleaseOnRefusedRecord"
     for value, fault in ((True, NONE), (False, NONE), (None, KIND), (0, KIND), (1, KIND), ("true", KIND), ([], KIND), ({}, KIND)):
         yield changed(lambda catalogue: project(catalogue).update(ReleaseOnRefusedRecord=value)), fault, where
@@ -215,6 +215,13 @@ def flag_rows():
     yield changed(lambda catalogue: (project(catalogue).update(ReleaseOnRefusedRecord=1), entry(catalogue).update(Slot="x"))), KIND, "Project.Slots[2].Slot"
     yield changed(lambda catalogue: project(catalogue).update(ReleaseOnRefusedRecord=1, NameOfStation="-")), KIND, where
     yield changed(lambda catalogue: (catalogue.update(ReleaseOnRefusedRecord=1), point(catalogue).update(ReleaseOnRefusedRecord=1))), NONE, ""
+    # Whether the controller writes the records again after a plug: the last key of the project.
+    where = "Project.ParametersAfterPlug"
+    for value, fault in ((True, NONE), (False, NONE), (None, KIND), (0, KIND), (1, KIND), ("true", KIND), ([], KIND), ({}, KIND)):
+        yield changed(lambda catalogue: project(catalogue).update(ParametersAfterPlug=value)), fault, where
+    yield changed(lambda catalogue: project(catalogue).update(ParametersAfterPlug=1, ReleaseOnRefusedRecord=1)), KIND, "Project.ReleaseOnRefusedRecord"
+    yield changed(lambda catalogue: project(catalogue).update(ParametersAfterPlug=1, NameOfStation="-")), KIND, where
+    yield changed(lambda catalogue: (catalogue.update(ParametersAfterPlug=1), point(catalogue).update(ParametersAfterPlug=1))), NONE, ""
     # Whether one Write can carry several records: the last key of the access point.
     where = "DeviceAccessPointItem.MultipleWriteSupported"
     for value, fault in ((True, NONE), (False, NONE), (None, KIND), (0, KIND), (1, KIND), ("true", KIND), ([], KIND), ({}, KIND)):

@@ -131,7 +131,8 @@ def told_of(catalogue):
     goes_on = ["continue"] if catalogue["Project"].get("ContinueOnRefusedRecord", False) else []
     releases = ["release"] if catalogue["Project"].get("ReleaseOnRefusedRecord", False) else []
     lists = ["lists"] if catalogue["DeviceAccessPointItem"].get("MultipleWriteSupported", False) else []
-    return [*layouts_of(modules), f"connect {connect_of(catalogue, modules).hex()}", *records_of(catalogue), *goes_on, *releases, *lists]
+    parameters = ["parameters"] if catalogue["Project"].get("ParametersAfterPlug", False) else []
+    return [*layouts_of(modules), f"connect {connect_of(catalogue, modules).hex()}", *records_of(catalogue), *goes_on, *releases, *lists, *parameters]
 
 
 def read(path):

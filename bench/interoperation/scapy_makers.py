@@ -10,6 +10,7 @@ A line `scenario NAME` begins with a new controller. `in HEX` is a frame that it
 is a frame that it has to send for that, and it sends no other. `pass N` is that many units too, but its cyclic frames are not listed.
 `state`, `deviates`, `refusal`, `refused` (number and status of a record), `alarm` and `answer` are what it then tells, and
 `diagnoses LEFT_OUT SLOT SUBSLOT CHANNEL ERROR, ..` what it lists of the station's diagnosis, and how many more found no room;
+`place SLOT SUBSLOT WORD` what it knows of a place of its plan (`-` for nothing);
 `report PRIORITY ..` its last alarm of a priority: the SendSeqNum, AlarmType, API, slot, subslot, both idents, AlarmSpecifier and
 UserStructureIdentifier in decimal (`-` for none), and the data in hex. `read SLOT SUBSLOT INDEX`, `write SLOT SUBSLOT INDEX HEX` and `stop`
 are requests of its application, and `number N` is what the library for C then returns: 0, 8 for a record that is too long, or 26 where no
@@ -757,6 +758,286 @@ def refused_records(say):
     say.tells(f"refusal {BUSY:08x}")
 
 
+# AlarmTypes: pull, plug, plug of a wrong submodule, pull of a module.
+PULL, PLUG, WRONG, PULL_MODULE = 3, 4, 0x0A, 0x1F
+# PrmEnd and ApplicationReady after a plug.
+PLUG_END, PLUG_READY = 0x0111, 0x0113
+
+
+class Plugs:
+    """A station with two places that have records, whose submodules are pulled and plugged while data is exchanged."""
+
+    def __init__(self, say, name, *comment, key=True, goes_on=None, differs=()):
+        self.say = say
+        self.connect, *self.writes, self.end = station.requests(WRITES)
+        whole = json.loads(station.catalogue(WRITES))
+        whole["Project"].update({name: value for name, value in (("ContinueOnRefusedRecord", goes_on), ("ParametersAfterPlug", key)) if value is not None})
+        say.lines += ["", *(f"# {line}" for line in comment), f"scenario {name}", f"catalogue {json.dumps(whole, separators=(',', ':'))}"]
+        say.hear(station.identified(suite=SUITE), self.connect)
+        self.known(1, 1, "-")
+        say.hear(response(self.connect, blocks(behind=differs), endian=LITTLE), self.writes[0])
+        for place, following in enumerate((self.writes[1], self.writes[2], self.end)):
+            say.hear(station.answered(self.writes[place], LITTLE), following)
+        say.hear(ended(self.end))
+        self.number, self.last = {"low": 0xFFFF, "high": 0xFFFF}, {"low": NONE_TAKEN, "high": NONE_TAKEN}
+        # The number of the next call: the Connect, three records and PrmEnd are before it.
+        self.sequence, self.asked = 5, None
+
+    def starts(self):
+        call = ready(49153)
+        self.say.hear(call, ready_answer(call))
+        self.say.state("exchanging")
+        return self
+
+    def known(self, slot, subslot, word):
+        """What the controller knows of a place."""
+        self.say.tells(f"place {slot} {subslot} {word}")
+
+    def tells(self, kind, specifier, *sent, slot=1, subslot=1, priority="low", api=0):
+        """An alarm of a submodule, and what is sent behind its ACK and its AlarmAck, which the station acknowledges."""
+        number, taken = self.number[priority], self.last[priority]
+        source, layer, ack = ((low_pdu, AlarmNotification_Low, LowAlarmAck) if priority == "low" else
+                              (high_pdu, AlarmNotification_High, exchange.AlarmAck))
+        block = layer(AlarmType=kind, API=api, SlotNumber=slot, SubslotNumber=subslot, ModuleIdentNumber=16, SubmoduleIdentNUmber=16,
+                      AlarmSpecifier=specifier, AlarmPayload=[])
+        answer = ack(AlarmType=kind, API=api, SlotNumber=slot, SubslotNumber=subslot, AlarmSpecifier=specifier)
+        self.again = source(DEVICE, DATA, number, taken, block), source(TOOL, ACK, number, number)
+        self.hears(self.again[0], source(TOOL, ACK, taken if taken != NONE_TAKEN else NONE_SENT, number),
+                   source(TOOL, DATA, number, number, answer), *sent, behind=2)
+        self.say.hear(source(DEVICE, ACK, number, number))
+        self.last[priority], self.number[priority] = number, (number + 1) & 0x7FFF if number != 0xFFFF else 0
+
+    def asks(self, place):
+        """The next Write of a record of the plan, which the controller has to send."""
+        slot, index, octets = WRITES.records[place]
+        self.sequence += 1
+        return asks_write(self.sequence - 1, slot, 1, index, octets)
+
+    def hears(self, packet, *sent, behind=0):
+        """A frame comes, and these are sent, the first `behind` of them in any case. The last one of the others waits for its answer from now on."""
+        self.say.hear(packet, *sent)
+        self.asked = sent[-1] if len(sent) > behind else self.asked
+
+    def ends(self, number):
+        """The PrmEnd after the plug with this number, which it has to send."""
+        call = relation.control(relation.ACTIVITY, self.sequence, PLUG_END, BIG, command="ControlCommand_PrmEnd")
+        call[PNIOServiceReqPDU].blocks[0].AlarmSequenceNumber = number
+        self.sequence += 1
+        return Ether(raw(call))
+
+    def accepts(self, *following, asked=None):
+        """The station accepts what was asked."""
+        asked = asked or self.asked
+        block = asked[PNIOServiceReqPDU].blocks[0]
+        answer = written() if block.block_type == 8 else IODControlRes(
+            block_type=PLUG_END + 0x8000, ARUUID=AR, SessionKey=1, AlarmSequenceNumber=block.AlarmSequenceNumber)
+        self.hears(response(asked, [answer], endian=LITTLE), *following)
+
+    def refuses(self, status, *following):
+        self.hears(response(self.asked, [], status=status, endian=LITTLE), *following)
+        self.say.tells(f"refusal {status:08x}")
+
+    def ready(self, number, *following, is_answered=True, sequence=1, **bent):
+        """The station's ApplicationReady for the plug with this number."""
+        call = relation.the_ready(**{name: bent.pop(name) for name in ("ar", "session") if name in bent})
+        block = call[PNIOServiceReqPDU].blocks[0]
+        block.block_type, block.AlarmSequenceNumber = PLUG_READY, number
+        for name, value in bent.items():
+            setattr(block, name, value)
+        call[DceRpc4].seqnum = sequence
+        call = Ether(raw(call))
+        answer = relation.ready_answer(call, BIG, sequence=sequence)
+        answer[station.PNIOServiceResPDU].blocks[0].AlarmSequenceNumber = number
+        self.hears(call, *([answer] if is_answered else []), *following, behind=1)
+
+
+def plugs(say):
+    """Submodules that are pulled and plugged again."""
+    on = Plugs(say, "a-plug", "The records of the plan are written again, one after the other, then PrmEnd is sent, and ApplicationReady answered.").starts()
+    for place in ((0, 1, "there"), (0, 0x8001, "there"), (1, 1, "there"), (2, 1, "there"), (1, 2, "-"), (3, 1, "-")):
+        on.known(*place)
+    on.tells(PULL, 0xB000)
+    on.known(1, 1, "gone")
+    on.known(2, 1, "there")
+    on.tells(PLUG, 0x8801, on.asks(0))
+    on.known(1, 1, "plugged")
+    say.tells("can no")
+    say.asks_in_vain("read 1 1 5", BUSY_NOW)
+    # A repeat of the alarm changes nothing, nor do answers to other calls.
+    say.hear(*on.again)
+    say.hear(response(on.asked, [written()], sequence=4))
+    say.hear(response(on.asked, [written()], activity=relation.OTHER_ACTIVITY))
+    on.ready(1, is_answered=False)
+    on.accepts(on.asks(1))
+    on.known(1, 1, "plugged")
+    on.accepts(on.ends(1))
+    on.known(1, 1, "ending")
+    say.tells("can no")
+    on.accepts()
+    on.known(1, 1, "ending")
+    say.tells("can yes")
+    # Of another number, another relation, another SessionKey or another command it does not count.
+    on.ready(0, is_answered=False)
+    on.ready(2, is_answered=False)
+    on.ready(1, is_answered=False, session=2)
+    on.ready(1, is_answered=False, ar=relation.ACTIVITY)
+    on.ready(1, is_answered=False, ControlCommand_ApplicationReady=0, ControlCommand_PrmEnd=1)
+    on.ready(1, is_answered=False, block_length=29)
+    on.known(1, 1, "ending")
+    on.ready(1)
+    on.known(1, 1, "there")
+    # Its answer was lost: it is answered again.
+    on.ready(1, sequence=2)
+    on.known(1, 1, "there")
+    say.state("exchanging")
+    say.tells("refusal -")
+    say.asks("read 1 1 5", asks_read(on.sequence, 1, 1, 5))
+
+    for key in (None, False):
+        on = Plugs(say, f"a-plug-{'without-the-key' if key is None else 'with-the-key-false'}", "Nothing is written, and no ApplicationReady of a plug is answered.", key=key).starts()
+        on.tells(PLUG, 0x8801)
+        on.known(1, 1, "plugged")
+        on.ready(1, is_answered=False)
+        on.tells(PULL, 2, priority="high")
+        on.known(1, 1, "gone")
+        say.tells("can yes")
+
+    on = Plugs(say, "two-plugs", "One place has its turn at a time, in the order of the plugs; the next one begins with the answer to PrmEnd.").starts()
+    on.tells(PLUG, 1, on.asks(2), slot=2)
+    on.tells(PLUG, 2)
+    on.known(1, 1, "plugged")
+    on.accepts(on.ends(1))
+    ended_first = on.asked
+    on.accepts(on.asks(0))
+    on.known(2, 1, "ending")
+    on.known(1, 1, "plugged")
+    on.ready(1)
+    on.known(2, 1, "there")
+    on.accepts(on.asks(1))
+    on.accepts(on.ends(2))
+    # ApplicationReady comes before the answer to PrmEnd, which is over then: it is not sent again, and its late answer is dropped.
+    on.tells(PLUG, 3, slot=2)
+    on.ready(2, on.asks(2))
+    on.known(1, 1, "there")
+    on.known(2, 1, "plugged")
+    on.accepts(asked=ended_first)
+    on.accepts(on.ends(3))
+    say.runs(999)
+    say.lines.append("tick 31")
+    say.outputs_alone()
+    say.lines.append("tick 1")
+    say.outputs_alone(f"out {padded(on.asked).hex()}")
+    on.refuses(BUSY)
+    on.known(2, 1, "refused")
+    on.ready(3, is_answered=False)
+    say.state("exchanging")
+
+    on = Plugs(say, "a-turn-that-is-dropped", "A further alarm of the place drops what is left of its turn. The request that was sent is sent again until its answer.").starts()
+    on.tells(PLUG, 1, on.asks(0))
+    on.tells(PULL, 2)
+    on.known(1, 1, "gone")
+    say.runs(999)
+    say.lines.append("tick 31")
+    say.outputs_alone()
+    say.lines.append("tick 1")
+    say.outputs_alone(f"out {padded(on.asked).hex()}")
+    on.tells(PLUG, 3)
+    on.known(1, 1, "plugged")
+    on.accepts(on.asks(0))
+    on.tells(PLUG, 4, slot=2)
+    on.tells(PLUG, 5)
+    # The place waits behind the others now.
+    on.accepts(on.asks(2))
+    on.accepts(on.ends(4))
+    on.tells(WRONG, 6, slot=2)
+    on.known(2, 1, "wrong")
+    on.ready(4, is_answered=False)
+    on.accepts(on.asks(0))
+    on.tells(PULL_MODULE, 7, subslot=0)
+    on.known(1, 1, "gone")
+    on.refuses(CONFLICT)
+    on.known(1, 1, "gone")
+    say.tells("can yes")
+    say.state("exchanging")
+
+    for goes_on in (None, True):
+        on = Plugs(say, f"a-refused-record-after-a-plug{'-goes-on' if goes_on else ''}", "Nothing ends by it.", goes_on=goes_on).starts()
+        on.tells(PLUG, 1, on.asks(0))
+        on.tells(PLUG, 2, slot=2)
+        on.refuses(CONFLICT, on.asks(1 if goes_on else 2))
+        say.tells(f"refused 0 {CONFLICT:08x}")
+        on.known(1, 1, "plugged" if goes_on else "refused")
+        # A reject or a fault is no status of a record: its place is refused in any case.
+        fault = packet(on.asked, FAULT, word(NO_OPERATION, LITTLE), LITTLE)
+        say.hear(packet(on.asked, FAULT, word(NO_OPERATION, LITTLE), LITTLE, sequence=4))
+        say.hear(packet(on.asked, WORKING))
+        on.hears(fault, *([on.asks(2)] if goes_on else []))
+        say.tells(f"refusal {NO_OPERATION:08x}")
+        on.known(1 if goes_on else 2, 1, "refused")
+        if goes_on:
+            on.accepts(on.ends(2))
+            say.hear(packet(on.asked, REJECT, word(NO_INTERFACE, BIG)))
+            on.known(2, 1, "refused")
+        say.tells("can yes")
+        say.state("exchanging")
+
+    on = Plugs(say, "a-plug-before-the-exchange", "Data exchange begins by the answer to ApplicationReady alone; the turn of the place begins at the end of a second.")
+    on.tells(PLUG, 1)
+    on.known(1, 1, "plugged")
+    on.starts()
+    say.tells("can yes")
+    say.runs(999)
+    say.lines.append("tick 31")
+    say.outputs_alone()
+    on.asked = on.asks(0)
+    say.lines.append("tick 1")
+    say.outputs_alone(f"out {padded(on.asked).hex()}")
+    say.tells("can no")
+    on.accepts(on.asks(1))
+    say.state("exchanging")
+
+    on = Plugs(say, "a-plug-beside-a-request", "The turn waits for the answer to the application's request.").starts()
+    asked = asks_read(on.sequence, 0, 1, 0xAFF0)
+    say.asks(f"read 0 1 {0xAFF0}", asked)
+    on.sequence += 1
+    on.tells(PLUG, 1)
+    on.hears(response(asked, [read_record(b"\1\2")]), on.asks(0))
+    say.tells(f"answer read 0 1 {0xAFF0} 5 00000000 0102")
+    on.accepts(on.asks(1))
+    say.stops(release(on.sequence))
+    on.known(1, 1, "-")
+    on.accepts()
+
+    on = Plugs(say, "what-alarms-tell-of-places", "Pulls of both kinds and priorities, of other APIs and of other places; and the diagnoses of what was pulled.",
+               differs=(diff((2, 32, 3, ((1, 32, 0x8800),)),),)).starts()
+    on.known(2, 1, "differs")
+    on.known(1, 1, "there")
+    on.tells(PULL, 1, api=1)
+    on.tells(2, 2)
+    on.tells(PLUG, 3, subslot=2)
+    on.tells(PLUG, 4, slot=3)
+    on.known(1, 1, "there")
+    told = Told(say)
+    told.next, told.last = on.number, on.last
+    told.changes(1, 3, 1, (1, 1, 3, 1))
+    told.changes(1, 4, 1, (1, 1, 3, 1), (2, 1, 4, 1), slot=2)
+    on.tells(PULL, 5, subslot=2, priority="high")
+    say.tells(listed(((1, 1, 3, 1), (2, 1, 4, 1))))
+    on.tells(PULL, 6, subslot=0, priority="high")
+    on.known(1, 1, "gone")
+    say.tells(listed(((2, 1, 4, 1),)))
+    on.tells(PULL_MODULE, 7, slot=2, subslot=9)
+    on.known(2, 1, "gone")
+    say.tells(listed(()))
+    on.tells(WRONG, 8, slot=2)
+    on.known(2, 1, "wrong")
+    on.tells(0x0B, 9, slot=2)
+    on.known(2, 1, "wrong")
+    say.hear(low_pdu(DEVICE, ERR, 9, 9, Raw(b"\xcf\x81\xfd\x0d")))
+    say.state("ended", "5")
+    on.known(2, 1, "-")
+
+
 def scenarios():
     say = Scenarios()
     answers(say)
@@ -767,6 +1048,7 @@ def scenarios():
     refusals(say)
     requests(say)
     refused_records(say)
+    plugs(say)
     first = ["# Stations of other makers: what each sends, and what the controller has to do.",
              "# `bench/interoperation/scapy_makers.py` printed this: all frames are those that Scapy builds."]
     return "\n".join(first + say.lines) + "\n"

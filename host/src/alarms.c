@@ -32,6 +32,11 @@ const char *alarms_type(unsigned type)
     }
 }
 
+int alarms_is_plug(unsigned type)
+{
+    return type == PLUG;
+}
+
 int alarms_wants_parameters(unsigned type)
 {
     return type == PLUG || type == RELEASED;

@@ -26,7 +26,11 @@ struct alarm {
     size_t length;
 };
 
-/* Whether a device expects the submodule to be parametrized again after an alarm of this type, which this controller does not do. */
+/* Whether an alarm of this type reports that a submodule was plugged. */
+int alarms_is_plug(unsigned type);
+
+/* Whether a device expects the submodule to be parametrized again after an alarm of this type. The controller does that after a plug, if its plan
+ * says so (parameters_after_plug). */
 int alarms_wants_parameters(unsigned type);
 
 /* Writes its line: `alarm TYPE SLOT SUBSLOT SPECIFIER HEX (TEXT)`, with `-` for no octets. */

@@ -56,6 +56,7 @@ static const struct key keys[] = {
     {"Project", "Slots", "a list of objects"},
     {"Project", "ContinueOnRefusedRecord", "true or false"},
     {"Project", "ReleaseOnRefusedRecord", "true or false"},
+    {"Project", "ParametersAfterPlug", "true or false"},
     {"Controller", "NameOfStation", "a string"},
     {"Controller", "MAC", "a string"},
     {"Controller", "IPAddress", "a string"},

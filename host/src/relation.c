@@ -37,6 +37,9 @@ static const char *const causes[] = {
     "no progress within the patience",
 };
 #define CAUSES (sizeof causes / sizeof causes[0])
+/* What is known of a submodule of the plan (enum pn_known). */
+static const char *const submodules[] = {"unknown", "there", "differs", "gone", "wrong", "plugged", "ending", "refused"};
+#define SUBMODULES (sizeof submodules / sizeof submodules[0])
 
 /* Notes a Release that is sent. */
 static void note_release(struct relation *relation, const uint8_t *octets)
@@ -157,8 +160,10 @@ void relation_make(struct relation *relation, struct loop *loop)
     make_uuid(relation->ar);
     make_uuid(relation->activity);
     relation->loop = loop;
-    for (unsigned i = 0; i < STATION_PLACES; i++)
+    for (unsigned i = 0; i < STATION_PLACES; i++) {
         relation->providers[i] = -1;
+        relation->submodules[i] = PN_KNOWN_THERE;
+    }
     relation->units = loop->units;
     relation->state = relation->cause = 0;
     relation->has_device = 0;
@@ -242,6 +247,32 @@ static void look_at_providers(struct relation *relation)
     }
 }
 
+/* Reports what is known of a submodule of the plan, if it is something else than before. Without a relation nothing is known of it. */
+static void look_at_submodule(struct relation *relation, uint16_t slot, uint16_t subslot, uint32_t *reported)
+{
+    uint32_t now = PN_KNOWN_THERE;
+    if (pn_controller_place(&relation->room, &relation->op, slot, subslot, &now) != PN_OK || now == *reported)
+        return;
+    *reported = now;
+    lines_tell(&relation->loop->lines, "submodule %u %u %s", slot, subslot, submodules[now < SUBMODULES ? now : 0]);
+}
+
+static void look_at_submodules(struct relation *relation)
+{
+    uint32_t *reported = relation->submodules;
+    for (uint32_t i = 0; i < relation->plan.module_count; i++) {
+        const pn_module *module = &relation->plan.modules[i];
+        for (uint16_t k = 0; k < module->submodule_count; k++)
+            look_at_submodule(relation, module->slot, module->submodules[k].subslot, reported++);
+    }
+}
+
+/* Whether a submodule runs with default parameters after this alarm, until the relation is started again. */
+static int is_left_alone(const struct relation *relation, unsigned type)
+{
+    return alarms_wants_parameters(type) && !(alarms_is_plug(type) && relation->plan.parameters_after_plug != 0);
+}
+
 /* Reports the last alarm of a priority, if it is another one than that reported before. */
 static void look_at_alarm(struct relation *relation, int is_low)
 {
@@ -259,7 +290,7 @@ static void look_at_alarm(struct relation *relation, int is_low)
                            .structure = op->structure > 65535 ? -1 : (long)op->structure, .octets = op->octets, .length = op->length};
     alarms_line(&alarm, text, sizeof text);
     lines_tell(&relation->loop->lines, "%s", text);
-    if (alarms_wants_parameters(alarm.type))
+    if (is_left_alone(relation, alarm.type))
         lines_tell(&relation->loop->lines, "warning: slot %u subslot %u: it gets its parameters again when the relation is started again: line restart",
                    alarm.slot, alarm.subslot);
 }
@@ -464,8 +495,11 @@ void relation_look_at_data(struct relation *relation, const uint8_t *octets, siz
     } else if (before == PN_DATA_EXCHANGE) {
         look_at_alarm(relation, 0);
         look_at_alarm(relation, 1);
+        look_at_refused(relation);
         access_look(relation);
     }
+    if (!wire_is_cyclic(octets, length))
+        look_at_submodules(relation);
     if (before == PN_ENDED && is_released(relation, octets, length))
         relation->ends_at = ticker_now();
 }

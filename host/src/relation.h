@@ -47,6 +47,7 @@ struct relation {
     struct places inputs;
     struct places outputs;
     int providers[STATION_PLACES]; /* of each input, what was reported last: its IOPS, and 256 if the device runs; -1: nothing yet */
+    uint32_t submodules[STATION_PLACES]; /* of each submodule of the plan, what was reported last (enum pn_known) */
     struct reasons reasons;
     char stuck[WAITING_WORDS]; /* what the controller waited for when it ended */
     struct holders holders; /* of the plan's name */

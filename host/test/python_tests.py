@@ -52,6 +52,7 @@ LINES = (
     ("pump.2 ended 4: no cyclic frame of the device came within the data hold time", lines.Ended, "pump.2", (4, "no cyclic frame of the device came within the data hold time")),
     ("input 1 1 00ff", lines.Octets, None, ("input", 1, 1, b"\0\xff")), ("pump-1 give 2 1 ", lines.Octets, "pump-1", ("give", 2, 1, b"")),
     ("provider 1 1 80 run", lines.Provider, None, (1, 1, 128, True)), ("a provider 65535 32768 00 stop", lines.Provider, "a", (65535, 32768, 0, False)),
+    ("submodule 1 1 gone", lines.Submodule, None, (1, 1, "gone")), ("a submodule 15 32768 refused", lines.Submodule, "a", (15, 32768, "refused")),
     ("alarm 2 1 1 0 c0ffee (high priority, process, USI 0001)", lines.Alarm, None, (2, 1, 1, 0, b"\xc0\xff\xee", "high", "process, USI 0001")),
     ("alarm 3 1 1 0 - (low priority, pull, no USI)", lines.Alarm, None, (3, 1, 1, 0, b"", "low", "pull, no USI")),
     ("refused record 1 2 3: Write of the record, PNIOStatus DF 80 B0 00: x", lines.RecordRefused, None, (1, 2, 3, "Write of the record, PNIOStatus DF 80 B0 00: x")),

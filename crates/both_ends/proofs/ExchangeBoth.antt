@@ -22,9 +22,9 @@ use Rattle.both_ends.specs.startup.Played.{Begins, CanMeet, IsRunOf, moves_of, v
 use Rattle.both_ends.specs.startup.View.{rules_of, view_of}
 use Rattle.both_ends.specs.exchange.Given.{AreOfOneFrame, zero_for}
 use Rattle.both_ends.specs.exchange.Shown.{has_accepted}
-use Rattle.both_ends.specs.exchange.Sized.{AreSizedModules}
+use Rattle.both_ends.specs.exchange.Sized.{AreSizedModules, NoneIsAtZero}
 use Rattle.both_ends.specs.exchange.Over.{IsOneOfTheLastTwo, raised_over, reported_over, taken_over}
-use Rattle.both_ends.specs.exchange.Told.{AreKnown, AreNoPulls, AreSizedMoves, IsSizedMove, IsTold, known_at}
+use Rattle.both_ends.specs.exchange.Told.{AreKnown, AreSizedMoves, IsSizedMove, IsTold, known_at}
 use Rattle.both_ends.specs.exchange.Together.{IsBegunAndCut, IsBegunAndPlayed}
 
 -- what follows from the case of success follows for any result
@@ -69,12 +69,15 @@ pub record Laws {F : Type 0} {S : ℕ} (as_flash : Flash F S) (setup : Setup) (i
       → IsTold link.flow.low (last_world first run).device.live.rest.diagnoses (reported_over first run)
   pub list : CanMeet setup identity → (first : World F) (run : List (Move × World F)) → Begins setup identity first → AreMade as_flash first run
       → AreSizedModules first.device.live.rest.real.modules.items → AreSizedMoves run → AreKnown first.device.live.rest.diagnoses
-      → length (reported_over first run) ≤ 32768 → AreNoPulls (reported_over first run) → (link : RelationState) → (last_world first run).device.live.rest.link ≡ Some link → is_exchanging link.phase ≡ true
+      → NoneIsAtZero first.device.live.rest.real.modules.items → length (reported_over first run) ≤ 32768 → (link : RelationState) → (last_world first run).device.live.rest.link ≡ Some link → is_exchanging link.phase ≡ true
       → link.flow.low.alarms.sender.standing ≡ None → link.flow.low.waiting ≡ [] → (last_world first run).controller.live.stands ≡ true
       → (last_world first run).controller.live.diagnosis ≡ known_at link.flow.low (last_world first run).device.live.rest.diagnoses
   pub known : CanMeet setup identity → (first : World F) (run : List (Move × World F)) → Begins setup identity first → AreMade as_flash first run
       → AreSizedModules first.device.live.rest.real.modules.items → AreSizedMoves run → AreKnown first.device.live.rest.diagnoses
       → AreKnown (last_world first run).device.live.rest.diagnoses
+  pub plugged : CanMeet setup identity → (first : World F) (run : List (Move × World F)) → Begins setup identity first → AreMade as_flash first run
+      → AreSizedModules first.device.live.rest.real.modules.items → AreSizedMoves run → AreKnown first.device.live.rest.diagnoses
+      → NoneIsAtZero first.device.live.rest.real.modules.items → NoneIsAtZero (last_world first run).device.live.rest.real.modules.items
   pub station : CanMeet setup identity → (first : World F) (run : List (Move × World F)) → Begins setup identity first → AreMade as_flash first run
       → (last_world first run).device.station ≡ first.device.station
   pub others : CanMeet setup identity → (first : World F) (run : List (Move × World F)) → Begins setup identity first → AreMade as_flash first run
@@ -103,6 +106,9 @@ module _ {F : Type 0} {S : ℕ} (as_flash : Flash F S) (setup : Setup) (identity
   known_first : AreKnown device.live.rest.diagnoses → AreKnown first.device.live.rest.diagnoses
   known_first are = subst (λ (d : State F). AreKnown d.live.rest.diagnoses) (sym of_device) are
 
+  none_first : NoneIsAtZero device.live.rest.real.modules.items → NoneIsAtZero first.device.live.rest.real.modules.items
+  none_first none = subst (λ (d : State F). NoneIsAtZero d.live.rest.real.modules.items) (sym of_device) none
+
   pub played_so : (moves : List Move) (last : World F) → AllByRecursion IsSizedMove moves → Played as_flash first moves last → IsBegunAndPlayed as_flash setup device moves last
   played_so moves last sizes played =
       let of = laws.run first last moves played in
@@ -129,10 +135,11 @@ module _ {F : Type 0} {S : ℕ} (as_flash : Flash F S) (setup : Setup) (identity
         reports = laws.reports meets first run begun made real moves_sized;
         reported_last = laws.reported_last meets first run begun made real moves_sized;
         told = λ are. laws.told meets first run begun made real moves_sized (known_first are);
-        list = λ are. laws.list meets first run begun made real moves_sized (known_first are);
+        list = λ are none. laws.list meets first run begun made real moves_sized (known_first are) (none_first none);
         station = laws.station meets first run begun made ∙ ap (λ (d : State F). d.station) of_device;
         others = λ activity other none. laws.others meets first run begun made activity other (ap (λ (d : State F). kept_of activity d.live.rest.calls) of_device ∙ none);
         known = λ are. laws.known meets first run begun made real moves_sized (known_first are);
+        plugged = λ are none. laws.plugged meets first run begun made real moves_sized (known_first are) (none_first none);
       })
 
   pub cut_so : (moves : List Move) (last : World F) → AllByRecursion IsSizedMove moves → ((count : ℕ) × (count < length moves) × Played as_flash first (take count moves) last) → IsBegunAndCut as_flash setup device moves last

@@ -1,5 +1,6 @@
 -- Until the device has answered a call, its controller exchanges no data, and makes no request of the application.
-use Rattle.std.proofs.Common.{◌≡◌, ◌⊎◌, inl, inr, ◌+◌, ℕ, Bool, true, false, cond, List, [], ◌∷◌, map, Option, Some, None, refl, sym, ap, subst, ◌∙◌}
+use Rattle.std.proofs.Common.{◌≡◌, ◌⊎◌, inl, inr, ◌+◌, ◌&&◌, ◌||◌, ◌++◌, ℕ, Bool, true, false, not, cond, List, [], ◌∷◌, map, Option, Some, None, refl, sym, ap, subst, ◌∙◌}
+use Rattle.std.specs.Prelude.{is_some}
 use Rattle.std.specs.List.{AllByRecursion}
 use Rattle.std.proofs.lemmas.Bool.{false≢true}
 use Rattle.frame_codec.specs.declared.udp.Caller.{Caller}
@@ -16,10 +17,13 @@ use Rattle.diagnosis.specs.declared.reports.report.Report.{Report}
 use Rattle.pn_alarms.specs.Receiver.{taken_as}
 use Rattle.pn_values.specs.declared.mac.Mac.{Mac}
 use Rattle.device_core.specs.State.{Station}
+use Rattle.plan_places.specs.Places.{next_waiting}
+use Rattle.controller_messages.specs.declared.plug_request.PlugRequest.{PlugRequest}
 use Rattle.controller_messages.specs.declared.record_request.RecordRequest.{RecordRequest}
 use Rattle.controller_messages.specs.declared.request.Request.{Request}
 use Rattle.controller_messages.specs.declared.request.Request.TheVariants as asks
 use Rattle.controller_messages.specs.declared.setup.Setup.{Setup}
+use Rattle.controller_messages.specs.Access.{is_free}
 use Rattle.controller_messages.specs.Heard.{Calls, heard_of}
 use Rattle.controller_messages.specs.Requests.{writing_from}
 use Rattle.controller_messages.specs.Sent as said
@@ -28,7 +32,7 @@ use Rattle.controller_core.specs.declared.stored.event.Event.TheVariants as even
 use Rattle.controller_core.specs.declared.stored.state.State.{State}
 use Rattle.controller_core.specs.declared.stored.state.State.TheVariants.{Exchanging}
 use Rattle.controller_core.specs.stored.Alarms.{ack_of}
-use Rattle.controller_core.specs.Machine.{Turn, accesses_by, acking, diagnosing, acks_in, acks_of, asking, behind_data, brought, due_frames, end_of, flow_later, is_again, is_exchanging, keeping, pending_by, pending_of, requests_of, taken, turn_of, where_due, with_end}
+use Rattle.controller_core.specs.Machine.{Turn, accesses_by, acking, after_turn, begun_by, begun_turn, can_begin, diagnosing, acks_in, acks_of, asking, behind_data, brought, due_frames, end_of, is_again, is_exchanging, keeping, later, pending_by, pending_of, plugs_by, plugs_of, requests_of, taken, turn_due, turn_of, where_due, with_end}
 use Rattle.controller_core.specs.stored.State.{phase_for}
 use Rattle.controller_core.specs.start_up.Answers.{ready_in}
 use Rattle.controller_core.specs.stored.State.{Live}
@@ -36,22 +40,25 @@ use Rattle.controller_core.specs.start_up.Answers.{is_ready}
 use Rattle.end_laws.specs.both.Small as small
 use Rattle.end_laws.specs.both.Small.{ToDevice}
 use Rattle.end_laws.specs.controller.Small.{readied_by, said_to}
-use Rattle.end_laws.specs.turns.Turns.{Came, Hears, Passes, Gets, GetsStatus, AsksRead, AsksWrite, Halts, IsKind, IsReadied, Kind, Rests, Connects, Addresses, Ends, Releases, Relates, Writes, Skips, Waits, Forgets, Begins, Repeats, Follows, Takes, IsAcked, Asks, IsReplied, Gives, GivesStatus, Flows, Breaks, Idles, came_by, turn_by}
+use Rattle.end_laws.specs.turns.Beside.{flow_begun}
+use Rattle.end_laws.specs.turns.Turns.{Came, Hears, Passes, Gets, GetsStatus, AsksRead, AsksWrite, Halts, IsKind, IsReadied, Kind, Rests, Connects, Addresses, Ends, Releases, Relates, Writes, Skips, Waits, Forgets, Begins, Repeats, Follows, Takes, IsAcked, Asks, IsReplied, IsPlugAnswered, IsPlugReadied, Gives, GivesStatus, Flows, Breaks, Idles, came_by, turn_by}
 use Rattle.both_ends.specs.startup.View.{IsSaidAs, rules_of, says_to_device}
 use Rattle.both_ends.proofs.ExchangeLists.{each_behind, none_some, some_is}
 use Rattle.both_ends.proofs.ExchangeOutputsTurns.{KindsSo}
 
 -- ---- what is early
 
--- a message that is no request of the application
+-- a message that is no request of the application, and none after a plug
 abbrev pub IsNoAccess : said.Sent → Type 0
 IsNoAccess (said.Accesses device request octets) = ⊥
+IsNoAccess (said.Parametrizes device request) = ⊥
 IsNoAccess other = Unit {0}
 
--- a controller without data to exchange, and without a request of the application
+-- a controller without data to exchange, and without a request of the application or after a plug
 pub record IsEarlyAt (live : Live) : Type 0 where
   pub phase : is_exchanging live.phase ≡ false
   pub waiting : live.access.waiting ≡ None
+  pub plug : live.access.plug ≡ None
 
 pub record EarlyTurn (turn : Turn) : Type 0 where
   pub live : IsEarlyAt turn.live
@@ -74,8 +81,9 @@ IsUnready setup (AsksRead slot subslot index) = Unit {0}
 IsUnready setup (AsksWrite slot subslot index octets) = Unit {0}
 IsUnready setup Halts = Unit {0}
 
-asking_early : (setup : Setup) (phase : State) (request : Request) (live : Live) → is_exchanging phase ≡ false → live.access.waiting ≡ None → EarlyTurn (asking setup phase request live)
-asking_early setup phase request live e none = record { live = record { phase = e; waiting = none }; sent = (tt, tt) }
+asking_early : (setup : Setup) (phase : State) (request : Request) (live : Live) → is_exchanging phase ≡ false → live.access.waiting ≡ None → live.access.plug ≡ None
+    → EarlyTurn (asking setup phase request live)
+asking_early setup phase request live e none unplugged = record { live = record { phase = e; waiting = none; plug = unplugged }; sent = (tt, tt) }
 
 written_phase : (request : Request) → is_exchanging (phase_for request) ≡ false
 written_phase asks.Identify = refl
@@ -86,15 +94,15 @@ written_phase asks.PrmEnd = refl
 written_phase (asks.Release sequence) = refl
 
 with_end_early : (live : Live) (priority : Priority) (end : ControllerEnd) → IsEarlyAt live → IsEarlyAt (with_end live priority end)
-with_end_early live High end is = record { phase = is.phase; waiting = is.waiting }
-with_end_early live Low end is = record { phase = is.phase; waiting = is.waiting }
+with_end_early live High end is = record { phase = is.phase; waiting = is.waiting; plug = is.plug }
+with_end_early live Low end is = record { phase = is.phase; waiting = is.waiting; plug = is.plug }
 
 keeping_early : (live : Live) (priority : Priority) (alarm : AlarmNotification) (structure : Option ℕ) → IsEarlyAt live → IsEarlyAt (keeping live priority alarm structure)
-keeping_early live High alarm structure is = record { phase = is.phase; waiting = is.waiting }
-keeping_early live Low alarm structure is = record { phase = is.phase; waiting = is.waiting }
+keeping_early live High alarm structure is = record { phase = is.phase; waiting = is.waiting; plug = is.plug }
+keeping_early live Low alarm structure is = record { phase = is.phase; waiting = is.waiting; plug = is.plug }
 
 diagnosing_early : (report : Report) (live : Live) → IsEarlyAt live → IsEarlyAt (diagnosing report live)
-diagnosing_early report live is = record { phase = is.phase; waiting = is.waiting }
+diagnosing_early report live is = record { phase = is.phase; waiting = is.waiting; plug = is.plug }
 
 taken_early : (live : Live) (report : Report) (as_is : Taken) → IsEarlyAt live → EarlyTurn (taken live report as_is)
 taken_early live report New is = record {
@@ -121,16 +129,57 @@ accesses_early : (device : Mac) (octets : List ℕ) (waiting : Option RecordRequ
 accesses_early device octets (Some request) none = absurd cc
 accesses_early device octets None none = tt
 
-pending_early : (live : Live) (asked : Option Request) → live.access.waiting ≡ None → AllByRecursion IsNoAccess (pending_by live asked)
-pending_early live (Some request) none = (tt, tt)
-pending_early live None none = accesses_early live.device live.access.octets live.access.waiting none
+-- no request beside data exchange
+beside_early : (device : Mac) (octets : List ℕ) (waiting : Option RecordRequest) (plug : Option PlugRequest) → waiting ≡ None → plug ≡ None
+    → AllByRecursion IsNoAccess (cond (is_some plug) (plugs_by device plug) (accesses_by device octets waiting))
+beside_early device octets waiting (Some request) none unplugged = absurd cc
+beside_early device octets waiting None none unplugged = accesses_early device octets waiting none
 
-flows_early : (live : Live) (is_high is_low is_request is_cyclic : Bool) → live.access.waiting ≡ None → AllByRecursion IsNoAccess (due_frames live is_high is_low is_request is_cyclic)
-flows_early live is_high is_low is_request is_cyclic none =
+pending_early : (live : Live) (asked : Option Request) → live.access.waiting ≡ None → live.access.plug ≡ None → AllByRecursion IsNoAccess (pending_by live asked)
+pending_early live (Some request) none unplugged = (tt, tt)
+pending_early live None none unplugged = beside_early live.device live.access.octets live.access.waiting live.access.plug none unplugged
+
+flows_early : (live : Live) (is_high is_low is_request is_cyclic : Bool) → live.access.waiting ≡ None → live.access.plug ≡ None
+    → AllByRecursion IsNoAccess (due_frames live is_high is_low is_request is_cyclic)
+flows_early live is_high is_low is_request is_cyclic none unplugged =
     each_behind IsNoAccess (where_due is_high (acks_of live High)) _ (due_early is_high _ (acks_early live High live.alarms.confirming))
     (each_behind IsNoAccess (where_due is_low (acks_of live Low)) _ (due_early is_low _ (acks_early live Low live.low_alarms.confirming))
-    (each_behind IsNoAccess (where_due is_request (pending_of live)) _ (due_early is_request _ (pending_early live live.asked none))
+    (each_behind IsNoAccess (where_due is_request (pending_of live)) _ (due_early is_request _ (pending_early live live.asked none unplugged))
     (due_early is_cyclic _ (tt, tt))))
+
+-- ---- turns of places
+
+and_false : (b : Bool) → (b && false) ≡ false
+and_false true = refl
+and_false false = refl
+
+-- without data to exchange none begins
+cannot_begin : (live : Live) → IsEarlyAt live → can_begin live ≡ false
+cannot_begin live is =
+    ap (λ (b : Bool). live.stands && (b && (is_free live.access && is_some (next_waiting live.places)))) is.phase ∙ and_false live.stands
+
+after_early : (setup : Setup) (could : Bool) (turn : Turn) → EarlyTurn turn → EarlyTurn (after_turn setup could turn)
+after_early setup could turn early = by_tests could (can_begin turn.live) (cannot_begin turn.live early.live)
+  where
+    by_tests : (a b : Bool) → b ≡ false
+        → EarlyTurn (cond (a || not b) turn (record { live = begun_turn setup turn.live; sent = turn.sent ++ plugs_of (begun_turn setup turn.live) }))
+    by_tests true b e = early
+    by_tests false false e = early
+    by_tests false true e = absurd cc
+
+due_turn_early : (setup : Setup) (is_due : Bool) (live : Live) → IsEarlyAt live → IsEarlyAt (turn_due setup is_due live)
+due_turn_early setup true live is = by_test (can_begin live) (cannot_begin live is)
+  where
+    by_test : (b : Bool) → b ≡ false → IsEarlyAt (cond b (begun_by setup (next_waiting live.places) live) live)
+    by_test false e = is
+    by_test true e = absurd cc
+due_turn_early setup false live is = is
+
+-- a unit later
+flow_early : (setup : Setup) (live : Live) → IsEarlyAt live → IsEarlyAt (flow_begun setup live)
+flow_early setup live is =
+    let due = due_turn_early setup (is_again live) (later live) (record { phase = is.phase; waiting = is.waiting; plug = is.plug }) in
+    record { phase = due.phase; waiting = due.waiting; plug = due.plug }
 
 module _ (setup : Setup) (live : Live) (came : Came) (is : IsEarlyAt live) (unready : IsUnready setup came) where
   exchanges_not : live.phase ≡ Exchanging → ⊥
@@ -148,28 +197,33 @@ module _ (setup : Setup) (live : Live) (came : Came) (is : IsEarlyAt live) (unre
 
   kind_early : (kind : Kind) → IsKind setup live came kind → EarlyTurn (turn_by setup live kind)
   kind_early Rests holds = record { live = is; sent = tt }
-  kind_early (Connects source) holds = record { live = record { phase = refl; waiting = is.waiting }; sent = (tt, tt) }
-  kind_early (Addresses source) holds = record { live = record { phase = refl; waiting = is.waiting }; sent = (tt, tt) }
-  kind_early (Ends why refusal refused units) holds = record { live = record { phase = refl; waiting = refl }; sent = tt }
-  kind_early (Releases why refusal refused units) holds = record { live = record { phase = refl; waiting = refl }; sent = (tt, tt) }
-  kind_early (Relates chosen) holds = record { live = record { phase = written_phase (writing_from setup.plan 0); waiting = is.waiting }; sent = (tt, tt) }
-  kind_early (Writes number) holds = record { live = record { phase = written_phase (writing_from setup.plan (number + 1)); waiting = is.waiting }; sent = (tt, tt) }
-  kind_early (Skips number refused status) holds = record { live = record { phase = written_phase (writing_from setup.plan (number + 1)); waiting = is.waiting }; sent = (tt, tt) }
-  kind_early Waits holds = record { live = record { phase = refl; waiting = is.waiting }; sent = tt }
-  kind_early Forgets holds = record { live = record { phase = is.phase; waiting = is.waiting }; sent = tt }
+  kind_early (Connects source) holds = record { live = record { phase = refl; waiting = is.waiting; plug = is.plug }; sent = (tt, tt) }
+  kind_early (Addresses source) holds = record { live = record { phase = refl; waiting = is.waiting; plug = is.plug }; sent = (tt, tt) }
+  kind_early (Ends why refusal refused units) holds = record { live = record { phase = refl; waiting = refl; plug = refl }; sent = tt }
+  kind_early (Releases why refusal refused units) holds = record { live = record { phase = refl; waiting = refl; plug = refl }; sent = (tt, tt) }
+  kind_early (Relates places chosen) holds = record { live = record { phase = written_phase (writing_from setup.plan 0); waiting = is.waiting; plug = is.plug }; sent = (tt, tt) }
+  kind_early (Writes number) holds = record { live = record { phase = written_phase (writing_from setup.plan (number + 1)); waiting = is.waiting; plug = is.plug }; sent = (tt, tt) }
+  kind_early (Skips number refused status) holds = record { live = record { phase = written_phase (writing_from setup.plan (number + 1)); waiting = is.waiting; plug = is.plug }; sent = (tt, tt) }
+  kind_early Waits holds = record { live = record { phase = refl; waiting = is.waiting; plug = is.plug }; sent = tt }
+  kind_early Forgets holds = record { live = record { phase = is.phase; waiting = is.waiting; plug = is.plug }; sent = tt }
   kind_early (Begins caller call block) holds = absurd (readies caller call block holds.1)
   kind_early (Repeats caller call block) holds = absurd (exchanges_not holds.0)
-  kind_early (Follows source frame_id body) holds = record { live = record { phase = is.phase; waiting = is.waiting }; sent = tt }
+  kind_early (Follows source frame_id body) holds = record { live = record { phase = is.phase; waiting = is.waiting; plug = is.plug }; sent = tt }
   kind_early (Takes number report) holds =
-      taken_early (behind_data live report.priority number) report (taken_as (end_of live report.priority).seen number) (with_end_early live report.priority _ is)
+      after_early setup (can_begin live) (taken (behind_data live report.priority number) report (taken_as (end_of live report.priority).seen number))
+      (taken_early (behind_data live report.priority number) report (taken_as (end_of live report.priority).seen number) (with_end_early live report.priority _ is))
   kind_early (IsAcked priority number) holds = record { live = with_end_early live priority _ is; sent = tt }
   kind_early (Asks request octets) holds = absurd (exchanges_not holds.0)
   kind_early (IsReplied refusal access) holds = absurd (none_some holds.3 live.access.waiting is.waiting holds.4)
-  kind_early (Gives slot subslot value) holds = record { live = record { phase = is.phase; waiting = is.waiting }; sent = tt }
-  kind_early (GivesStatus slot subslot is_good) holds = record { live = record { phase = is.phase; waiting = is.waiting }; sent = tt }
-  kind_early Flows holds = record { live = record { phase = is.phase; waiting = is.waiting }; sent = flows_early (flow_later live) _ _ (is_again live) (brought live).is_cyclic is.waiting }
-  kind_early (Breaks reason) holds = record { live = record { phase = refl; waiting = refl }; sent = (tt, tt) }
-  kind_early Idles holds = record { live = record { phase = is.phase; waiting = is.waiting }; sent = due_early (is_again live) _ (requests_early live.device live.asked) }
+  kind_early (IsPlugAnswered refusal refused waited places access) holds = absurd (none_some holds.4 live.access.plug is.plug holds.5)
+  kind_early (IsPlugReadied caller call block) holds = absurd (exchanges_not holds.0)
+  kind_early (Gives slot subslot value) holds = record { live = record { phase = is.phase; waiting = is.waiting; plug = is.plug }; sent = tt }
+  kind_early (GivesStatus slot subslot is_good) holds = record { live = record { phase = is.phase; waiting = is.waiting; plug = is.plug }; sent = tt }
+  kind_early Flows holds =
+      let early = flow_early setup live is in
+      record { live = early; sent = flows_early (flow_begun setup live) _ _ (is_again live) (brought live).is_cyclic early.waiting early.plug }
+  kind_early (Breaks reason) holds = record { live = record { phase = refl; waiting = refl; plug = refl }; sent = (tt, tt) }
+  kind_early Idles holds = record { live = record { phase = is.phase; waiting = is.waiting; plug = is.plug }; sent = due_early (is_again live) _ (requests_early live.device live.asked) }
 
 -- no ApplicationReady of the relation comes with an event
 abbrev pub IsUnreadyAt : Setup → Event → Type 0
@@ -195,6 +249,7 @@ turn_early kinds setup live one is unready =
 -- what a message says that is no request of the application
 said_no_access : (setup : Setup) (message : said.Sent) (sequence : ℕ) → IsNoAccess message → says_to_device setup message ≡ small.Call sequence small.Accesses → ⊥
 said_no_access setup (said.Accesses device request octets) sequence none e = none
+said_no_access setup (said.Parametrizes device request) sequence none e = none
 said_no_access setup (said.Requests device asks.Identify) sequence none e = absurd cc
 said_no_access setup (said.Requests device asks.Address) sequence none e = absurd cc
 said_no_access setup (said.Requests device asks.Connect) sequence none e = absurd cc

@@ -14,8 +14,11 @@ use Rattle.rpc_core.specs.Call.{Asked as Call}
 use Rattle.records.specs.declared.status.operation.Operation.{Operation}
 use Rattle.records.specs.declared.status.operation.Operation.TheVariants as operation
 use Rattle.records.specs.status.Operation.{operation_of}
+use Rattle.controller_messages.specs.declared.plug_request.PlugStep.{PlugStep}
+use Rattle.controller_messages.specs.declared.plug_request.PlugStep.TheVariants as plug_step
 use Rattle.controller_messages.specs.declared.record_request.RecordService.{RecordService}
 use Rattle.controller_messages.specs.declared.record_request.RecordService.TheVariants as service
+use Rattle.controller_messages.specs.PlugRequests.{plug_blocks, plug_operation}
 use Rattle.controller_messages.specs.RecordRequests.{record_blocks, service_operation}
 use Rattle.connects.specs.requests.Request.{Request}
 use Rattle.records.specs.declared.writes.taken.TakenRecord.{TakenRecord}
@@ -32,7 +35,7 @@ use Rattle.pn_alarms.specs.Receiver.{taken_as}
 use Rattle.diagnosis.specs.declared.reports.priority.Priority.{Priority}
 use Rattle.diagnosis.specs.declared.reports.priority.Priority.TheVariants.{High, Low}
 use Rattle.diagnosis.specs.declared.reports.report.Report.{Report}
-use Rattle.diagnosis.specs.reported.Channel.{channel_report}
+use Rattle.diagnosis.specs.reported.Pulled.{pulled_by_type}
 use Rattle.cyclic_data.specs.declared.exchange.route.Route.{Route}
 use Rattle.relations.specs.Connect.{connect_of}
 use Rattle.relations.specs.RelationState.{RelationState}
@@ -49,9 +52,9 @@ use Rattle.controller_messages.specs.Heard.{heard_of as heard_by}
 use Rattle.controller_messages.specs.Sent as said
 use Rattle.controller_core.specs.declared.stored.event.Event.{Event}
 use Rattle.controller_core.specs.declared.stored.event.Event.TheVariants as event
-use Rattle.controller_core.specs.Machine.{Turn, alarmed, end_of, turn_of, turned}
+use Rattle.controller_core.specs.Machine.{Turn, end_of, turn_of, turned}
 use Rattle.controller_core.specs.stored.State.{Live as ControllerLive}
-use Rattle.end_laws.specs.turns.Alarms.{IsQuiet, Relation, Move, AlarmComes, Hears, PassesAtController, Gives, GivesStatus, Reads, Stops, Writes, alarm_comes, behind, behind_one, is_looked_at, is_priority, report_as, start, turns}
+use Rattle.end_laws.specs.turns.Alarms.{IsQuiet, Relation, ReportsNone, Move, AlarmComes, Hears, PassesAtController, Gives, GivesStatus, Reads, Stops, Writes, alarm_comes, behind, behind_one, is_looked_at, is_priority, report_as, start, turns}
 use Rattle.end_laws.specs.both.Small as small
 use Rattle.end_laws.specs.both.Small.{Rules, ToDevice}
 use Rattle.end_laws.specs.both.Steps.{DeviceSteps, Forgets, GoesBy}
@@ -62,7 +65,7 @@ use Rattle.end_laws.specs.device.Small as ends
 use Rattle.both_ends.specs.startup.View.{IsSaidAs, is_planned, rules_of, says_to_device}
 use Rattle.both_ends.proofs.ExchangeEarly.{EarlyTurn, IsEarlyAt, IsEarlyFrame, IsUnreadyAt, messages_early, turn_early}
 use Rattle.both_ends.proofs.ExchangeOutputsTurns.{KindsSo}
-use Rattle.both_ends.proofs.ExchangeReported.{IsCallIn, IsCalledAs, IsGood, IsNotedAs, IsNotedBy, IsReportedAs, IsWell, IsWellSent, ack_in, alarm_in, data_in, noted_at, noted_by, noted_of, reported_in, reported_of, reported_reply}
+use Rattle.both_ends.proofs.ExchangeReported.{IsCallIn, IsCalledAs, IsGood, IsNotedAs, IsNotedBy, IsOfPriority, IsOurs, IsReportedAs, IsWell, IsWellSent, ack_in, alarm_in, data_in, noted_at, noted_by, noted_of, reported_in, reported_of, reported_reply}
 use Rattle.both_ends.specs.exchange.Over.{taken_by}
 use Rattle.both_ends.proofs.ExchangeLists.{Extends, each_behind, each_on, more_extends, none_some, some_is, unchanged}
 use Rattle.end_laws.specs.hearing.Stations.{IsSetup}
@@ -440,15 +443,15 @@ module _ (priority : Priority) (setup : Setup) (station : Station) (live : Live)
       cond (is_looked_at follows.relation source header) (more_taken [] alarm (taken_as (end_of follows.relation.live priority).seen number)) []
 
   data_turned : (source : Mac) (under : Priority) (header : Header) (number : ℕ) (alarm : AlarmNotification) → IsSaid follows.relation.alarms.pdus (Some (number, alarm))
-      → Turned (alarmed follows.relation.live source under header (notice.Data number (report_as priority alarm))) (looked_taken source header number alarm)
+      → Turned (turned setup follows.relation.live (controller.Alarms source under header (notice.Data number (report_as priority alarm)))) (looked_taken source header number alarm)
   data_turned source under header number alarm is =
       let r = follows.relation in
-      let turn = alarmed r.live source under header (notice.Data number (report_as priority alarm)) in
+      let turn = turned setup r.live (controller.Alarms source under header (notice.Data number (report_as priority alarm))) in
       let next : Relation = record (turns r turn) { alarms = cond (is_looked_at r source header) (with_come r.alarms (end_of r.live priority).seen (number, alarm)) r.alarms } in
       record {
         next = next;
         moves = AlarmComes source under header is.0 ∷ [];
-        made = ap (λ (o : Option (ℕ × AlarmNotification)). alarm_comes priority r source under header o) is.1;
+        made = ap (λ (o : Option (ℕ × AlarmNotification)). alarm_comes priority setup r source under header o) is.1;
         quiet = (alarms_quiet priority, tt);
         live_is = refl;
         reported_is = refl;
@@ -486,30 +489,34 @@ module _ (priority : Priority) (setup : Setup) (station : Station) (live : Live)
   and_false true = refl
   and_false false = refl
 
-  -- data of high priority of this product's device reports no diagnosis
-  high_silent : (alarm : AlarmNotification) → channel_report (report_as High alarm) ≡ None
-  high_silent alarm = rw (and_false (alarm.alarm_type == 1 || alarm.alarm_type == 0x000C)) refl
+  -- data of high priority of this product's device is a process alarm, and reports no diagnosis and no pull
+  high_silent : (alarm : AlarmNotification) → alarm.alarm_type ≡ 2 → ReportsNone (report_as High alarm)
+  high_silent alarm process = (rw (and_false (alarm.alarm_type == 1 || alarm.alarm_type == 0x000C)) refl, by_api (alarm.api == 0))
+    where
+      by_api : (b : Bool) → cond b (pulled_by_type alarm) None ≡ None
+      by_api true = rw process refl
+      by_api false = refl
 
-  other_quiet : (p : Priority) (source : Mac) (under : Priority) (header : Header) (number : ℕ) (report : Report) → is_priority p report.priority ≡ false → report ≡ report_as report.priority report.notification
+  other_quiet : (p : Priority) (source : Mac) (under : Priority) (header : Header) (number : ℕ) (report : Report) → is_priority p report.priority ≡ false → IsOurs (notice.Data number report)
       → IsQuiet p (Hears (controller.Alarms source under header (notice.Data number report)))
   other_quiet High source under header number report e own = tt
-  other_quiet Low source under header number report e own = by_priority report.priority e own
+  other_quiet Low source under header number report e own = by_priority report.priority e own.0 own.1
     where
-      by_priority : (q : Priority) → is_priority Low q ≡ false → report ≡ report_as q report.notification → channel_report report ≡ None
-      by_priority High f same = ap (λ (one : Report). channel_report one) same ∙ high_silent report.notification
-      by_priority Low f same = absurd cc
+      by_priority : (q : Priority) → is_priority Low q ≡ false → report ≡ report_as q report.notification → IsOfPriority q report.notification → ReportsNone report
+      by_priority High f same process = subst (λ (one : Report). ReportsNone one) (sym same) (high_silent report.notification process)
+      by_priority Low f same process = absurd cc
 
   report_turned : (source : Mac) (under : Priority) (header : Header) (number : ℕ) (report : Report) (b : Bool) → is_priority priority report.priority ≡ b
-      → IsSaid follows.relation.alarms.pdus (cond b (Some (number, report.notification)) None) → report ≡ report_as report.priority report.notification
-      → Turned (alarmed follows.relation.live source under header (notice.Data number report)) (cond (b && is_looked_at follows.relation source header) (more_taken [] report.notification (taken_as (end_of follows.relation.live priority).seen number)) [])
+      → IsSaid follows.relation.alarms.pdus (cond b (Some (number, report.notification)) None) → IsOurs (notice.Data number report)
+      → Turned (turned setup follows.relation.live (controller.Alarms source under header (notice.Data number report))) (cond (b && is_looked_at follows.relation source header) (more_taken [] report.notification (taken_as (end_of follows.relation.live priority).seen number)) [])
   report_turned source under header number report true e is own =
-      let same : report ≡ report_as priority report.notification = own ∙ ap (λ (p : Priority). report_as p report.notification) (same_priority priority report.priority e) in
-      subst (λ (one : Report). Turned (alarmed follows.relation.live source under header (notice.Data number one)) (looked_taken source header number report.notification)) (sym same)
+      let same : report ≡ report_as priority report.notification = own.0 ∙ ap (λ (p : Priority). report_as p report.notification) (same_priority priority report.priority e) in
+      subst (λ (one : Report). Turned (turned setup follows.relation.live (controller.Alarms source under header (notice.Data number one))) (looked_taken source header number report.notification)) (sym same)
       (data_turned source under header number report.notification is)
   report_turned source under header number report false e is own =
-      turned_by (Hears (controller.Alarms source under header (notice.Data number report))) (alarmed follows.relation.live source under header (notice.Data number report))
+      turned_by (Hears (controller.Alarms source under header (notice.Data number report))) (turned setup follows.relation.live (controller.Alarms source under header (notice.Data number report)))
       (other_quiet priority source under header number report e own)
-      (ap (λ (b : Bool). cond b follows.relation (turns follows.relation (alarmed follows.relation.live source under header (notice.Data number report)))) e)
+      (ap (λ (b : Bool). cond b follows.relation (turns follows.relation (turned setup follows.relation.live (controller.Alarms source under header (notice.Data number report))))) e)
 
   heard_turned : (reported : controller.Heard) → IsSaid follows.relation.alarms.pdus (alarm_in priority (noted_at reported)) → IsGood station.identity.mac reported
       → Turned (turned setup follows.relation.live reported) (taken_by priority follows.relation.live reported)
@@ -602,9 +609,20 @@ module _ (priority : Priority) (setup : Setup) (station : Station) (live : Live)
   access_first service.Read number blocks sequence e = read_first number sequence e
   access_first service.Write number blocks sequence e = written_first (is_planned setup number blocks) number sequence e
 
+  ended_first : (number sequence : ℕ) → small.Call number small.Parameterized ≡ small.Call sequence small.Connects → ⊥
+  ended_first number sequence e = absurd cc
+
+  -- nor is one after a plug
+  plug_first : (step : PlugStep) (number : ℕ) (blocks : List ℕ) (sequence : ℕ)
+      → ends.asked_by (is_planned setup) number blocks (operation_of (plug_operation step)) ≡ small.Call sequence small.Connects → ⊥
+  unfolding operation_of
+  plug_first (plug_step.Record which) number blocks sequence e = written_first (is_planned setup number blocks) number sequence e
+  plug_first plug_step.PrmEnd number blocks sequence e = ended_first number sequence e
+
   first_said : (message : said.Sent) (sequence : ℕ) → says_to_device setup message ≡ small.Call sequence small.Connects → sequence ≡ 0
   first_said (said.Requests to asks.Connect) sequence e = cc
   first_said (said.Accesses to request octets) sequence e = absurd (access_first request.service request.sequence (record_blocks setup request octets request.service) sequence e)
+  first_said (said.Parametrizes to request) sequence e = absurd (plug_first request.step request.sequence (plug_blocks setup request request.step) sequence e)
   first_said other sequence e = absurd cc
 
   said_in : (next : Relation) (message : said.Sent) → (k : ℕ) × (slice_get next.reported k ≡ Some message) → IsSaidAs setup station message → IsReportedAs setup station.identity message

@@ -11,7 +11,7 @@ use Rattle.diagnosis.specs.Notices.{first_notice}
 use Rattle.diagnosis.specs.declared.diagnosis.Change.{Change}
 use Rattle.diagnosis.specs.declared.diagnosis.Diagnosis.{Diagnosis}
 use Rattle.diagnosis.specs.reported.Followed.{at_places}
-use Rattle.both_ends.specs.exchange.Told.{AreKnown, AreNew, AreOwn, IsNew, IsOwnChange, IsStep, Leads, change_in, reaches_at}
+use Rattle.both_ends.specs.exchange.Told.{AreKnown, AreNew, AreOwn, IsNew, IsOwnChange, change_in, reaches_at}
 use Rattle.pn_values.specs.declared.real.RealModule.{RealModule}
 use Rattle.module_diff.specs.declared.changes.Affected.{Affected}
 use Rattle.module_diff.specs.Changes.{covers}
@@ -21,6 +21,7 @@ use Rattle.diagnosis.specs.declared.queue.LowChange.{LowChange}
 use Rattle.diagnosis.specs.declared.queue.LowChange.TheVariants as change_is
 use Rattle.diagnosis.specs.declared.queue.QueuedAlarm.{QueuedAlarm}
 use Rattle.both_ends.proofs.ExchangeOwn.{any_append}
+use Rattle.both_ends.proofs.ExchangeSteps.{LeadsIf}
 
 -- a change elsewhere changes nothing at these submodules: a law of the crate below
 abbrev pub ElsewhereSo : Type 0
@@ -146,47 +147,40 @@ abbrev pub first_queued : List RealModule → List Diagnosis → List QueuedAlar
 first_queued real diagnoses = map (diagnosis_queued real) (map first_notice diagnoses)
 
 -- the diagnoses at these submodules appeared there one after the other
-pub rebuilt : ElsewhereSo → (real : List RealModule) (has : ℕ → ℕ → Bool) (before diagnoses : List Diagnosis) → AreNew before diagnoses
-    → Leads (map change_in (first_queued real (at_places has diagnoses))) (at_places has before) (at_places has (before ++ diagnoses))
-rebuilt elsewhere real has before [] new = ap (at_places has) (sym (append-nil before))
-rebuilt elsewhere real has before (one ∷ diagnoses) new = by_place (has one.slot one.subslot) refl (later (rebuilt elsewhere real has (before ++ one ∷ []) diagnoses new.1))
+pub rebuilt : ElsewhereSo → (Apart : Type 0) (real : List RealModule) (has : ℕ → ℕ → Bool) (before diagnoses : List Diagnosis) → AreNew before diagnoses
+    → LeadsIf Apart (map change_in (first_queued real (at_places has diagnoses))) (at_places has before) (at_places has (before ++ diagnoses))
+rebuilt elsewhere Apart real has before [] new = ap (at_places has) (sym (append-nil before))
+rebuilt elsewhere Apart real has before (one ∷ diagnoses) new = by_place (has one.slot one.subslot) refl (later (rebuilt elsewhere Apart real has (before ++ one ∷ []) diagnoses new.1))
   where
-    later : Leads (map change_in (first_queued real (at_places has diagnoses))) (at_places has (before ++ one ∷ [])) (at_places has ((before ++ one ∷ []) ++ diagnoses))
-        → Leads (map change_in (first_queued real (at_places has diagnoses))) (at_places has (before ++ one ∷ [])) (at_places has (before ++ one ∷ diagnoses))
+    later : LeadsIf Apart (map change_in (first_queued real (at_places has diagnoses))) (at_places has (before ++ one ∷ [])) (at_places has ((before ++ one ∷ []) ++ diagnoses))
+        → LeadsIf Apart (map change_in (first_queued real (at_places has diagnoses))) (at_places has (before ++ one ∷ [])) (at_places has (before ++ one ∷ diagnoses))
     later rest =
-        subst (λ (xs : List Diagnosis). Leads (map change_in (first_queued real (at_places has diagnoses))) (at_places has (before ++ one ∷ [])) (at_places has xs)) (append_assoc before (one ∷ []) diagnoses) rest
+        subst (λ (xs : List Diagnosis). LeadsIf Apart (map change_in (first_queued real (at_places has diagnoses))) (at_places has (before ++ one ∷ [])) (at_places has xs)) (append_assoc before (one ∷ []) diagnoses) rest
 
     by_place : (b : Bool) → has one.slot one.subslot ≡ b
-        → Leads (map change_in (first_queued real (at_places has diagnoses))) (at_places has (before ++ one ∷ [])) (at_places has (before ++ one ∷ diagnoses))
-        → Leads (map change_in (first_queued real (cond b (one ∷ at_places has diagnoses) (at_places has diagnoses)))) (at_places has before) (at_places has (before ++ one ∷ diagnoses))
+        → LeadsIf Apart (map change_in (first_queued real (at_places has diagnoses))) (at_places has (before ++ one ∷ [])) (at_places has (before ++ one ∷ diagnoses))
+        → LeadsIf Apart (map change_in (first_queued real (cond b (one ∷ at_places has diagnoses) (at_places has diagnoses)))) (at_places has before) (at_places has (before ++ one ∷ diagnoses))
     by_place true e rest = (
       at_places has (before ++ one ∷ []),
       record {
-        has = has;
-        before = before;
-        after = before ++ one ∷ [];
-        own = e;
-        channel = channel_small one new.0.valid;
-        error = new.0.error;
-        is = changed_new before one new.0;
-        from_is = refl;
-        next_is = refl;
+        step = record {
+          has = has;
+          before = before;
+          after = before ++ one ∷ [];
+          own = e;
+          channel = channel_small one new.0.valid;
+          error = new.0.error;
+          is = changed_new before one new.0;
+          from_is = refl;
+          next_is = refl;
+        };
+        seen = λ _. tt;
       },
       rest,
     )
     by_place false e rest =
-        subst (λ (xs : List Diagnosis). Leads (map change_in (first_queued real (at_places has diagnoses))) xs (at_places has (before ++ one ∷ diagnoses)))
+        subst (λ (xs : List Diagnosis). LeadsIf Apart (map change_in (first_queued real (at_places has diagnoses))) xs (at_places has (before ++ one ∷ diagnoses)))
         (elsewhere has (record { diagnosis = one; appears = true }) before (before ++ one ∷ []) e (changed_new before one new.0)) rest
-
--- ---- changes one after the other
-
-pub one_more : (changes : List LowChange) (change : LowChange) (from middle last : List Diagnosis) → Leads changes from middle → IsStep change middle last → Leads (changes ++ change ∷ []) from last
-one_more [] change from middle last leads step = (last, subst (λ (xs : List Diagnosis). IsStep change xs last) (sym leads) step, refl)
-one_more (first ∷ changes) change from middle last leads step = (leads.0, leads.1, one_more changes change leads.0 middle last leads.2 step)
-
-pub all_more : (changes more : List LowChange) (from middle last : List Diagnosis) → Leads changes from middle → Leads more middle last → Leads (changes ++ more) from last
-all_more [] more from middle last leads later = subst (λ (xs : List Diagnosis). Leads more xs last) (sym leads) later
-all_more (first ∷ changes) more from middle last leads later = (leads.0, leads.1, all_more changes more leads.0 middle last leads.2 later)
 
 -- ---- the submodules of the changes
 

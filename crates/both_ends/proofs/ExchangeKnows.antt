@@ -28,7 +28,6 @@ use Rattle.module_diff.specs.Plugged.{module_ident, submodule_ident}
 use Rattle.pn_alarms.specs.declared.message.Notice.TheVariants as notice
 use Rattle.pn_alarms.specs.Device.{end_with}
 use Rattle.pn_alarms.specs.Ends.{DeviceEnd}
-use Rattle.diagnosis.specs.declared.reports.report.Report.{Report}
 use Rattle.expected_places.specs.Machine.{is_hit}
 use Rattle.relations.specs.exchange.Diagnosis.{diagnosed}
 use Rattle.relations.specs.exchange.Flow.{Flow}
@@ -40,22 +39,21 @@ use Rattle.relations.specs.Phases.{exchanging_from, made_of, updated, with_flow}
 use Rattle.relations.specs.Timers.{unit_later}
 use Rattle.device_frames.specs.Heard.{Heard}
 use Rattle.device_frames.specs.Sent.{Sent}
-use Rattle.diagnosis.specs.declared.reported.channel.ChannelReport.{ChannelReport}
-use Rattle.diagnosis.specs.reported.Channel.{channel, channel_by, channel_report, is_channel_structure, report_by}
 use Rattle.diagnosis.specs.reported.Followed.{Reports, at_places}
-use Rattle.diagnosis.specs.reported.Reported.{Reported, after_found, after_report}
-use Rattle.end_laws.specs.turns.Alarms.{after_reports, report_as}
+use Rattle.end_laws.specs.turns.Alarms.{report_as}
 use Rattle.diagnosis.specs.declared.reports.priority.Priority.TheVariants.{Low as low_priority}
 use Rattle.end_laws.specs.device.Orderly.{keys_of}
 use Rattle.end_laws.specs.device.Turn.{Begins, Changes, Diagnoses, HearsLowData, Makes, Standing, change_heard, heard_low_in}
-use Rattle.end_laws.proofs.DeviceOrderly.{after_keys, changed_keys, changed_standing}
 use Rattle.both_ends.specs.exchange.Over.{number_in, reported_by}
-use Rattle.both_ends.specs.exchange.Told.{AreKnown, AreOwn, AreReports, IsModuleStep, IsReport, IsStep, IsTold, Leads, ReportsModule, change_in, is_pull}
-use Rattle.both_ends.proofs.ExchangeKnown.{ElsewhereSo, all_more, changed_channel, changed_known, first_own, first_queued, known_few, one_more, own_append, own_changed, own_same, rebuilt, remaining_known}
+use Rattle.both_ends.specs.exchange.Sized.{NoneIsAtZero}
+use Rattle.both_ends.specs.exchange.Told.{AreKnown, AreOwn, AreReports, IsReport, ReportsModule, change_in}
+use Rattle.both_ends.proofs.ExchangeKeys.{KeysSo}
+use Rattle.both_ends.proofs.ExchangeKnown.{ElsewhereSo, changed_channel, changed_known, first_own, first_queued, known_few, own_append, own_changed, own_same, rebuilt, remaining_known}
 use Rattle.both_ends.proofs.ExchangeLists.{none_some, some_is}
 use Rattle.both_ends.proofs.ExchangeLowTied.{ack_last, data_last, reported_next, reported_same}
 use Rattle.both_ends.proofs.ExchangeNextTold.{IsNextTold, NextIs, after_places, next_is}
 use Rattle.both_ends.proofs.ExchangeOwn.{empty_own, hit_by_keys, is_expected, missed, not_own, own_places, same_own}
+use Rattle.both_ends.proofs.ExchangeSteps.{IsStepIf, IsToldIf, LeadsIf, all_more, one_more}
 use Rattle.both_ends.proofs.ExchangeStated.{IsModules, IsStated, all_remain, later_keys, modules_so, places_remain, same_stated}
 use Rattle.both_ends.proofs.ExchangeTied.{begun_keys, begun_link, changed_link, diagnosed_keys, diagnosed_link, may_be, next_keys, next_link, way_before}
 use Rattle.both_ends.proofs.ExchangeTurns.{IsSameOr, IsTurn, Way, way_of}
@@ -66,24 +64,27 @@ abbrev own_of : Low → ℕ → ℕ → Bool
 own_of low = is_own low.places
 
 -- before data is exchanged, nothing was reported, and only pulls and plugs wait
-pub record IsWaiting (low : Low) (raised : List AlarmNotification) : Type 0 where
+pub record IsWaiting (Apart : Type 0) (low : Low) (raised : List AlarmNotification) : Type 0 where
   pub none : raised ≡ []
   pub unsent : low.alarms.sender.sending.last ≡ None
   pub few : length low.waiting ≤ 32
-  pub leads : Leads (map change_in low.waiting) [] []
+  pub leads : LeadsIf Apart (map change_in low.waiting) [] []
   pub own : (has : ℕ → ℕ → Bool) → AreOwn has (map change_in low.waiting)
 
 -- while it is, what was reported, and what waits, lead to the diagnoses
-pub record Knows (real : List RealModule) (link : Option RelationState) (diagnoses : List Diagnosis) (raised : List AlarmNotification) : Type 0 where
+pub record Knows (Apart : Type 0) (real : List RealModule) (link : Option RelationState) (diagnoses : List Diagnosis) (raised : List AlarmNotification) : Type 0 where
   pub known : AreKnown diagnoses
+  pub none : Apart → NoneIsAtZero real
   pub begins : (l : RelationState) → link ≡ Some l → l.flow.cyclic.begun ≡ is_exchanging l.phase
   pub stated : (l : RelationState) → link ≡ Some l → IsStated real l
-  pub before : (l : RelationState) → link ≡ Some l → is_exchanging l.phase ≡ false → IsWaiting l.flow.low raised
-  pub told : (l : RelationState) → link ≡ Some l → is_exchanging l.phase ≡ true → IsTold l.flow.low diagnoses raised
+  pub before : (l : RelationState) → link ≡ Some l → is_exchanging l.phase ≡ false → IsWaiting Apart l.flow.low raised
+  pub told : (l : RelationState) → link ≡ Some l → is_exchanging l.phase ≡ true → IsToldIf Apart l.flow.low diagnoses raised
 
-pub over_knows : (real : List RealModule) (link : Option RelationState) (diagnoses : List Diagnosis) (raised : List AlarmNotification) → AreKnown diagnoses → link ≡ None → Knows real link diagnoses raised
-over_knows real link diagnoses raised known none = record {
+pub over_knows : (Apart : Type 0) (real : List RealModule) (link : Option RelationState) (diagnoses : List Diagnosis) (raised : List AlarmNotification) → AreKnown diagnoses
+    → (Apart → NoneIsAtZero real) → link ≡ None → Knows Apart real link diagnoses raised
+over_knows Apart real link diagnoses raised known empty none = record {
   known = known;
+  none = empty;
   begins = λ l is. absurd (none_some l link none is);
   stated = λ l is. absurd (none_some l link none is);
   before = λ l is off. absurd (none_some l link none is);
@@ -103,20 +104,20 @@ alarm_reports sequence alarm (change_is.Diagnosis made) e =
     subst (λ (c : LowChange). Reports made (report_as low_priority (alarm_of sequence (record alarm { change = c })))) (sym e)
     (record { kind = refl; slot = refl; subslot = refl; structure = refl; octets = refl })
 alarm_reports sequence alarm (change_is.Module made) e =
-    subst (λ (c : LowChange). ReportsModule made (alarm_of sequence (record alarm { change = c }))) (sym e) (record { type_is = refl; slot = refl; subslot = refl; octets = refl })
+    subst (λ (c : LowChange). ReportsModule made (alarm_of sequence (record alarm { change = c }))) (sym e) (record { type_is = refl; api = refl; slot = refl; subslot = refl; octets = refl })
 
 -- ---- the next change
 
 -- it is reported, if it can be
-next_told : (low : Low) (diagnoses : List Diagnosis) (raised now : List AlarmNotification)
+next_told : (Apart : Type 0) (low : Low) (diagnoses : List Diagnosis) (raised now : List AlarmNotification)
     → ((rests : after_next low ≡ low) → now ≡ []) → ((told : IsNextTold low) → now ≡ alarm_of low.alarms.sender.specifier told.alarm ∷ [])
-    → IsTold low diagnoses raised → IsTold (after_next low) diagnoses (raised ++ now)
-next_told low diagnoses raised now silent tells is = by_next (next_is low)
+    → IsToldIf Apart low diagnoses raised → IsToldIf Apart (after_next low) diagnoses (raised ++ now)
+next_told Apart low diagnoses raised now silent tells is = by_next (next_is low)
   where
-    by_next : NextIs low → IsTold (after_next low) diagnoses (raised ++ now)
+    by_next : NextIs low → IsToldIf Apart (after_next low) diagnoses (raised ++ now)
     by_next (inl rests) =
-        subst (λ (l : Low). IsTold l diagnoses (raised ++ now)) (sym rests.0)
-        (subst (λ (xs : List AlarmNotification). IsTold low diagnoses xs) (sym (ap (λ (xs : List AlarmNotification). raised ++ xs) (silent rests.0) ∙ append-nil raised)) is)
+        subst (λ (l : Low). IsToldIf Apart l diagnoses (raised ++ now)) (sym rests.0)
+        (subst (λ (xs : List AlarmNotification). IsToldIf Apart low diagnoses xs) (sym (ap (λ (xs : List AlarmNotification). raised ++ xs) (silent rests.0) ∙ append-nil raised)) is)
     by_next (inr told) =
         let change = told.alarm.change in
         let alarm = alarm_of low.alarms.sender.specifier told.alarm in
@@ -125,12 +126,12 @@ next_told low diagnoses raised now silent tells is = by_next (next_is low)
           waiting = told.rest;
           sent = Some (record { change = told.alarm.change; number = low.alarms.sender.specifier });
         } in
-        subst (λ (l : Low). IsTold l diagnoses (raised ++ now)) (sym told.is)
-        (subst (λ (xs : List AlarmNotification). IsTold later diagnoses (raised ++ xs)) (sym (tells told)) (record {
+        subst (λ (l : Low). IsToldIf Apart l diagnoses (raised ++ now)) (sym told.is)
+        (subst (λ (xs : List AlarmNotification). IsToldIf Apart later diagnoses (raised ++ xs)) (sym (tells told)) (record {
           changes = is.changes ++ change ∷ [];
           reports = more_reports is.changes raised change alarm is.reports (alarm_reports low.alarms.sender.specifier told.alarm told.alarm.change refl);
-          leads = subst (λ (xs : List LowChange). Leads xs [] (at_places (own_of low) diagnoses)) (sym (append_assoc is.changes (change ∷ []) (map change_in told.rest)))
-              (subst (λ (xs : List QueuedAlarm). Leads (is.changes ++ map change_in xs) [] (at_places (own_of low) diagnoses)) told.waits is.leads);
+          leads = subst (λ (xs : List LowChange). LeadsIf Apart xs [] (at_places (own_of low) diagnoses)) (sym (append_assoc is.changes (change ∷ []) (map change_in told.rest)))
+              (subst (λ (xs : List QueuedAlarm). LeadsIf Apart (is.changes ++ map change_in xs) [] (at_places (own_of low) diagnoses)) told.waits is.leads);
           own = subst (λ (xs : List LowChange). AreOwn (own_of low) xs) (sym (append_assoc is.changes (change ∷ []) (map change_in told.rest)))
               (subst (λ (xs : List QueuedAlarm). AreOwn (own_of low) (is.changes ++ map change_in xs)) told.waits is.own);
         }))
@@ -169,16 +170,18 @@ one_longer ws one few = let long = length-append ws (one ∷ []) in omega (arith
 
 -- ---- a turn
 
-module _ (elsewhere : ElsewhereSo) (real : List RealModule) (before : Option RelationState) (diagnoses : List Diagnosis) (raised : List AlarmNotification) (knows : Knows real before diagnoses raised) where
+module _ (laws : KeysSo) (elsewhere : ElsewhereSo) (Apart : Type 0) (real : List RealModule) (before : Option RelationState) (diagnoses : List Diagnosis) (raised : List AlarmNotification) (knows : Knows Apart real before diagnoses raised) where
   -- the relation became this one, in which as much was reported
-  becomes_so : (now : List RealModule) (after : Option RelationState) (link next : RelationState) (later : List Diagnosis) (told : List AlarmNotification) → AreKnown later → before ≡ Some link → after ≡ Some next
+  becomes_so : (now : List RealModule) (after : Option RelationState) (link next : RelationState) (later : List Diagnosis) (told : List AlarmNotification) → AreKnown later → (Apart → NoneIsAtZero now)
+      → before ≡ Some link → after ≡ Some next
       → next.flow.cyclic.begun ≡ link.flow.cyclic.begun → next.phase ≡ link.phase → IsStated now next → told ≡ reported_by before after
-      → (is_exchanging link.phase ≡ false → IsWaiting link.flow.low raised → IsWaiting next.flow.low (raised ++ told))
-      → (is_exchanging link.phase ≡ true → IsTold link.flow.low diagnoses raised → IsTold next.flow.low later (raised ++ told))
-      → Knows now after later (raised ++ reported_by before after)
-  becomes_so now after link next later told known was becomes begun_same phase_same stated_so now_is silent on_so =
-      subst (λ (xs : List AlarmNotification). Knows now after later (raised ++ xs)) now_is (record {
+      → (is_exchanging link.phase ≡ false → IsWaiting Apart link.flow.low raised → IsWaiting Apart next.flow.low (raised ++ told))
+      → (is_exchanging link.phase ≡ true → IsToldIf Apart link.flow.low diagnoses raised → IsToldIf Apart next.flow.low later (raised ++ told))
+      → Knows Apart now after later (raised ++ reported_by before after)
+  becomes_so now after link next later told known empty was becomes begun_same phase_same stated_so now_is silent on_so =
+      subst (λ (xs : List AlarmNotification). Knows Apart now after later (raised ++ xs)) now_is (record {
         known = known;
+        none = empty;
         begins = λ l is. by_link l (some_is next l (sym becomes ∙ is));
         stated = λ l is. subst (λ (k : RelationState). IsStated now k) (some_is next l (sym becomes ∙ is)) stated_so;
         before = λ l is quiet. by_quiet l (some_is next l (sym becomes ∙ is)) quiet;
@@ -191,33 +194,33 @@ module _ (elsewhere : ElsewhereSo) (real : List RealModule) (before : Option Rel
       by_link : (l : RelationState) → next ≡ l → l.flow.cyclic.begun ≡ is_exchanging l.phase
       by_link l e = ap (λ (k : RelationState). k.flow.cyclic.begun) (sym e) ∙ (begun_same ∙ (knows.begins link was ∙ sym (phase_is l e)))
 
-      by_quiet : (l : RelationState) → next ≡ l → is_exchanging l.phase ≡ false → IsWaiting l.flow.low (raised ++ told)
+      by_quiet : (l : RelationState) → next ≡ l → is_exchanging l.phase ≡ false → IsWaiting Apart l.flow.low (raised ++ told)
       by_quiet l e quiet =
           let off = sym (phase_is l e) ∙ quiet in
-          subst (λ (k : RelationState). IsWaiting k.flow.low (raised ++ told)) e (silent off (knows.before link was off))
+          subst (λ (k : RelationState). IsWaiting Apart k.flow.low (raised ++ told)) e (silent off (knows.before link was off))
 
-      by_told : (l : RelationState) → next ≡ l → is_exchanging l.phase ≡ true → IsTold l.flow.low later (raised ++ told)
+      by_told : (l : RelationState) → next ≡ l → is_exchanging l.phase ≡ true → IsToldIf Apart l.flow.low later (raised ++ told)
       by_told l e up =
           let on = sym (phase_is l e) ∙ up in
-          subst (λ (k : RelationState). IsTold k.flow.low later (raised ++ told)) e (on_so on (knows.told link was on))
+          subst (λ (k : RelationState). IsToldIf Apart k.flow.low later (raised ++ told)) e (on_so on (knows.told link was on))
 
   -- nothing is reported, and the same waits
-  waits_so : (low next : Low) → next.waiting ≡ low.waiting → next.alarms.sender.sending.last ≡ low.alarms.sender.sending.last → IsWaiting low raised → IsWaiting next (raised ++ [])
+  waits_so : (low next : Low) → next.waiting ≡ low.waiting → next.alarms.sender.sending.last ≡ low.alarms.sender.sending.last → IsWaiting Apart low raised → IsWaiting Apart next (raised ++ [])
   waits_so low next waiting last waits = record {
     none = append-nil raised ∙ waits.none;
     unsent = last ∙ waits.unsent;
     few = subst (λ (ws : List QueuedAlarm). length ws ≤ 32) (sym waiting) waits.few;
-    leads = subst (λ (ws : List QueuedAlarm). Leads (map change_in ws) [] []) (sym waiting) waits.leads;
+    leads = subst (λ (ws : List QueuedAlarm). LeadsIf Apart (map change_in ws) [] []) (sym waiting) waits.leads;
     own = λ has. subst (λ (ws : List QueuedAlarm). AreOwn has (map change_in ws)) (sym waiting) (waits.own has);
   }
 
   -- the same was reported of these diagnoses
-  told_so : (low next : Low) (later : List Diagnosis) → next.waiting ≡ low.waiting → ((slot subslot : ℕ) → own_of next slot subslot ≡ own_of low slot subslot) → at_places (own_of next) later ≡ at_places (own_of low) diagnoses → IsTold low diagnoses raised → IsTold next later (raised ++ [])
+  told_so : (low next : Low) (later : List Diagnosis) → next.waiting ≡ low.waiting → ((slot subslot : ℕ) → own_of next slot subslot ≡ own_of low slot subslot) → at_places (own_of next) later ≡ at_places (own_of low) diagnoses → IsToldIf Apart low diagnoses raised → IsToldIf Apart next later (raised ++ [])
   told_so low next later waiting places same told = record {
     changes = told.changes;
     reports = subst (λ (xs : List AlarmNotification). AreReports told.changes xs) (sym (append-nil raised)) told.reports;
-    leads = subst (λ (xs : List Diagnosis). Leads (told.changes ++ map change_in next.waiting) [] xs) (sym same)
-        (subst (λ (ws : List QueuedAlarm). Leads (told.changes ++ map change_in ws) [] (at_places (own_of low) diagnoses)) (sym waiting) told.leads);
+    leads = subst (λ (xs : List Diagnosis). LeadsIf Apart (told.changes ++ map change_in next.waiting) [] xs) (sym same)
+        (subst (λ (ws : List QueuedAlarm). LeadsIf Apart (told.changes ++ map change_in ws) [] (at_places (own_of low) diagnoses)) (sym waiting) told.leads);
     own = own_same (own_of low) (own_of next) places (told.changes ++ map change_in next.waiting)
         (subst (λ (ws : List QueuedAlarm). AreOwn (own_of low) (told.changes ++ map change_in ws)) (sym waiting) told.own);
   }
@@ -226,26 +229,27 @@ module _ (elsewhere : ElsewhereSo) (real : List RealModule) (before : Option Rel
   same_so : (after : Option RelationState) (link next : RelationState) → before ≡ Some link → after ≡ Some next → next.flow.cyclic.begun ≡ link.flow.cyclic.begun → next.phase ≡ link.phase
       → next.request ≡ link.request → keys_of next.plugs.places ≡ keys_of link.plugs.places
       → next.flow.low.waiting ≡ link.flow.low.waiting → next.flow.low.places ≡ link.flow.low.places → next.flow.low.alarms.sender.sending.last ≡ link.flow.low.alarms.sender.sending.last
-      → Knows real after diagnoses (raised ++ reported_by before after)
+      → Knows Apart real after diagnoses (raised ++ reported_by before after)
   same_so after link next was becomes begun_same phase_same request keys waiting places last =
-      becomes_so real after link next diagnoses [] knows.known was becomes begun_same phase_same
+      becomes_so real after link next diagnoses [] knows.known knows.none was becomes begun_same phase_same
       (same_stated real link next request places keys (knows.stated link was))
       (sym (reported_same before after (ap (λ (l : Option RelationState). number_in l) becomes ∙ (last ∙ sym (ap (λ (l : Option RelationState). number_in l) was)))))
       (λ off waits. waits_so link.flow.low next.flow.low waiting last waits)
       (λ on told. told_so link.flow.low next.flow.low diagnoses waiting (λ slot subslot. ap (λ (p : List Place). is_own p slot subslot) places) (ap (λ (p : List Place). at_places (is_own p) diagnoses) places) told)
 
-  stays_so : (after : Option RelationState) → IsSameOr before after → Knows real after diagnoses (raised ++ reported_by before after)
+  stays_so : (after : Option RelationState) → IsSameOr before after → Knows Apart real after diagnoses (raised ++ reported_by before after)
   stays_so after (inl same) = record {
     known = knows.known;
+    none = knows.none;
     begins = λ l is. let there = found l is in ap (λ (way : Way). way.begun) there.2 ∙ (knows.begins there.0 there.1 ∙ ap (λ (way : Way). way.exchanges) (sym there.2));
     stated = λ l is. let there = found l is in
         same_stated real there.0 l (ap (λ (way : Way). way.request) there.2) (ap (λ (way : Way). way.low.places) there.2) (ap (λ (way : Way). way.keys) there.2) (knows.stated there.0 there.1);
     before = λ l is off. let there = found l is in
-        subst (λ (low : Low). IsWaiting low (raised ++ reported_by before after)) (ap (λ (way : Way). way.low) (sym there.2))
-        (subst (λ (xs : List AlarmNotification). IsWaiting there.0.flow.low xs) (sym silent) (knows.before there.0 there.1 (ap (λ (way : Way). way.exchanges) (sym there.2) ∙ off)));
+        subst (λ (low : Low). IsWaiting Apart low (raised ++ reported_by before after)) (ap (λ (way : Way). way.low) (sym there.2))
+        (subst (λ (xs : List AlarmNotification). IsWaiting Apart there.0.flow.low xs) (sym silent) (knows.before there.0 there.1 (ap (λ (way : Way). way.exchanges) (sym there.2) ∙ off)));
     told = λ l is on. let there = found l is in
-        subst (λ (low : Low). IsTold low diagnoses (raised ++ reported_by before after)) (ap (λ (way : Way). way.low) (sym there.2))
-        (subst (λ (xs : List AlarmNotification). IsTold there.0.flow.low diagnoses xs) (sym silent) (knows.told there.0 there.1 (ap (λ (way : Way). way.exchanges) (sym there.2) ∙ on)));
+        subst (λ (low : Low). IsToldIf Apart low diagnoses (raised ++ reported_by before after)) (ap (λ (way : Way). way.low) (sym there.2))
+        (subst (λ (xs : List AlarmNotification). IsToldIf Apart there.0.flow.low diagnoses xs) (sym silent) (knows.told there.0 there.1 (ap (λ (way : Way). way.exchanges) (sym there.2) ∙ on)));
   }
     where
       found : (l : RelationState) → after ≡ Some l → (k : RelationState) × (before ≡ Some k) × (way_of l ≡ way_of k)
@@ -259,16 +263,17 @@ module _ (elsewhere : ElsewhereSo) (real : List RealModule) (before : Option Rel
 
       silent : raised ++ reported_by before after ≡ raised
       silent = ap (λ (xs : List AlarmNotification). raised ++ xs) (reported_same before after (numbers before after same)) ∙ append-nil raised
-  stays_so after (inr gone) = over_knows real after diagnoses (raised ++ reported_by before after) knows.known gone
+  stays_so after (inr gone) = over_knows Apart real after diagnoses (raised ++ reported_by before after) knows.known knows.none gone
 
   -- a relation is made
   makes_so : (calls : List Answer) (heard : Heard) (after : Option RelationState) (sent : List Sent) → before ≡ None → raised ≡ [] → ((l : RelationState) → after ≡ Some l → IsStated real l)
-      → Makes calls before heard after sent → Knows real after diagnoses (raised ++ reported_by before after)
+      → Makes calls before heard after sent → Knows Apart real after diagnoses (raised ++ reported_by before after)
   makes_so calls heard after sent none empty stated_so makes = record {
     known = knows.known;
+    none = knows.none;
     begins = λ l is. subst (λ (k : RelationState). k.flow.cyclic.begun ≡ is_exchanging k.phase) (made l is) refl;
     stated = stated_so;
-    before = λ l is off. subst (λ (k : RelationState). IsWaiting k.flow.low (raised ++ reported_by before after)) (made l is)
+    before = λ l is off. subst (λ (k : RelationState). IsWaiting Apart k.flow.low (raised ++ reported_by before after)) (made l is)
         (record { none = silent ∙ empty; unsent = refl; few = omega arith; leads = refl; own = λ has. tt });
     told = λ l is on. absurd (false≢true (ap (λ (k : RelationState). is_exchanging k.phase) (made l is) ∙ on));
   }
@@ -281,16 +286,16 @@ module _ (elsewhere : ElsewhereSo) (real : List RealModule) (before : Option Rel
           (reported_same before after (ap (λ (l : Option RelationState). number_in l) makes.made ∙ sym (ap (λ (l : Option RelationState). number_in l) none))) ∙ append-nil raised
 
   -- the next change is reported, if it can be, after this
-  next_so : (now : List RealModule) (after : Option RelationState) (link next : RelationState) (middle : Low) (later : List Diagnosis) → AreKnown later → before ≡ Some link
+  next_so : (now : List RealModule) (after : Option RelationState) (link next : RelationState) (middle : Low) (later : List Diagnosis) → AreKnown later → (Apart → NoneIsAtZero now) → before ≡ Some link
       → middle.alarms.sender.sending.last ≡ link.flow.low.alarms.sender.sending.last → after ≡ Some next → next.flow.low ≡ after_next middle
       → next.flow.cyclic.begun ≡ link.flow.cyclic.begun → next.phase ≡ link.phase → IsStated now next → is_exchanging link.phase ≡ true
-      → (IsTold link.flow.low diagnoses raised → IsTold middle later raised)
-      → Knows now after later (raised ++ reported_by before after)
-  next_so now after link next middle later known was last becomes low_is begun_same phase_same stated_so up told =
-      becomes_so now after link next later (reported_by before after) known was becomes begun_same phase_same stated_so refl
+      → (IsToldIf Apart link.flow.low diagnoses raised → IsToldIf Apart middle later raised)
+      → Knows Apart now after later (raised ++ reported_by before after)
+  next_so now after link next middle later known empty was last becomes low_is begun_same phase_same stated_so up told =
+      becomes_so now after link next later (reported_by before after) known empty was becomes begun_same phase_same stated_so refl
       (λ off waits. absurd (false≢true (sym off ∙ up)))
-      (λ on so. subst (λ (low : Low). IsTold low later (raised ++ reported_by before after)) (sym low_is)
-      (next_told middle later raised (reported_by before after)
+      (λ on so. subst (λ (low : Low). IsToldIf Apart low later (raised ++ reported_by before after)) (sym low_is)
+      (next_told Apart middle later raised (reported_by before after)
       (λ rests. next_now before after link next middle was last becomes low_is rests)
       (λ tells. told_now before after link next middle was last becomes low_is tells) (told so)))
 
@@ -300,12 +305,12 @@ module _ (elsewhere : ElsewhereSo) (real : List RealModule) (before : Option Rel
   exchanges_if false never = absurd (never refl)
 
   -- an AlarmAck of low priority, and then the next change
-  low_data_so : (heard : Heard) (after : Option RelationState) (sent : List Sent) → HearsLowData before heard after sent → Knows real after diagnoses (raised ++ reported_by before after)
+  low_data_so : (heard : Heard) (after : Option RelationState) (sent : List Sent) → HearsLowData before heard after sent → Knows Apart real after diagnoses (raised ++ reported_by before after)
   low_data_so heard after sent came =
       let link = came.link in
       let middle = heard_low_in link (notice.Data came.number came.ack) in
-      next_so real after link (next_link middle) middle.flow.low diagnoses knows.known came.was (data_last link.flow.low.alarms came.number came.ack) came.becomes refl refl refl
-      (same_stated real link (next_link middle) refl (after_places middle.flow.low) (next_keys middle) (knows.stated link came.was))
+      next_so real after link (next_link middle) middle.flow.low diagnoses knows.known knows.none came.was (data_last link.flow.low.alarms came.number came.ack) came.becomes refl refl refl
+      (same_stated real link (next_link middle) refl (after_places middle.flow.low) (next_keys laws middle) (knows.stated link came.was))
       (exchanges_if (is_exchanging link.phase) never)
       (λ told. record { changes = told.changes; reports = told.reports; leads = told.leads; own = told.own })
     where
@@ -318,14 +323,15 @@ module _ (elsewhere : ElsewhereSo) (real : List RealModule) (before : Option Rel
           (ap (λ (l : Option RelationState). has_sent_low l) (sym came.was) ∙ came.has_sent)
 
   -- data is exchanged from now on
-  begins_so : (after : Option RelationState) (sent : List Sent) → Begins real diagnoses before after sent → Knows real after diagnoses (raised ++ reported_by before after)
+  begins_so : (after : Option RelationState) (sent : List Sent) → Begins real diagnoses before after sent → Knows Apart real after diagnoses (raised ++ reported_by before after)
   begins_so after sent begins = record {
     known = knows.known;
+    none = knows.none;
     begins = λ l is. subst (λ (k : RelationState). k.flow.cyclic.begun ≡ is_exchanging k.phase) (made l is) refl;
     stated = λ l is. subst (λ (k : RelationState). IsStated real k) (made l is)
-        (same_stated real begins.link (begun_link real diagnoses (exchanging_from begins.link)) refl (after_places first) (begun_keys real diagnoses (exchanging_from begins.link)) (knows.stated begins.link begins.was));
+        (same_stated real begins.link (begun_link real diagnoses (exchanging_from begins.link)) refl (after_places first) (begun_keys laws real diagnoses (exchanging_from begins.link)) (knows.stated begins.link begins.was));
     before = λ l is off. absurd (true≢false (ap (λ (k : RelationState). is_exchanging k.phase) (made l is) ∙ off));
-    told = λ l is on. subst (λ (k : RelationState). IsTold k.flow.low diagnoses (raised ++ reported_by before after)) (made l is) all_told;
+    told = λ l is on. subst (λ (k : RelationState). IsToldIf Apart k.flow.low diagnoses (raised ++ reported_by before after)) (made l is) all_told;
   }
     where
       first : Low
@@ -334,7 +340,7 @@ module _ (elsewhere : ElsewhereSo) (real : List RealModule) (before : Option Rel
       made : (l : RelationState) → after ≡ Some l → begun_link real diagnoses (exchanging_from begins.link) ≡ l
       made l is = some_is (begun_link real diagnoses (exchanging_from begins.link)) l (sym begins.becomes ∙ is)
 
-      waits : IsWaiting begins.link.flow.low raised
+      waits : IsWaiting Apart begins.link.flow.low raised
       waits = knows.before begins.link begins.was (ap is_exchanging begins.awaits)
 
       own : List Diagnosis
@@ -353,12 +359,12 @@ module _ (elsewhere : ElsewhereSo) (real : List RealModule) (before : Option Rel
           ap (λ (ws : List QueuedAlarm). begins.link.flow.low.waiting ++ ws)
           (take_all (64 - length begins.link.flow.low.waiting) (first_queued real (at_places (own_of begins.link.flow.low) diagnoses)) (let some = waits.few in omega (arith, few, some)))
 
-      leads : Leads (map change_in (begun real diagnoses begins.link.flow.low).waiting) [] (at_places (own_of begins.link.flow.low) diagnoses)
+      leads : LeadsIf Apart (map change_in (begun real diagnoses begins.link.flow.low).waiting) [] (at_places (own_of begins.link.flow.low) diagnoses)
       leads =
-          subst (λ (ws : List QueuedAlarm). Leads (map change_in ws) [] (at_places (own_of begins.link.flow.low) diagnoses)) (sym all_wait)
-          (subst (λ (xs : List LowChange). Leads xs [] (at_places (own_of begins.link.flow.low) diagnoses)) (sym (map-append change_in begins.link.flow.low.waiting (first_queued real (at_places (own_of begins.link.flow.low) diagnoses))))
-          (all_more (map change_in begins.link.flow.low.waiting) (map change_in (first_queued real (at_places (own_of begins.link.flow.low) diagnoses))) [] [] (at_places (own_of begins.link.flow.low) diagnoses) waits.leads
-          (rebuilt elsewhere real (own_of begins.link.flow.low) [] diagnoses knows.known)))
+          subst (λ (ws : List QueuedAlarm). LeadsIf Apart (map change_in ws) [] (at_places (own_of begins.link.flow.low) diagnoses)) (sym all_wait)
+          (subst (λ (xs : List LowChange). LeadsIf Apart xs [] (at_places (own_of begins.link.flow.low) diagnoses)) (sym (map-append change_in begins.link.flow.low.waiting (first_queued real (at_places (own_of begins.link.flow.low) diagnoses))))
+          (all_more Apart (map change_in begins.link.flow.low.waiting) (map change_in (first_queued real (at_places (own_of begins.link.flow.low) diagnoses))) [] [] (at_places (own_of begins.link.flow.low) diagnoses) waits.leads
+          (rebuilt elsewhere Apart real (own_of begins.link.flow.low) [] diagnoses knows.known)))
 
       own_now : AreOwn (own_of begins.link.flow.low) (map change_in (begun real diagnoses begins.link.flow.low).waiting)
       own_now =
@@ -367,7 +373,7 @@ module _ (elsewhere : ElsewhereSo) (real : List RealModule) (before : Option Rel
           (own_append (own_of begins.link.flow.low) (map change_in begins.link.flow.low.waiting) (map change_in (first_queued real (at_places (own_of begins.link.flow.low) diagnoses)))
           (waits.own (own_of begins.link.flow.low)) (first_own real (own_of begins.link.flow.low) diagnoses)))
 
-      first_told : IsTold (begun real diagnoses begins.link.flow.low) diagnoses raised
+      first_told : IsToldIf Apart (begun real diagnoses begins.link.flow.low) diagnoses raised
       first_told = record {
         changes = [];
         reports = subst (λ (xs : List AlarmNotification). AreReports [] xs) (sym waits.none) tt;
@@ -375,9 +381,9 @@ module _ (elsewhere : ElsewhereSo) (real : List RealModule) (before : Option Rel
         own = own_now;
       }
 
-      all_told : IsTold (begun_link real diagnoses (exchanging_from begins.link)).flow.low diagnoses (raised ++ reported_by before after)
+      all_told : IsToldIf Apart (begun_link real diagnoses (exchanging_from begins.link)).flow.low diagnoses (raised ++ reported_by before after)
       all_told =
-          next_told (begun real diagnoses begins.link.flow.low) diagnoses raised (reported_by before after)
+          next_told Apart (begun real diagnoses begins.link.flow.low) diagnoses raised (reported_by before after)
           (λ rests. next_now before after begins.link (begun_link real diagnoses (exchanging_from begins.link)) first begins.was refl begins.becomes refl rests)
           (λ tells. told_now before after begins.link (begun_link real diagnoses (exchanging_from begins.link)) first begins.was refl begins.becomes refl tells) first_told
 
@@ -390,20 +396,23 @@ module _ (elsewhere : ElsewhereSo) (real : List RealModule) (before : Option Rel
 
     -- the change is a step at the submodules of the relation
     step_so : (low : Low) → own_of low changes.change.diagnosis.slot changes.change.diagnosis.subslot ≡ true
-        → IsStep (change_is.Diagnosis changes.change) (at_places (own_of low) diagnoses) (at_places (own_of low) later)
+        → IsStepIf Apart (change_is.Diagnosis changes.change) (at_places (own_of low) diagnoses) (at_places (own_of low) later)
     step_so low own = record {
-      has = own_of low;
-      before = diagnoses;
-      after = later;
-      own = own;
-      channel = changed_channel changes.change diagnoses later changes.changes knows.known;
-      error = small changes.change changes.is;
-      is = changes.changes;
-      from_is = refl;
-      next_is = refl;
+      step = record {
+        has = own_of low;
+        before = diagnoses;
+        after = later;
+        own = own;
+        channel = changed_channel changes.change diagnoses later changes.changes knows.known;
+        error = small changes.change changes.is;
+        is = changes.changes;
+        from_is = refl;
+        next_is = refl;
+      };
+      seen = λ _. tt;
     }
 
-    by_link : (link : RelationState) → before ≡ Some link → Knows real after later (raised ++ reported_by before after)
+    by_link : (link : RelationState) → before ≡ Some link → Knows Apart real after later (raised ++ reported_by before after)
     by_link link was = by_test (is_reported link.flow.cyclic.begun changes.change link.flow.low) refl
       where
         next : RelationState
@@ -417,7 +426,7 @@ module _ (elsewhere : ElsewhereSo) (real : List RealModule) (before : Option Rel
 
         stated_by : (low : Low) → (diagnosed_link real changes.change later link).flow.low ≡ low → low.places ≡ link.flow.low.places → IsStated real (diagnosed_link real changes.change later link)
         stated_by low is places =
-            same_stated real link (diagnosed_link real changes.change later link) refl (ap (λ (l : Low). l.places) is ∙ places) (diagnosed_keys real changes.change later link) (knows.stated link was)
+            same_stated real link (diagnosed_link real changes.change later link) refl (ap (λ (l : Low). l.places) is ∙ places) (diagnosed_keys laws real changes.change later link) (knows.stated link was)
 
         -- it concerns no submodule of the relation, or data is not exchanged
         elsewhere_so : is_exchanging link.phase ≡ true → is_reported link.flow.cyclic.begun changes.change link.flow.low ≡ false
@@ -426,11 +435,11 @@ module _ (elsewhere : ElsewhereSo) (real : List RealModule) (before : Option Rel
             elsewhere (own_of link.flow.low) changes.change diagnoses later
             (sym (ap (λ (b : Bool). b && own_of link.flow.low changes.change.diagnosis.slot changes.change.diagnosis.subslot) (knows.begins link was ∙ on)) ∙ quiet) changes.changes
 
-        by_test : (b : Bool) → is_reported link.flow.cyclic.begun changes.change link.flow.low ≡ b → Knows real after later (raised ++ reported_by before after)
+        by_test : (b : Bool) → is_reported link.flow.cyclic.begun changes.change link.flow.low ≡ b → Knows Apart real after later (raised ++ reported_by before after)
         by_test false e =
             let same : (diagnosed real changes.change later link.flow).low ≡ noted later link.flow.low =
             ap (λ (b : Bool). cond b (after_next (waits_with real changes.change later link.flow.low)) (noted later link.flow.low)) e in
-            becomes_so real after link next later [] known_so was becomes_it refl refl (stated_by (noted later link.flow.low) same refl)
+            becomes_so real after link next later [] known_so knows.none was becomes_it refl refl (stated_by (noted later link.flow.low) same refl)
             (sym (reported_same before after (ap (λ (l : Option RelationState). number_in l) becomes_it
             ∙ (ap (λ (low : Low). low.alarms.sender.sending.last) same ∙ sym (ap (λ (l : Option RelationState). number_in l) was)))))
             (λ off waiting. waits_so link.flow.low next.flow.low (ap (λ (low : Low). low.waiting) same) (ap (λ (low : Low). low.alarms.sender.sending.last) same) waiting)
@@ -445,26 +454,26 @@ module _ (elsewhere : ElsewhereSo) (real : List RealModule) (before : Option Rel
             ap (λ (b : Bool). b && is_low_full link.flow.low) (sym parts.0) ∙ (ap (λ (l : Option RelationState). is_full_in l) (sym was) ∙ changes.open_room) in
             let one = diagnosis_queued real (notice_of (is_own link.flow.low.places) changes.change later) in
             let more = (queued_more one (noted later link.flow.low) room).1 in
-            next_so real after link next waits later known_so was refl becomes_it same refl refl (stated_by (after_next waits) same (after_places waits)) up
+            next_so real after link next waits later known_so knows.none was refl becomes_it same refl refl (stated_by (after_next waits) same (after_places waits)) up
             (λ told. record {
               changes = told.changes;
               reports = told.reports;
-              leads = subst (λ (ws : List QueuedAlarm). Leads (told.changes ++ map change_in ws) [] (at_places (own_of link.flow.low) later)) (sym more)
-                  (subst (λ (xs : List LowChange). Leads xs [] (at_places (own_of link.flow.low) later)) (sym (waited told.changes link.flow.low.waiting one))
-                  (one_more (told.changes ++ map change_in link.flow.low.waiting) (change_is.Diagnosis changes.change) [] (at_places (own_of link.flow.low) diagnoses) (at_places (own_of link.flow.low) later)
+              leads = subst (λ (ws : List QueuedAlarm). LeadsIf Apart (told.changes ++ map change_in ws) [] (at_places (own_of link.flow.low) later)) (sym more)
+                  (subst (λ (xs : List LowChange). LeadsIf Apart xs [] (at_places (own_of link.flow.low) later)) (sym (waited told.changes link.flow.low.waiting one))
+                  (one_more Apart (told.changes ++ map change_in link.flow.low.waiting) (change_is.Diagnosis changes.change) [] (at_places (own_of link.flow.low) diagnoses) (at_places (own_of link.flow.low) later)
                   told.leads (step_so link.flow.low parts.1)));
               own = subst (λ (ws : List QueuedAlarm). AreOwn (own_of link.flow.low) (told.changes ++ map change_in ws)) (sym more)
                   (subst (λ (xs : List LowChange). AreOwn (own_of link.flow.low) xs) (sym (waited told.changes link.flow.low.waiting one))
                   (own_append (own_of link.flow.low) (told.changes ++ map change_in link.flow.low.waiting) (change_is.Diagnosis changes.change ∷ []) told.own ((λ none. parts.1), tt)));
             })
 
-    changes_so : Knows real after later (raised ++ reported_by before after)
+    changes_so : Knows Apart real after later (raised ++ reported_by before after)
     changes_so = by_before before refl
       where
-        by_before : (link : Option RelationState) → before ≡ link → Knows real after later (raised ++ reported_by before after)
+        by_before : (link : Option RelationState) → before ≡ link → Knows Apart real after later (raised ++ reported_by before after)
         by_before (Some link) was = by_link link was
         by_before None was =
-            over_knows real after later (raised ++ reported_by before after) known_so
+            over_knows Apart real after later (raised ++ reported_by before after) known_so knows.none
             (changes.becomes ∙ ap (λ (l : Option RelationState). updated (diagnosing real changes.change later l) l) was)
 
   -- ---- a pull or a plug
@@ -473,10 +482,13 @@ module _ (elsewhere : ElsewhereSo) (real : List RealModule) (before : Option Rel
     is_modules : IsModules real now changes.made
     is_modules = modules_so real now heard changes.made changes.is changes.modules
 
+    none_now : Apart → NoneIsAtZero now
+    none_now apart = is_modules.none (knows.none apart)
+
     remaining_so : AreKnown later
     remaining_so = subst (λ (xs : List Diagnosis). AreKnown xs) (sym changes.remains) (remaining_known (affected_by changes.made) diagnoses knows.known)
 
-    by_relation : (link : RelationState) → before ≡ Some link → Knows now after later (raised ++ reported_by before after)
+    by_relation : (link : RelationState) → before ≡ Some link → Knows Apart now after later (raised ++ reported_by before after)
     by_relation link was = by_hit (is_hit (affected_by changes.made) (places_then (rows_now now link) changes.made link)) refl (is_exchanging link.phase) refl
       where
         next : RelationState
@@ -499,8 +511,8 @@ module _ (elsewhere : ElsewhereSo) (real : List RealModule) (before : Option Rel
 
         keys_are : keys_of (changed_link now changes.made later link).plugs.places ≡ keys_of link.plugs.places
         keys_are =
-            after_keys (sent_then (rows_now now link) changes.made later link) (flow_then (rows_now now link) changes.made later link).low.waiting (places_then (rows_now now link) changes.made link)
-            ∙ changed_keys (rows_now now link) changes.made link.plugs
+            laws.sent (sent_then (rows_now now link) changes.made later link) (flow_then (rows_now now link) changes.made later link).low.waiting (places_then (rows_now now link) changes.made link)
+            ∙ laws.changed (rows_now now link) changes.made link.plugs
 
         stated_by : (low : Low) → (changed_link now changes.made later link).flow.low ≡ low → low.places ≡ own_places link.request.expected now → IsStated now (changed_link now changes.made later link)
         stated_by low is places = (
@@ -509,7 +521,7 @@ module _ (elsewhere : ElsewhereSo) (real : List RealModule) (before : Option Rel
         )
 
         begun_same : (changed_link now changes.made later link).flow.cyclic.begun ≡ link.flow.cyclic.begun
-        begun_same = ap (λ (s : Standing). s.begun) (changed_standing (rows_now now link) changes.made later link)
+        begun_same = ap (λ (s : Standing). s.begun) (laws.standing (rows_now now link) changes.made later link)
 
         -- the diagnoses at the submodules of the relation that remain
         remain_so : at_places (is_own (own_places link.request.expected now)) later ≡ remaining (affected_by changes.made) (at_places (own_of link.flow.low) diagnoses)
@@ -531,7 +543,7 @@ module _ (elsewhere : ElsewhereSo) (real : List RealModule) (before : Option Rel
             → is_expected link.request.expected slot subslot ≡ false
         unexpected e slot subslot covered =
             missed link.request.expected (places_then (rows_now now link) changes.made link)
-            (λ s ss there. ap (λ (ks : List (ℕ × ℕ)). list_any (λ key. key.0 == s && key.1 == ss) ks) (changed_keys (rows_now now link) changes.made link.plugs) ∙ (knows.stated link was).1 s ss there)
+            (λ s ss there. ap (λ (ks : List (ℕ × ℕ)). list_any (λ key. key.0 == s && key.1 == ss) ks) (laws.changed (rows_now now link) changes.made link.plugs) ∙ (knows.stated link was).1 s ss there)
             (affected_by changes.made) e slot subslot covered
 
         own_still : is_hit (affected_by changes.made) (places_then (rows_now now link) changes.made link) ≡ false
@@ -551,14 +563,17 @@ module _ (elsewhere : ElsewhereSo) (real : List RealModule) (before : Option Rel
             remain_so ∙ all_remain (own_of link.flow.low) (affected_by changes.made) (λ slot subslot covered. ap (λ (p : List Place). is_own p slot subslot) places_is ∙ none slot subslot covered) diagnoses
 
         -- the change is a step
-        step_so : IsStep (change_is.Module (reported_as link.request (rows_now now link) changes.made)) (at_places (own_of link.flow.low) diagnoses) (at_places (is_own (own_places link.request.expected now)) later)
-        step_so =
-            is_modules.pulls (asks link.request) (is_listed changes.made.slot changes.made.subslot (rows_now now link)) (at_places (own_of link.flow.low) diagnoses)
-            (at_places (is_own (own_places link.request.expected now)) later) remain_so
-            (λ kind. none_gone (λ slot subslot covered. empty_own link.request.expected real slot subslot (is_modules.empty kind slot subslot covered)))
+        so_if : {change : LowChange} {from last : List Diagnosis} → IsStepIf (NoneIsAtZero real) change from last → IsStepIf Apart change from last
+        so_if is = record { step = is.step; seen = λ apart. is.seen (knows.none apart) }
 
-        nothing_step : IsStep (change_is.Module (reported_as link.request (rows_now now link) changes.made)) [] []
-        nothing_step = is_modules.pulls (asks link.request) (is_listed changes.made.slot changes.made.subslot (rows_now now link)) [] [] refl (λ kind. refl)
+        step_so : IsStepIf Apart (change_is.Module (reported_as link.request (rows_now now link) changes.made)) (at_places (own_of link.flow.low) diagnoses) (at_places (is_own (own_places link.request.expected now)) later)
+        step_so =
+            so_if (is_modules.pulls (asks link.request) (is_listed changes.made.slot changes.made.subslot (rows_now now link)) (at_places (own_of link.flow.low) diagnoses)
+            (at_places (is_own (own_places link.request.expected now)) later) remain_so
+            (λ kind. none_gone (λ slot subslot covered. empty_own link.request.expected real slot subslot (is_modules.empty kind slot subslot covered))))
+
+        nothing_step : IsStepIf Apart (change_is.Module (reported_as link.request (rows_now now link) changes.made)) [] []
+        nothing_step = so_if (is_modules.pulls (asks link.request) (is_listed changes.made.slot changes.made.subslot (rows_now now link)) [] [] refl (λ kind. refl))
 
         low_by : (b c : Bool) → is_hit (affected_by changes.made) (places_then (rows_now now link) changes.made link) ≡ b → link.flow.cyclic.begun ≡ c
             → (changed_link now changes.made later link).flow.low
@@ -579,7 +594,7 @@ module _ (elsewhere : ElsewhereSo) (real : List RealModule) (before : Option Rel
           where
             was_hit : is_hit (affected_by changes.made) link.plugs ≡ true
             was_hit =
-                hit_by_keys (affected_by changes.made) link.plugs (places_then (rows_now now link) changes.made link) (changed_keys (rows_now now link) changes.made link.plugs) ∙ e
+                hit_by_keys (affected_by changes.made) link.plugs (places_then (rows_now now link) changes.made link) (laws.changed (rows_now now link) changes.made link.plugs) ∙ e
 
         unreported : (low : Low) → (changed_link now changes.made later link).flow.low ≡ low → low.alarms ≡ link.flow.low.alarms → [] ≡ reported_by before after
         unreported low is same =
@@ -587,10 +602,10 @@ module _ (elsewhere : ElsewhereSo) (real : List RealModule) (before : Option Rel
             ∙ (ap (λ (l : Low). l.alarms.sender.sending.last) is ∙ (ap (λ (d : DeviceEnd). d.sender.sending.last) same ∙ sym (ap (λ (l : Option RelationState). number_in l) was)))))
 
         by_hit : (b : Bool) → is_hit (affected_by changes.made) (places_then (rows_now now link) changes.made link) ≡ b → (c : Bool) → is_exchanging link.phase ≡ c
-            → Knows now after later (raised ++ reported_by before after)
+            → Knows Apart now after later (raised ++ reported_by before after)
         by_hit false e c f =
             let same = low_by false link.flow.cyclic.begun e refl in
-            becomes_so now after link next later [] remaining_so was becomes_it begun_same refl (stated_by stated same refl) (unreported stated same refl)
+            becomes_so now after link next later [] remaining_so none_now was becomes_it begun_same refl (stated_by stated same refl) (unreported stated same refl)
             (λ off waiting. waits_so link.flow.low next.flow.low (ap (λ (l : Low). l.waiting) same) (ap (λ (l : Low). l.alarms.sender.sending.last) same) waiting)
             (λ on told. told_so link.flow.low next.flow.low later (ap (λ (l : Low). l.waiting) same) (λ slot subslot. ap (λ (l : Low). own_of l slot subslot) same ∙ own_still e slot subslot)
             (ap (λ (l : Low). at_places (own_of l) later) same
@@ -598,15 +613,15 @@ module _ (elsewhere : ElsewhereSo) (real : List RealModule) (before : Option Rel
         by_hit true e false f =
             let same = low_by true false e (knows.begins link was ∙ f) in
             let room = more e in
-            becomes_so now after link next later [] remaining_so was becomes_it begun_same refl (stated_by waits same refl) (unreported waits same refl)
+            becomes_so now after link next later [] remaining_so none_now was becomes_it begun_same refl (stated_by waits same refl) (unreported waits same refl)
             (λ off waiting. record {
               none = append-nil raised ∙ waiting.none;
               unsent = ap (λ (l : Low). l.alarms.sender.sending.last) same ∙ waiting.unsent;
               few = subst (λ (ws : List QueuedAlarm). length ws ≤ 32) (sym (ap (λ (l : Low). l.waiting) same ∙ room.1))
                   (one_longer link.flow.low.waiting (module_queued (is_own (own_places link.request.expected now)) told_as changes.made later) room.0);
-              leads = subst (λ (ws : List QueuedAlarm). Leads (map change_in ws) [] []) (sym (ap (λ (l : Low). l.waiting) same ∙ room.1))
-                  (subst (λ (xs : List LowChange). Leads xs [] []) (sym (waited [] link.flow.low.waiting (module_queued (is_own (own_places link.request.expected now)) told_as changes.made later)))
-                  (one_more (map change_in link.flow.low.waiting) (change_is.Module told_as) [] [] [] waiting.leads nothing_step));
+              leads = subst (λ (ws : List QueuedAlarm). LeadsIf Apart (map change_in ws) [] []) (sym (ap (λ (l : Low). l.waiting) same ∙ room.1))
+                  (subst (λ (xs : List LowChange). LeadsIf Apart xs [] []) (sym (waited [] link.flow.low.waiting (module_queued (is_own (own_places link.request.expected now)) told_as changes.made later)))
+                  (one_more Apart (map change_in link.flow.low.waiting) (change_is.Module told_as) [] [] [] waiting.leads nothing_step));
               own = λ has. subst (λ (ws : List QueuedAlarm). AreOwn has (map change_in ws)) (sym (ap (λ (l : Low). l.waiting) same ∙ room.1))
                   (subst (λ (xs : List LowChange). AreOwn has xs) (sym (waited [] link.flow.low.waiting (module_queued (is_own (own_places link.request.expected now)) told_as changes.made later)))
                   (own_append has (map change_in link.flow.low.waiting) (change_is.Module told_as ∷ []) (waiting.own has) (tt, tt)));
@@ -615,14 +630,14 @@ module _ (elsewhere : ElsewhereSo) (real : List RealModule) (before : Option Rel
         by_hit true e true f =
             let same = low_by true true e (knows.begins link was ∙ f) in
             let room = more e in
-            next_so now after link next waits later remaining_so was refl becomes_it same begun_same refl (stated_by (after_next waits) same (after_places waits)) f
+            next_so now after link next waits later remaining_so none_now was refl becomes_it same begun_same refl (stated_by (after_next waits) same (after_places waits)) f
             (λ told. record {
               changes = told.changes;
               reports = told.reports;
-              leads = subst (λ (ws : List QueuedAlarm). Leads (told.changes ++ map change_in ws) [] (at_places (own_of waits) later)) (sym room.1)
-                  (subst (λ (xs : List LowChange). Leads xs [] (at_places (own_of waits) later))
+              leads = subst (λ (ws : List QueuedAlarm). LeadsIf Apart (told.changes ++ map change_in ws) [] (at_places (own_of waits) later)) (sym room.1)
+                  (subst (λ (xs : List LowChange). LeadsIf Apart xs [] (at_places (own_of waits) later))
                   (sym (waited told.changes link.flow.low.waiting (module_queued (is_own (own_places link.request.expected now)) told_as changes.made later)))
-                  (one_more (told.changes ++ map change_in link.flow.low.waiting) (change_is.Module told_as) [] (at_places (own_of link.flow.low) diagnoses) (at_places (own_of waits) later)
+                  (one_more Apart (told.changes ++ map change_in link.flow.low.waiting) (change_is.Module told_as) [] (at_places (own_of link.flow.low) diagnoses) (at_places (own_of waits) later)
                   told.leads step_so));
               own = subst (λ (ws : List QueuedAlarm). AreOwn (own_of waits) (told.changes ++ map change_in ws)) (sym room.1)
                   (subst (λ (xs : List LowChange). AreOwn (own_of waits) xs)
@@ -630,26 +645,26 @@ module _ (elsewhere : ElsewhereSo) (real : List RealModule) (before : Option Rel
                   (own_changed (own_of link.flow.low) (is_own (own_places link.request.expected now)) told_as own_apart (told.changes ++ map change_in link.flow.low.waiting) told.own));
             })
 
-    pulled_so : Knows now after later (raised ++ reported_by before after)
+    pulled_so : Knows Apart now after later (raised ++ reported_by before after)
     pulled_so = by_before before refl
       where
-        by_before : (link : Option RelationState) → before ≡ link → Knows now after later (raised ++ reported_by before after)
+        by_before : (link : Option RelationState) → before ≡ link → Knows Apart now after later (raised ++ reported_by before after)
         by_before (Some link) was = by_relation link was
         by_before None was =
-            over_knows now after later (raised ++ reported_by before after) remaining_so
+            over_knows Apart now after later (raised ++ reported_by before after) remaining_so none_now
             (changes.becomes ∙ ap (λ (l : Option RelationState). modules_changing now changes.made later l) was)
 
   -- any turn that leaves the modules and the diagnoses as they are
   turn_so : (calls : List Answer) (heard : Heard) (after : Option RelationState) (later : List Diagnosis) (sent : List Sent) → later ≡ diagnoses
       → ((change : Change) → heard ≡ change_heard change → change.diagnosis.error < 65536)
       → (Makes calls before heard after sent → (before ≡ None) × (raised ≡ []) × ((l : RelationState) → after ≡ Some l → IsStated real l))
-      → IsTurn real real calls diagnoses later before heard after sent → Knows real after later (raised ++ reported_by before after)
+      → IsTurn real real calls diagnoses later before heard after sent → Knows Apart real after later (raised ++ reported_by before after)
   turn_so calls heard after later sent same small alone turn = by_turn turn
     where
-      as_before : Knows real after diagnoses (raised ++ reported_by before after) → Knows real after later (raised ++ reported_by before after)
-      as_before so = subst (λ (xs : List Diagnosis). Knows real after xs (raised ++ reported_by before after)) (sym same) so
+      as_before : Knows Apart real after diagnoses (raised ++ reported_by before after) → Knows Apart real after later (raised ++ reported_by before after)
+      as_before so = subst (λ (xs : List Diagnosis). Knows Apart real after xs (raised ++ reported_by before after)) (sym same) so
 
-      by_turn : IsTurn real real calls diagnoses later before heard after sent → Knows real after later (raised ++ reported_by before after)
+      by_turn : IsTurn real real calls diagnoses later before heard after sent → Knows Apart real after later (raised ++ reported_by before after)
       by_turn (inl stays) = as_before (stays_so after stays.link)
       by_turn (inr (inl makes)) = let so = alone makes in as_before (makes_so calls heard after sent so.0 so.1 so.2 makes)
       by_turn (inr (inr (inl raises))) =
@@ -673,66 +688,12 @@ module _ (elsewhere : ElsewhereSo) (real : List RealModule) (before : Option Rel
       → IsTurn real now calls diagnoses later before heard after sent
       → (now ≡ real) ⊎ Changes real now diagnoses later before heard after sent
       → (later ≡ diagnoses) ⊎ (Diagnoses real diagnoses later before heard after sent ⊎ Changes real now diagnoses later before heard after sent)
-      → Knows now after later (raised ++ reported_by before after)
+      → Knows Apart now after later (raised ++ reported_by before after)
   knows_on calls heard after now later sent small alone turn (inr changes) which = pulled_so now heard after later sent changes
   knows_on calls heard after now later sent small alone turn (inl still) (inr (inr changes)) = pulled_so now heard after later sent changes
   knows_on calls heard after now later sent small alone turn (inl still) (inr (inl changes)) =
-      subst (λ (modules : List RealModule). Knows modules after later (raised ++ reported_by before after)) (sym still) (changes_so heard after later sent changes small)
+      subst (λ (modules : List RealModule). Knows Apart modules after later (raised ++ reported_by before after)) (sym still) (changes_so heard after later sent changes small)
   knows_on calls heard after now later sent small alone turn (inl still) (inl same) =
-      subst (λ (modules : List RealModule). Knows modules after later (raised ++ reported_by before after)) (sym still)
+      subst (λ (modules : List RealModule). Knows Apart modules after later (raised ++ reported_by before after)) (sym still)
       (turn_so calls heard after later sent same small alone
       (subst (λ (modules : List RealModule). IsTurn real modules calls diagnoses later before heard after sent) still turn))
-
--- ---- the list of a controller that accepted them all
-
--- a law of the crate below
-abbrev pub FollowsSo : Type 0
-FollowsSo = (has : ℕ → ℕ → Bool) (change : Change) (report : Report) (before after : List Diagnosis) (left_out : ℕ) → Reports change report
-    → change.diagnosis.channel < 65536 → change.diagnosis.error < 65536 → has change.diagnosis.slot change.diagnosis.subslot ≡ true
-    → changed change before ≡ Some after
-    → after_report report (record { existing = at_places has before; left_out = left_out }) ≡ record { existing = at_places has after; left_out = left_out }
-
-abbrev listed : List Diagnosis → Reported
-listed diagnoses = record { existing = diagnoses; left_out = 0 }
-
--- a pull or a plug reports nothing of a channel
-module_quiet : (report : Report) (kind : ModuleChangeKind) → report.notification.alarm_type ≡ kind_type kind → channel_report report ≡ None
-module_quiet report kind e = by_kind kind e
-  where
-    no_type : (n : ℕ) → report.notification.alarm_type ≡ n → (n == 1 || n == 0x000C) ≡ false → channel_report report ≡ None
-    no_type n f none =
-        ap (λ (b : Bool). cond (b && is_channel_structure report.user_structure) (report_by report.notification (channel_by (channel.read report.notification.alarm_data))) None)
-        (ap (λ (m : ℕ). m == 1 || m == 0x000C) f ∙ none)
-
-    by_kind : (k : ModuleChangeKind) → report.notification.alarm_type ≡ kind_type k → channel_report report ≡ None
-    by_kind kind_is.Pull f = no_type 0x0003 f refl
-    by_kind kind_is.PullModule f = no_type 0x001F f refl
-    by_kind kind_is.Plug f = no_type 0x0004 f refl
-    by_kind kind_is.PlugWrong f = no_type 0x000A f refl
-
--- one that is no pull leaves the diagnoses
-module_stays : (made : ModuleChange) (alarm : AlarmNotification) (from next : List Diagnosis) (kind : ModuleChangeKind) → is_pull alarm ≡ false → alarm.alarm_type ≡ kind_type kind
-    → IsModuleStep kind made from next → next ≡ from
-module_stays made alarm from next kind_is.Pull none type step = absurd (true≢false (sym (ap (λ (n : ℕ). n == 0x0003 || n == 0x001F) type) ∙ none))
-module_stays made alarm from next kind_is.PullModule none type step = absurd (true≢false (sym (ap (λ (n : ℕ). n == 0x0003 || n == 0x001F) type) ∙ none))
-module_stays made alarm from next kind_is.Plug none type step = step
-module_stays made alarm from next kind_is.PlugWrong none type step = step
-
-one_listed : FollowsSo → (change : LowChange) (alarm : AlarmNotification) (from next : List Diagnosis) → IsReport change alarm → IsStep change from next → is_pull alarm ≡ false
-    → after_report (report_as low_priority alarm) (listed from) ≡ listed next
-one_listed law (change_is.Diagnosis made) alarm from next reports step none =
-    ap (λ (xs : List Diagnosis). after_report (report_as low_priority alarm) (listed xs)) step.from_is
-    ∙ (law step.has made (report_as low_priority alarm) step.before step.after 0 reports step.channel step.error step.own step.is ∙ ap listed (sym step.next_is))
-one_listed law (change_is.Module made) alarm from next reports step none =
-    ap (λ (found : Option ChannelReport). after_found found (listed from)) (module_quiet (report_as low_priority alarm) made.kind reports.type_is)
-    ∙ ap listed (sym (module_stays made alarm from next made.kind none reports.type_is step))
-
-pub all_listed : FollowsSo → (changes : List LowChange) (alarms : List AlarmNotification) (from last : List Diagnosis) → AreReports changes alarms → Leads changes from last → list_any is_pull alarms ≡ false
-    → after_reports alarms (listed from) ≡ listed last
-all_listed law [] [] from last reports leads none = ap listed leads
-all_listed law [] (alarm ∷ alarms) from last reports leads none = absurd reports
-all_listed law (change ∷ changes) [] from last reports leads none = absurd reports
-all_listed law (change ∷ changes) (alarm ∷ alarms) from last reports leads none =
-    let parts = or_parts (is_pull alarm) (list_any is_pull alarms) none in
-    ap (λ (r : Reported). after_reports alarms r) (one_listed law change alarm from leads.0 reports.0 leads.1 parts.0)
-    ∙ all_listed law changes alarms leads.0 last reports.1 leads.2 parts.1

@@ -75,7 +75,7 @@ use Rattle.end_laws.specs.sending.Messages.{CanBeSent as CanBeSaid}
 use Rattle.end_laws.specs.sending.Sized.{IsLive, IsSized, IsSizedEvent}
 use Rattle.both_ends.specs.exchange.Sized.{AreSizedModules}
 use Rattle.both_ends.specs.exchange.Told.{AreSizedMoves, IsSizedMove}
-use Rattle.both_ends.proofs.ExchangeRelated.{IsRight, responded_right}
+use Rattle.both_ends.proofs.ExchangeRelated.{IsRight, response_right}
 use Rattle.both_ends.proofs.ExchangeMade.{stated_made}
 use Rattle.both_ends.proofs.ExchangeServed.{all_served}
 use Rattle.both_ends.proofs.ExchangeStated.{IsSizedHeard, change_sized}
@@ -83,6 +83,7 @@ use Rattle.both_ends.proofs.ExchangeWell.{all_called, all_well}
 use Rattle.both_ends.proofs.ExchangePlaced.{IsEventOf, IsOf, IsPlaced, event_placed, first_placed}
 use Rattle.both_ends.proofs.ExchangeReported.{IsCallIn, IsGood, IsWell, ack_in, alarm_in, noted_at, reported_at}
 use Rattle.both_ends.proofs.ExchangeMessages.{HearsSo, all_noted, all_ready, all_reported, both_sized, other_mac}
+use Rattle.both_ends.proofs.ExchangeKeys.{KeysSo}
 use Rattle.both_ends.proofs.ExchangeSizes.{turn_sized}
 use Rattle.both_ends.specs.exchange.Over.{IsOneOfTheLastTwo, number_in, raised_in, raised_over, raised_with, reported_by, reported_over, reported_with, taken_by, taken_from, taken_in, taken_over, taken_with}
 use Rattle.both_ends.proofs.ExchangeOpening.{asks_unheard}
@@ -112,7 +113,7 @@ module _ (goes_sized : (setup : Setup) (live : ControllerLive) (one : Event) →
 
   heard_right : (octets : List ℕ) (heard : controller.Heard) → heard_by setup.plan.controller octets ≡ heard → IsGood mac heard → IsWell setup heard → IsRight setup (turned setup live heard)
   heard_right octets (controller.Answers source answer) e is fit = right_by octets (controller.Answers source answer) e is.1
-  heard_right octets (controller.Responds response) e is fit = responded_right setup good live response live.asked lives fit
+  heard_right octets (controller.Responds response) e is fit = response_right setup good live response lives fit
   heard_right octets (controller.Refuses refusal) e is fit = right_by octets (controller.Refuses refusal) e tt
   heard_right octets (controller.Calls caller call) e is fit = right_by octets (controller.Calls caller call) e (is.1, is.2, is.3)
   heard_right octets (controller.Alarms source under header reported) e is fit = right_by octets (controller.Alarms source under header reported) e is.0
@@ -172,6 +173,7 @@ pub record DeviceSo : Type 0 where
   pub turns : (rules : Rules TakenRecord Request) (activity : List ℕ) (outcomes : List Outcome) (station : Station) (live : Live) (heard : Heard)
       → IsPlanned rules activity live.rest.real heard
       → Turn station live heard (heard_step outcomes station live heard).live.rest (heard_step outcomes station live heard).sent
+  pub keys : KeysSo
   pub raises : (outcomes : List Outcome) (station : Station) (live : Live) (slot subslot : ℕ) (octets : List ℕ)
       → IsRaise live.rest.real.modules.items live.rest.link slot subslot octets (heard_step outcomes station live (alarm_heard slot subslot octets)).live.rest.link
       (heard_step outcomes station live (alarm_heard slot subslot octets)).sent
@@ -329,7 +331,7 @@ module _ {F : Type 0} where
           let step = heard_step outcomes station live heard in
           let rules = rules_of setup station in
           let acts = so.turns rules setup.activity outcomes station live heard meant.planned in
-          let turn = turn_sized station.identity setup.plan setup.ar follows.apart live.rest.real.modules.items step.live.rest.real.modules.items live.rest.calls live.rest.diagnoses step.live.rest.diagnoses live.rest.link heard step.live.rest.link step.sent
+          let turn = turn_sized so.keys station.identity setup.plan setup.ar follows.apart live.rest.real.modules.items step.live.rest.real.modules.items live.rest.calls live.rest.diagnoses step.live.rest.diagnoses live.rest.link heard step.live.rest.link step.sent
           fits follows.real follows.sized
           (λ makes. (
             (makes_so step.live.rest.link step.sent makes).1,
@@ -569,7 +571,7 @@ module _ {F : Type 0} where
     linked = λ l is. absurd (none_some l (small_of first.controller.setup.activity first.device.live).link (ap (λ (o : Option RelationState). option_map link_of o) begins.unrelated) is);
     again = λ answer is. absurd (none_some answer (kept_at first.controller.setup first.device.live) (ap (λ (kept : Option Answer). option_map kept_in kept) (subst (λ (s : Setup). kept_of s.activity first.device.live.rest.calls ≡ None) (sym begins.of_setup) begins.uncalled)) is);
     early = λ none. (
-      subst (λ (l : ControllerLive). IsEarlyAt l) (sym (begins.made ∙ ap (λ (s : Setup). first_live s.plan) (sym begins.of_setup))) (record { phase = refl; waiting = refl }),
+      subst (λ (l : ControllerLive). IsEarlyAt l) (sym (begins.made ∙ ap (λ (s : Setup). first_live s.plan) (sym begins.of_setup))) (record { phase = refl; waiting = refl; plug = refl }),
       subst (λ (frames : List (List ℕ)). AllByRecursion (IsEarlyFrame first.controller.setup first.device.station) frames) (sym begins.opened) (
         (
           λ sequence e. idle_access sequence (ap (heard_as (is_planned first.controller.setup)) (sym asks_it) ∙ e),

@@ -54,12 +54,14 @@ use Rattle.device_frames.specs.Sendable.{IsSendable}
 use Rattle.device_frames.specs.Sent as sent
 use Rattle.device_frames.specs.Sent.{bytes_of, plug_ready_frame, ready_frame, response_frame}
 use Rattle.device_core.specs.State.{Live}
+use Rattle.controller_messages.specs.declared.plug_request.PlugRequest.{PlugRequest}
 use Rattle.controller_messages.specs.declared.record_request.RecordRequest.{RecordRequest}
 use Rattle.controller_messages.specs.declared.request.Request.{Request}
 use Rattle.controller_messages.specs.declared.request.Request.TheVariants as asks
 use Rattle.controller_messages.specs.declared.setup.Setup.{Setup}
 use Rattle.controller_messages.specs.Heard as controller
 use Rattle.controller_messages.specs.Heard.{heard_of as heard_by, is_to}
+use Rattle.controller_messages.specs.PlugRequests.{plug_call}
 use Rattle.controller_messages.specs.RecordRequests.{record_call}
 use Rattle.controller_messages.specs.Requests.{address_asked, call_for, identify_asked}
 use Rattle.controller_messages.specs.Sent as said
@@ -67,7 +69,7 @@ use Rattle.controller_messages.specs.Sent.{answer_frame, call_frame, calls_at, e
 use Rattle.block_codec.specs.Writable.{IsAck, IsAlarm}
 use Rattle.diagnosis.specs.Sendable.{IsHeader}
 use Rattle.end_laws.specs.hearing.Hearing.{comes, mine_hears, mine_reported, own_hears, own_reported}
-use Rattle.end_laws.specs.hearing.Stations.{IsAddress, IsCalled, IsCaller, IsDevice, IsNumbered, IsRecordCall, IsRoute, IsSetup, plug_ready_call, ready_call}
+use Rattle.end_laws.specs.hearing.Stations.{IsAddress, IsCalled, IsCaller, IsDevice, IsNumbered, IsPlugCall, IsRecordCall, IsRoute, IsSetup, plug_ready_call, ready_call}
 use Rattle.end_laws.specs.sending.Messages.{CanBeSent as CanBeSaid}
 use Rattle.end_laws.specs.sending.Sized.{IsNoted}
 use Rattle.end_laws.specs.device.Orderly.{IsOrderlyIn}
@@ -147,6 +149,7 @@ pub record HearsSo : Type 0 where
       → heard_of identity (comes (said.bytes_of setup (said.Requests to asks.Address))) ≡ own_hears identity to (device.Asks setup.plan.controller.mac (address_asked setup.plan))
   pub call_can : (setup : Setup) (request : Request) → IsSetup setup → IsCalled request → IsNumbered request → CanBeCalled devices (call_for setup request)
   pub record_can : (setup : Setup) (request : RecordRequest) (octets : List ℕ) → IsSetup setup → IsRecordCall request octets → CanBeCalled devices (record_call setup request octets)
+  pub plug_call_can : (setup : Setup) (request : PlugRequest) → IsSetup setup → IsPlugCall request → CanBeCalled devices (plug_call setup request)
   pub call_at_device : (identity : Identity) (setup : Setup) (to : Mac) (call : Call) → IsSetup setup → IsMac to → CanBeCalled devices call
       → heard_of identity (comes (call_frame setup to call))
       ≡ own_reported identity setup.plan.controller.mac to (calls_at setup.plan.controller.address) (calls_at setup.plan.station.suite.address) (device.Calls call)
@@ -358,7 +361,7 @@ module _ (so : HearsSo) (setup : Setup) (identity : Identity) where
         (so.alarm mine identity (alarm_route route) header one can.source (route_is route can.destination can.tag) sized.1 sized.2 sized.3),
     alarm_unreported route.partner (Some route.alarm_tag) (frame_id_of pdu.Data) (body_of (Notifies header one)) sized.0 can,
     good_by_law (bytes_of identity (sent.Exchanges route (Notifies header one))) route.partner (controller.Alarms identity.mac High header (notice.Data header.send_number (ours one)))
-        (so.alarm mine identity (alarm_route route) header one can.source (route_is route can.destination can.tag) sized.1 sized.2 sized.3) ((sized.2.send_number, noted_alarm one sized.3), refl),
+        (so.alarm mine identity (alarm_route route) header one can.source (route_is route can.destination can.tag) sized.1 sized.2 sized.3) ((sized.2.send_number, noted_alarm one sized.3), (refl, sized.4)),
   )
   frame_noted route (Reports tag header one) can sized =
       let law = so.low_alarm mine identity (way_to route) tag header one can.source (way_is route can.destination) can.tag sized.1 sized.2 sized.3 in
@@ -367,7 +370,7 @@ module _ (so : HearsSo) (setup : Setup) (identity : Identity) where
         alarm_unreported route.partner (Some tag) _ (body_of (Reports tag header one)) sized.0 can,
         good_by_law (bytes_of identity (sent.Exchanges route (Reports tag header one))) route.partner heard law
             (subst (λ (r : Report). IsGood identity.mac (controller.Alarms identity.mac Low header (notice.Data header.send_number r))) (sym (low_is one))
-            ((sized.2.send_number, noted_alarm one sized.3), refl)),
+            ((sized.2.send_number, noted_alarm one sized.3), (refl, tt))),
       )
   frame_noted route (Answers header) can sized =
       replied_as route (Answers header) header.ack_number header.kind (alarm_unreported route.partner (Some route.alarm_tag) (frame_id_of header.kind) (body_of (Answers header)) sized.0 can)
@@ -500,6 +503,7 @@ module _ (so : HearsSo) (setup : Setup) (identity : Identity) where
     message_reported : (message : said.Sent) → IsSizedSaid setup message → IsReportedAs setup identity message
     message_reported (said.Requests to request) sized = request_reported to request sized.0.0 sized.0.1 sized.1
     message_reported (said.Accesses device_mac request octets) sized = called_reported device_mac (record_call setup request octets) sized.0.0 (so.record_can setup request octets good sized.0.1)
+    message_reported (said.Parametrizes device_mac request) sized = called_reported device_mac (plug_call setup request) sized.0.0 (so.plug_call_can setup request good sized.0.1)
     message_reported (said.Agrees caller answer) sized = (
       inl (ap reported_at (so.agreed_at_device identity setup caller answer good sized.0.0 sized.0.1)
           ∙ datagram_reported identity mine.mac caller.mac (calls_at mine.address) caller.endpoint (device.Responds answer)),

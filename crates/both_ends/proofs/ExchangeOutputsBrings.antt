@@ -47,12 +47,13 @@ use Rattle.device_frames.specs.Sent.{Sent, IdentifyAnswer, GetAnswer, SetAnswer,
 use Rattle.device_frames.specs.Sendable.{IsSendable}
 use Rattle.controller_messages.specs.declared.request.Request.{Request}
 use Rattle.controller_messages.specs.declared.request.Request.TheVariants as asks
+use Rattle.controller_messages.specs.PlugRequests.{plug_call}
 use Rattle.controller_messages.specs.RecordRequests.{record_call}
 use Rattle.controller_messages.specs.Requests.{address_asked, call_for, identify_asked}
 use Rattle.diagnosis.specs.declared.reports.priority.Priority.{Priority}
 use Rattle.diagnosis.specs.declared.reports.priority.Priority.TheVariants.{High, Low}
 use Rattle.diagnosis.specs.reports.Priority.{frame_id_at}
-use Rattle.controller_messages.specs.Sent.{Sent as Message, Requests, Accesses, Agrees, Cycles, Confirms, Replies, Ends as Leaves, ack_pdu, alarm_frame, bytes_of as bytes_said, call_frame, calls_at, end_frame, end_pdu, identify_multicast, reply_pdu, request_frame, tag_of as tag_at}
+use Rattle.controller_messages.specs.Sent.{Sent as Message, Requests, Accesses, Parametrizes, Agrees, Cycles, Confirms, Replies, Ends as Leaves, ack_pdu, alarm_frame, bytes_of as bytes_said, call_frame, calls_at, end_frame, end_pdu, identify_multicast, reply_pdu, request_frame, tag_of as tag_at}
 use Rattle.device_frames.specs.Heard.{Heard, Cyclic, Elsewhere, Resolves, Reported, Unreadable, broadcast, heard_alarm, heard_content, heard_frame, heard_of, heard_request, is_own, is_taken, said_by}
 use Rattle.controller_messages.specs.declared.setup.Setup.{Setup}
 use Rattle.end_laws.specs.both.Outputs.{BringsNone, Outputs}
@@ -132,6 +133,7 @@ pub record IsWay (route : Route) : Type 0 where
 abbrev pub IsAddressed : Message → Type 0
 IsAddressed (Requests device request) = IsMac device
 IsAddressed (Accesses device request octets) = IsMac device
+IsAddressed (Parametrizes device request) = IsMac device
 IsAddressed (Agrees caller answer) = IsMac caller.mac
 IsAddressed (Cycles route shown counter) = IsWay route
 IsAddressed (Confirms route priority header ack) = IsWay route
@@ -365,6 +367,7 @@ module _ (options : DeviceOptions) (setup : Setup) (identity : Identity) where
         (outputs_bring sound mine route other counter way.partner six way.sent_tag (ap (λ (image : Image). image.data_length) now ∙ size))
     message_brings shown size (Requests device request) now one = inl (request_silent device request one)
     message_brings shown size (Accesses device request octets) now one = inl (call_silent device (record_call setup request octets) one)
+    message_brings shown size (Parametrizes device request) now one = inl (call_silent device (plug_call setup request) one)
     message_brings shown size (Agrees caller answer) now one =
         inl (datagram_silent sound caller.mac mine None (calls_at setup.plan.controller.address) caller.endpoint (response_bytes answer) one six tt)
     message_brings shown size (Confirms route priority header ack) now way = inl (alarm_silent route priority (ack_pdu priority header ack) way)

@@ -27,6 +27,7 @@ use Rattle.both_ends.specs.exchange.Given.{AreOfOneFrame, image_given, places_fo
 use Rattle.both_ends.proofs.ExchangeOutputsMoves.{ArePlaced, all_long, image_shown, values_of}
 use Rattle.both_ends.proofs.ExchangeOutputsValues.{outputs_shown, touched_zeros, zeros_are_shown}
 use Rattle.both_ends.proofs.ExchangeOutputsTurns.{KindsSo}
+use Rattle.both_ends.proofs.ExchangeKeys.{StandingSo}
 use Rattle.both_ends.proofs.ExchangeOutputsWorlds.{NumbersSo, TurnsSo, first_same, given_in_run, last_shown, rest_same, shown_runs, shows_none}
 
 -- ---- lists
@@ -88,7 +89,7 @@ other_mac one other apart = by_test (pointwise nat_eq one.octets other.octets) r
 
 -- ---- runs
 
-module _ (turns : TurnsSo) (numbers : NumbersSo) (kinds : KindsSo) (sound : IsSound ethernet) (whole : IsSoundWhole layers) {F : Type 0} (setup : Setup) (identity : Identity) (apart : pointwise nat_eq identity.mac.octets setup.plan.controller.mac.octets ≡ false)
+module _ (turns : TurnsSo) (numbers : NumbersSo) (standing : StandingSo) (kinds : KindsSo) (sound : IsSound ethernet) (whole : IsSoundWhole layers) {F : Type 0} (setup : Setup) (identity : Identity) (apart : pointwise nat_eq identity.mac.octets setup.plan.controller.mac.octets ≡ false)
     (six : IsMac setup.plan.controller.mac) (there : ArePlaced setup) (first : World F) (begins : Begins setup identity first)
     {S : ℕ} (as_flash : Flash F S) (run : List (Move × World F)) (made : AreMade as_flash first run) (meant : AreMeant first run) where
   abbrev rules : Outputs Image Image
@@ -104,7 +105,7 @@ module _ (turns : TurnsSo) (numbers : NumbersSo) (kinds : KindsSo) (sound : IsSo
       let moves = moves_of (cut.front ++ cut.one ∷ []) in
       let given_is : came.point.given ≡ image_given setup moves =
       ap (λ (s : Shown Image Image). s.given) (sym point_is)
-      ∙ given_in_run turns numbers kinds sound whole setup identity apart six first begins there.once as_flash run made meant cut.front cut.one cut.rest cut.all in
+      ∙ given_in_run turns numbers standing kinds sound whole setup identity apart six first begins there.once as_flash run made meant cut.front cut.one cut.rest cut.all in
       let taken : taken_in link ≡ image_given setup moves =
       came.shown ∙ (ap (λ (i : Image). with_frame (octets_of i) (zeros_for setup)) given_is ∙ image_shown setup there moves) in
       let then : Divides seen cut.rest came.between (small.ComesToDevice came.came, came.next) came.others =
@@ -142,8 +143,8 @@ module _ (turns : TurnsSo) (numbers : NumbersSo) (kinds : KindsSo) (sound : IsSo
       → AreAsGiven rules (shown_of first) (shown_run run) (shown_of (last_world first run)).accepted (shown_of (last_world first run)).outputs
   as_given law =
       subst (λ (s : Shown Image Image). AreAsGiven rules (shown_of first) (shown_run run) s.accepted s.outputs) (last_shown first run)
-      (law rules (shown_of first) (shown_run run) (shows_none turns numbers kinds sound whole setup identity apart six first begins)
-      (shown_runs turns numbers kinds sound whole setup identity apart six first begins as_flash run made meant))
+      (law rules (shown_of first) (shown_run run) (shows_none turns numbers standing kinds sound whole setup identity apart six first begins)
+      (shown_runs turns numbers standing kinds sound whole setup identity apart six first begins as_flash run made meant))
 
   zeros_if : (accepted : Bool) (outputs : Image) → AreAsGiven rules (shown_of first) (shown_run run) accepted outputs → accepted ≡ false → outputs ≡ zeros_for setup
   zeros_if false outputs so e = so

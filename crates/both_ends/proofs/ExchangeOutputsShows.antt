@@ -42,7 +42,7 @@ use Rattle.end_laws.specs.device.Small.{IsPlanned}
 use Rattle.controller_messages.specs.declared.setup.Setup.{Setup}
 use Rattle.both_ends.specs.startup.View.{rules_of}
 use Rattle.end_laws.specs.device.Turn.{Answers, BeginsNumbered, IsNumbered, IsSameOr, IsTurn, Makes, Standing, Takes, Turn, heard_low_in, standing_of}
-use Rattle.end_laws.proofs.DeviceOrderly.{changed_standing}
+use Rattle.both_ends.proofs.ExchangeKeys.{StandingSo}
 use Rattle.end_laws.specs.device.Owed.{IsOwed}
 use Rattle.both_ends.proofs.ExchangeOutputsBrings.{IsKnown, message_silent}
 use Rattle.both_ends.proofs.ExchangeTied.{begun_link, changed_link, diagnosed_link, next_link}
@@ -338,7 +338,7 @@ module _ (setup : Setup) (station : Station) where
 
     -- ---- a turn
 
-    module _ (live : Live) (heard : Heard) (ours : IsOursIn live.rest.link) (silent : AreKeptSilent live.rest.calls)
+    module _ (standing : StandingSo) (live : Live) (heard : Heard) (ours : IsOursIn live.rest.link) (silent : AreKeptSilent live.rest.calls)
         (planned : IsPlanned (rules_of setup station) setup.activity live.rest.real heard) where
       -- what is shown after a turn, and that it is of the plan
       abbrev ShowsSo : Option RelationState → Type 0
@@ -404,7 +404,7 @@ module _ (setup : Setup) (station : Station) where
           by_link : (link : Option RelationState) → after ≡ modules_changing now changes.made later link → Stays link after
           by_link None becomes = subst (λ (l : Option RelationState). Stays None l) (sym becomes) tt
           by_link (Some link) becomes =
-              let same = changed_standing (rows_now now link) changes.made later link in
+              let same = standing (rows_now now link) changes.made later link in
               becomes_so (Some link) after link (changed_link now changes.made later link) refl becomes
               (record { route = ap (λ (s : Standing). s.route) same; last = ap (λ (s : Standing). s.last) same; taken = ap (λ (s : Standing). s.outputs) same })
 

@@ -1,6 +1,7 @@
 -- Each turn of a controller, as far as outputs are concerned: it stays a controller of the plan, and its messages go to
 -- stations.
-use Rattle.std.proofs.Common.{◌≡◌, ◌⊎◌, inl, inr, ◌+◌, ℕ, Bool, true, false, cond, List, [], ◌∷◌, ◌++◌, Option, Some, None, Result, Ok, Err, refl, subst, ap, ◌∙◌, sym, arith}
+use Rattle.std.proofs.Common.{◌≡◌, ◌⊎◌, inl, inr, ◌+◌, ◌||◌, ℕ, Bool, true, false, not, cond, List, [], ◌∷◌, ◌++◌, Option, Some, None, Result, Ok, Err, refl, subst, ap, ◌∙◌, sym, arith}
+use Rattle.std.specs.Prelude.{is_some}
 use Rattle.std.specs.List.{AllByRecursion}
 use Rattle.pn_values.specs.declared.mac.Mac.{Mac}
 use Rattle.dcp_core.specs.Response.{Answered}
@@ -29,12 +30,14 @@ use Rattle.cyclic_data.specs.Tail.{cyclic_of}
 use Rattle.cyclic_data.specs.declared.exchange.route.Route.{Route}
 use Rattle.cyclic_data.specs.exchange.Units.{Brought}
 use Rattle.cyclic_data.specs.exchange.Received.{behind_frame, behind_read, is_new, is_of_partner, taken_from}
+use Rattle.controller_messages.specs.declared.plug_request.PlugRequest.{PlugRequest}
 use Rattle.controller_messages.specs.declared.record_request.RecordRequest.{RecordRequest}
 use Rattle.controller_messages.specs.declared.request.Request.{Request}
 use Rattle.controller_messages.specs.declared.request.Request.TheVariants as asks
 use Rattle.controller_messages.specs.declared.setup.Setup.{Setup}
 use Rattle.controller_messages.specs.Heard.{Answers, Calls, Heard, heard_of}
-use Rattle.controller_messages.specs.Sent.{Sent}
+use Rattle.controller_messages.specs.PlugRequests.{plug_answer}
+use Rattle.controller_messages.specs.Sent.{Agrees, Sent}
 use Rattle.controller_core.specs.declared.stored.event.Event.{Event}
 use Rattle.controller_core.specs.declared.stored.event.Event.TheVariants.{Frame, Give, Read, Status, Stop, Tick as Ticks, Write}
 use Rattle.controller_core.specs.declared.stored.outputs.OutputMark.{OutputMark}
@@ -44,14 +47,16 @@ use Rattle.controller_core.specs.declared.stored.state.State.TheVariants.{Addres
 use Rattle.controller_core.specs.stored.Alarms.{ack_of, kept_alarm}
 use Rattle.connects.specs.answers.Connect.{Chosen}
 use Rattle.controller_messages.specs.Requests.{writing_from}
-use Rattle.controller_core.specs.Machine.{Turn, accesses_by, acking, acks_in, acks_of, asking, behind_ack, behind_data, brought, confirming, diagnosing, end_of, keeping, pending_by, pending_of, with_end, flow_later, flowed, given, is_again, noted, over, rated, readied, standing, writing, released, requests_of, stays, taken, turn_of, where_due}
+use Rattle.controller_core.specs.Machine.{Turn, accesses_by, acking, acks_in, acks_of, after_turn, asking, asks_next, begun_turn, can_begin, exchange_later, later, plug_readied, plugs_by, plugs_of, behind_ack, behind_data, brought, confirming, diagnosing, end_of, keeping, pending_by, pending_of, with_end, flowed, given, is_again, noted, over, rated, readied, standing, writing, released, requests_of, stays, taken, turn_of, where_due}
 use Rattle.controller_core.specs.start_up.Requests.{next_sequence}
 use Rattle.controller_core.specs.stored.State.{phase_for}
 use Rattle.controller_core.specs.stored.State.{Live}
-use Rattle.end_laws.specs.turns.Turns.{Came, Hears, Passes, Gets, GetsStatus, AsksRead, AsksWrite, Halts, IsKind, IsReadied, IsSought, IsTurn, Kind, Rests, Connects, Addresses, Releases, Relates, Writes, Skips, Waits, Forgets, Begins, Repeats, Follows, Takes, IsAcked, Asks, IsReplied, Gives, GivesStatus, Flows, Breaks, Idles, came_by, turn_by}
+use Rattle.end_laws.specs.turns.Beside.{flow_begun}
+use Rattle.end_laws.specs.turns.Turns.{Came, Hears, Passes, Gets, GetsStatus, AsksRead, AsksWrite, Halts, IsKind, IsReadied, IsSought, IsTurn, Kind, Rests, Connects, Addresses, Releases, Relates, Writes, Skips, Waits, Forgets, Begins, Repeats, Follows, Takes, IsAcked, Asks, IsReplied, IsPlugAnswered, IsPlugReadied, Gives, GivesStatus, Flows, Breaks, Idles, came_by, turn_by}
 use Rattle.end_laws.specs.turns.Turns as sort
 use Rattle.both_ends.proofs.ExchangeOutputsBrings.{IsAddressed, IsNow, IsWay}
 use Rattle.both_ends.proofs.ExchangeOutputsMoves.{Sets, sets_of}
+use Rattle.both_ends.proofs.ExchangePlugs.{IsAside, due_aside, turn_aside}
 
 -- a controller that sends to stations, with an image of this many octets
 pub record IsKeptAs (many : ℕ) (station : Mac) (route : Route) (shown : Image) : Type 0 where
@@ -218,9 +223,18 @@ module _ (size : ℕ) where
   access_tells shown device octets (Some request) one = ((tt, one), tt)
   access_tells shown device octets None one = tt
 
+  plugs_tell : (shown : Image) (device : Mac) (plug : Option PlugRequest) → IsMac device → AllByRecursion (IsSaid shown) (plugs_by device plug)
+  plugs_tell shown device (Some request) one = ((tt, one), tt)
+  plugs_tell shown device None one = tt
+
+  beside_tells : (shown : Image) (device : Mac) (octets : List ℕ) (waiting : Option RecordRequest) (plug : Option PlugRequest) → IsMac device
+      → AllByRecursion (IsSaid shown) (cond (is_some plug) (plugs_by device plug) (accesses_by device octets waiting))
+  beside_tells shown device octets waiting (Some request) one = ((tt, one), tt)
+  beside_tells shown device octets waiting None one = access_tells shown device octets waiting one
+
   pending_tells : (shown : Image) (live : Live) (asked : Option Request) → IsMac live.device → AllByRecursion (IsSaid shown) (pending_by live asked)
   pending_tells shown live (Some request) one = ((tt, one), tt)
-  pending_tells shown live None one = access_tells shown live.device live.access.octets live.access.waiting one
+  pending_tells shown live None one = beside_tells shown live.device live.access.octets live.access.waiting live.access.plug one
 
   acks_tell : (shown : Image) (live : Live) (priority : Priority) (ack : Option AlarmAck) → IsWay live.cyclic.route → AllByRecursion (IsSaid shown) (acks_in live priority ack)
   acks_tell shown live priority (Some ack) way = ((tt, way), tt)
@@ -242,6 +256,39 @@ module _ (size : ℕ) where
         kept = k;
       }
 
+  -- ---- turns of places
+
+  -- its request is sent
+  asks_tells : (live : Live) → IsKept size live → Tells (sets_of live) (asks_next live)
+  asks_tells live k = record { reported = plugs_tell live.cyclic.shown live.device live.access.plug k.device; kept = k; same = refl }
+
+  -- after a turn, that of a place begins, if one can
+  after_tells : (setup : Setup) (could : Bool) (sets : Sets) (turn : Turn) → Tells sets turn → Tells sets (after_turn setup could turn)
+  after_tells setup could sets turn tells = by_test (could || not (can_begin turn.live))
+    where
+      aside : IsAside turn.live (begun_turn setup turn.live)
+      aside = turn_aside setup turn.live
+
+      begun : Tells sets (record { live = begun_turn setup turn.live; sent = turn.sent ++ plugs_of (begun_turn setup turn.live) })
+      begun = subst (λ (l : Live). Tells sets (record { live = l; sent = turn.sent ++ plugs_of l })) (sym aside.is) (record {
+        reported = all_append (IsSaid turn.live.cyclic.shown) turn.sent _ tells.reported (plugs_tell turn.live.cyclic.shown turn.live.device aside.access.plug tells.kept.device);
+        kept = record { device = tells.kept.device; way = tells.kept.way; size = tells.kept.size };
+        same = tells.same;
+      })
+
+      by_test : (b : Bool) → Tells sets (cond b turn (record { live = begun_turn setup turn.live; sent = turn.sent ++ plugs_of (begun_turn setup turn.live) }))
+      by_test true = tells
+      by_test false = begun
+
+  -- a unit, with which the turn of a place may begin
+  unit_tells : (setup : Setup) (live : Live) (ending : Option Abort) → IsKept size live
+      → Tells (sets_of live) (flowed (flow_begun setup live) (due live.alarms.sending) (due live.low_alarms.sending) (is_again live) (brought live) ending)
+  unit_tells setup live ending k =
+      let aside = due_aside setup (is_again live) (later live) in
+      let next : Live = record (later live) { waited = aside.waited; refusal = aside.refusal; refused_record = aside.refused; places = aside.told; access = aside.access } in
+      subst (λ (l : Live). Tells (sets_of live) (flowed (exchange_later l) (due live.alarms.sending) (due live.low_alarms.sending) (is_again live) (brought live) ending)) (sym aside.is)
+      (flowed_tells (exchange_later next) (due live.alarms.sending) (due live.low_alarms.sending) (is_again live) (brought live) ending (record { device = k.device; way = k.way; size = k.size }))
+
   set_keeps : (live : Live) (cells : List Cell) (outputs : List OutputMark) → IsKept size live
       → IsKept size (record live { cyclic = record live.cyclic { shown = record live.cyclic.shown { cells = cells } }; outputs = outputs })
   set_keeps live cells outputs k = record { device = k.device; way = k.way; size = k.size }
@@ -261,6 +308,9 @@ module _ (size : ℕ) where
     readied_tells : (caller : Caller) (call : Call) (block : ControlBlock) → IsReadied setup came caller call block → IsMac caller.mac
     readied_tells caller call block readied = subst (λ (c : Came). IsSixIn c) readied.comes six
 
+    called_six : (caller : Caller) (call : Call) → came ≡ Hears (Calls caller call) → IsMac caller.mac
+    called_six caller call comes = subst (λ (c : Came). IsSixIn c) comes six
+
     kind_tells : (kind : Kind) → IsKind setup live came kind → Tells (sets_of live) (turn_by setup live kind)
     kind_tells Rests holds = stays_tells live k
     kind_tells (Connects source) holds = met_tells Connecting asks.Connect source holds
@@ -269,7 +319,7 @@ module _ (size : ℕ) where
         over_tells why (record live { refusal = refusal; refused_record = refused; units = units }) (record { device = k.device; way = k.way; size = k.size })
     kind_tells (Releases why refusal refused units) holds =
         released_tells setup why (record live { refusal = refusal; refused_record = refused; units = units }) (record { device = k.device; way = k.way; size = k.size })
-    kind_tells (Relates chosen) holds = related_tells setup live chosen k
+    kind_tells (Relates places chosen) holds = related_tells setup (record live { places = places }) chosen (record { device = k.device; way = k.way; size = k.size })
     kind_tells (Writes number) holds = let next = writing_from setup.plan (number + 1) in asking_tells setup (phase_for next) next live k
     kind_tells (Skips number refused status) holds =
         let next = writing_from setup.plan (number + 1) in
@@ -282,16 +332,26 @@ module _ (size : ℕ) where
     kind_tells (Takes number report) holds =
         let behind_it = behind_data live report.priority number in
         let alike = with_end_alike live report.priority _ in
-        alike_tells live behind_it (taken behind_it report (taken_as (end_of live report.priority).seen number)) alike
-        (taken_tells behind_it report (taken_as (end_of live report.priority).seen number) (kept_alike live behind_it alike k))
+        let turn = taken behind_it report (taken_as (end_of live report.priority).seen number) in
+        after_tells setup (can_begin live) (sets_of live) turn (alike_tells live behind_it turn alike
+        (taken_tells behind_it report (taken_as (end_of live report.priority).seen number) (kept_alike live behind_it alike k)))
     kind_tells (IsAcked priority number) holds =
         let alike = with_end_alike live priority _ in
         record { reported = tt; kept = kept_alike live (behind_ack live priority number) alike k; same = sets_alike live (behind_ack live priority number) alike }
     kind_tells (Asks request octets) holds = record { reported = ((tt, k.device), tt); kept = record { device = k.device; way = k.way; size = k.size }; same = refl }
     kind_tells (Gives slot subslot value) holds = absurd (subst (λ (c : Came). IsSixIn c) holds six)
     kind_tells (GivesStatus slot subslot is_good) holds = absurd (subst (λ (c : Came). IsSixIn c) holds six)
-    kind_tells Flows holds = flowed_tells (flow_later live) (due live.alarms.sending) (due live.low_alarms.sending) (is_again live) (brought live) None k
-    kind_tells (Breaks reason) holds = flowed_tells (flow_later live) (due live.alarms.sending) (due live.low_alarms.sending) (is_again live) (brought live) (Some reason) k
+    kind_tells (IsReplied refusal access) holds =
+        after_tells setup (can_begin live) (sets_of live) (stays (record live { refusal = refusal; access = access }))
+        (record { reported = tt; kept = record { device = k.device; way = k.way; size = k.size }; same = refl })
+    kind_tells (IsPlugAnswered refusal refused waited places access) holds =
+        let next : Live = record live { refusal = refusal; refused_record = refused; waited = waited; places = places; access = access } in
+        after_tells setup (can_begin live) (sets_of live) (asks_next next) (asks_tells next (record { device = k.device; way = k.way; size = k.size }))
+    kind_tells (IsPlugReadied caller call block) holds =
+        after_tells setup (can_begin live) (sets_of live) (record { live = plug_readied live block.alarm_sequence_number; sent = Agrees caller (plug_answer call block) ∷ [] })
+        (record { reported = ((tt, called_six caller call holds.1), tt); kept = record { device = k.device; way = k.way; size = k.size }; same = refl })
+    kind_tells Flows holds = unit_tells setup live None k
+    kind_tells (Breaks reason) holds = unit_tells setup live (Some reason) k
     kind_tells Idles holds =
         record { reported = due_tells live.cyclic.shown (is_again live) (requests_of live.device live.asked) (request_tells live.cyclic.shown live.device live.asked k.device); same = refl; kept = k }
     kind_tells other holds = record { reported = tt; kept = k; same = refl }

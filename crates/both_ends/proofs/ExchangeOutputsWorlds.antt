@@ -43,6 +43,7 @@ use Rattle.both_ends.proofs.ExchangeOutputsMoves.{ArePlacedOnce, Sets, first_ima
 use Rattle.both_ends.proofs.ExchangeOutputsBrings.{IsAddressed, IsNow, all_bring, request_silent}
 use Rattle.both_ends.proofs.ExchangeOutputsTurns.{IsKept, KindsSo, IsSaid, shown_behind, turn_tells}
 use Rattle.both_ends.proofs.ExchangeOutputsSix.{six_event}
+use Rattle.both_ends.proofs.ExchangeKeys.{StandingSo}
 use Rattle.both_ends.proofs.ExchangeOutputsShows.{AreKeptSilent, IsOursIn, ShowsIn, frames_silent, none_silent, turn_shows}
 
 controller_is : (old : Controlling) (event : Event) → (step_of old event).controller ≡ with_live old (turn_of old.setup old.live event).live
@@ -101,7 +102,7 @@ abbrev pub NumbersSo : Type 0
 NumbersSo = (rules : Rules TakenRecord Request) (activity : List ℕ) (outcomes : List Outcome) (station : Station) (live : Live) (heard : Heard) → IsPlanned rules activity live.rest.real heard
     → BeginsNumbered station.options live.rest.link (heard_step outcomes station live heard).live.rest.link
 
-module _ (turns : TurnsSo) (numbers : NumbersSo) (kinds : KindsSo) (sound : IsSound ethernet) (whole : IsSoundWhole layers) {F : Type 0} where
+module _ (turns : TurnsSo) (numbers : NumbersSo) (standing : StandingSo) (kinds : KindsSo) (sound : IsSound ethernet) (whole : IsSoundWhole layers) {F : Type 0} where
   abbrev rules_at : World F → Outputs Image Image
   rules_at w = outputs_of w.device.station.options w.controller.setup w.device.station.identity
 
@@ -158,7 +159,7 @@ module _ (turns : TurnsSo) (numbers : NumbersSo) (kinds : KindsSo) (sound : IsSo
         let step = heard_step outcomes station live heard in
         let rules = rules_at before in
         let brought = brought_in station.options setup heard in
-        let goes = turn_shows setup station sound holds.apart live heard holds.ours holds.calls_silent meant.planned step.live.rest step.sent
+        let goes = turn_shows setup station sound holds.apart standing live heard holds.ours holds.calls_silent meant.planned step.live.rest step.sent
         (turns (rules_of setup station) setup.activity outcomes station live heard meant.planned)
         (numbers (rules_of setup station) setup.activity outcomes station live heard meant.planned) in
         let shows : Shows rules brought (shown_of before) (shown_of after) =

@@ -1,6 +1,6 @@
 -- A controller sends to the station that responded, and its outputs under the FrameID that this station chose.
-use Rattle.std.proofs.Common.{◌≡◌, ◌&&◌, ◌+◌, ℕ, Bool, true, false, cond, List, [], length, Option, Some, None, refl, sym, ap, ◌∙◌}
-use Rattle.std.specs.Prelude.{nat_lt}
+use Rattle.std.proofs.Common.{◌≡◌, ◌&&◌, ◌||◌, ◌+◌, ℕ, Bool, true, false, not, cond, List, [], length, Option, Some, None, refl, sym, ap, subst, ◌∙◌}
+use Rattle.std.specs.Prelude.{is_some, nat_lt}
 use Rattle.std.specs.List.{AllByRecursion}
 use Rattle.pn_values.specs.declared.mac.Mac.{Mac}
 use Rattle.frame_codec.specs.declared.udp.Caller.{Caller}
@@ -11,6 +11,7 @@ use Rattle.rpc_core.specs.declared.response.Status.{Status}
 use Rattle.rpc_core.specs.Call.{Asked as Call}
 use Rattle.rpc_core.specs.Response.{Answered as Response, is_done}
 use Rattle.connect_blocks.specs.declared.control.ControlBlock.{ControlBlock}
+use Rattle.connect_blocks.specs.declared.plug_control.PlugControlBlock.{PlugControlBlock}
 use Rattle.record_blocks.specs.declared.alarm_ack.AlarmAck.{AlarmAck}
 use Rattle.record_blocks.specs.declared.alarm_notification.AlarmNotification.{AlarmNotification}
 use Rattle.cyclic_data.specs.declared.exchange.route.Route.{Route}
@@ -35,9 +36,11 @@ use Rattle.plans.specs.declared.parts.Parts.{Parts}
 use Rattle.controller_messages.specs.declared.refusal.Refusal.{Refusal}
 use Rattle.controller_messages.specs.declared.setup.Setup.{Setup}
 use Rattle.block_codec.specs.Block.{block_of}
+use Rattle.controller_messages.specs.declared.plug_request.PlugRequest.{PlugRequest}
 use Rattle.controller_messages.specs.declared.record_request.RecordRequest.{RecordRequest}
 use Rattle.controller_messages.specs.declared.record_request.RecordService.{RecordService}
 use Rattle.controller_messages.specs.declared.record_request.RecordService.TheVariants as service
+use Rattle.controller_messages.specs.PlugRequests.{is_plug_answer, is_plug_ready, plug_ready_in}
 use Rattle.controller_messages.specs.RecordRequests.{most_record_octets}
 use Rattle.controller_messages.specs.Requests.{first_of, write_count}
 use Rattle.controller_messages.specs.declared.request.Request.{Request}
@@ -59,7 +62,8 @@ use Rattle.controller_core.specs.declared.start_up.outcomes.Outcomes.{Outcomes}
 use Rattle.controller_core.specs.declared.start_up.outcomes.Outcomes.TheVariants.{AllWritten, Unreadable}
 use Rattle.controller_core.specs.declared.start_up.outcomes.Outcomes.TheVariants.{Refused as Denied}
 use Rattle.controller_core.specs.start_up.Outcomes.{outcomes_of}
-use Rattle.controller_core.specs.Machine.{Turn, accesses_by, accessing, acked_under, after_write, past_record, acking, acks_in, acks_of, addressed, answered, behind_ack, behind_data, brings, brought, can_request, confirming, diagnosing, end_of, failed, granted, keeping, pending_by, pending_of, rejected, replied, replied_by, requested, with_end, called, come, connected, decided, denied, done, first, flow_later, flowed, found, given, gone_on, is_again, is_spent, handled, later, noted, noticed, outputs_of, over, quit, rated, readied, refused, refused_by, related_by, released, requests_of, responded, standing, stays, taken, turn_of, turned, undone, where_due, writing}
+use Rattle.controller_core.specs.Machine.{Turn, accesses_by, accesses_of, accessing, acked_under, acking, acks_in, acks_of, addressed, after_turn, after_write, alarmed, answered, asks_next, begun_turn, behind_ack, behind_data, beside, beside_of, brings, brought, called, can_begin, can_request, come, confirming, connected, decided, denied, diagnosing, done, end_of, exchange_later, failed, first, flowed, found, given, gone_on, granted, handled, is_again, is_plug_awaited, is_spent, keeping, later, noted, noticed, outputs_of, over, past_record, pending_by, pending_of, plug_called, plug_readied, plug_rejected, plug_replied, plugs_by, plugs_of, quit, rated, readied, refused, refused_beside, refused_by, rejected, related_by, released, replied, replied_by, requested, requests_of, responded, standing, stays, taken, turn_due, turn_of, turned, undone, where_due, with_end, writing}
+use Rattle.controller_core.specs.Machine.{placed as told_of}
 use Rattle.controller_core.specs.start_up.Answers.{ready_in}
 use Rattle.controller_core.specs.stored.State.{Live}
 use Rattle.end_laws.specs.sending.Sized.{Found}
@@ -68,6 +72,7 @@ use Rattle.both_ends.proofs.ExchangeReported.{IsWell}
 use Rattle.both_ends.proofs.ExchangeLists.{each_behind}
 use Rattle.both_ends.proofs.ExchangeTurns.{frame_route}
 use Rattle.both_ends.proofs.ExchangeMessages.{IsAimed}
+use Rattle.both_ends.proofs.ExchangePlugs.{IsAside, due_aside, readied_aside, rejected_aside, replied_aside, turn_aside}
 
 -- The state of a controller, as far as its frames are concerned: its relation is with this station, under a FrameID of
 -- outputs that is not one of alarms, and so is its pending request.
@@ -149,12 +154,16 @@ module _ (setup : Setup) (mac : Mac) (apart : mac ≡ setup.plan.controller.mac 
   if_so true x y px py = px refl
   if_so false x y px py = py refl
 
+  -- the places of the plan, by the response to the Connect
+  told_placed : (live : Live) (blocks : List ℕ) → IsPlaced mac live → IsPlaced mac (told_of setup blocks live)
+  told_placed live blocks p = record { plain = p.plain; partner = p.partner; asking = p.asking; giving = p.giving; addressing = p.addressing }
+
   connected_placed : (live : Live) (blocks : List ℕ) (found_so : Option Found) → found_in 400 blocks nothing ≡ found_so → live.device ≡ mac
-      → IsChosenWell blocks → IsPlaced mac live → PlacedTurn (connected setup live found_so)
+      → IsChosenWell blocks → IsPlaced mac live → PlacedTurn (connected setup live blocks found_so)
   connected_placed live blocks (Some found_so) e is well p =
       if_so (is_whole found_so) _ _
       (λ whole. if_so found_so.differs _ _ (λ differs. released_placed _ live p)
-      (λ same. related_placed live (chosen_of found_so) is (λ chosen there. (well found_so e whole same chosen there).2) p))
+      (λ same. related_placed (told_of setup blocks live) (chosen_of found_so) is (λ chosen there. (well found_so e whole same chosen there).2) (told_placed live blocks p)))
       (λ lacks. stays_placed live p)
   connected_placed live blocks None e is well p = stays_placed live p
 
@@ -233,6 +242,42 @@ module _ (setup : Setup) (mac : Mac) (apart : mac ≡ setup.plan.controller.mac 
       placed_if (is_rejected setup request refusal) (failed refusal.status request live) live (reported_so live (Some refusal.status) _ p) p
   rejected_so live refusal None p = p
 
+  -- ---- after a plug
+
+  aside_placed : (live after : Live) → IsAside live after → IsPlaced mac live → IsPlaced mac after
+  aside_placed live after aside p =
+      subst (λ (l : Live). IsPlaced mac l) (sym aside.is) (record { plain = p.plain; partner = p.partner; asking = p.asking; giving = p.giving; addressing = p.addressing })
+
+  plugs_placed : (device : Mac) (plug : Option PlugRequest) → AllByRecursion (IsAimed setup) (plugs_by device plug)
+  plugs_placed device (Some request) = (tt, tt)
+  plugs_placed device None = tt
+
+  -- after a turn, that of a place begins, if one can
+  after_placed : (could : Bool) (turn : Turn) → PlacedTurn turn → PlacedTurn (after_turn setup could turn)
+  after_placed could turn placed =
+      let begun = begun_turn setup turn.live in
+      either (could || not (can_begin turn.live)) _ _ placed
+      (record {
+        live = aside_placed turn.live begun (turn_aside setup turn.live) placed.live;
+        sent = each_behind (IsAimed setup) turn.sent (plugs_of begun) placed.sent (plugs_placed begun.device begun.access.plug);
+      })
+
+  asks_placed : (live : Live) → IsPlaced mac live → PlacedTurn (asks_next live)
+  asks_placed live p = record { live = p; sent = plugs_placed live.device live.access.plug }
+
+  -- a response, if no request of the start-up waits
+  beside_placed : (live : Live) (response : Response) (plug : Option PlugRequest) → IsPlaced mac live → PlacedTurn (beside setup live response plug)
+  beside_placed live response (Some request) p =
+      let after = plug_replied setup live response.status request in
+      either (is_plug_answer setup request response.header.activity response.header.sequence) _ _
+      (asks_placed after (aside_placed live after (replied_aside setup live response.status request) p)) (stays_placed live p)
+  beside_placed live response None p = stays_placed (replied setup live response live.access.waiting) (replied_so live response live.access.waiting p)
+
+  -- a reject or a fault
+  refused_beside_so : (live : Live) (refusal : Refusal) (plug : Option PlugRequest) → IsPlaced mac live → IsPlaced mac (refused_beside setup live refusal plug)
+  refused_beside_so live refusal (Some request) p = aside_placed live (plug_rejected setup live refusal request) (rejected_aside setup live refusal request) p
+  refused_beside_so live refusal None p = rejected_so live refusal live.access.waiting p
+
   responded_placed : (live : Live) (response : Response) (asked : Option Request) → live.asked ≡ asked → IsWell setup (Responds response) → IsPlaced mac live
       → PlacedTurn (responded setup live response asked)
   responded_placed live response (Some request) now fit p =
@@ -240,7 +285,7 @@ module _ (setup : Setup) (mac : Mac) (apart : mac ≡ setup.plan.controller.mac 
       (λ answers. decided_placed live response request now
       (λ connects. fit (ap (λ (one : Request). is_answer setup one response.header) (sym connects) ∙ answers)) p)
       (λ other. stays_placed live p)
-  responded_placed live response None now fit p = stays_placed (replied setup live response live.access.waiting) (replied_so live response live.access.waiting p)
+  responded_placed live response None now fit p = beside_placed live response live.access.plug p
 
   -- ---- calls, cyclic frames and outputs
 
@@ -250,9 +295,19 @@ module _ (setup : Setup) (mac : Mac) (apart : mac ≡ setup.plan.controller.mac 
   readied_placed live caller call block Exchanging is p = record { live = p; sent = (λ e. apart (sym is ∙ e), tt) }
   readied_placed live caller call block other is p = stays_placed live p
 
+  -- ApplicationReady for a plug
+  plugged_placed : (live : Live) (caller : Caller) (call : Call) (block : Option PlugControlBlock) → caller.mac ≡ mac → IsPlaced mac live → PlacedTurn (plug_called setup live caller call block)
+  plugged_placed live caller call (Some block) is p =
+      either (is_plug_ready setup block && is_plug_awaited live block.alarm_sequence_number) _ _
+      (record {
+        live = aside_placed live (plug_readied live block.alarm_sequence_number) (readied_aside setup live block.alarm_sequence_number) p;
+        sent = (λ e. apart (sym is ∙ e), tt);
+      }) (stays_placed live p)
+  plugged_placed live caller call None is p = stays_placed live p
+
   called_placed : (live : Live) (caller : Caller) (call : Call) (block : Option ControlBlock) → caller.mac ≡ mac → IsPlaced mac live → PlacedTurn (called setup live caller call block)
   called_placed live caller call (Some block) is p = either (is_ready setup block) _ _ (readied_placed live caller call block live.phase is p) (stays_placed live p)
-  called_placed live caller call None is p = stays_placed live p
+  called_placed live caller call None is p = after_placed (can_begin live) (plug_called setup live caller call (plug_ready_in call)) (plugged_placed live caller call (plug_ready_in call) is p)
 
   cyclic_placed : (live : Live) (cyclic : Cyclic) → cyclic.route ≡ live.cyclic.route → IsPlaced mac live → IsPlaced mac (record live { cyclic = cyclic })
   cyclic_placed live cyclic same p = record {
@@ -333,18 +388,21 @@ module _ (setup : Setup) (mac : Mac) (apart : mac ≡ setup.plan.controller.mac 
 
   refused_placed : (live : Live) (refusal : Refusal) (asked : Option Request) → IsPlaced mac live → PlacedTurn (refused setup live refusal asked)
   refused_placed live refusal (Some request) p = either (is_refused setup request refusal) _ _ (refused_by_placed live refusal request p) (stays_placed live p)
-  refused_placed live refusal None p = stays_placed (rejected setup live refusal live.access.waiting) (rejected_so live refusal live.access.waiting p)
+  refused_placed live refusal None p = stays_placed (refused_beside setup live refusal live.access.plug) (refused_beside_so live refusal live.access.plug p)
 
   -- ---- what is heard
 
   heard_placed : (live : Live) (heard : Heard) → IsOf setup mac heard → IsPlaced mac live → PlacedTurn (turned setup live heard)
   heard_placed live Nothing is p = stays_placed live p
   heard_placed live (Answers source answer) is p = answered_placed live source answer live.phase refl is p
-  heard_placed live (Responds response) is p = responded_placed live response live.asked refl is p
-  heard_placed live (Refuses refusal) is p = refused_placed live refusal live.asked p
+  heard_placed live (Responds response) is p =
+      after_placed (can_begin live) (responded setup live response live.asked) (responded_placed live response live.asked refl is p)
+  heard_placed live (Refuses refusal) is p = after_placed (can_begin live) (refused setup live refusal live.asked) (refused_placed live refusal live.asked p)
   heard_placed live (Calls caller call) is p = called_placed live caller call (ready_in call) is p
   heard_placed live (Comes source frame_id body) is p = stays_placed (come live source frame_id body) (come_placed live source frame_id body live.stands p)
-  heard_placed live (Alarms source under header reported) is p = alarmed_placed live source under header reported (live.stands && is_of_relation live.cyclic.route source header) refl p
+  heard_placed live (Alarms source under header reported) is p =
+      after_placed (can_begin live) (alarmed live source under header reported)
+      (alarmed_placed live source under header reported (live.stands && is_of_relation live.cyclic.route source header) refl p)
 
   -- ---- units
 
@@ -365,9 +423,18 @@ module _ (setup : Setup) (mac : Mac) (apart : mac ≡ setup.plan.controller.mac 
   accesses_placed device octets (Some request) = (tt, tt)
   accesses_placed device octets None = tt
 
+  due_beside : (b : Bool) (one other : List Sent) → AllByRecursion (IsAimed setup) one → AllByRecursion (IsAimed setup) other → AllByRecursion (IsAimed setup) (cond b one other)
+  due_beside true one other first second = first
+  due_beside false one other first second = second
+
+  beside_aimed : (live : Live) → AllByRecursion (IsAimed setup) (beside_of live)
+  beside_aimed live =
+      due_beside (is_some live.access.plug) (plugs_of live) (accesses_of live) (plugs_placed live.device live.access.plug)
+      (accesses_placed live.device live.access.octets live.access.waiting)
+
   pending_placed : (live : Live) (asked : Option Request) → (asked ≡ Some asks.Address → live.device ≡ mac) → AllByRecursion (IsAimed setup) (pending_by live asked)
   pending_placed live (Some asks.Address) own = (λ e. apart (sym (own refl) ∙ e), tt)
-  pending_placed live None own = accesses_placed live.device live.access.octets live.access.waiting
+  pending_placed live None own = beside_aimed live
   pending_placed live (Some asks.Identify) own = (tt, tt)
   pending_placed live (Some asks.Connect) own = (tt, tt)
   pending_placed live (Some (asks.Write number)) own = (tt, tt)
@@ -384,15 +451,19 @@ module _ (setup : Setup) (mac : Mac) (apart : mac ≡ setup.plan.controller.mac 
         (due_placed tick.is_cyclic (outputs_of live) ((p.plain, partner_other live up p), tt))));
   }
 
-  ticked_placed : (live : Live) (b : Bool) → live.stands ≡ b → IsPlaced mac live
-      → PlacedTurn (cond b (flowed (flow_later live) (due live.alarms.sending) (due live.low_alarms.sending) (is_again live) (brought live) (brought live).ending)
-      (record { live = later live; sent = where_due (is_again live) (requests_of live.device live.asked) }))
-  ticked_placed live true up p =
-      flowed_placed (flow_later live) (due live.alarms.sending) (due live.low_alarms.sending) (is_again live) (brought live) (brought live).ending up (record { plain = p.plain; partner = p.partner; asking = p.asking; giving = p.giving; addressing = p.addressing })
-  ticked_placed live false up p = record {
-    live = record { plain = p.plain; partner = p.partner; asking = p.asking; giving = p.giving; addressing = p.addressing };
-    sent = due_placed (is_again live) _ (requests_placed live.device live.asked p.addressing);
+  -- the rest of a unit
+  gone_placed : (live : Live) (is_request b : Bool) → live.stands ≡ b → IsPlaced mac live
+      → PlacedTurn (cond b (flowed (exchange_later live) (due live.alarms.sending) (due live.low_alarms.sending) is_request (brought live) (brought live).ending)
+      (record { live = live; sent = where_due is_request (requests_of live.device live.asked) }))
+  gone_placed live is_request true up p =
+      flowed_placed (exchange_later live) (due live.alarms.sending) (due live.low_alarms.sending) is_request (brought live) (brought live).ending up (record { plain = p.plain; partner = p.partner; asking = p.asking; giving = p.giving; addressing = p.addressing })
+  gone_placed live is_request false up p = record {
+    live = p;
+    sent = due_placed is_request _ (requests_placed live.device live.asked p.addressing);
   }
+
+  later_placed : (live : Live) → IsPlaced mac live → IsPlaced mac (later live)
+  later_placed live p = record { plain = p.plain; partner = p.partner; asking = p.asking; giving = p.giving; addressing = p.addressing }
 
   -- a controller that is ended for this cause
   quit_placed : (cause : Cause) (live : Live) (phase : State) → IsPlaced mac live → PlacedTurn (quit setup cause live phase)
@@ -402,9 +473,12 @@ module _ (setup : Setup) (mac : Mac) (apart : mac ≡ setup.plan.controller.mac 
   quit_placed cause live other p = released_placed _ live p
 
   -- the patience of the phase ends with a unit, or it does not
-  unit_placed : (live : Live) (b : Bool) → IsPlaced mac live → PlacedTurn (cond b (quit setup NoProgress (later live) live.phase) (gone_on (later live) (is_again live)))
-  unit_placed live true p = quit_placed NoProgress (later live) live.phase (record { plain = p.plain; partner = p.partner; asking = p.asking; giving = p.giving; addressing = p.addressing })
-  unit_placed live false p = ticked_placed live live.stands refl p
+  unit_placed : (live : Live) (b : Bool) → IsPlaced mac live
+      → PlacedTurn (cond b (quit setup NoProgress (later live) live.phase) (gone_on (turn_due setup (is_again live) (later live)) (is_again live)))
+  unit_placed live true p = quit_placed NoProgress (later live) live.phase (later_placed live p)
+  unit_placed live false p =
+      let next = turn_due setup (is_again live) (later live) in
+      gone_placed next (is_again live) next.stands refl (aside_placed (later live) next (due_aside setup (is_again live) (later live)) (later_placed live p))
 
   -- ---- requests of the application
 

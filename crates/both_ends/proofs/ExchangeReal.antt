@@ -2,13 +2,14 @@
 use Rattle.std.proofs.Common.{◌≡◌, ◌⊎◌, inl, inr, ◌==◌, ◌&&◌, ◌<◌, ℕ, Bool, true, false, cond, not, List, [], ◌∷◌, length, Option, Some, None, option_map, refl, sym, ap, subst, ◌∙◌, arith}
 use Rattle.std.specs.Prelude.{is_none, nat_le, nat_lt, unwrap_or}
 use Rattle.std.specs.List.{AllByRecursion, find}
-use Rattle.std.proofs.lemmas.Bool.{and_parts, eq-eqb, eqb-true, leb-true}
+use Rattle.std.proofs.lemmas.Bool.{and_parts, eq-eqb, eqb-true, leb-true, ltb-true}
 use Rattle.pn_values.specs.declared.real.RealModule.{RealModule}
 use Rattle.pn_values.specs.declared.real.RealSubmodule.{RealSubmodule}
 use Rattle.module_diff.specs.Changes.{added, has_room_in, is_in_slot, is_in_subslot, is_past_slot, is_past_subslot, is_pluggable, is_sized, module_with, part_added, part_pulled, plugged_with, pulled, slot_pulled, with_before, with_first, with_parts, without}
 use Rattle.module_diff.specs.Plugged.{module_ident, module_in, part_ident, part_ident_of, submodule_ident}
-use Rattle.both_ends.specs.exchange.Sized.{AreSizedModules, IsSizedModule, IsSizedPart}
+use Rattle.both_ends.specs.exchange.Sized.{AreSizedModules, HasNoneAtZero, IsPastZero, IsSizedModule, IsSizedPart, NoneIsAtZero}
 use Rattle.both_ends.proofs.ExchangeLists.{some_is}
+use Rattle.both_ends.proofs.ExchangeSmall.{found_is}
 
 -- ---- lists
 
@@ -274,6 +275,7 @@ slot_pull_same slot real now e other there apart =
 pub record MayPlug (slot ident : ℕ) (part : RealSubmodule) (real now : List RealModule) : Type 0 where
   pub slot_few : nat_le slot 15 ≡ true
   pub subslot_few : nat_le part.subslot 36863 ≡ true
+  pub past_zero : nat_lt 0 part.subslot ≡ true
   pub room : has_room_in (module_in real slot) (length real) ident part.subslot ≡ true
   pub is : added slot ident part real ≡ now
 
@@ -287,7 +289,7 @@ may_plug slot ident part real now e =
     let four = and_parts (is_sized part) room three.1 in
     let five = and_parts (nat_lt 0 part.subslot) _ four.0 in
     let six = and_parts (nat_le part.subslot 36863) _ five.1 in
-    record { slot_few = two.0; subslot_few = six.0; room = four.1; is = all.1 }
+    record { slot_few = two.0; subslot_few = six.0; past_zero = five.0; room = four.1; is = all.1 }
 
 abbrev pub add_to : RealSubmodule → RealModule → Option RealModule
 add_to part entry = Some (part_added part entry)
@@ -382,3 +384,41 @@ plug_sized slot ident part real now sized small_ident small_part e =
         subst (λ (m : RealModule). IsSizedModule m) (some_is (part_added part x) y changed)
         (is.0, is.1, before_all (is_past_subslot part.subslot) part IsSizedPart own x.submodules.items is.2)) real ys sized f
     by_first None f = before_all (is_past_slot slot) (module_with slot ident part) IsSizedModule (slot_small slot ident part real now may, small_ident, (own, tt)) real sized
+
+-- ---- subslot 0
+
+-- while nothing is plugged in a subslot 0, nothing is pulled there
+pub pull_past_zero : (slot subslot : ℕ) (real now : List RealModule) → NoneIsAtZero real → pulled slot subslot real ≡ Some now → 0 < subslot
+pull_past_zero slot subslot real now none e =
+    let first = first_found (is_in_slot slot) (part_pulled subslot) (λ x y is changed. ap (λ (n : ℕ). n == slot) (pulled_slot subslot x y changed) ∙ is) real now e in
+    let left = part_left subslot first.from first.to first.changed in
+    let one = without_one IsPastZero (is_in_subslot subslot) first.from.submodules.items left.rest (found_is HasNoneAtZero (is_in_slot slot) real first.from none first.found).0 left.left in
+    subst (λ (n : ℕ). 0 < n) (eqb-true one.one.subslot subslot one.passes) one.holds
+
+-- and nothing is afterwards
+pub pull_none : (slot subslot : ℕ) (real now : List RealModule) → NoneIsAtZero real → pulled slot subslot real ≡ Some now → NoneIsAtZero now
+pull_none slot subslot real now none e =
+    first_all (is_in_slot slot) (part_pulled subslot) HasNoneAtZero (λ x y is changed.
+    let left = part_left subslot x y changed in
+    subst (λ (m : RealModule). HasNoneAtZero m) (sym left.is) (without_all IsPastZero (is_in_subslot subslot) x.submodules.items left.rest is left.left)) real now none e
+
+pub slot_pull_none : (slot : ℕ) (real now : List RealModule) → NoneIsAtZero real → slot_pulled slot real ≡ Some now → NoneIsAtZero now
+slot_pull_none slot real now none e = without_all HasNoneAtZero (is_in_slot slot) real now none e
+
+pub plug_none : (slot ident : ℕ) (part : RealSubmodule) (real now : List RealModule) → NoneIsAtZero real → plugged_with slot ident part real ≡ Some now → NoneIsAtZero now
+plug_none slot ident part real now none e =
+    subst (λ (ms : List RealModule). NoneIsAtZero ms) may.is (by_first (with_first (is_in_slot slot) (add_to part) real) refl)
+  where
+    may : MayPlug slot ident part real now
+    may = may_plug slot ident part real now e
+
+    own : IsPastZero part
+    own = ltb-true 0 part.subslot may.past_zero
+
+    by_first : (found : Option (List RealModule)) → with_first (is_in_slot slot) (add_to part) real ≡ found
+        → NoneIsAtZero (unwrap_or found (with_before (is_past_slot slot) (module_with slot ident part) real))
+    by_first (Some ys) f =
+        first_all (is_in_slot slot) (add_to part) HasNoneAtZero (λ x y is changed.
+        subst (λ (m : RealModule). HasNoneAtZero m) (some_is (part_added part x) y changed)
+        (before_all (is_past_subslot part.subslot) part IsPastZero own x.submodules.items is)) real ys none f
+    by_first None f = before_all (is_past_slot slot) (module_with slot ident part) HasNoneAtZero (own, tt) real none

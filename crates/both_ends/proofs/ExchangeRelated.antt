@@ -1,14 +1,17 @@
 -- The effect of a response on a controller; its FrameID counts if it is the response to a Connect.
-use Rattle.std.proofs.Common.{◌≡◌, ◌<◌, ◌≤◌, ◌+◌, ◌/◌, ℕ, Bool, true, false, cond, List, length, Option, Some, None, refl, sym, ap, subst, ◌∙◌, arith}
+use Rattle.std.proofs.Common.{◌≡◌, ◌<◌, ◌≤◌, ◌+◌, ◌/◌, ◌||◌, ℕ, Bool, true, false, not, cond, List, length, Option, Some, None, refl, sym, ap, subst, ◌∙◌, arith}
 use Rattle.std.proofs.Math.Nat.{mod-lt}
 use Rattle.std.specs.Prelude.{nat_lt}
 use Rattle.std.specs.List.{AllByRecursion}
 use Rattle.std.proofs.lemmas.Bool.{ltb-true}
+use Rattle.pn_values.specs.declared.mac.Mac.{Mac}
+use Rattle.frame_codec.specs.Sendable.{IsMac}
 use Rattle.rpc_core.specs.declared.response.Status.{Status}
 use Rattle.rpc_core.specs.Response.{Answered as Response, is_done}
 use Rattle.plans.specs.Plan.{IsPlan}
 use Rattle.plans.specs.declared.parts.Parts.{Parts}
 use Rattle.block_codec.specs.Block.{block_of}
+use Rattle.controller_messages.specs.declared.plug_request.PlugRequest.{PlugRequest}
 use Rattle.controller_messages.specs.declared.record_request.RecordRequest.{RecordRequest}
 use Rattle.controller_messages.specs.declared.record_request.RecordService.{RecordService}
 use Rattle.controller_messages.specs.declared.record_request.RecordService.TheVariants as service
@@ -16,6 +19,7 @@ use Rattle.controller_messages.specs.declared.request.Request.{Request}
 use Rattle.controller_messages.specs.declared.request.Request.TheVariants as asks
 use Rattle.controller_messages.specs.declared.setup.Setup.{Setup}
 use Rattle.controller_messages.specs.Heard.{Responds}
+use Rattle.controller_messages.specs.PlugRequests.{is_plug_answer}
 use Rattle.controller_messages.specs.Requests.{first_of, write_count, writing_from}
 use Rattle.controller_core.specs.declared.stored.state.Cause.{Cause}
 use Rattle.controller_core.specs.declared.stored.state.Cause.TheVariants as cause
@@ -28,14 +32,16 @@ use Rattle.controller_core.specs.declared.start_up.outcomes.Outcomes.{Outcomes}
 use Rattle.controller_core.specs.declared.start_up.outcomes.Outcomes.TheVariants.{AllWritten, Unreadable}
 use Rattle.controller_core.specs.declared.start_up.outcomes.Outcomes.TheVariants.{Refused as Denied}
 use Rattle.controller_core.specs.start_up.Outcomes.{outcomes_of}
-use Rattle.controller_core.specs.Machine.{Turn, after_write, asking, past_record, brings, connected, decided, denied, done, failed, granted, handled, noted, over, related_by, released, replied, replied_by, responded, standing, stays, undone, writing}
+use Rattle.controller_core.specs.Machine.{Turn, after_turn, after_write, asking, begun_turn, beside, can_begin, past_record, placed, plug_replied, plugs_by, plugs_of, turned, brings, connected, decided, denied, done, failed, granted, handled, noted, over, related_by, released, replied, replied_by, responded, standing, stays, undone, writing}
 use Rattle.controller_core.specs.start_up.Requests.{next_sequence}
 use Rattle.controller_core.specs.stored.State.{phase_for}
 use Rattle.controller_core.specs.stored.State.{Live}
 use Rattle.end_laws.specs.hearing.Stations.{IsNumbered, IsSetup}
 use Rattle.end_laws.specs.sending.Messages.{CanBeSent}
-use Rattle.end_laws.specs.sending.Sized.{AreFew, Found, IsFew, IsLive, IsWaiting}
+use Rattle.end_laws.specs.sending.Sized.{AreFew, Found, IsFew, IsLive, IsPlugging, IsWaiting}
 use Rattle.both_ends.specs.exchange.Sized.{IsChosenWell}
+use Rattle.both_ends.proofs.ExchangeLists.{each_behind}
+use Rattle.both_ends.proofs.ExchangePlugs.{IsAside, replied_aside, turn_aside}
 use Rattle.both_ends.proofs.ExchangeReported.{IsWell}
 
 -- the state has its sizes, and so has what the controller sends
@@ -65,7 +71,7 @@ module _ (setup : Setup) (good : IsSetup setup) where
   unasked live phase left is = record { device = is.device; asked = tt; way = is.way; few = is.few; high = is.high; low = is.low; access = is.access }
 
   over_live : (why : Cause) (live : Live) → IsLive live → IsLive (over why live)
-  over_live why live is = record { device = is.device; asked = tt; way = is.way; few = is.few; high = is.high; low = is.low; access = tt }
+  over_live why live is = record { device = is.device; asked = tt; way = is.way; few = is.few; high = is.high; low = is.low; access = (tt, tt) }
 
   sequence_few : (plan : Parts) (calls : ℕ) (asked : Option Request) → AreFew asked → next_sequence plan calls asked < 4294967296
   sequence_few plan calls (Some asks.Connect) few = omega arith
@@ -109,11 +115,15 @@ module _ (setup : Setup) (good : IsSetup setup) where
   related_right live (Some chosen) is small = writing_right 0 (standing setup live chosen) (stands_live live chosen is (small chosen refl))
   related_right live None is small = stays_right live is
 
-  connected_right : (live : Live) (blocks : List ℕ) (read : Option Found) → found_in 400 blocks nothing ≡ read → IsLive live → IsChosenWell blocks → IsRight setup (connected setup live read)
+  -- the places of the plan, by the response to the Connect
+  told_live : (live : Live) (blocks : List ℕ) → IsLive live → IsLive (placed setup blocks live)
+  told_live live blocks is = record { device = is.device; asked = is.asked; way = is.way; few = is.few; high = is.high; low = is.low; access = is.access }
+
+  connected_right : (live : Live) (blocks : List ℕ) (read : Option Found) → found_in 400 blocks nothing ≡ read → IsLive live → IsChosenWell blocks → IsRight setup (connected setup live blocks read)
   connected_right live blocks (Some found) e is well =
       either (is_whole found) _ _
       (λ whole. either found.differs _ _ (λ differs. released_right cause.ModuleDiff live is)
-      (λ same. related_right live (chosen_of found) is (λ chosen there. let all = well found e whole same chosen there in (all.0, all.1))))
+      (λ same. related_right (placed setup blocks live) (chosen_of found) (told_live live blocks is) (λ chosen there. let all = well found e whole same chosen there in (all.0, all.1))))
       (λ lacks. stays_right live is)
   connected_right live blocks None e is well = stays_right live is
 
@@ -146,7 +156,7 @@ module _ (setup : Setup) (good : IsSetup setup) where
   undone_right : (live : Live) (status : Status) (request : Request) → IsLive live → IsRight setup (undone setup live status request)
   undone_right live status (asks.Write number) is = passed_right live number (first_of setup.plan number) status is
   undone_right live status request is =
-      stays_right (denied status live) (record { device = is.device; asked = tt; way = is.way; few = is.few; high = is.high; low = is.low; access = tt })
+      stays_right (denied status live) (record { device = is.device; asked = tt; way = is.way; few = is.few; high = is.high; low = is.low; access = (tt, tt) })
 
   handled_right : (live : Live) (response : Response) (request : Request) → IsLive live → (request ≡ asks.Connect → is_done response.status ≡ true → IsChosenWell response.blocks)
       → IsRight setup (handled setup live response request)
@@ -164,15 +174,16 @@ module _ (setup : Setup) (good : IsSetup setup) where
   decided_right live response (asks.Release sequence) is well = stays_right _ (unasked live live.phase live.left is)
 
   -- the answer to a request of the application
-  answered_live : (live : Live) (refusal : Option Status) (access : Accessing) → access.waiting ≡ None → IsLive live → IsLive (record live { refusal = refusal; access = access })
-  answered_live live refusal access e is = record {
+  answered_live : (live : Live) (refusal : Option Status) (access : Accessing) → access.waiting ≡ None → access.plug ≡ live.access.plug → IsLive live
+      → IsLive (record live { refusal = refusal; access = access })
+  answered_live live refusal access e same is = record {
     device = is.device;
     asked = is.asked;
     way = is.way;
     few = is.few;
     high = is.high;
     low = is.low;
-    access = subst (λ (w : Option RecordRequest). IsWaiting w access.octets) (sym e) tt;
+    access = (subst (λ (w : Option RecordRequest). IsWaiting w access.octets) (sym e) tt, subst (λ (plug : Option PlugRequest). IsPlugging plug) (sym same) is.access.1);
   }
 
   live_if : (b : Bool) (x y : Live) → IsLive x → IsLive y → IsLive (cond b x y)
@@ -180,23 +191,65 @@ module _ (setup : Setup) (good : IsSetup setup) where
   live_if false x y one other = other
 
   brings_live : (request : RecordRequest) (read : Option (List ℕ)) (live : Live) → IsLive live → IsLive (brings request read live)
-  brings_live request (Some octets) live is = answered_live live live.refusal _ refl is
+  brings_live request (Some octets) live is = answered_live live live.refusal _ refl refl is
   brings_live request None live is = is
 
   granted_live : (request : RecordRequest) (blocks : List ℕ) (asked : RecordService) (live : Live) → IsLive live → IsLive (granted request blocks asked live)
   granted_live request blocks service.Read live is = brings_live request (record_in (block_of blocks)) live is
-  granted_live request blocks service.Write live is = answered_live live live.refusal _ refl is
+  granted_live request blocks service.Write live is = answered_live live live.refusal _ refl refl is
 
   replied_live : (live : Live) (response : Response) (waiting : Option RecordRequest) → IsLive live → IsLive (replied setup live response waiting)
   replied_live live response (Some request) is =
       live_if (is_reply setup request response.header) (replied_by live response request) live
       (live_if (is_done response.status) (granted request response.blocks request.service live) (failed response.status request live)
-      (granted_live request response.blocks request.service live is) (answered_live live (Some response.status) _ refl is)) is
+      (granted_live request response.blocks request.service live is) (answered_live live (Some response.status) _ refl refl is)) is
   replied_live live response None is = is
 
-  pub responded_right : (live : Live) (response : Response) (asked : Option Request) → IsLive live → IsWell setup (Responds response) → IsRight setup (responded setup live response asked)
+  -- ---- after a plug
+
+  aside_live : (live after : Live) → IsAside live after → IsLive live → IsLive after
+  aside_live live after aside is = subst (λ (l : Live). IsLive l) (sym aside.is) (record {
+    device = is.device;
+    asked = is.asked;
+    way = is.way;
+    few = is.few;
+    high = is.high;
+    low = is.low;
+    access = (
+      subst (λ (w : Option RecordRequest). IsWaiting w aside.access.octets) (sym aside.waits)
+          (subst (λ (octets : List ℕ). IsWaiting live.access.waiting octets) (sym aside.carries) is.access.0),
+      aside.sized is.access.1,
+    );
+  })
+
+  plugs_right : (device : Mac) (plug : Option PlugRequest) → IsMac device → IsPlugging plug → AllByRecursion (CanBeSent setup) (plugs_by device plug)
+  plugs_right device (Some request) six sized = ((six, sized), tt)
+  plugs_right device None six sized = tt
+
+  -- after a turn, that of a place begins, if one can
+  after_right : (could : Bool) (turn : Turn) → IsRight setup turn → IsRight setup (after_turn setup could turn)
+  after_right could turn right =
+      let begun = begun_turn setup turn.live in
+      let now = aside_live turn.live begun (turn_aside setup turn.live) right.0 in
+      either (could || not (can_begin turn.live)) _ _ (λ none. right)
+      (λ begins. (now, each_behind (CanBeSent setup) turn.sent (plugs_of begun) right.1 (plugs_right begun.device begun.access.plug now.device now.access.1)))
+
+  -- a response, if no request of the start-up waits
+  beside_right : (live : Live) (response : Response) (plug : Option PlugRequest) → IsLive live → IsRight setup (beside setup live response plug)
+  beside_right live response (Some request) is =
+      let after = plug_replied setup live response.status request in
+      let now = aside_live live after (replied_aside setup live response.status request) is in
+      either (is_plug_answer setup request response.header.activity response.header.sequence) _ _
+      (λ answers. (now, plugs_right after.device after.access.plug now.device now.access.1)) (λ other. stays_right live is)
+  beside_right live response None is = stays_right (replied setup live response live.access.waiting) (replied_live live response live.access.waiting is)
+
+  responded_right : (live : Live) (response : Response) (asked : Option Request) → IsLive live → IsWell setup (Responds response) → IsRight setup (responded setup live response asked)
   responded_right live response (Some request) is fit =
       either (is_answer setup request response.header) _ _
       (λ answers. decided_right live response request is (λ connects. fit (ap (λ (one : Request). is_answer setup one response.header) (sym connects) ∙ answers)))
       (λ other. stays_right live is)
-  responded_right live response None is fit = stays_right (replied setup live response live.access.waiting) (replied_live live response live.access.waiting is)
+  responded_right live response None is fit = beside_right live response live.access.plug is
+
+  -- the turn of a response, and that of a place which may begin then
+  pub response_right : (live : Live) (response : Response) → IsLive live → IsWell setup (Responds response) → IsRight setup (turned setup live (Responds response))
+  response_right live response is fit = after_right (can_begin live) (responded setup live response live.asked) (responded_right live response live.asked is fit)

@@ -125,9 +125,14 @@ reported_in other = None
 
 -- ---- what a controller hears of its device
 
+-- an alarm of high priority is a process alarm
+abbrev pub IsOfPriority : Priority → AlarmNotification → Type 0
+IsOfPriority High alarm = alarm.alarm_type ≡ 2
+IsOfPriority Low alarm = Unit {0}
+
 -- an alarm is one of this product's device
 abbrev pub IsOurs : ToController → Type 0
-IsOurs (notice.Data number report) = report ≡ report_as report.priority report.notification
+IsOurs (notice.Data number report) = (report ≡ report_as report.priority report.notification) × IsOfPriority report.priority report.notification
 IsOurs other = Unit {0}
 
 -- only this station responds to the controller and calls it, its alarms are ours, and each field has its size

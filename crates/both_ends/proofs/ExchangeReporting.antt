@@ -32,13 +32,14 @@ use Rattle.end_laws.specs.hearing.Stations.{IsSetup}
 use Rattle.end_laws.specs.turns.Alarms.{AreAllTaken, ListsWhatIsReported, after_reports}
 use Rattle.both_ends.specs.startup.Played.{AreMeant, Begins, CanMeet}
 use Rattle.both_ends.specs.startup.View.{IsMeant, IsMeantAtDevice, is_planned, rules_of}
-use Rattle.both_ends.specs.exchange.Sized.{AreSizedModules}
+use Rattle.both_ends.specs.exchange.Sized.{AreSizedModules, NoneIsAtZero}
 use Rattle.both_ends.specs.exchange.Over.{reported_by, reported_over, reported_with, taken_over, taken_with}
-use Rattle.both_ends.specs.exchange.Told.{AreKnown, AreNoPulls, AreSizedMoves, IsSizedMove, IsTold, Leads, change_in, known_at}
+use Rattle.both_ends.specs.exchange.Told.{AreKnown, AreSizedMoves, IsSizedMove, IsTold, change_in, known_at}
 use Rattle.both_ends.proofs.ExchangeEarly.{IsEarlyFrame}
 use Rattle.both_ends.proofs.ExchangeFollows.{IsIn, kept_at}
 use Rattle.both_ends.proofs.ExchangeKnown.{ElsewhereSo}
-use Rattle.both_ends.proofs.ExchangeKnows.{FollowsSo, Knows, all_listed, knows_on}
+use Rattle.both_ends.proofs.ExchangeKnows.{Knows, knows_on}
+use Rattle.both_ends.proofs.ExchangeSteps.{FollowsSo, LeadsIf, all_listed, told_on}
 use Rattle.both_ends.proofs.ExchangeLaw.{DeviceSo, FollowsAt, IsOfFrame, alone_so, delivered_device, early_at, first_follows, follows_so, in_at, lacks_none, lists, low_all, makes_so, modules_in, of_frame, one_follows, turn_at}
 use Rattle.both_ends.proofs.ExchangeLists.{none_some}
 use Rattle.both_ends.proofs.ExchangeLowTied.{reported_same}
@@ -59,21 +60,21 @@ framed_small : (heard : Heard) → IsOfFrame heard → IsSmall heard
 framed_small heard is change e = absurd (subst (λ (h : Heard). IsOfFrame h) e is)
 
 module _ {F : Type 0} where
-  abbrev pub KnowsAt : World F → List AlarmNotification → Type 0
-  KnowsAt w raised = Knows w.device.live.rest.real.modules.items w.device.live.rest.link w.device.live.rest.diagnoses raised
+  abbrev pub KnowsAt : Type 0 → World F → List AlarmNotification → Type 0
+  KnowsAt Apart w raised = Knows Apart w.device.live.rest.real.modules.items w.device.live.rest.link w.device.live.rest.diagnoses raised
 
-  module _ (so : DeviceSo) (hears : HearsSo) (elsewhere : ElsewhereSo) {S : ℕ} (as_flash : Flash F S) (before after : World F) (raised taken : List AlarmNotification)
-      (follows : FollowsAt low_priority before raised taken) (knows : KnowsAt before raised) where
+  module _ (so : DeviceSo) (hears : HearsSo) (elsewhere : ElsewhereSo) (Apart : Type 0) {S : ℕ} (as_flash : Flash F S) (before after : World F) (raised taken : List AlarmNotification)
+      (follows : FollowsAt low_priority before raised taken) (knows : KnowsAt Apart before raised) where
     -- nothing happens at the device
-    rests_knows : after.device ≡ before.device → KnowsAt after (raised ++ reported_with before after)
+    rests_knows : after.device ≡ before.device → KnowsAt Apart after (raised ++ reported_with before after)
     rests_knows same =
-        subst (λ (d : State F). Knows d.live.rest.real.modules.items d.live.rest.link d.live.rest.diagnoses (raised ++ reported_by before.device.live.rest.link d.live.rest.link)) (sym same)
-        (subst (λ (xs : List AlarmNotification). KnowsAt before xs) (sym (ap (λ (xs : List AlarmNotification). raised ++ xs) (reported_same before.device.live.rest.link before.device.live.rest.link refl) ∙ append-nil raised)) knows)
+        subst (λ (d : State F). Knows Apart d.live.rest.real.modules.items d.live.rest.link d.live.rest.diagnoses (raised ++ reported_by before.device.live.rest.link d.live.rest.link)) (sym same)
+        (subst (λ (xs : List AlarmNotification). KnowsAt Apart before xs) (sym (ap (λ (xs : List AlarmNotification). raised ++ xs) (reported_same before.device.live.rest.link before.device.live.rest.link refl) ∙ append-nil raised)) knows)
 
     -- the device hears something
     hears_knows : (heard : Heard) → IsSmall heard → ((sequence : ℕ) → heard_as (is_planned before.controller.setup) heard ≡ small.Call sequence small.Connects → sequence ≡ 0)
         → ((sequence : ℕ) → heard_as (is_planned before.controller.setup) heard ≡ small.Call sequence small.Accesses → kept_at before.controller.setup before.device.live ≡ None → ⊥)
-        → IsCallIn before.controller.setup heard → AtDevice as_flash before heard after → IsMeantAtDevice before heard → KnowsAt after (raised ++ reported_with before after)
+        → IsCallIn before.controller.setup heard → AtDevice as_flash before heard after → IsMeantAtDevice before heard → KnowsAt Apart after (raised ++ reported_with before after)
     hears_knows heard is_small first late called made meant =
         let live = before.device.live in
         let station = before.device.station in
@@ -82,8 +83,8 @@ module _ {F : Type 0} where
         let link = step.live.rest.link in
         let turn = turn_at low_priority so hears as_flash before after raised taken follows heard outcomes meant in
         let acts = so.turns (rules_of before.controller.setup station) before.controller.setup.activity outcomes station live heard meant.planned in
-        subst (λ (l : Live). Knows l.rest.real.modules.items l.rest.link l.rest.diagnoses (raised ++ reported_by live.rest.link l.rest.link)) (sym made.hears.steps.live)
-        (knows_on elsewhere live.rest.real.modules.items live.rest.link live.rest.diagnoses raised knows live.rest.calls heard link step.live.rest.real.modules.items step.live.rest.diagnoses step.sent is_small
+        subst (λ (l : Live). Knows Apart l.rest.real.modules.items l.rest.link l.rest.diagnoses (raised ++ reported_by live.rest.link l.rest.link)) (sym made.hears.steps.live)
+        (knows_on so.keys elsewhere Apart live.rest.real.modules.items live.rest.link live.rest.diagnoses raised knows live.rest.calls heard link step.live.rest.real.modules.items step.live.rest.diagnoses step.sent is_small
         (λ makes. (
           alone_so low_priority so hears as_flash before after raised taken follows heard first late called made meant link step.sent makes,
           follows.unraised (makes_so low_priority so hears as_flash before after raised taken follows heard first late called made meant link step.sent makes).0,
@@ -91,7 +92,7 @@ module _ {F : Type 0} where
         )) turn (modules_in station live heard step.live.rest step.sent acts) acts.diagnoses)
 
     idle_knows : (heard : Heard) → IsSmall heard → heard_as (is_planned before.controller.setup) heard ≡ small.Idle → ((caller : Caller) (address : List ℕ) (call : Call) → heard ≡ Reported caller address (Calls call) → ⊥)
-        → AtDevice as_flash before heard after → IsMeantAtDevice before heard → KnowsAt after (raised ++ reported_with before after)
+        → AtDevice as_flash before heard after → IsMeantAtDevice before heard → KnowsAt Apart after (raised ++ reported_with before after)
     idle_knows heard is_small idle no_call made meant =
         hears_knows heard is_small (λ sequence e. absurd (idle_connect sequence (sym idle ∙ e))) (λ sequence e none. absurd (idle_access sequence (sym idle ∙ e)))
         (λ caller address call e other. absurd (no_call caller address call e)) made meant
@@ -105,7 +106,7 @@ module _ {F : Type 0} where
     comes_knows : (octets : List ℕ) (skipped : Bool) → IsIn low_priority before.controller.setup before.device.station.identity follows.relation octets
         → (kept_at before.controller.setup before.device.live ≡ None → IsEarlyFrame before.controller.setup before.device.station octets)
         → IsMeantAtDevice before (heard_of before.device.station.identity (Frame (record { items = octets }))) → Comes as_flash skipped before Device octets after
-        → KnowsAt after (raised ++ reported_with before after)
+        → KnowsAt Apart after (raised ++ reported_with before after)
     comes_knows octets true is early meant comes = rests_knows (ap (λ (w : World F). w.device) comes)
     comes_knows octets false is early meant comes =
         let heard = heard_of before.device.station.identity (Frame (record { items = octets })) in
@@ -115,14 +116,14 @@ module _ {F : Type 0} where
         → ((frame : List ℕ) → octets ≡ Some frame → IsIn low_priority before.controller.setup before.device.station.identity follows.relation frame)
         → ((frame : List ℕ) → octets ≡ Some frame → kept_at before.controller.setup before.device.live ≡ None → IsEarlyFrame before.controller.setup before.device.station frame)
         → ((frame : List ℕ) → octets ≡ Some frame → IsMeantAtDevice before (heard_of before.device.station.identity (Frame (record { items = frame }))))
-        → Delivers as_flash octets before Device after → KnowsAt after (raised ++ reported_with before after)
+        → Delivers as_flash octets before Device after → KnowsAt Apart after (raised ++ reported_with before after)
     delivered_knows None is early meant comes = rests_knows (ap (λ (w : World F). w.device) comes)
     delivered_knows (Some octets) is early meant comes = comes_knows octets (is_skipped before.device before.controller Device octets) (is octets refl) (early octets refl) (meant octets refl) comes
 
-    away_knows : (octets : Option (List ℕ)) → Delivers as_flash octets before Controller after → KnowsAt after (raised ++ reported_with before after)
+    away_knows : (octets : Option (List ℕ)) → Delivers as_flash octets before Controller after → KnowsAt Apart after (raised ++ reported_with before after)
     away_knows octets comes = rests_knows (delivered_device low_priority so hears as_flash before after raised taken follows octets comes)
 
-    one_knows : (one : Move) → Happens as_flash before one after → IsMeant before one → IsSizedMove one → KnowsAt after (raised ++ reported_with before after)
+    one_knows : (one : Move) → Happens as_flash before one after → IsMeant before one → IsSizedMove one → KnowsAt Apart after (raised ++ reported_with before after)
     one_knows (move.Deliver Device number) happens meant sized =
         delivered_knows (slice_get before.sent number) (λ frame there. in_at low_priority so hears as_flash before after raised taken follows number frame there)
         (λ frame there. early_at low_priority so hears as_flash before after raised taken follows number frame there) meant happens
@@ -137,30 +138,32 @@ module _ {F : Type 0} where
 
   -- ---- any run
 
-  record Reporting (w : World F) (raised taken : List AlarmNotification) : Type 0 where
+  record Reporting (Apart : Type 0) (w : World F) (raised taken : List AlarmNotification) : Type 0 where
     pub follows : FollowsAt low_priority w raised taken
-    pub knows : KnowsAt w raised
+    pub knows : KnowsAt Apart w raised
 
-  run_reports : DeviceSo → HearsSo → ElsewhereSo → {S : ℕ} (as_flash : Flash F S) (w : World F) (raised taken : List AlarmNotification) → Reporting w raised taken
-      → (run : List (Move × World F)) → AreMade as_flash w run → AreMeant w run → AreSizedMoves run → Reporting (last_world w run) (raised ++ reported_over w run) (taken ++ taken_over low_priority w run)
-  run_reports so hears elsewhere as_flash w raised taken is [] made meant sized =
-      subst (λ (xs : List AlarmNotification). Reporting w xs (taken ++ [])) (sym (append-nil raised))
-      (subst (λ (xs : List AlarmNotification). Reporting w raised xs) (sym (append-nil taken)) is)
-  run_reports so hears elsewhere as_flash w raised taken is (one ∷ run) made meant sized =
+  run_reports : DeviceSo → HearsSo → ElsewhereSo → (Apart : Type 0) {S : ℕ} (as_flash : Flash F S) (w : World F) (raised taken : List AlarmNotification) → Reporting Apart w raised taken
+      → (run : List (Move × World F)) → AreMade as_flash w run → AreMeant w run → AreSizedMoves run → Reporting Apart (last_world w run) (raised ++ reported_over w run) (taken ++ taken_over low_priority w run)
+  run_reports so hears elsewhere Apart as_flash w raised taken is [] made meant sized =
+      subst (λ (xs : List AlarmNotification). Reporting Apart w xs (taken ++ [])) (sym (append-nil raised))
+      (subst (λ (xs : List AlarmNotification). Reporting Apart w raised xs) (sym (append-nil taken)) is)
+  run_reports so hears elsewhere Apart as_flash w raised taken is (one ∷ run) made meant sized =
       let now = reported_with w one.1 in
-      let next : Reporting one.1 (raised ++ now) (taken ++ taken_with low_priority w one.0) = record {
+      let next : Reporting Apart one.1 (raised ++ now) (taken ++ taken_with low_priority w one.0) = record {
         follows = one_follows low_priority so hears as_flash w one.1 raised taken is.follows one.0 made.0 meant.0 sized.0;
-        knows = one_knows so hears elsewhere as_flash w one.1 raised taken is.follows is.knows one.0 made.0 meant.0 sized.0;
+        knows = one_knows so hears elsewhere Apart as_flash w one.1 raised taken is.follows is.knows one.0 made.0 meant.0 sized.0;
       } in
-      let all = run_reports so hears elsewhere as_flash one.1 (raised ++ now) (taken ++ taken_with low_priority w one.0) next run made.1 meant.1 sized.1 in
-      subst (λ (xs : List AlarmNotification). Reporting (last_world one.1 run) xs (taken ++ (taken_with low_priority w one.0 ++ taken_over low_priority one.1 run))) (append_assoc raised now (reported_over one.1 run))
-      (subst (λ (xs : List AlarmNotification). Reporting (last_world one.1 run) ((raised ++ now) ++ reported_over one.1 run) xs) (append_assoc taken (taken_with low_priority w one.0) (taken_over low_priority one.1 run)) all)
+      let all = run_reports so hears elsewhere Apart as_flash one.1 (raised ++ now) (taken ++ taken_with low_priority w one.0) next run made.1 meant.1 sized.1 in
+      subst (λ (xs : List AlarmNotification). Reporting Apart (last_world one.1 run) xs (taken ++ (taken_with low_priority w one.0 ++ taken_over low_priority one.1 run))) (append_assoc raised now (reported_over one.1 run))
+      (subst (λ (xs : List AlarmNotification). Reporting Apart (last_world one.1 run) ((raised ++ now) ++ reported_over one.1 run) xs) (append_assoc taken (taken_with low_priority w one.0) (taken_over low_priority one.1 run)) all)
 
   -- ---- from the start
 
-  first_knows : (setup : Setup) (identity : Identity) (first : World F) → Begins setup identity first → AreKnown first.device.live.rest.diagnoses → KnowsAt first []
+  first_knows : (setup : Setup) (identity : Identity) (first : World F) → Begins setup identity first → AreKnown first.device.live.rest.diagnoses
+      → KnowsAt (NoneIsAtZero first.device.live.rest.real.modules.items) first []
   first_knows setup identity first begins known = record {
     known = known;
+    none = λ none. none;
     begins = λ l is. absurd (none_some l first.device.live.rest.link begins.unrelated is);
     stated = λ l is. absurd (none_some l first.device.live.rest.link begins.unrelated is);
     before = λ l is off. absurd (none_some l first.device.live.rest.link begins.unrelated is);
@@ -175,9 +178,12 @@ module _ {F : Type 0} where
         subst (λ (xs : List AlarmNotification). FollowsAt low_priority (last_world first run) xs (taken_over low_priority first run)) (low_all first run)
         (follows_so low_priority so hears setup identity good can as_flash first run begins real made sized meant)
 
-    reporting_so : ElsewhereSo → AreKnown first.device.live.rest.diagnoses → Reporting (last_world first run) (reported_over first run) (taken_over low_priority first run)
+    abbrev Apart : Type 0
+    Apart = NoneIsAtZero first.device.live.rest.real.modules.items
+
+    reporting_so : ElsewhereSo → AreKnown first.device.live.rest.diagnoses → Reporting Apart (last_world first run) (reported_over first run) (taken_over low_priority first run)
     reporting_so elsewhere known =
-        run_reports so hears elsewhere as_flash first [] [] (record {
+        run_reports so hears elsewhere Apart as_flash first [] [] (record {
           follows = first_follows low_priority so hears setup identity good can first begins real;
           knows = first_knows setup identity first begins known;
         }) run made meant sized
@@ -186,24 +192,30 @@ module _ {F : Type 0} where
     pub known_so : ElsewhereSo → AreKnown first.device.live.rest.diagnoses → AreKnown (last_world first run).device.live.rest.diagnoses
     known_so elsewhere known = (reporting_so elsewhere known).knows.known
 
+    -- nothing is plugged in a subslot 0
+    pub plugged_so : ElsewhereSo → AreKnown first.device.live.rest.diagnoses → NoneIsAtZero first.device.live.rest.real.modules.items
+        → NoneIsAtZero (last_world first run).device.live.rest.real.modules.items
+    plugged_so elsewhere known apart = (reporting_so elsewhere known).knows.none apart
+
     -- where data is exchanged, what was reported and what waits lead to the diagnoses
     pub told_so : ElsewhereSo → AreKnown first.device.live.rest.diagnoses → (link : RelationState) → (last_world first run).device.live.rest.link ≡ Some link → is_exchanging link.phase ≡ true
         → IsTold link.flow.low (last_world first run).device.live.rest.diagnoses (reported_over first run)
-    told_so elsewhere known link is on = (reporting_so elsewhere known).knows.told link is on
+    told_so elsewhere known link is on =
+        told_on Apart link.flow.low (last_world first run).device.live.rest.diagnoses (reported_over first run) ((reporting_so elsewhere known).knows.told link is on)
 
     -- where none is unacknowledged and none waits, the list of the controller is that of the device
-    pub list_so : ElsewhereSo → FollowsSo → AreAllTaken → ListsWhatIsReported → AreKnown first.device.live.rest.diagnoses → length (reported_over first run) ≤ 32768
-        → AreNoPulls (reported_over first run) → (link : RelationState) → (last_world first run).device.live.rest.link ≡ Some link → is_exchanging link.phase ≡ true → link.flow.low.alarms.sender.standing ≡ None → link.flow.low.waiting ≡ []
+    pub list_so : ElsewhereSo → FollowsSo → AreAllTaken → ListsWhatIsReported → AreKnown first.device.live.rest.diagnoses → NoneIsAtZero first.device.live.rest.real.modules.items
+        → length (reported_over first run) ≤ 32768 → (link : RelationState) → (last_world first run).device.live.rest.link ≡ Some link → is_exchanging link.phase ≡ true → link.flow.low.alarms.sender.standing ≡ None → link.flow.low.waiting ≡ []
         → (last_world first run).controller.live.stands ≡ true
         → (last_world first run).controller.live.diagnosis ≡ known_at link.flow.low (last_world first run).device.live.rest.diagnoses
-    list_so elsewhere follows_law all_law lists_law known few pulls link is on none empty up =
+    list_so elsewhere follows_law all_law lists_law known apart few link is on none empty up =
         let last = last_world first run in
         let reported = reported_over first run in
         let taken = taken_over low_priority first run in
-        let told = told_so elsewhere known link is on in
-        let leads : Leads told.changes [] (at_places (is_own link.flow.low.places) last.device.live.rest.diagnoses) =
-        subst (λ (xs : List LowChange). Leads xs [] (at_places (is_own link.flow.low.places) last.device.live.rest.diagnoses)) (append-nil told.changes)
-        (subst (λ (ws : List QueuedAlarm). Leads (told.changes ++ map change_in ws) [] (at_places (is_own link.flow.low.places) last.device.live.rest.diagnoses)) empty told.leads) in
+        let told = (reporting_so elsewhere known).knows.told link is on in
+        let leads : LeadsIf Apart told.changes [] (at_places (is_own link.flow.low.places) last.device.live.rest.diagnoses) =
+        subst (λ (xs : List LowChange). LeadsIf Apart xs [] (at_places (is_own link.flow.low.places) last.device.live.rest.diagnoses)) (append-nil told.changes)
+        (subst (λ (ws : List QueuedAlarm). LeadsIf Apart (told.changes ++ map change_in ws) [] (at_places (is_own link.flow.low.places) last.device.live.rest.diagnoses)) empty told.leads) in
         lists lists_law last reported taken low_so up
         ∙ (ap (λ (xs : List AlarmNotification). after_reports xs nothing_reported) (lacks_none low_priority last reported taken low_so all_law few link is none)
-        ∙ all_listed follows_law told.changes reported [] (at_places (is_own link.flow.low.places) last.device.live.rest.diagnoses) told.reports leads pulls)
+        ∙ all_listed follows_law Apart apart told.changes reported [] (at_places (is_own link.flow.low.places) last.device.live.rest.diagnoses) told.reports leads)

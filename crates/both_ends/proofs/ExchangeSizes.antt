@@ -35,6 +35,7 @@ use Rattle.diagnosis.specs.declared.queue.QueuedAlarm.{QueuedAlarm}
 use Rattle.diagnosis.specs.alarms.Alarms.{Low, noted}
 use Rattle.diagnosis.specs.alarms.Own.{is_own}
 use Rattle.diagnosis.specs.Queue.{after_next, alarm_of, begun, change_bytes, change_type, changed as low_changed, diagnosis_queued, is_next, is_reported, kind_type, module_queued, module_waits, queued, slot_of, subslot_of, waits_with}
+use Rattle.pn_alarms.specs.Alarming.{Alarming}
 use Rattle.pn_alarms.specs.Ends.{DeviceEnd}
 use Rattle.pn_alarms.specs.Numbers.{ack_number, is_last, next_number, send_number}
 use Rattle.pn_alarms.specs.Receiver.{answer_to, last_behind, taken_as}
@@ -65,8 +66,8 @@ use Rattle.block_codec.specs.Writable.{IsAlarm}
 use Rattle.diagnosis.specs.Sendable.{IsHeader}
 use Rattle.end_laws.specs.sending.Sized.{IsShort}
 use Rattle.end_laws.specs.device.Turn.{AreCalm, Begins, Changes, Diagnoses, HearsAck, HearsData, HearsLowAck, HearsLowData, IsCalm, Makes, Passes, Raises, Standing, heard_low_in}
-use Rattle.end_laws.proofs.DeviceOrderly.{changed_standing}
 use Rattle.both_ends.specs.exchange.Sized.{AreSizedModules}
+use Rattle.both_ends.proofs.ExchangeKeys.{KeysSo}
 use Rattle.both_ends.proofs.ExchangeLists.{each_behind, none_some, some_is}
 use Rattle.both_ends.proofs.ExchangeNextTold.{NextIs, after_places, next_is}
 use Rattle.both_ends.proofs.ExchangeOwn.{own_places, own_plugged}
@@ -77,9 +78,13 @@ use Rattle.both_ends.proofs.ExchangeTied.{begun_keys, begun_link, changed_link, 
 
 -- ---- a message
 
+-- an alarm of high priority is a process alarm
+abbrev pub IsProcess : AlarmNotification → Type 0
+IsProcess alarm = alarm.alarm_type ≡ 2
+
 abbrev pub IsSizedFrame : Identity → Route → Frame → Type 0
 IsSizedFrame identity route (Inputs state inputs counter) = is_alarm route.sent_id ≡ false
-IsSizedFrame identity route (Notifies header alarm) = (route.partner ≡ identity.mac → ⊥) × (header.kind ≡ pdu.Data) × IsHeader header × IsAlarm alarm
+IsSizedFrame identity route (Notifies header alarm) = (route.partner ≡ identity.mac → ⊥) × (header.kind ≡ pdu.Data) × IsHeader header × IsAlarm alarm × IsProcess alarm
 IsSizedFrame identity route (Answers header) = (route.partner ≡ identity.mac → ⊥) × ((header.kind ≡ pdu.Ack) ⊎ (header.kind ≡ pdu.Nack)) × IsHeader header
 IsSizedFrame identity route (Reports tag header alarm) = (route.partner ≡ identity.mac → ⊥) × (header.kind ≡ pdu.Data) × IsHeader header × IsAlarm alarm
 IsSizedFrame identity route (RepliesLow tag header) = (route.partner ≡ identity.mac → ⊥) × ((header.kind ≡ pdu.Ack) ⊎ (header.kind ≡ pdu.Nack)) × IsHeader header
@@ -94,6 +99,10 @@ IsSizedSent identity other = Unit {0}
 abbrev pub IsAlarmOrNone : Option AlarmNotification → Type 0
 IsAlarmOrNone None = Unit {0}
 IsAlarmOrNone (Some alarm) = IsAlarm alarm
+
+abbrev pub IsProcessOrNone : Option AlarmNotification → Type 0
+IsProcessOrNone None = Unit {0}
+IsProcessOrNone (Some alarm) = IsProcess alarm
 
 pub record IsSizedEnd (end : DeviceEnd) : Type 0 where
   pub last : IsShort end.sender.sending.last
@@ -123,6 +132,7 @@ pub record IsSizedWay (real : List RealModule) (request : Request) (way : Way) :
   pub routed : IsRouted request way.route
   pub endpoint : way.endpoint < 65536
   pub alarms : IsSizedEnd way.alarms
+  pub process : IsProcessOrNone way.alarms.sender.standing
   pub low : IsSizedLow way.low
   pub stated : IsStatedIn real way.request way.low.places way.keys
 
@@ -173,6 +183,19 @@ after_sized end seen ack Not_taken sized short = record { last = sized.last; see
 data_sized : (end : DeviceEnd) (number : ℕ) (ack : AlarmAck) → IsSizedEnd end → IsSizedEnd (end_behind end (notice.Data number ack))
 data_sized end number ack sized =
     after_sized end (last_behind end.seen number) ack (taken_as end.seen number) sized (behind_short end.seen number (number == next_number end.seen) refl sized.seen)
+
+-- the active alarm of high priority stays one, or is over
+ended_process : (a : Alarming) (b : Bool) → IsProcessOrNone a.standing → IsProcessOrNone (cond b (record { sending = rested a.sending; specifier = a.specifier; standing = None }) a).standing
+ended_process a true is = tt
+ended_process a false is = is
+
+after_process : (a : Alarming) (ack : AlarmAck) (as_what : Taken) → IsProcessOrNone a.standing → IsProcessOrNone (sender_after a ack as_what).standing
+after_process a ack New is = ended_process a (is_end ack a.standing) is
+after_process a ack Once_more is = is
+after_process a ack Not_taken is = is
+
+data_process : (end : DeviceEnd) (number : ℕ) (ack : AlarmAck) → IsProcessOrNone end.sender.standing → IsProcessOrNone (end_behind end (notice.Data number ack)).sender.standing
+data_process end number ack is = after_process end.sender ack (taken_as end.seen number) is
 
 later_sized : (end : DeviceEnd) → IsSizedEnd end → IsSizedEnd (end_later end)
 later_sized end sized = record { last = sized.last; seen = sized.seen; specifier = sized.specifier; standing = sized.standing }
@@ -308,7 +331,7 @@ modules_sized true false told made later low one sized = queued_sized (module_qu
 
 -- ---- turns of the device of a plan
 
-module _ (identity : Identity) (plan : Parts) (ar : List ℕ) (apart : identity.mac ≡ plan.controller.mac → ⊥) where
+module _ (laws : KeysSo) (identity : Identity) (plan : Parts) (ar : List ℕ) (apart : identity.mac ≡ plan.controller.mac → ⊥) where
   abbrev pub request : Request
   request = request_for plan ar
 
@@ -360,10 +383,11 @@ module _ (identity : Identity) (plan : Parts) (ar : List ℕ) (apart : identity.
   becomes_sized : (real : List RealModule) (after : Option RelationState) (link : RelationState) → after ≡ Some link → IsSizedWay real request (way_of link) → AreSizedIn real request after
   becomes_sized real after link becomes sized l is = subst (λ (k : RelationState). IsSizedWay real request (way_of k)) (some_is link l (sym becomes ∙ is)) sized
 
-  stands_sized : (flow : Flow) (standing : Option AlarmNotification) → IsRouted request flow.cyclic.route → flow.endpoint < 65536 → IsSizedEnd flow.alarms → IsAlarmOrNone standing
+  stands_sized : (flow : Flow) (standing : Option AlarmNotification) → IsRouted request flow.cyclic.route → flow.endpoint < 65536 → IsSizedEnd flow.alarms → IsAlarmOrNone standing → IsProcessOrNone standing
       → AreSizedSent (frames_in flow.cyclic.route (option_map (Notifies (header_of flow pdu.Data)) standing))
-  stands_sized flow None routed few sized is = tt
-  stands_sized flow (Some alarm) routed few sized is = ((to_other flow.cyclic.route routed, refl, end_header flow.alarms flow.cyclic.route pdu.Data flow.endpoint routed few sized, is), tt)
+  stands_sized flow None routed few sized is process = tt
+  stands_sized flow (Some alarm) routed few sized is process =
+      ((to_other flow.cyclic.route routed, refl, end_header flow.alarms flow.cyclic.route pdu.Data flow.endpoint routed few sized, is, process), tt)
 
   low_stands : (flow : Flow) (standing : Option AlarmNotification) → IsRouted request flow.cyclic.route → flow.endpoint < 65536 → IsSizedEnd flow.low.alarms → IsAlarmOrNone standing
       → AreSizedSent (frames_in flow.cyclic.route (option_map (Reports flow.low.tag (low_header_of flow pdu.Data)) standing))
@@ -402,10 +426,10 @@ module _ (identity : Identity) (plan : Parts) (ar : List ℕ) (apart : identity.
         few = omega (arith, few);
       } in
       let now : IsSizedWay real request (way_of (with_flow raises.flow raises.link)) =
-      subst (λ (f : Flow). IsSizedWay real request (way_of (with_flow f raises.link))) (sym may.is) (record { same = way.same; routed = way.routed; endpoint = way.endpoint; alarms = with_sized flow.alarms _ way.alarms alarm; low = way.low; stated = way.stated }) in
+      subst (λ (f : Flow). IsSizedWay real request (way_of (with_flow f raises.link))) (sym may.is) (record { same = way.same; routed = way.routed; endpoint = way.endpoint; alarms = with_sized flow.alarms _ way.alarms alarm; process = refl; low = way.low; stated = way.stated }) in
       record {
         link = becomes_sized real after (with_flow raises.flow raises.link) raises.becomes now;
-        messages = subst (λ (messages : List Sent). AreSizedSent messages) (sym raises.sends) (stands_sized raises.flow raises.flow.alarms.sender.standing now.routed now.endpoint now.alarms now.alarms.standing);
+        messages = subst (λ (messages : List Sent). AreSizedSent messages) (sym raises.sends) (stands_sized raises.flow raises.flow.alarms.sender.standing now.routed now.endpoint now.alarms now.alarms.standing now.process);
       }
 
   acked_sized : (real : List RealModule) (before : Option RelationState) (heard : Heard) (after : Option RelationState) (sent : List Sent) → AreSizedIn real request before → HearsAck before heard after sent → SizedTurn real after sent
@@ -413,7 +437,7 @@ module _ (identity : Identity) (plan : Parts) (ar : List ℕ) (apart : identity.
       let way = sized acked.link acked.was in
       record {
         link = becomes_sized real after (with_flow (behind_message acked.link.flow (notice.Ack acked.number)) acked.link) acked.becomes
-            (record { same = way.same; routed = way.routed; endpoint = way.endpoint; alarms = ack_sized acked.link.flow.alarms acked.number way.alarms; low = way.low; stated = way.stated });
+            (record { same = way.same; routed = way.routed; endpoint = way.endpoint; alarms = ack_sized acked.link.flow.alarms acked.number way.alarms; process = way.process; low = way.low; stated = way.stated });
         messages = subst (λ (messages : List Sent). AreSizedSent messages) (sym acked.silent) tt;
       }
 
@@ -429,7 +453,7 @@ module _ (identity : Identity) (plan : Parts) (ar : List ℕ) (apart : identity.
       let end = data_sized came.link.flow.alarms came.number came.ack way.alarms in
       let as_what = taken_as came.link.flow.alarms.seen came.number in
       record {
-        link = becomes_sized real after (with_flow flow came.link) came.becomes (record { same = way.same; routed = way.routed; endpoint = way.endpoint; alarms = end; low = way.low; stated = way.stated });
+        link = becomes_sized real after (with_flow flow came.link) came.becomes (record { same = way.same; routed = way.routed; endpoint = way.endpoint; alarms = end; process = data_process came.link.flow.alarms came.number came.ack way.process; low = way.low; stated = way.stated });
         messages = subst (λ (messages : List Sent). AreSizedSent messages) (sym came.sends)
             ((to_other flow.cyclic.route way.routed, answers_so as_what, end_header flow.alarms flow.cyclic.route (answer_to as_what) flow.endpoint way.routed way.endpoint end), tt);
       }
@@ -443,10 +467,10 @@ module _ (identity : Identity) (plan : Parts) (ar : List ℕ) (apart : identity.
       let high_due = (tick_of passes.link.flow).is_alarm && (repeated_of passes.link.flow).high in
       let low_due = (tick_of passes.link.flow).is_alarm && (repeated_of passes.link.flow).low in
       record {
-        link = becomes_sized real after (unit_later passes.link) passes.becomes (record { same = way.same; routed = way.routed; endpoint = way.endpoint; alarms = end; low = record { end = low; waiting = way.low.waiting }; stated = same_stated real passes.link (unit_later passes.link) refl refl (later_keys passes.link) way.stated });
+        link = becomes_sized real after (unit_later passes.link) passes.becomes (record { same = way.same; routed = way.routed; endpoint = way.endpoint; alarms = end; process = way.process; low = record { end = low; waiting = way.low.waiting }; stated = same_stated real passes.link (unit_later passes.link) refl refl (later_keys passes.link) way.stated });
         messages = subst (λ (messages : List Sent). AreSizedSent messages) (sym passes.sends)
             (each_behind (IsSizedSent identity) (where_due high_due (alarms_of (Some flow))) (where_due low_due (low_alarms_of (Some flow)) ++ passes.others)
-            (due_sized high_due (alarms_of (Some flow)) (stands_sized flow flow.alarms.sender.standing way.routed way.endpoint end end.standing))
+            (due_sized high_due (alarms_of (Some flow)) (stands_sized flow flow.alarms.sender.standing way.routed way.endpoint end end.standing way.process))
             (each_behind (IsSizedSent identity) (where_due low_due (low_alarms_of (Some flow))) passes.others
             (lows_sized low_due flow way.routed way.endpoint low)
             (all_calm real before passes.others sized passes.calm)));
@@ -470,7 +494,7 @@ module _ (identity : Identity) (plan : Parts) (ar : List ℕ) (apart : identity.
       let way = sized acked.link acked.was in
       record {
         link = becomes_sized real after (with_flow (behind_low acked.link.flow (notice.Ack acked.number)) acked.link) acked.becomes
-            (record { same = way.same; routed = way.routed; endpoint = way.endpoint; alarms = way.alarms; low = record { end = ack_sized acked.link.flow.low.alarms acked.number way.low.end; waiting = way.low.waiting }; stated = way.stated });
+            (record { same = way.same; routed = way.routed; endpoint = way.endpoint; alarms = way.alarms; process = way.process; low = record { end = ack_sized acked.link.flow.low.alarms acked.number way.low.end; waiting = way.low.waiting }; stated = way.stated });
         messages = subst (λ (messages : List Sent). AreSizedSent messages) (sym acked.silent) tt;
       }
 
@@ -486,6 +510,7 @@ module _ (identity : Identity) (plan : Parts) (ar : List ℕ) (apart : identity.
         routed = way.routed;
         endpoint = way.endpoint;
         alarms = way.alarms;
+        process = way.process;
         low = record { end = end; waiting = way.low.waiting };
         stated = way.stated;
       } in
@@ -494,8 +519,9 @@ module _ (identity : Identity) (plan : Parts) (ar : List ℕ) (apart : identity.
         routed = way.routed;
         endpoint = way.endpoint;
         alarms = way.alarms;
+        process = way.process;
         low = next_sized middle.flow.low heard_way.low;
-        stated = same_stated real came.link (next_link middle) refl (after_places middle.flow.low) (next_keys middle) way.stated;
+        stated = same_stated real came.link (next_link middle) refl (after_places middle.flow.low) (next_keys laws middle) way.stated;
       } in
       let next = reports_sized real middle (next_link middle) after heard_way came.becomes next_way (is_next middle.flow.low) in
       record {
@@ -511,14 +537,15 @@ module _ (identity : Identity) (plan : Parts) (ar : List ℕ) (apart : identity.
       let way = sized begins.link begins.was in
       let now = exchanging_from begins.link in
       let first = begun real diagnoses now.flow.low in
-      let middle : IsSizedWay real request (way_of now) = record { same = way.same; routed = way.routed; endpoint = way.endpoint; alarms = way.alarms; low = way.low; stated = way.stated } in
+      let middle : IsSizedWay real request (way_of now) = record { same = way.same; routed = way.routed; endpoint = way.endpoint; alarms = way.alarms; process = way.process; low = way.low; stated = way.stated } in
       let next_way : IsSizedWay real request (way_of (begun_link real diagnoses now)) = record {
         same = way.same;
         routed = way.routed;
         endpoint = way.endpoint;
         alarms = way.alarms;
+        process = way.process;
         low = next_sized first (begun_sized real diagnoses now.flow.low all (own_small real now.request.expected now.flow.low.places all way.stated.0) way.low);
-        stated = same_stated real begins.link (begun_link real diagnoses now) refl (after_places first) (begun_keys real diagnoses now) way.stated;
+        stated = same_stated real begins.link (begun_link real diagnoses now) refl (after_places first) (begun_keys laws real diagnoses now) way.stated;
       } in
       subst (λ (messages : List Sent). SizedTurn real after messages) (sym begins.sends)
       (reports_sized real now (begun_link real diagnoses now) after middle begins.becomes next_way (begins_with_one real diagnoses now.flow))
@@ -542,8 +569,9 @@ module _ (identity : Identity) (plan : Parts) (ar : List ℕ) (apart : identity.
             routed = way.routed;
             endpoint = way.endpoint;
             alarms = way.alarms;
+            process = way.process;
             low = low;
-            stated = same_stated real link (diagnosed_link real changes.change later link) refl (changed_places real link.flow.cyclic.begun changes.change later link.flow.low) (diagnosed_keys real changes.change later link) way.stated;
+            stated = same_stated real link (diagnosed_link real changes.change later link) refl (changed_places real link.flow.cyclic.begun changes.change later link.flow.low) (diagnosed_keys laws real changes.change later link) way.stated;
           } in
           record {
             link = becomes_sized real after next becomes next_way;
@@ -587,7 +615,7 @@ module _ (identity : Identity) (plan : Parts) (ar : List ℕ) (apart : identity.
               (record { end = way.low.end; waiting = way.low.waiting })
 
           route_same : (changed_link now changes.made later link).flow.cyclic.route ≡ link.flow.cyclic.route
-          route_same = ap (λ (s : Standing). s.route) (changed_standing (rows_now now link) changes.made later link)
+          route_same = ap (λ (s : Standing). s.route) (laws.standing (rows_now now link) changes.made later link)
 
           next_way : IsSizedWay now request (way_of (changed_link now changes.made later link))
           next_way = record {
@@ -595,8 +623,9 @@ module _ (identity : Identity) (plan : Parts) (ar : List ℕ) (apart : identity.
             routed = subst (λ (r : Route). IsRouted request r) (sym route_same) way.routed;
             endpoint = way.endpoint;
             alarms = way.alarms;
+            process = way.process;
             low = low;
-            stated = changed_stated now changes.made later link way.stated.1;
+            stated = changed_stated laws now changes.made later link way.stated.1;
           }
 
   -- any turn but a pull or a plug, if a relation that is made now is that of the plan
@@ -616,6 +645,7 @@ module _ (identity : Identity) (plan : Parts) (ar : List ℕ) (apart : identity.
           routed = (makes.starting.number, ap (route_of makes.starting.number) (planned makes).0);
           endpoint = omega (arith, makes.few);
           alarms = record { last = tt; seen = tt; specifier = omega arith; standing = tt };
+          process = tt;
           low = record { end = record { last = tt; seen = tt; specifier = omega arith; standing = tt }; waiting = tt };
           stated = (planned makes).1 (made_of makes.request makes.partner makes.rows makes.options makes.starting) makes.made;
         });

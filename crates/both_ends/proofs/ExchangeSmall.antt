@@ -12,7 +12,8 @@ found_by : {A : Type 0} (P : A → Type 0) (test : A → Bool) (y x : A) (b : Bo
 found_by P test y x true rest f is more g = let same = some_is y x g in (subst P same is, ap test (sym same) ∙ f)
 found_by P test y x false rest f is more g = more g
 
-found_is : {A : Type 0} (P : A → Type 0) (test : A → Bool) (xs : List A) (x : A) → AllByRecursion P xs → find test xs ≡ Some x → P x × (test x ≡ true)
+-- what holds of each holds of one that is found
+pub found_is : {A : Type 0} (P : A → Type 0) (test : A → Bool) (xs : List A) (x : A) → AllByRecursion P xs → find test xs ≡ Some x → P x × (test x ≡ true)
 found_is P test [] x all e = absurd cc
 found_is P test (y ∷ ys) x all e = found_by P test y x (test y) (find test ys) refl all.0 (λ found. found_is P test ys x all.1 found) e
 

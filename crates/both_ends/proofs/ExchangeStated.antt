@@ -2,7 +2,7 @@
 use Rattle.std.proofs.Common.{◌≡◌, inl, inr, ◌==◌, ◌&&◌, ◌<◌, ℕ, Bool, true, false, cond, not, List, [], ◌∷◌, Option, Some, None, option_map, refl, sym, ap, subst, ◌∙◌, arith}
 use Rattle.std.specs.Prelude.{nat_lt}
 use Rattle.std.specs.List.{list_any}
-use Rattle.std.proofs.lemmas.Bool.{and_parts, eqb-true, true≢false}
+use Rattle.std.proofs.lemmas.Bool.{and_parts, eqb-true, ne_eqb, true≢false}
 use Rattle.pn_values.specs.declared.real.RealModule.{RealModule}
 use Rattle.pn_values.specs.declared.real.RealSubmodule.{RealSubmodule}
 use Rattle.wire.specs.blocks.modules.Lists.{Listed}
@@ -25,6 +25,7 @@ use Rattle.diagnosis.specs.declared.diagnosis.Diagnosis.{Diagnosis}
 use Rattle.diagnosis.specs.declared.module_change.ModuleChange.{ModuleChange}
 use Rattle.diagnosis.specs.declared.queue.LowChange.TheVariants as change_is
 use Rattle.diagnosis.specs.reported.Followed.{at_places}
+use Rattle.diagnosis.specs.reported.Reported.{after_pull}
 use Rattle.expected_places.specs.Calls.{counted}
 use Rattle.expected_places.specs.Machine.{is_hit}
 use Rattle.relations.specs.declared.options.DeviceOptions.{DeviceOptions}
@@ -40,14 +41,14 @@ use Rattle.device_frames.specs.declared.local.Local.TheVariants as local
 use Rattle.device_frames.specs.Heard.{Heard, Applied}
 use Rattle.end_laws.specs.device.Orderly.{keys_of}
 use Rattle.end_laws.specs.device.Turn.{change_by, modules_after}
-use Rattle.end_laws.proofs.DeviceOrderly.{after_keys, changed_keys}
-use Rattle.both_ends.specs.exchange.Sized.{AreSizedModules, IsSizedModule, IsSizedPart}
-use Rattle.both_ends.specs.exchange.Told.{IsStep}
+use Rattle.both_ends.specs.exchange.Sized.{AreSizedModules, IsSizedModule, IsSizedPart, NoneIsAtZero}
+use Rattle.both_ends.proofs.ExchangeKeys.{KeysSo}
 use Rattle.both_ends.proofs.ExchangeLists.{some_is}
 use Rattle.both_ends.proofs.ExchangeNextTold.{after_places}
 use Rattle.both_ends.proofs.ExchangeOwn.{AreThere, opened_there, own_places, wanted_by}
-use Rattle.both_ends.proofs.ExchangeReal.{IsSameAt, first_found, may_plug, part_left, plug_empty, plug_same, plug_sized, pull_same, pull_sized, slot_pull_same, slot_pull_sized, slot_small, subslot_small, without_one}
+use Rattle.both_ends.proofs.ExchangeReal.{IsSameAt, first_found, may_plug, part_left, plug_empty, plug_none, plug_same, plug_sized, pull_none, pull_past_zero, pull_same, pull_sized, slot_pull_none, slot_pull_same, slot_pull_sized, slot_small, subslot_small, without_one}
 use Rattle.both_ends.proofs.ExchangeSmall.{in_slot, module_small, part_small}
+use Rattle.both_ends.proofs.ExchangeSteps.{IsStepIf, listed}
 
 -- ---- a relation
 
@@ -97,14 +98,14 @@ module_places true true told made later low = after_places (module_waits told ma
 module_places true false told made later low = refl
 
 -- the relation after a pull or a plug
-pub changed_stated : (now : List RealModule) (made : RealChange) (later : List Diagnosis) (link : RelationState) → AreThere link.request.expected (keys_of link.plugs.places)
+pub changed_stated : KeysSo → (now : List RealModule) (made : RealChange) (later : List Diagnosis) (link : RelationState) → AreThere link.request.expected (keys_of link.plugs.places)
     → IsStated now (changed_by (rows_now now link) made later link)
-changed_stated now made later link there = (
+changed_stated laws now made later link there = (
   module_places (is_hit (affected_by made) (places_then (rows_now now link) made link)) link.flow.cyclic.begun (reported_as link.request (rows_now now link) made) made later
       (modules_restated link.request.expected (rows_now now link) later link.flow).low,
   λ slot subslot e. ap (λ (keys : List (ℕ × ℕ)). list_any (λ key. key.0 == slot && key.1 == subslot) keys)
-      (after_keys (sent_then (rows_now now link) made later link) (flow_then (rows_now now link) made later link).low.waiting (places_then (rows_now now link) made link)
-      ∙ changed_keys (rows_now now link) made link.plugs)
+      (laws.sent (sent_then (rows_now now link) made later link) (flow_then (rows_now now link) made later link).low.waiting (places_then (rows_now now link) made link)
+      ∙ laws.changed (rows_now now link) made link.plugs)
       ∙ there slot subslot e,
 )
 
@@ -116,8 +117,9 @@ pub record IsModules (real now : List RealModule) (made : RealChange) : Type 0 w
   pub same : (slot subslot : ℕ) → covers (affected_by made) slot subslot ≡ false → IsSameAt real now slot subslot
   pub empty : made.kind ≡ change.Plug → (slot subslot : ℕ) → covers (affected_by made) slot subslot ≡ true → submodule_ident real slot subslot ≡ None
   pub reach : (asks differs : Bool) (slot subslot : ℕ) → covers (reach_of (alarmed made asks differs)) slot subslot ≡ false → covers (affected_by made) slot subslot ≡ false
+  pub none : NoneIsAtZero real → NoneIsAtZero now
   pub pulls : (asks differs : Bool) (from next : List Diagnosis) → next ≡ remaining (affected_by made) from → (made.kind ≡ change.Plug → next ≡ from)
-      → IsStep (change_is.Module (alarmed made asks differs)) from next
+      → IsStepIf (NoneIsAtZero real) (change_is.Module (alarmed made asks differs)) from next
 
 pub record IsSizedChange (now : List RealModule) (made : RealChange) : Type 0 where
   pub modules : AreSizedModules now
@@ -142,6 +144,9 @@ and_true_less : (b : Bool) → (b && true) ≡ false → b ≡ false
 and_true_less true e = e
 and_true_less false e = refl
 
+past_zero : (subslot : ℕ) → 0 < subslot → (subslot == 0) ≡ false
+past_zero subslot more = ne_eqb subslot 0 (λ e. omega (arith, more, e))
+
 -- what a subslot is, its slot is too
 within : (slot subslot at there : ℕ) (whole : Bool) → (slot == at && reaches (cond whole None (Some subslot)) there) ≡ false → (slot == at && (subslot == there)) ≡ false
 within slot subslot at there true apart = ap (λ (b : Bool). b && (subslot == there)) (and_true_less (slot == at) apart)
@@ -152,17 +157,27 @@ pulled_modules slot subslot real now e = record {
   same = λ other there apart. pull_same slot subslot real now e other there apart;
   empty = λ kind. absurd (no_plug kind);
   reach = λ asks differs other there apart. within slot subslot other there (subslot == 0) apart;
-  pulls = λ asks differs from next gone other. record { affected = affected_by (pull_of real slot subslot); reach = record { slot = refl; subslot = inl refl }; gone = gone };
+  none = λ none. pull_none slot subslot real now none e;
+  pulls = λ asks differs from next gone other. record {
+    step = record { affected = affected_by (pull_of real slot subslot); reach = record { slot = refl; subslot = inl refl }; gone = gone };
+    seen = λ none. seen_by from next gone (subslot == 0) (past_zero subslot (pull_past_zero slot subslot real now none e));
+  };
 }
   where
     no_plug : change.Pull ≡ change.Plug → ⊥
     no_plug kind = absurd cc
+
+    seen_by : (from next : List Diagnosis) → next ≡ remaining (affected_by (pull_of real slot subslot)) from → (is_zero : Bool) → is_zero ≡ false
+        → after_pull (Some (record { slot = slot; subslot = cond is_zero None (Some subslot) })) (listed from) ≡ listed next
+    seen_by from next gone true f = absurd (true≢false f)
+    seen_by from next gone false f = ap listed (sym gone)
 
 slot_pulled_modules : (slot : ℕ) (real now : List RealModule) → slot_pulled slot real ≡ Some now → IsModules real now (slot_pull_of real slot)
 slot_pulled_modules slot real now e = record {
   same = λ other there apart. slot_pull_same slot real now e other there (and_true_less (slot == other) apart);
   empty = λ kind. absurd (no_plug kind);
   reach = λ asks differs other there apart. apart;
+  none = λ none. slot_pull_none slot real now none e;
   pulls = λ asks differs from next gone other. by_kind asks differs from next gone;
 }
   where
@@ -170,9 +185,15 @@ slot_pulled_modules slot real now e = record {
     no_plug kind = absurd cc
 
     by_kind : (asks differs : Bool) (from next : List Diagnosis) → next ≡ remaining (affected_by (slot_pull_of real slot)) from
-        → IsStep (change_is.Module (alarmed (slot_pull_of real slot) asks differs)) from next
-    by_kind true differs from next gone = record { affected = affected_by (slot_pull_of real slot); reach = record { slot = refl; subslot = inr (refl, refl) }; gone = gone }
-    by_kind false differs from next gone = record { affected = affected_by (slot_pull_of real slot); reach = record { slot = refl; subslot = inr (refl, refl) }; gone = gone }
+        → IsStepIf (NoneIsAtZero real) (change_is.Module (alarmed (slot_pull_of real slot) asks differs)) from next
+    by_kind true differs from next gone = record {
+      step = record { affected = affected_by (slot_pull_of real slot); reach = record { slot = refl; subslot = inr (refl, refl) }; gone = gone };
+      seen = λ _. ap listed (sym gone);
+    }
+    by_kind false differs from next gone = record {
+      step = record { affected = affected_by (slot_pull_of real slot); reach = record { slot = refl; subslot = inr (refl, refl) }; gone = gone };
+      seen = λ _. ap listed (sym gone);
+    }
 
 plugged_modules : (slot ident : ℕ) (part : RealSubmodule) (real now : List RealModule) → plugged_with slot ident part real ≡ Some now → IsModules real now (plug_of slot ident part)
 plugged_modules slot ident part real now e = record {
@@ -182,12 +203,13 @@ plugged_modules slot ident part real now e = record {
       ap (λ (n : ℕ). submodule_ident real n there) (sym (eqb-true slot other at.0))
       ∙ (ap (λ (n : ℕ). submodule_ident real slot n) (sym (eqb-true part.subslot there at.1)) ∙ plug_empty slot ident part real now e);
   reach = λ asks differs other there apart. within slot part.subslot other there (part.subslot == 0) apart;
+  none = λ none. plug_none slot ident part real now none e;
   pulls = λ asks differs from next gone other. by_kind differs from next (other refl);
 }
   where
-    by_kind : (differs : Bool) (from next : List Diagnosis) → next ≡ from → IsStep (change_is.Module (alarmed (plug_of slot ident part) false differs)) from next
-    by_kind true from next same = same
-    by_kind false from next same = same
+    by_kind : (differs : Bool) (from next : List Diagnosis) → next ≡ from → IsStepIf (NoneIsAtZero real) (change_is.Module (alarmed (plug_of slot ident part) false differs)) from next
+    by_kind true from next same = record { step = same; seen = λ _. ap listed (sym same) }
+    by_kind false from next same = record { step = same; seen = λ _. ap listed (sym same) }
 
 -- what an event of the application does to the modules, if it changes them
 pub modules_so : (real now : List RealModule) (heard : Heard) (made : RealChange) → change_by real heard ≡ Some made → modules_after real heard ≡ Some now → IsModules real now made

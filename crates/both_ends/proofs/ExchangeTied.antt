@@ -46,7 +46,7 @@ use Rattle.device_frames.specs.Sent.{Sent, Exchanges}
 use Rattle.controller_messages.specs.declared.setup.Setup.{Setup}
 use Rattle.controller_messages.specs.Sent as said
 use Rattle.end_laws.specs.turns.Alarms.{IsQuiet, Relation, Move, Raises as raising, PassesAtDevice, ComesToDevice, AckComesToDevice, acked_at_device, behind, behind_one, comes_to_device, is_priority, passed_at_device, raised_by}
-use Rattle.end_laws.proofs.DeviceOrderly.{after_keys}
+use Rattle.both_ends.proofs.ExchangeKeys.{KeysSo}
 use Rattle.both_ends.proofs.ExchangeReported.{ack_in, data_in, low_data, reported_at}
 use Rattle.both_ends.specs.exchange.Over.{one_in, raised_in}
 use Rattle.both_ends.proofs.ExchangeLists.{Extends, at_end, each_behind, each_on, more_extends, none_some, some_is, unchanged}
@@ -467,17 +467,17 @@ abbrev pub begun_link : List RealModule → List Diagnosis → RelationState →
 begun_link real diagnoses link = sent_link (begins_with_one real diagnoses link.flow) (diagnoses_begun real diagnoses link.flow) link
 
 -- The slots and subslots of its places are those of the relation before.
-sent_keys : (is_sent : Bool) (flow : Flow) (link : RelationState) → keys_of (sent_link is_sent flow link).plugs.places ≡ keys_of link.plugs.places
-sent_keys is_sent flow link = after_keys (first_sent is_sent flow.low) flow.low.waiting link.plugs
+sent_keys : KeysSo → (is_sent : Bool) (flow : Flow) (link : RelationState) → keys_of (sent_link is_sent flow link).plugs.places ≡ keys_of link.plugs.places
+sent_keys laws is_sent flow link = laws.sent (first_sent is_sent flow.low) flow.low.waiting link.plugs
 
-pub next_keys : (link : RelationState) → keys_of (next_link link).plugs.places ≡ keys_of link.plugs.places
-next_keys link = sent_keys (is_next link.flow.low) (next_reported link.flow) link
+pub next_keys : KeysSo → (link : RelationState) → keys_of (next_link link).plugs.places ≡ keys_of link.plugs.places
+next_keys laws link = sent_keys laws (is_next link.flow.low) (next_reported link.flow) link
 
-pub diagnosed_keys : (real : List RealModule) (change : Change) (later : List Diagnosis) (link : RelationState) → keys_of (diagnosed_link real change later link).plugs.places ≡ keys_of link.plugs.places
-diagnosed_keys real change later link = sent_keys (is_diagnosed real change later link.flow) (diagnosed real change later link.flow) link
+pub diagnosed_keys : KeysSo → (real : List RealModule) (change : Change) (later : List Diagnosis) (link : RelationState) → keys_of (diagnosed_link real change later link).plugs.places ≡ keys_of link.plugs.places
+diagnosed_keys laws real change later link = sent_keys laws (is_diagnosed real change later link.flow) (diagnosed real change later link.flow) link
 
-pub begun_keys : (real : List RealModule) (diagnoses : List Diagnosis) (link : RelationState) → keys_of (begun_link real diagnoses link).plugs.places ≡ keys_of link.plugs.places
-begun_keys real diagnoses link = sent_keys (begins_with_one real diagnoses link.flow) (diagnoses_begun real diagnoses link.flow) link
+pub begun_keys : KeysSo → (real : List RealModule) (diagnoses : List Diagnosis) (link : RelationState) → keys_of (begun_link real diagnoses link).plugs.places ≡ keys_of link.plugs.places
+begun_keys laws real diagnoses link = sent_keys laws (begins_with_one real diagnoses link.flow) (diagnoses_begun real diagnoses link.flow) link
 
 -- The relation after a pull or a plug, after which these modules are plugged.
 abbrev pub changed_link : List RealModule → RealChange → List Diagnosis → RelationState → RelationState

@@ -27,6 +27,7 @@ use Rattle.controller_messages.specs.declared.request.Request.TheVariants as ask
 use Rattle.controller_messages.specs.declared.setup.Setup.{Setup}
 use Rattle.controller_messages.specs.Heard as controller
 use Rattle.controller_messages.specs.Heard.{heard_of as heard_by, is_to}
+use Rattle.controller_messages.specs.PlugRequests.{plug_call}
 use Rattle.controller_messages.specs.RecordRequests.{record_call}
 use Rattle.controller_messages.specs.Requests.{call_for}
 use Rattle.controller_messages.specs.Sent as said
@@ -201,6 +202,7 @@ module _ (so : HearsSo) (setup : Setup) (station : Station) (good : IsSetup setu
   message_called (said.Requests to asks.PrmEnd) sized meant = call_called to asks.PrmEnd sized.0.0 tt sized.0.1
   message_called (said.Requests to (asks.Release sequence)) sized meant = call_called to (asks.Release sequence) sized.0.0 tt sized.0.1
   message_called (said.Accesses to request octets) sized meant = frame_called to (record_call setup request octets) sized.0.0 (so.record_can setup request octets good sized.0.1)
+  message_called (said.Parametrizes to request) sized meant = frame_called to (plug_call setup request) sized.0.0 (so.plug_call_can setup request good sized.0.1)
   message_called (said.Agrees caller answer) sized meant = answer_called caller answer sized.0.0 sized.0.1
   message_called (said.Cycles route shown counter) sized meant = inactive_called (said.bytes_of setup (said.Cycles route shown counter)) meant.1
   message_called (said.Confirms route priority header one) sized meant = inactive_called (said.bytes_of setup (said.Confirms route priority header one)) meant.1

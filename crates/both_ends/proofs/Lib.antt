@@ -30,6 +30,7 @@ pub mod ExchangeLists
 pub mod ExchangeReal
 pub mod ExchangeSmall
 pub mod ExchangeOwn
+pub mod ExchangeKeys
 pub mod ExchangeStated
 pub mod ExchangeReported
 pub mod ExchangeHeardAlarm
@@ -37,12 +38,14 @@ pub mod ExchangeTurns
 pub mod ExchangeNextTold
 pub mod ExchangeTied
 pub mod ExchangeLowTied
+pub mod ExchangeSteps
 pub mod ExchangeKnown
 pub mod ExchangeKnows
 pub mod ExchangeSizes
 pub mod ExchangeOpening
 pub mod ExchangeHearing
 pub mod ExchangeMessages
+pub mod ExchangePlugs
 pub mod ExchangeRelated
 pub mod ExchangePlaced
 pub mod ExchangeEarly

@@ -1,6 +1,6 @@
 -- The device's response to the Connect of a plan, and what its controller makes of it.
-use Rattle.std.proofs.Common.{◌≡◌, ◌==◌, ◌&&◌, ◌+◌, ◌++◌, ℕ, Bool, true, List, [], ◌∷◌, Option, Some, None, Result, Ok, append_assoc, append-nil, refl, sym, ap, subst, ◌∙◌}
-use Rattle.std.specs.Prelude.{if◌then◌else◌}
+use Rattle.std.proofs.Common.{◌≡◌, ◌==◌, ◌&&◌, ◌||◌, ◌+◌, ◌++◌, ℕ, Bool, true, false, not, List, [], ◌∷◌, Option, Some, None, Result, Ok, append_assoc, append-nil, refl, sym, ap, subst, ◌∙◌}
+use Rattle.std.specs.Prelude.{if◌then◌else◌, is_some}
 use Rattle.std.proofs.lemmas.Cmp.{nat_list_eq_equiv}
 use Rattle.pn_values.specs.declared.identity.Identity.{Identity}
 use Rattle.pn_values.specs.declared.real.Real.{Real}
@@ -10,6 +10,7 @@ use Rattle.block_codec.specs.declared.block.Block.TheVariants as is
 use Rattle.block_codec.specs.Block.{block_bytes}
 use Rattle.rpc_core.specs.declared.header.CallHeader.{CallHeader}
 use Rattle.plans.specs.declared.parts.Controller.{Controller}
+use Rattle.plan_places.specs.Places.{next_waiting}
 use Rattle.wire.specs.blocks.modules.Lists.{Listed}
 use Rattle.connect_blocks.specs.declared.module_diff.DiffModule.{DiffModule}
 use Rattle.connect_blocks.specs.declared.module_diff.DiffSubmodule.{DiffSubmodule}
@@ -34,12 +35,13 @@ use Rattle.device_frames.specs.Sent.{bytes_of, response_frame}
 use Rattle.controller_messages.specs.declared.setup.Setup.{Setup}
 use Rattle.controller_messages.specs.declared.request.Request.{Request as Asking}
 use Rattle.controller_messages.specs.declared.request.Request.TheVariants as asks
+use Rattle.controller_messages.specs.Access.{is_free}
 use Rattle.controller_messages.specs.Heard.{Heard, Responds, heard_of}
 use Rattle.controller_messages.specs.Requests.{blocks_of, call_for, header_of, writing_from}
 use Rattle.controller_core.specs.declared.stored.event.Event.TheVariants.{Frame}
-use Rattle.controller_core.specs.stored.State.{Live as Controls}
+use Rattle.controller_core.specs.stored.State.{Live as Controls, phase_for}
 use Rattle.controller_core.specs.start_up.Answers.{is_answer}
-use Rattle.controller_core.specs.Machine.{connected, decided, responded, standing, stays, turn_of, turned, writing}
+use Rattle.controller_core.specs.Machine.{Turn, after_turn, begun_turn, can_begin, connected, decided, is_exchanging, placed, plugs_of, responded, standing, stays, turn_of, turned, writing}
 use Rattle.both_ends.specs.startup.answer.Answer.{AnswersSo, IsAllThere, answer_blocks, answer_frame, caller_of, chosen_with}
 
 -- ---- at the device
@@ -141,13 +143,36 @@ is_its_answer setup = ap (λ (is : Bool). is && 0 == 0) (nat_list_eq_equiv.refl 
 where_so : {A : Type 0} (is : Bool) (x y : A) → is ≡ true → (if is then x else y) ≡ x
 where_so is x y e = ap (λ (b : Bool). if b then x else y) e
 
+-- no turn of a place begins with the records of the start-up
+not_yet : (request : Asking) → is_exchanging (phase_for request) ≡ false
+not_yet asks.Identify = refl
+not_yet asks.Address = refl
+not_yet asks.Connect = refl
+not_yet (asks.Write number) = refl
+not_yet asks.PrmEnd = refl
+not_yet (asks.Release sequence) = refl
+
+none_begins : (setup : Setup) (could : Bool) (turn : Turn) → can_begin turn.live ≡ false → after_turn setup could turn ≡ turn
+none_begins setup could turn none = by_tests could (can_begin turn.live) none
+  where
+    by_tests : (a b : Bool) → b ≡ false
+        → (if a || not b then turn else record { live = begun_turn setup turn.live; sent = turn.sent ++ plugs_of (begun_turn setup turn.live) }) ≡ turn
+    by_tests true b e = refl
+    by_tests false false e = refl
+    by_tests false true e = absurd cc
+
 -- the controller goes on
 pub goes_on : (setup : Setup) (live : Controls) (octets blocks : List ℕ) (number : ℕ) → IsAllThere blocks (0xC000 + number) (endpoint_of number)
     → heard_of setup.plan.controller octets ≡ Responds (answer_to (call_for setup asks.Connect) done blocks) → live.asked ≡ Some asks.Connect
-    → turn_of setup live (Frame (record { items = octets })) ≡ writing setup (writing_from setup.plan 0) (standing setup live (chosen_with number))
+    → turn_of setup live (Frame (record { items = octets })) ≡ writing setup (writing_from setup.plan 0) (standing setup (placed setup blocks live) (chosen_with number))
 goes_on setup live octets blocks number there heard asked =
     let answer = answer_to (call_for setup asks.Connect) done blocks in
-    ap (λ (h : Heard). turned setup live h) heard
-    ∙ (ap (λ (a : Option Asking). responded setup live answer a) asked
+    let written = writing setup (writing_from setup.plan 0) (standing setup (placed setup blocks live) (chosen_with number)) in
+    let goes : responded setup live answer live.asked ≡ written =
+    ap (λ (a : Option Asking). responded setup live answer a) asked
     ∙ (where_so (is_answer setup asks.Connect answer.header) (decided setup live answer asks.Connect) (stays live) (is_its_answer setup)
-    ∙ ap (connected setup live) there))
+    ∙ ap (connected setup live blocks) there) in
+    ap (λ (h : Heard). turned setup live h) heard
+    ∙ (ap (λ (t : Turn). after_turn setup (can_begin live) t) goes
+    ∙ none_begins setup (can_begin live) written
+    (ap (λ (b : Bool). b && (is_free written.live.access && is_some (next_waiting written.live.places))) (not_yet (writing_from setup.plan 0))))

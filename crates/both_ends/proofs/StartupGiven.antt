@@ -31,7 +31,9 @@ use Rattle.frame_codec.specs.declared.arp.ArpOperation.TheVariants.{Reply}
 use Rattle.controller_messages.specs.declared.request.Request.{Request as Asking}
 use Rattle.controller_messages.specs.declared.setup.Setup.{Setup}
 use Rattle.controller_messages.specs.Heard.{Calls as Called, Nothing, Responds as Responded, heard_of as controller_hears}
+use Rattle.controller_messages.specs.declared.plug_request.PlugRequest.{PlugRequest}
 use Rattle.controller_messages.specs.declared.record_request.RecordRequest.{RecordRequest}
+use Rattle.controller_messages.specs.PlugRequests.{plug_call}
 use Rattle.controller_messages.specs.RecordRequests.{record_call}
 use Rattle.controller_messages.specs.Requests.{call_for}
 use Rattle.controller_messages.specs.Sent.{answer_frame, call_frame, calls_at, bytes_of as controller_bytes}
@@ -41,7 +43,7 @@ use Rattle.controller_core.specs.start_up.Answers.{ready_in}
 use Rattle.controller_core.specs.stored.State.{Controlling, Live as ControllerLive}
 use Rattle.frame_codec.specs.Sendable.{IsHolder, IsMac, IsTag, carrying}
 use Rattle.end_laws.specs.hearing.Hearing.{IsUncalled, IsUnreported, all_hears, comes, mine_reported, own_reported}
-use Rattle.end_laws.specs.hearing.Stations.{IsAddress, IsCalled, IsCaller, IsDevice, IsNumbered, IsRecordCall, IsSetup, plug_ready_call, ready_call}
+use Rattle.end_laws.specs.hearing.Stations.{IsAddress, IsCalled, IsCaller, IsDevice, IsNumbered, IsPlugCall, IsRecordCall, IsSetup, plug_ready_call, ready_call}
 use Rattle.end_laws.specs.sending.Addressed.{IsAimed, IsAimedAt, IsEventFrom}
 use Rattle.end_laws.specs.both.Small as small
 use Rattle.end_laws.specs.both.Small.{RelationState, Move, Rules, World}
@@ -68,6 +70,7 @@ pub record HeardSo : Type 0 where
       ≡ all_hears other asker (Resolves identity.mac (record { operation = Reply; sender = record { mac = identity.mac; address = address }; target = target }))
   pub call_can : (setup : Setup) (request : Asking) → IsSetup setup → IsCalled request → IsNumbered request → CanBeCalled devices (call_for setup request)
   pub record_can : (setup : Setup) (request : RecordRequest) (octets : List ℕ) → IsSetup setup → IsRecordCall request octets → CanBeCalled devices (record_call setup request octets)
+  pub plug_call_can : (setup : Setup) (request : PlugRequest) → IsSetup setup → IsPlugCall request → CanBeCalled devices (plug_call setup request)
   pub ready_can : (ready : Ready) → IsHeader ready.header → ready.header.interface ≡ interface_uuid controllers → IsUuid ready.block.ar_uuid
       → CanBeCalled controllers (ready_call ready)
   pub call_at_device : (identity : Identity) (setup : Setup) (to : Mac) (call : Call) → IsSetup setup → IsMac to → CanBeCalled devices call

@@ -51,6 +51,7 @@ use Rattle.device_frames.specs.Heard.{Heard, is_own}
 use Rattle.device_frames.specs.Sendable.{IsSendable}
 use Rattle.device_frames.specs.Sent.{Sent, IdentifyAnswer, GetAnswer, SetAnswer, ArpReply, CallAnswer, Again, ReadyCall, PlugReadyCall, Ends, Exchanges, bytes_of}
 use Rattle.device_core.specs.State.{Live, Station}
+use Rattle.controller_messages.specs.declared.plug_request.PlugRequest.{PlugRequest}
 use Rattle.controller_messages.specs.declared.record_request.RecordRequest.{RecordRequest}
 use Rattle.controller_messages.specs.declared.request.Request.{Request}
 use Rattle.controller_messages.specs.declared.request.Request.TheVariants as asks
@@ -59,6 +60,7 @@ use Rattle.controller_messages.specs.Heard as controller
 use Rattle.controller_messages.specs.Heard.{heard_alarm, heard_answer, heard_body, heard_call, heard_content, heard_first, heard_read, heard_real_time, heard_refusal, heard_response, is_to}
 use Rattle.controller_messages.specs.declared.refusal.Refusal.{Refusal}
 use Rattle.controller_messages.specs.Refusal.{refusal_of}
+use Rattle.controller_messages.specs.PlugRequests.{plug_call}
 use Rattle.controller_messages.specs.RecordRequests.{record_call}
 use Rattle.controller_messages.specs.Requests.{blocks_of, call_for, sequence_of, write_count, writing_blocks}
 use Rattle.controller_messages.specs.Sent as said
@@ -67,7 +69,7 @@ use Rattle.controller_core.specs.start_up.Answers.{is_ready}
 use Rattle.controller_core.specs.start_up.Answers.{ready_in}
 use Rattle.frame_codec.specs.Sendable.{IsHolder, IsMac, IsTag, carrying}
 use Rattle.end_laws.specs.hearing.Hearing.{IsUncalled, IsUnreported, all_hears, comes, mine_reported, own_reported}
-use Rattle.end_laws.specs.hearing.Stations.{IsAddress, IsCalled, IsCaller, IsDevice, IsNumbered, IsRecordCall, IsSetup, plug_ready_call, ready_call}
+use Rattle.end_laws.specs.hearing.Stations.{IsAddress, IsCalled, IsCaller, IsDevice, IsNumbered, IsPlugCall, IsRecordCall, IsSetup, plug_ready_call, ready_call}
 use Rattle.end_laws.specs.sending.Addressed.{IsAimedAt, IsDirection, IsHeardFrom}
 use Rattle.end_laws.specs.both.Small as small
 use Rattle.end_laws.specs.both.Small.{ToController, ToDevice}
@@ -203,18 +205,27 @@ pub record IsAccess (setup : Setup) (caller : Caller) (call : Call) : Type 0 whe
   pub is : call ≡ record_call setup request octets
   pub caller_is : caller ≡ record { mac = setup.plan.controller.mac; endpoint = calls_at setup.plan.controller.address }
 
--- either of them
+-- a call after a plug that a device hears
+pub record IsPlugged (setup : Setup) (caller : Caller) (call : Call) : Type 0 where
+  pub request : PlugRequest
+  pub sized : IsPlugCall request
+  pub is : call ≡ plug_call setup request
+  pub caller_is : caller ≡ record { mac = setup.plan.controller.mac; endpoint = calls_at setup.plan.controller.address }
+
+-- one of them
 abbrev pub IsKnownCall : Setup → Caller → Call → Type 0
-IsKnownCall setup caller call = IsOwnCall setup caller call ⊎ IsAccess setup caller call
+IsKnownCall setup caller call = IsOwnCall setup caller call ⊎ (IsAccess setup caller call ⊎ IsPlugged setup caller call)
 
 pub known_activity : (setup : Setup) (caller : Caller) (call : Call) → IsKnownCall setup caller call → call.header.activity ≡ setup.activity
 known_activity setup caller call (inl own) = ap (λ (c : Call). c.header.activity) own.is
-known_activity setup caller call (inr access) = ap (λ (c : Call). c.header.activity) access.is
+known_activity setup caller call (inr (inl access)) = ap (λ (c : Call). c.header.activity) access.is
+known_activity setup caller call (inr (inr plugged)) = ap (λ (c : Call). c.header.activity) plugged.is
 
 known_caller : (setup : Setup) (caller : Caller) (call : Call) → IsKnownCall setup caller call
     → caller ≡ record { mac = setup.plan.controller.mac; endpoint = calls_at setup.plan.controller.address }
 known_caller setup caller call (inl own) = own.caller_is
-known_caller setup caller call (inr access) = access.caller_is
+known_caller setup caller call (inr (inl access)) = access.caller_is
+known_caller setup caller call (inr (inr plugged)) = plugged.caller_is
 
 abbrev pub IsKnownSaid : Setup → Caller → device.Said → Type 0
 IsKnownSaid setup caller (device.Calls call) = IsKnownCall setup caller call
@@ -460,7 +471,8 @@ module _ (so : HeardSo) (setup : Setup) (station : Station) (good : IsSetup setu
 
   known_can : (caller : Caller) (call : Call) → IsKnownCall setup caller call → CanBeCalled devices call
   known_can caller call (inl own) = subst (λ (c : Call). CanBeCalled devices c) (sym own.is) (so.call_can setup own.request good own.called own.numbered)
-  known_can caller call (inr access) = subst (λ (c : Call). CanBeCalled devices c) (sym access.is) (so.record_can setup access.request access.octets good access.sized)
+  known_can caller call (inr (inl access)) = subst (λ (c : Call). CanBeCalled devices c) (sym access.is) (so.record_can setup access.request access.octets good access.sized)
+  known_can caller call (inr (inr plugged)) = subst (λ (c : Call). CanBeCalled devices c) (sym plugged.is) (so.plug_call_can setup plugged.request good plugged.sized)
 
   answering_met : (heard : Heard) (caller : Caller) (address : List ℕ) (answer : Response) → IsKnownHeard setup heard → IsAnswering heard caller answer → IsAddress address
       → IsMet (bytes_of identity (CallAnswer caller address answer)) (small.Answers answer.header.sequence (is_positive setup.plan answer))
@@ -567,7 +579,7 @@ module _ (so : HeardSo) (setup : Setup) (station : Station) (good : IsSetup setu
   asked_is asks.PrmEnd called listed = refl
   asked_is (asks.Release sequence) called listed = refl
 
-  -- a call to the device, of the start-up or of the application
+  -- a call to the device, of the start-up, of the application or after a plug
   known_reported : (to : Mac) (call : Call) (says : ToDevice) → IsMac to → CanBeCalled devices call
       → IsKnownCall setup (record { mac = mine.mac; endpoint = calls_at mine.address }) call → ends.said_to planned (device.Calls call) ≡ says → IsReported (call_frame setup to call) says
   known_reported to call says six can known is =
@@ -589,7 +601,13 @@ module _ (so : HeardSo) (setup : Setup) (station : Station) (good : IsSetup setu
       → IsReported (call_frame setup to (record_call setup request octets)) (ends.said_to planned (device.Calls (record_call setup request octets)))
   access_reported to request octets six sized =
       known_reported to (record_call setup request octets) (ends.said_to planned (device.Calls (record_call setup request octets))) six (so.record_can setup request octets good sized)
-      (inr (record { request = request; octets = octets; sized = sized; is = refl; caller_is = refl })) refl
+      (inr (inl (record { request = request; octets = octets; sized = sized; is = refl; caller_is = refl }))) refl
+
+  plugged_reported : (to : Mac) (request : PlugRequest) → IsMac to → IsPlugCall request
+      → IsReported (call_frame setup to (plug_call setup request)) (ends.said_to planned (device.Calls (plug_call setup request)))
+  plugged_reported to request six sized =
+      known_reported to (plug_call setup request) (ends.said_to planned (device.Calls (plug_call setup request))) six (so.plug_call_can setup request good sized)
+      (inr (inr (record { request = request; sized = sized; is = refl; caller_is = refl }))) refl
 
   confirms_or_not : (answer : Response) (b : Bool) → (cond b small.Confirms small.Idle ≡ small.Confirms) ⊎ (cond b small.Confirms small.Idle ≡ small.Idle)
   confirms_or_not answer true = inl refl
@@ -634,6 +652,7 @@ module _ (so : HeardSo) (setup : Setup) (station : Station) (good : IsSetup setu
   message_reported now (said.Requests to asks.PrmEnd) aimed says = call_reported to asks.PrmEnd aimed.0 tt tt tt
   message_reported now (said.Requests to (asks.Release sequence)) aimed says = call_reported to (asks.Release sequence) aimed.0 tt aimed.1 tt
   message_reported now (said.Accesses to request octets) aimed says = access_reported to request octets aimed.0 aimed.1
+  message_reported now (said.Parametrizes to request) aimed says = plugged_reported to request aimed.0 aimed.1
   message_reported now (said.Agrees caller answer) aimed says = agrees_reported caller answer aimed.0 aimed.1 aimed.2
   message_reported now (said.Cycles route shown counter) aimed says = data_reported route.partner (Some route.sent_tag) _ _ small.Idle aimed.partner aimed.sent_tag
   message_reported now (said.Confirms route priority header ack) aimed says = data_reported route.partner (Some (tag_of route priority)) _ _ small.Idle aimed.partner (tag_sized route priority aimed)

@@ -50,11 +50,14 @@ use Rattle.device_frames.specs.Heard as device
 use Rattle.device_frames.specs.Heard.{Heard}
 use Rattle.device_core.specs.State.{Station}
 use Rattle.device_core.specs.Several.{judged_each}
+use Rattle.controller_messages.specs.declared.plug_request.PlugStep.{PlugStep}
+use Rattle.controller_messages.specs.declared.plug_request.PlugStep.TheVariants as plug_step
 use Rattle.controller_messages.specs.declared.record_request.RecordService.{RecordService}
 use Rattle.controller_messages.specs.declared.record_request.RecordService.TheVariants as service
 use Rattle.controller_messages.specs.declared.request.Request.{Request}
 use Rattle.controller_messages.specs.declared.request.Request.TheVariants as asks
 use Rattle.controller_messages.specs.declared.setup.Setup.{Setup}
+use Rattle.controller_messages.specs.PlugRequests.{plug_blocks, plug_operation}
 use Rattle.controller_messages.specs.RecordRequests.{record_blocks, service_operation}
 use Rattle.controller_messages.specs.Requests.{blocks_of, call_for, entries_bytes, first_of, group_of, list_blocks, list_of as list_asked, per_call, write_blocks, write_count, write_of as write_asked, writing_blocks}
 use Rattle.block_codec.specs.Writable.{CanBeWritten, IsRecord}
@@ -369,7 +372,7 @@ module _ (read : (block : Block) (rest : List ℕ) → CanBeWritten block → bl
   asked_planned asks.PrmEnd called listed = tt
   asked_planned (asks.Release sequence) called listed = tt
 
-  -- a Write of the application that is one of the plan
+  -- a Write of the application, or after a plug, that is one of the plan
   access_write : (sequence : ℕ) (blocks : List ℕ) → is_planned setup sequence blocks ≡ true → IsPlannedWrite rules real sequence blocks
   access_write zero blocks e = absurd cc
   access_write (suc number) blocks e =
@@ -383,6 +386,12 @@ module _ (read : (block : Block) (rest : List ℕ) → CanBeWritten block → bl
   access_planned service.Read sequence blocks = tt
   access_planned service.Write sequence blocks = λ planned. access_write sequence blocks planned
 
+  -- a Write after a plug, whose record may be one of the plan, or PrmEnd
+  plug_planned : (step : PlugStep) (sequence : ℕ) (blocks : List ℕ) → IsPlannedAs rules real sequence blocks (operation_of (plug_operation step))
+  unfolding operation_of
+  plug_planned (plug_step.Record number) sequence blocks = λ planned. access_write sequence blocks planned
+  plug_planned plug_step.PrmEnd sequence blocks = tt
+
   call_planned : (caller : Caller) (call : Call) → IsKnownCall setup caller call → IsPlannedCall rules setup.activity real call
   call_planned caller call (inl own) = subst (λ (c : Call). IsPlannedCall rules setup.activity real c) (sym own.is) (record {
     own = refl;
@@ -390,11 +399,17 @@ module _ (read : (block : Block) (rest : List ℕ) → CanBeWritten block → bl
     counted = refl;
     asks = asked_planned own.request own.called own.listed;
   })
-  call_planned caller call (inr access) = subst (λ (c : Call). IsPlannedCall rules setup.activity real c) (sym access.is) (record {
+  call_planned caller call (inr (inl access)) = subst (λ (c : Call). IsPlannedCall rules setup.activity real c) (sym access.is) (record {
     own = refl;
     blocks = record_blocks setup access.request access.octets access.request.service;
     counted = refl;
     asks = access_planned access.request.service access.request.sequence (record_blocks setup access.request access.octets access.request.service);
+  })
+  call_planned caller call (inr (inr plugged)) = subst (λ (c : Call). IsPlannedCall rules setup.activity real c) (sym plugged.is) (record {
+    own = refl;
+    blocks = plug_blocks setup plugged.request plugged.request.step;
+    counted = refl;
+    asks = plug_planned plugged.request.step plugged.request.sequence (plug_blocks setup plugged.request plugged.request.step);
   })
 
   said_planned : (caller : Caller) (reported : device.Said) → IsKnownSaid setup caller reported → IsPlannedIn rules setup.activity real reported

@@ -14,7 +14,7 @@ use Rattle.device_core.specs.Machine.{heard_step}
 use Rattle.controller_messages.specs.Requests.{write_count}
 use Rattle.controller_messages.specs.declared.setup.Setup.{Setup}
 use Rattle.controller_messages.specs.Heard.{heard_of as heard_by}
-use Rattle.controller_messages.specs.Sent.{Sent, Requests, Accesses, Agrees, Cycles, Confirms, Replies, Ends, bytes_of}
+use Rattle.controller_messages.specs.Sent.{Sent, Requests, Accesses, Parametrizes, Agrees, Cycles, Confirms, Replies, Ends, bytes_of}
 use Rattle.controller_core.specs.declared.stored.state.State.{State as Phase}
 use Rattle.controller_core.specs.declared.stored.state.State.TheVariants.{Exchanging}
 use Rattle.controller_core.specs.declared.stored.event.Event.{Event}
@@ -85,7 +85,7 @@ pub controller_is : (old : Controlling) (event : Event) → (step_of old event).
 unfolding step_of
 controller_is old event = refl
 
--- a request of the application is sent while data is exchanged
+-- a request of the application, or after a plug, is sent while data is exchanged
 access_exchanges : (count sequence : ℕ) (now : small.Controller) → CallsWhile count now sequence small.Accesses → now ≡ small.Exchanges
 access_exchanges count sequence now (inl releases) = absurd (not_releases releases)
   where
@@ -120,6 +120,7 @@ module _ {F : Type 0} where
       → SaysToDevice (write_count w.controller.setup.plan) now (said_by w.controller.setup.plan message)
       → IsSaid (rules_at w) now (bytes_of w.controller.setup message)
   said_is w now (Accesses to request octets) heard says = (heard.0, inr (access_exchanges (write_count w.controller.setup.plan) request.sequence now says))
+  said_is w now (Parametrizes to request) heard says = (heard.0, inr (access_exchanges (write_count w.controller.setup.plan) request.sequence now says))
   said_is w now (Requests to request) heard says =
       (heard.0, inl (as_said w now (bytes_of w.controller.setup (Requests to request)) (said_by w.controller.setup.plan (Requests to request)) heard.1 says))
   said_is w now (Agrees caller answer) heard says = (heard.0, inl (as_said w now (bytes_of w.controller.setup (Agrees caller answer)) small.Confirms heard.1 says))

@@ -36,7 +36,7 @@ pub struct Op {
     pub note: u32,
     /// Why an event of the application was refused.
     pub reason: u32,
-    /// The phase of the application relation, 0 without a relation; or the state of a controller.
+    /// The phase of the application relation, 0 without a relation; the state of a controller; or that of a place of its plan.
     pub phase: u32,
     /// Why a controller ended.
     pub cause: u32,

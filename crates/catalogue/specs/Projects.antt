@@ -32,6 +32,7 @@ pub record Project : Type 0 where
   pub slots : List Slot
   pub continue_on_refused_record : Bool
   pub release_on_refused_record : Bool
+  pub parameters_after_plug : Bool
 
 -- the station's name and IP suite
 unfoldable pub station : Reader Station
@@ -73,6 +74,7 @@ project least_interval modules tree =
     list_at key.Slots (λ _ entry. slot_item modules entry) tree >>= λ slots.
     flag_at key.ContinueOnRefusedRecord tree >>= λ continue_on_refused_record.
     flag_at key.ReleaseOnRefusedRecord tree >>= λ release_on_refused_record.
+    flag_at key.ParametersAfterPlug tree >>= λ parameters_after_plug.
     Ok (record {
       station = station;
       controller = controller;
@@ -82,4 +84,5 @@ project least_interval modules tree =
       slots = slots;
       continue_on_refused_record = continue_on_refused_record;
       release_on_refused_record = release_on_refused_record;
+      parameters_after_plug = parameters_after_plug;
     })

@@ -62,6 +62,8 @@ pub struct Project {
     pub continue_on_refused_record: bool,
     /// Whether the controller releases the relation when it ends because the device refused a record.
     pub release_on_refused_record: bool,
+    /// Whether the controller writes the records of a submodule again after it was plugged.
+    pub parameters_after_plug: bool,
 }
 
 impl Model for Project {
@@ -76,6 +78,7 @@ impl Model for Project {
       slots = item.slots.items;
       continue_on_refused_record = item.continue_on_refused_record;
       release_on_refused_record = item.release_on_refused_record;
+      parameters_after_plug = item.parameters_after_plug;
     } };
 }
 
@@ -151,6 +154,7 @@ pub(crate) fn project_of(
     let slots = list(alloc, modules, tree, Key::Slots)?;
     let continue_on_refused_record = flag_at(tree, Key::ContinueOnRefusedRecord)?;
     let release_on_refused_record = flag_at(tree, Key::ReleaseOnRefusedRecord)?;
+    let parameters_after_plug = flag_at(tree, Key::ParametersAfterPlug)?;
     Ok(Project {
         station,
         controller,
@@ -160,5 +164,6 @@ pub(crate) fn project_of(
         slots,
         continue_on_refused_record,
         release_on_refused_record,
+        parameters_after_plug,
     })
 }

@@ -47,6 +47,7 @@ parts_of found addresses = record {
   continue_on_refused_record = found.project.continue_on_refused_record;
   release_on_refused_record = found.project.release_on_refused_record;
   multiple_write = found.access_point.multiple_write;
+  parameters_after_plug = found.project.parameters_after_plug;
 }
 
 -- ---- the whole catalogue

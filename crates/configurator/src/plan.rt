@@ -52,6 +52,7 @@ fn parts_of(catalogue: &Catalogue, names: Names, addresses: Addresses) -> Parts
         continue_on_refused_record: project.continue_on_refused_record,
         release_on_refused_record: project.release_on_refused_record,
         multiple_write: catalogue.access_point.multiple_write,
+        parameters_after_plug: project.parameters_after_plug,
     }
 }
 

@@ -11,7 +11,7 @@ use Rattle.controller_abi.specs.declared.operation.Operation.{Operation}
 use Rattle.controller_abi.specs.declared.operation.Operation.TheVariants as operation
 use Rattle.controller_abi.specs.Host.{AreFetched, AreServed, Entry, Runs, Shows, accepted_by, accepted_in, all_sent, asked_in, both, fetched_by, fetched_in, operation_in}
 use Rattle.controller_abi.specs.Plays.{IsPlayed, IsTurn, Plays}
-use Rattle.controller_abi.specs.Serves.{IsInput, Performs, ServesIf, with_next}
+use Rattle.controller_abi.specs.Serves.{IsInput, IsPlace, Performs, ServesIf, with_next}
 use Rattle.controller_abi.specs.State.{State}
 use Rattle.controller_abi.proofs.HostTurns.{Turned, after_both, all_sent_both, turned}
 
@@ -123,6 +123,7 @@ shown (Some operation.Report) port entry next is = tt
 shown (Some operation.Diagnoses) port entry next is = is.2
 shown (Some operation.Diagnosis) port entry next is = is.1
 shown (Some operation.Neighbour) port entry next is = tt
+shown (Some operation.Place) port entry next is = λ place at. subst (λ (o : Option (ℕ × ℕ)). IsPlace o port entry.asked entry.answer entry.reported) at is.1
 shown None port entry next is = tt
 
 -- ---- the controller alone

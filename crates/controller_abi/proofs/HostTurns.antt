@@ -26,7 +26,9 @@ use Rattle.controller_abi.specs.declared.operation.Operation.{Operation}
 use Rattle.controller_abi.specs.declared.operation.Operation.TheVariants as operation
 use Rattle.controller_abi.specs.Host.{Entry, accepted_by, all_sent, both, bytes_in, fetched_by, handed_in, handed_out}
 use Rattle.controller_abi.specs.Outputs.{why_not_rated, why_not_read, why_not_set, why_not_written}
-use Rattle.controller_abi.specs.Serves.{IsAlarm, IsAnswered, IsDiagnosis, IsEvent, IsGift, IsHandOut, IsInput, IsNeighbour, IsProvider, IsProviderAt, IsRead, IsRefusal, IsRefusedRecord, IsReported, IsSet, IsStatus, IsTick, IsValue, IsWrite, Performs, ServesIf, index_in, planned_output, priority_in, why_no_place, with_next}
+use Rattle.plan_places.specs.declared.place.PlaceState.{PlaceState}
+use Rattle.plan_places.specs.Places.{state_at}
+use Rattle.controller_abi.specs.Serves.{IsAlarm, IsAnswered, IsDiagnosis, IsEvent, IsGift, IsHandOut, IsInput, IsNeighbour, IsPlace, IsPlaceIn, IsProvider, IsProviderAt, IsRead, IsRefusal, IsRefusedRecord, IsReported, IsSet, IsStatus, IsTick, IsValue, IsWrite, Performs, ServesIf, index_in, planned_output, priority_in, why_no_place, with_next}
 use Rattle.controller_abi.specs.State.{State, has_frames, is_over}
 use Rattle.controller_abi.specs.State.{after as stepped}
 use Rattle.controller_abi.specs.Steps.{Ticks}
@@ -336,6 +338,14 @@ module _ (entry : Entry) where
   told_neighbour (Some peer) is = inl is.0
   told_neighbour None is = nine is.0 is.1
 
+  told_state : (state : Option PlaceState) → IsPlaceIn state entry.asked entry.answer entry.reported → IsTold entry
+  told_state (Some state) is = inl is.0
+  told_state None is = nine is.0 is.1
+
+  told_place : (port : State) (place : Option (ℕ × ℕ)) → IsPlace place port entry.asked entry.answer entry.reported → IsTold entry
+  told_place port (Some place) is = told_state (state_at place.0 place.1 port.controller.live.places) is
+  told_place port None is = nine is.0 is.1
+
 -- ---- any operation
 
 performed : (what : Option Operation) (old : State) (entry : Entry) (new : State) → Performs what old entry.asked entry.given entry.answer new entry.reported
@@ -362,6 +372,7 @@ performed (Some operation.Report) old entry new is =
 performed (Some operation.Diagnoses) old entry new is = reads _ old entry new refl refl is.0 (inl is.1)
 performed (Some operation.Diagnosis) old entry new is = reads _ old entry new refl refl is.0 (told_diagnosis entry (slice_get old.controller.live.diagnosis.existing entry.asked.number) is.1)
 performed (Some operation.Neighbour) old entry new is = reads _ old entry new refl refl is.0 (told_neighbour entry (option_map (λ (k : Known). k.peer) old.services.near.known) is.1)
+performed (Some operation.Place) old entry new is = reads _ old entry new refl refl is.0 (told_place entry old (place_in entry.asked.slot entry.asked.subslot) is.1)
 performed None old entry new is =
     refuses None old entry new (λ none. absurd (let ten = is.0 in omega (arith, none, ten))) (λ seven. absurd (let ten = is.0 in omega (arith, seven, ten))) is.1 is.2
 

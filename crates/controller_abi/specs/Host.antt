@@ -12,7 +12,8 @@ use Rattle.c_layout.specs.Places.{place_in}
 use Rattle.controller_abi.specs.declared.operation.Operation.{Operation}
 use Rattle.controller_abi.specs.declared.operation.Operation.TheVariants as operation
 use Rattle.controller_abi.specs.State.{State}
-use Rattle.controller_abi.specs.Serves.{IsAlarm, IsDiagnosis, IsValue, Serves, operation_of, with_diagnoses, with_state}
+use Rattle.controller_abi.specs.Serves.{IsAlarm, IsDiagnosis, IsPlaceIn, IsValue, Serves, operation_of, with_diagnoses, with_state}
+use Rattle.plan_places.specs.Places.{state_at}
 
 -- ---- what a host asks for and gets
 
@@ -115,7 +116,8 @@ AreFetched entries =
     (before : List Entry) (fetch : Entry) (since : List Entry) (entry : Entry) (more : List Entry)
     → entries ≡ before ++ fetch ∷ (since ++ entry ∷ more) → FindsNone fetch → accepted_in since ≡ [] → entry.answer ≢ 7
 
--- What the host reads of a controller that was started: its state, its last alarm, the device's diagnoses, and an input.
+-- What the host reads of a controller that was started: its state, its last alarm, the device's diagnoses, what is known of a
+-- place of its plan, and an input.
 abbrev pub Shows : Option Operation → Controlling → Entry → Type 0
 Shows (Some operation.State) controller entry = entry.reported ≡ with_state controller.live.phase entry.asked
 Shows (Some operation.Alarm) controller entry = IsAlarm controller.live.alarm entry.asked entry.answer entry.reported
@@ -125,4 +127,7 @@ Shows (Some operation.Diagnosis) controller entry =
 Shows (Some operation.Value) controller entry =
     (place : ℕ × ℕ) → place_in entry.asked.slot entry.asked.subslot ≡ Some place
     → IsValue (value_at controller.live.cyclic place.0 place.1) entry.asked entry.answer entry.reported
+Shows (Some operation.Place) controller entry =
+    (place : ℕ × ℕ) → place_in entry.asked.slot entry.asked.subslot ≡ Some place
+    → IsPlaceIn (state_at place.0 place.1 controller.live.places) entry.asked entry.answer entry.reported
 Shows what controller entry = Unit {0}

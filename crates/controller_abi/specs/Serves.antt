@@ -23,6 +23,9 @@ use Rattle.controller_core.specs.declared.stored.event.Event.{Event}
 use Rattle.controller_core.specs.declared.stored.event.Event.TheVariants as event
 use Rattle.controller_core.specs.declared.stored.state.State as phase
 use Rattle.controller_core.specs.declared.stored.state.State.TheVariants.{Looking, Addressing, Connecting, Writing, Ending, Waiting, Exchanging, Ended}
+use Rattle.plan_places.specs.declared.place.PlaceState.{PlaceState}
+use Rattle.plan_places.specs.Places.{state_at}
+use Rattle.plan_places.specs.Places.{number_of as place_number}
 use Rattle.c_layout.specs.declared.op.Op.{Op}
 use Rattle.c_layout.specs.Places.{place_in}
 use Rattle.c_layout.specs.Reported.{with_octets}
@@ -55,7 +58,8 @@ operation_of what =
     if what == 34 then Some operation.Report else
     if what == 35 then Some operation.Diagnoses else
     if what == 36 then Some operation.Diagnosis else
-    if what == 37 then Some operation.Neighbour else None
+    if what == 37 then Some operation.Neighbour else
+    if what == 38 then Some operation.Place else None
 
 -- ---- events
 
@@ -259,6 +263,16 @@ abbrev pub IsDiagnosis : Option Diagnosis → Op → ℕ → Op → Type 0
 IsDiagnosis (Some diagnosis) asked answer reported = (answer ≡ 0) × (reported ≡ with_diagnosis diagnosis asked)
 IsDiagnosis None asked answer reported = (answer ≡ 9) × (reported ≡ asked)
 
+-- What is known of a place: the number of its state; 9 if it is no place of the plan, or no relation is established.
+abbrev pub IsPlaceIn : Option PlaceState → Op → ℕ → Op → Type 0
+IsPlaceIn (Some state) asked answer reported = (answer ≡ 0) × (reported ≡ record asked { phase = place_number state })
+IsPlaceIn None asked answer reported = (answer ≡ 9) × (reported ≡ asked)
+
+-- What the operation Place returns. A slot or subslot that is not a number of 16 bits names no place.
+abbrev pub IsPlace : Option (ℕ × ℕ) → State → Op → ℕ → Op → Type 0
+IsPlace (Some place) port asked answer reported = IsPlaceIn (state_at place.0 place.1 port.controller.live.places) asked answer reported
+IsPlace None port asked answer reported = (answer ≡ 9) × (reported ≡ asked)
+
 -- The neighbour by LLDP: the lengths of its PortID and of its ChassisID, and the octets of its MAC address, PortID and
 -- ChassisID; 9 if none is known.
 abbrev pub with_neighbour : Peer → Op → Op
@@ -314,6 +328,8 @@ Performs (Some operation.Diagnosis) old asked given answer new reported =
     (new ≡ old) × IsDiagnosis (slice_get old.controller.live.diagnosis.existing asked.number) asked answer reported
 Performs (Some operation.Neighbour) old asked given answer new reported =
     (new ≡ old) × IsNeighbour (option_map (λ (k : Known). k.peer) old.services.near.known) asked answer reported
+Performs (Some operation.Place) old asked given answer new reported =
+    (new ≡ old) × IsPlace (place_in asked.slot asked.subslot) old asked answer reported
 Performs None old asked given answer new reported = (answer ≡ 10) × (new ≡ old) × (reported ≡ asked)
 
 -- The result of an operation: 17 for each one if the controller did not start, and nothing changes.

@@ -26,6 +26,7 @@ pub enum Operation {
     Diagnoses,
     Diagnosis,
     Neighbour,
+    Place,
 }
 
 // The operation of this number, if it exists.
@@ -54,6 +55,7 @@ pub(crate) fn operation_of(what: u32) -> Option<Operation>
         35 => Some(Operation::Diagnoses),
         36 => Some(Operation::Diagnosis),
         37 => Some(Operation::Neighbour),
+        38 => Some(Operation::Place),
         _ => None,
     }
 }

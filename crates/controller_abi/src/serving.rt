@@ -9,7 +9,7 @@ ghost use Rattle.controller_core.specs.Machine.{can_request, end_of, provider_of
 ghost use Rattle.c_layout.specs.Places.{place_in};
 ghost use Rattle.controller_abi.specs.Outputs.{why_not_fit, why_not_rated, why_not_read, why_not_set, why_not_written};
 ghost use Rattle.controller_abi.specs.State.{after, has_frames, port_due_in};
-ghost use Rattle.controller_abi.specs.Serves.{IsAlarm, IsAnswered, IsDiagnosis, IsEvent, IsGift, IsHandOut, IsInput, IsNeighbour, IsProvider, IsProviderAt, IsRead, IsRefusal, IsRefusedRecord, IsReported, IsSet, IsStatus, IsTick, IsValue, IsWrite, Performs, Serves};
+ghost use Rattle.controller_abi.specs.Serves.{IsAlarm, IsAnswered, IsDiagnosis, IsEvent, IsGift, IsHandOut, IsInput, IsNeighbour, IsPlace, IsPlaceIn, IsProvider, IsProviderAt, IsRead, IsRefusal, IsRefusedRecord, IsReported, IsSet, IsStatus, IsTick, IsValue, IsWrite, Performs, Serves};
 ghost use Rattle.controller_abi.specs.Serves.{index_in, priority_in, status_number as status_number_in, structure_number as structure_number_in};
 ghost use Rattle.controller_abi.specs.Serves.{cause_number, operation_of as operation_in, phase_number, planned_output, why_no_place};
 ghost use Rattle.controller_abi.specs.Serves.{status_number as status_number_in, with_alarm, with_conflicts, with_diagnoses, with_neighbour, with_next, with_state};
@@ -19,7 +19,7 @@ use crate::port::Port;
 use arrayvec::ArrayVec;
 use block_codec::AlarmNotification;
 use c_layout::{BAD_LENGTH, HAS_WORK, NO_FRAME, NO_SLOT, Op, UNKNOWN, place_of, put};
-use controller_core::{Event, ProviderStatus, State};
+use controller_core::{Event, PlaceState, ProviderStatus, State};
 use diagnosis::{Priority, Report};
 use frame_codec::Bytes;
 use lldp::Neighbour;
@@ -111,6 +111,7 @@ fn perform(operation: Operation, port: &mut Port, op: &mut Op, given: &[u8]) -> 
         Operation::Diagnoses => diagnoses(port, op),
         Operation::Diagnosis => diagnosis(port, op),
         Operation::Neighbour => neighbour(port, op),
+        Operation::Place => place(port, op),
     }
 }
 
@@ -590,6 +591,31 @@ fn diagnosis(port: &Port, op: &mut Op) -> u32
             op.subslot = u32::from(diagnosis.subslot);
             op.channel = u32::from(diagnosis.channel);
             op.error = u32::from(diagnosis.error);
+            0
+        }
+        None => NO_SLOT,
+    }
+}
+
+// ---- the places of the plan
+
+// What is known of a place of the plan.
+fn place(port: &Port, op: &mut Op) -> u32
+    ensures { IsPlace (place_in op.old.slot op.old.subslot) port.now op.old result op.new }
+{
+    match place_of(op) {
+        Some(place) => tell_place(port.controller().place(place.0, place.1), op),
+        None => NO_SLOT,
+    }
+}
+
+// Reports the state of a place, if it is one.
+fn tell_place(state: Option<PlaceState>, op: &mut Op) -> u32
+    ensures { IsPlaceIn state op.old result op.new }
+{
+    match state {
+        Some(state) => {
+            op.phase = state.number();
             0
         }
         None => NO_SLOT,

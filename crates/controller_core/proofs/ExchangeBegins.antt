@@ -1,5 +1,5 @@
 -- Data is exchanged from exactly the step that answers an ApplicationReady of the relation.
-use Rattle.std.proofs.Common.{◌≡◌, ◌⊎◌, ◌&&◌, ℕ, zero, suc, Bool, true, false, List, [], ◌∷◌, map, Option, Some, None, if◌then◌else◌, refl, sym, ap, subst, ◌∙◌, inl, inr, nat_lt, length, ◌+◌}
+use Rattle.std.proofs.Common.{◌≡◌, ◌⊎◌, ◌&&◌, ◌||◌, not, ℕ, zero, suc, Bool, true, false, List, [], ◌∷◌, map, Option, Some, None, if◌then◌else◌, refl, sym, ap, subst, ◌∙◌, inl, inr, nat_lt, length, ◌+◌}
 use Rattle.std.proofs.lemmas.Bool.{cond-true}
 use Rattle.pn_values.specs.declared.mac.Mac.{Mac}
 use Rattle.frame_codec.specs.declared.udp.Caller.{Caller}
@@ -9,6 +9,7 @@ use Rattle.rpc_core.specs.declared.response.Status.{Status}
 use Rattle.rpc_core.specs.Call.{Asked as Call}
 use Rattle.rpc_core.specs.Response.{Answered as Response, is_done}
 use Rattle.connect_blocks.specs.declared.control.ControlBlock.{ControlBlock}
+use Rattle.connect_blocks.specs.declared.plug_control.PlugControlBlock.{PlugControlBlock}
 use Rattle.block_codec.specs.Block.{block_of}
 use Rattle.pn_alarms.specs.declared.abort.Abort.{Abort}
 use Rattle.pn_alarms.specs.declared.message.Notice.TheVariants as notice
@@ -26,6 +27,9 @@ use Rattle.diagnosis.specs.reports.Message.{ToController}
 use Rattle.controller_messages.specs.declared.record_request.RecordRequest.{RecordRequest}
 use Rattle.controller_messages.specs.declared.record_request.RecordService.{RecordService}
 use Rattle.controller_messages.specs.declared.record_request.RecordService.TheVariants as service
+use Rattle.controller_messages.specs.declared.plug_request.PlugRequest.{PlugRequest}
+use Rattle.controller_messages.specs.declared.plug_request.PlugStep.{PlugStep}
+use Rattle.controller_messages.specs.declared.plug_request.PlugStep.TheVariants as steps
 use Rattle.controller_messages.specs.declared.refusal.Refusal.{Refusal}
 use Rattle.controller_messages.specs.declared.setup.Setup.{Setup}
 use Rattle.controller_messages.specs.declared.request.Request.{Request}
@@ -33,11 +37,14 @@ use Rattle.controller_messages.specs.declared.request.Request.TheVariants as ask
 use Rattle.controller_messages.specs.Heard.{Heard, Nothing, Answers, Responds, Refuses, Calls, Alarms, heard_of}
 use Rattle.controller_messages.specs.Heard.{Cyclic as Comes}
 use Rattle.controller_messages.specs.Access.{is_rejected, is_reply, record_in}
+use Rattle.controller_messages.specs.PlugRequests.{is_plug_answer, is_plug_ready, plug_ready_in}
 use Rattle.controller_messages.specs.RecordRequests.{most_record_octets}
 use Rattle.controller_messages.specs.Requests.{first_of, writing_from}
 use Rattle.controller_messages.specs.Sent.{Agrees, bytes_of, ready_answer}
 use Rattle.connects.specs.declared.answers.connect.Found.{Found}
 use Rattle.connects.specs.answers.Connect.{Chosen, chosen_of, found_in, is_whole, nothing}
+use Rattle.plan_places.specs.declared.report.Plug.{Plug}
+use Rattle.plan_places.specs.Places.{has_turn_at, next_waiting}
 use Rattle.controller_core.specs.declared.start_up.outcomes.Outcomes.{Outcomes}
 use Rattle.controller_core.specs.declared.start_up.outcomes.Outcomes.TheVariants.{AllWritten, Unreadable}
 use Rattle.controller_core.specs.declared.start_up.outcomes.Outcomes.TheVariants.{Refused as Denied}
@@ -51,7 +58,7 @@ use Rattle.controller_core.specs.stored.State.{Controlling, Live}
 use Rattle.controller_core.specs.stored.Alarms.{ack_of, is_alarm}
 use Rattle.controller_core.specs.start_up.Answers.{is_addressed, is_answer, is_found, is_ready, is_refused, is_right, is_set_answer, ready_in}
 use Rattle.controller_core.specs.start_up.Outcomes.{outcomes_of}
-use Rattle.controller_core.specs.Machine.{Turn, acked_under, acking, after_write, answered, behind_data, brings, brought, called, can_request, come, connected, decided, done, end_of, exchange_later, flowed, given, granted, handled, is_again, is_spent, keeping, later, noted, noticed, past_record, quit, rated, readied, refused, refused_by, rejected, related_by, replied, requested, responded, standing, stays, step_of, taken, ticked, turn_of, turned, undone, with_end, writing, written}
+use Rattle.controller_core.specs.Machine.{Turn, acked_under, acking, after_turn, after_write, alarmed, answered, begun_by, begun_turn, behind_data, beside, brings, brought, called, can_begin, can_request, come, connected, decided, done, end_of, exchange_later, flowed, given, gone_on, granted, handled, is_again, is_plug_awaited, is_spent, keeping, later, noted, noticed, past_record, placed, plug_called, plug_finished, plug_passed_by, plug_refused, plug_replied, plug_responded, quit, rated, readied, refused, refused_beside, refused_by, refused_place, rejected, related_by, replied, requested, responded, standing, stays, step_of, taken, ticked, turn_due, turn_of, turned, undone, with_end, writing, written}
 use Rattle.controller_core.specs.Readied.{IsReadied}
 use Rattle.controller_core.specs.Leaps.{ticks_of}
 
@@ -62,6 +69,10 @@ Goes live turn = turn.live.phase ≡ Exchanging → live.phase ≡ Exchanging
 either : (live : Live) (x y : Turn) (is : Bool) → Goes live x → Goes live y → Goes live (if is then x else y)
 either live x y true one other = one
 either live x y false one other = other
+
+phase_by : (b : Bool) (one other now : Live) → one.phase ≡ now.phase → other.phase ≡ now.phase → (if b then one else other).phase ≡ now.phase
+phase_by true one other now same rest = same
+phase_by false one other now same rest = rest
 
 module _ (setup : Setup) (live : Live) where
   rests : Goes live (stays live)
@@ -103,13 +114,14 @@ module _ (setup : Setup) (live : Live) where
 
   -- ---- responses
 
-  relates : (chosen : Option Chosen) → Goes live (related_by setup live chosen)
-  relates (Some chosen) = writes (writing_from setup.plan 0) (standing setup live chosen)
-  relates None = rests
+  relates : (now : Live) → now.phase ≡ live.phase → (chosen : Option Chosen) → Goes live (related_by setup now chosen)
+  relates now same (Some chosen) e = writes (writing_from setup.plan 0) (standing setup now chosen) e
+  relates now same None e = sym same ∙ e
 
-  connects : (found : Option Found) → Goes live (connected setup live found)
-  connects (Some found) = either live _ _ (is_whole found) (either live _ _ found.differs (λ e. absurd cc) (relates (chosen_of found))) rests
-  connects None = rests
+  connects : (blocks : List ℕ) (found : Option Found) → Goes live (connected setup live blocks found)
+  connects blocks (Some found) =
+      either live _ _ (is_whole found) (either live _ _ found.differs (λ e. absurd cc) (relates (placed setup blocks live) refl (chosen_of found))) rests
+  connects blocks None = rests
 
   passes : (number : ℕ) (now : Live) → Goes live (past_record setup number now)
   passes number now =
@@ -124,7 +136,7 @@ module _ (setup : Setup) (live : Live) where
   done_goes : (blocks : List ℕ) (request : Request) → Goes live (done setup live blocks request)
   done_goes blocks asks.Identify e = rests e
   done_goes blocks asks.Address e = rests e
-  done_goes blocks asks.Connect e = connects (found_in 400 blocks nothing) e
+  done_goes blocks asks.Connect e = connects blocks (found_in 400 blocks nothing) e
   done_goes blocks (asks.Write number) e = after_writes number (outcomes_of setup.plan number blocks) e
   done_goes blocks asks.PrmEnd e = absurd cc
   done_goes blocks (asks.Release sequence) e = e
@@ -166,9 +178,50 @@ module _ (setup : Setup) (live : Live) where
       (if_stays (is_done response.status) _ _ (grants request response.blocks request.service) (λ e. e)) rests
   replied_goes response None = rests
 
+  -- ---- the turns of places
+
+  begun_by_same : (next : Option Plug) (now : Live) → (begun_by setup next now).phase ≡ now.phase
+  begun_by_same (Some one) now = refl
+  begun_by_same None now = refl
+
+  begun_same : (now : Live) → (begun_turn setup now).phase ≡ now.phase
+  begun_same now = phase_by (can_begin now) _ now now (begun_by_same (next_waiting now.places) now) refl
+
+  after_goes : (could : Bool) (turn : Turn) → Goes live turn → Goes live (after_turn setup could turn)
+  after_goes could turn goes = either live turn _ (could || not (can_begin turn.live)) goes (λ e. goes (sym (begun_same turn.live) ∙ e))
+
+  passed_same : (now : Live) (request : PlugRequest) (step : PlugStep) → (plug_passed_by setup now request step).phase ≡ now.phase
+  passed_same now request (steps.Record number) = phase_by (has_turn_at request.slot request.subslot now.places) _ now now refl refl
+  passed_same now request steps.PrmEnd = refl
+
+  refused_same : (request : PlugRequest) (now : Live) → (refused_place request now).phase ≡ now.phase
+  refused_same request now = phase_by (has_turn_at request.slot request.subslot now.places) _ now now refl refl
+
+  plug_refused_same : (now : Live) (status : Status) (request : PlugRequest) (step : PlugStep) → (plug_refused setup now status request step).phase ≡ now.phase
+  plug_refused_same now status request (steps.Record number) =
+      phase_by setup.plan.continue_on_refused_record _ _ now (passed_same (noted status number now) request request.step) (refused_same request (noted status number now))
+  plug_refused_same now status request steps.PrmEnd = refused_same request (record now { refusal = Some status })
+
+  plug_replied_same : (status : Status) (request : PlugRequest) → (plug_replied setup live status request).phase ≡ live.phase
+  plug_replied_same status request =
+      phase_by (is_done status) _ _ live (passed_same (plug_finished live) request request.step) (plug_refused_same (plug_finished live) status request request.step)
+
+  plug_responds : (response : Response) (request : PlugRequest) → Goes live (plug_responded setup live response request)
+  plug_responds response request =
+      either live _ _ (is_plug_answer setup request response.header.activity response.header.sequence)
+      (λ e. sym (plug_replied_same response.status request) ∙ e) rests
+
+  besides : (response : Response) (request : Option PlugRequest) → Goes live (beside setup live response request)
+  besides response (Some request) = plug_responds response request
+  besides response None = replied_goes response live.access.waiting
+
+  plug_calls : (caller : Caller) (call : Call) (block : Option PlugControlBlock) → Goes live (plug_called setup live caller call block)
+  plug_calls caller call (Some block) = either live _ _ (is_plug_ready setup block && is_plug_awaited live block.alarm_sequence_number) (λ e. e) rests
+  plug_calls caller call None = rests
+
   responds : (response : Response) (asked : Option Request) → Goes live (responded setup live response asked)
   responds response (Some request) = either live _ _ (is_answer setup request response.header) (decides response request) rests
-  responds response None = replied_goes response live.access.waiting
+  responds response None = besides response live.access.plug
 
   -- ---- rejects and faults
 
@@ -184,9 +237,15 @@ module _ (setup : Setup) (live : Live) where
   rejects refusal (Some request) = if_stays (is_rejected setup request refusal) _ _ (λ e. e) rests
   rejects refusal None = rests
 
+  refuses_beside : (refusal : Refusal) (request : Option PlugRequest) → Goes live (stays (refused_beside setup live refusal request))
+  refuses_beside refusal (Some request) =
+      if_stays (is_plug_answer setup request refusal.activity refusal.sequence) _ _
+      (λ e. sym (refused_same request (record (plug_finished live) { refusal = Some refusal.status })) ∙ e) rests
+  refuses_beside refusal None = rejects refusal live.access.waiting
+
   refuses : (refusal : Refusal) (asked : Option Request) → Goes live (refused setup live refusal asked)
   refuses refusal (Some request) = either live _ _ (is_refused setup request refusal) (refuses_by refusal request) rests
-  refuses refusal None = rejects refusal live.access.waiting
+  refuses refusal None = refuses_beside refusal live.access.plug
 
   -- ---- alarms
 
@@ -212,14 +271,21 @@ module _ (setup : Setup) (live : Live) where
 
   -- ---- units, and the application
 
-  flows : (high low : Due) (is_request : Bool) (tick : Brought) (ending : Option Abort) → Goes live (flowed (exchange_later (later live)) high low is_request tick ending)
-  flows high low is_request tick (Some reason) e = absurd cc
-  flows high low is_request tick None e = e
+  flows : (now : Live) → now.phase ≡ live.phase → (high low : Due) (is_request : Bool) (tick : Brought) (ending : Option Abort)
+      → Goes live (flowed (exchange_later now) high low is_request tick ending)
+  flows now same high low is_request tick (Some reason) e = absurd cc
+  flows now same high low is_request tick None e = sym same ∙ e
+
+  goes_later : (now : Live) → now.phase ≡ live.phase → (is_request : Bool) → Goes live (gone_on now is_request)
+  goes_later now same is_request = either live _ _ now.stands (flows now same _ _ is_request (brought now) (brought now).ending) (λ e. sym same ∙ e)
+
+  due_same : (is_due : Bool) (now : Live) → (turn_due setup is_due now).phase ≡ now.phase
+  due_same is_due now = phase_by is_due _ now now (begun_same now) refl
 
   ticks : Goes live (ticked setup live)
   ticks =
       either live _ _ (is_spent live) (quits cause.NoProgress (later live) live.phase refl)
-      (either live _ _ live.stands (flows _ _ (is_again live) (brought (later live)) (brought (later live)).ending) (λ e. e))
+      (goes_later (turn_due setup (is_again live) (later live)) (due_same (is_again live) (later live)) (is_again live))
 
   asks_record : (kind : RecordService) (slot subslot index : ℕ) (octets : List ℕ) → Goes live (requested setup live kind slot subslot index octets)
   asks_record kind slot subslot index octets = either live _ _ (can_request live) (λ e. e) rests
@@ -260,17 +326,18 @@ module _ (setup : Setup) (live : Live) where
 
     by_block : (block : Option ControlBlock) → ready_in call ≡ block → Begins came (called setup live caller call block)
     by_block (Some block) is e = by_right block is (is_ready setup block) refl e
-    by_block None is e = inl e
+    by_block None is e = inl (after_goes (can_begin live) (plug_called setup live caller call (plug_ready_in call)) (plug_calls caller call (plug_ready_in call)) e)
 
   by_heard : (octets : List ℕ) (heard : Heard) → heard_of setup.plan.controller octets ≡ heard → Begins (Frame (record { items = octets })) (turned setup live heard)
   by_heard octets Nothing is = goes_on (Frame (record { items = octets })) (turned setup live Nothing) rests
   by_heard octets (Answers source answer) is = goes_on (Frame (record { items = octets })) (turned setup live (Answers source answer)) (answers_go source answer live.phase)
-  by_heard octets (Responds response) is = goes_on (Frame (record { items = octets })) (turned setup live (Responds response)) (responds response live.asked)
-  by_heard octets (Refuses refusal) is = goes_on (Frame (record { items = octets })) (turned setup live (Refuses refusal)) (refuses refusal live.asked)
+  by_heard octets (Responds response) is = goes_on (Frame (record { items = octets })) (turned setup live (Responds response)) (after_goes (can_begin live) (responded setup live response live.asked) (responds response live.asked))
+  by_heard octets (Refuses refusal) is = goes_on (Frame (record { items = octets })) (turned setup live (Refuses refusal)) (after_goes (can_begin live) (refused setup live refusal live.asked) (refuses refusal live.asked))
   by_heard octets (Calls caller call) is = by_block octets caller call is (ready_in call) refl
   by_heard octets (Comes source frame_id body) is = goes_on (Frame (record { items = octets })) (stays (come live source frame_id body)) (if_stays live.stands _ _ (λ e. e) rests)
   by_heard octets (Alarms source under header reported) is =
-      goes_on (Frame (record { items = octets })) (turned setup live (Alarms source under header reported)) (either live _ _ (live.stands && is_alarm live.cyclic.route source header) (notices under reported) rests)
+      goes_on (Frame (record { items = octets })) (turned setup live (Alarms source under header reported))
+      (after_goes (can_begin live) (alarmed live source under header reported) (either live _ _ (live.stands && is_alarm live.cyclic.route source header) (notices under reported) rests))
 
   pub begins : (event : Event) → Begins event (turn_of setup live event)
   begins (Frame bytes) = by_heard bytes.items (heard_of setup.plan.controller bytes.items) refl

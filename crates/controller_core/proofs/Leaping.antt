@@ -1,5 +1,5 @@
 -- Several units of time at once, and as many Tick events.
-use Rattle.std.proofs.Common.{◌≡◌, ◌+◌, ◌-◌, ◌%◌, ◌<◌, ◌==◌, ◌&&◌, ◌++◌, ℕ, zero, suc, Bool, true, false, List, [], ◌∷◌, map, sum, refl, sym, ap, ◌∙◌, arith, append_assoc, Option, Some, None, if◌then◌else◌}
+use Rattle.std.proofs.Common.{◌≡◌, ◌+◌, ◌-◌, ◌%◌, ◌<◌, ◌==◌, ◌&&◌, ◌||◌, ◌++◌, not, ℕ, zero, suc, Bool, true, false, List, [], ◌∷◌, map, sum, refl, sym, ap, ◌∙◌, arith, append_assoc, Option, Some, None, if◌then◌else◌}
 use Rattle.std.specs.Prelude.{min, is_some}
 use Rattle.std.proofs.lemmas.Bool.{eqb-true, ne_eqb}
 use Rattle.std.proofs.lemmas.Bool.Decides.{nat_tests}
@@ -18,14 +18,17 @@ use Rattle.pn_alarms.specs.Sending.{due, either_due}
 use Rattle.cyclic_data.specs.exchange.Cyclic.{Cyclic}
 use Rattle.cyclic_data.specs.exchange.Leaps.{IsQuietFor, cyclic_due_in}
 use Rattle.cyclic_data.specs.exchange.Units.{Brought, cyclic_later, ending_by, is_silent, tick_by, tick_of}
+use Rattle.controller_messages.specs.declared.plug_request.PlugRequest.{PlugRequest}
 use Rattle.controller_messages.specs.declared.record_request.RecordRequest.{RecordRequest}
 use Rattle.controller_messages.specs.declared.request.Request.{Request}
 use Rattle.controller_messages.specs.declared.setup.Setup.{Setup}
+use Rattle.controller_messages.specs.Access.{is_free}
 use Rattle.controller_messages.specs.Sent.{Sent, bytes_of}
+use Rattle.plan_places.specs.Places.{next_waiting}
 use Rattle.controller_core.specs.declared.stored.state.Cause.TheVariants.{NoProgress}
 use Rattle.controller_core.specs.declared.stored.event.Event.TheVariants.{Tick}
 use Rattle.controller_core.specs.Leaps.{LeapsAreTicks, NoneEnds, NoneSends, OnlyTheLastEnds, OnlyTheLastSends, access_due_in, and_then, exchange_due_in, patience_due_in, request_due_in, ticks_of}
-use Rattle.controller_core.specs.Machine.{Stepped, Turn, accesses_by, exchange_later, flowed, gone_on, is_again, is_spent, later, pending_by, pending_of, quit, requests_of, step_of, stepped, ticked, where_due}
+use Rattle.controller_core.specs.Machine.{Stepped, Turn, accesses_by, begun_by, can_begin, exchange_later, flowed, gone_on, is_again, is_exchanging, is_spent, later, pending_by, pending_of, plugs_by, quit, requests_of, step_of, stepped, ticked, turn_due, where_due}
 use Rattle.controller_core.specs.stored.State.{Controlling, Live, is_limited, with_live}
 
 pub below_left : (number one other : ℕ) → number < min one other → number < one
@@ -34,9 +37,15 @@ below_left number one other below = omega (arith, below)
 pub below_right : (number one other : ℕ) → number < min one other → number < other
 below_right number one other below = omega (arith, below)
 
+-- The Bool says whether the relation is established.
+due_by : (b : Bool) (due number : ℕ) → b ≡ true → number < (if b then due else never) → number < due
+due_by true due number stands below = below
+due_by false due number stands below = absurd cc
+
 pub exchange_below : (live : Live) (number : ℕ) → live.stands ≡ true → number < exchange_due_in live
     → number < min (access_due_in live) (min (min (cyclic_due_in live.cyclic) (data_due_in live.alarms.sending)) (data_due_in live.low_alarms.sending))
-exchange_below live number stands below = rw stands at below
+exchange_below live number stands below =
+    due_by live.stands (min (access_due_in live) (min (min (cyclic_due_in live.cyclic) (data_due_in live.alarms.sending)) (data_due_in live.low_alarms.sending))) number stands below
 
 -- ---- one Tick event
 
@@ -85,25 +94,53 @@ idle : (is_due : Bool) → where_due is_due [] ≡ []
 idle true = refl
 idle false = refl
 
+not_again : (waited units : ℕ) → suc units < 32000 - waited → ((waited + units) % 32000 + 1 == 32000) ≡ false
+not_again waited units before =
+    let small : waited + units < 32000 = omega (arith, before) in
+    let same : (waited + units) % 32000 ≡ waited + units = mod-eq_of_lt small in
+    ne_eqb ((waited + units) % 32000 + 1) 32000 (λ e. omega (arith, e, same, before))
+
 no_request : (device : Mac) (asked : Option Request) (waited units : ℕ) → suc units < (if is_some asked then 32000 - waited else never)
     → where_due ((waited + units) % 32000 + 1 == 32000) (requests_of device asked) ≡ []
 no_request device None waited units before = idle ((waited + units) % 32000 + 1 == 32000)
-no_request device (Some request) waited units before =
-    let small : waited + units < 32000 = omega (arith, before) in
-    let same : (waited + units) % 32000 ≡ waited + units = mod-eq_of_lt small in
-    ap (λ (b : Bool). where_due b (requests_of device (Some request))) (ne_eqb ((waited + units) % 32000 + 1) 32000 (λ e. omega (arith, e, same, before)))
+no_request device (Some request) waited units before = ap (λ (b : Bool). where_due b (requests_of device (Some request))) (not_again waited units before)
 
-no_access : (device : Mac) (octets : List ℕ) (waiting : Option RecordRequest) (waited units : ℕ) → suc units < (if is_some waiting then 32000 - waited else never)
-    → where_due ((waited + units) % 32000 + 1 == 32000) (accesses_by device octets waiting) ≡ []
-no_access device octets None waited units before = idle ((waited + units) % 32000 + 1 == 32000)
-no_access device octets (Some request) waited units before =
-    let small : waited + units < 32000 = omega (arith, before) in
-    let same : (waited + units) % 32000 ≡ waited + units = mod-eq_of_lt small in
-    ap (λ (b : Bool). where_due b (accesses_by device octets (Some request))) (ne_eqb ((waited + units) % 32000 + 1) 32000 (λ e. omega (arith, e, same, before)))
+-- The request beside the exchange: that after a plug, or else that of the application.
+abbrev beside_by : Mac → List ℕ → Option PlugRequest → Option RecordRequest → List Sent
+beside_by device octets plug waiting = if is_some plug then plugs_by device plug else accesses_by device octets waiting
+
+abbrev is_free_by : Option PlugRequest → Option RecordRequest → Bool
+is_free_by plug waiting = not (is_some waiting) && not (is_some plug)
+
+no_beside : (device : Mac) (octets : List ℕ) (plug : Option PlugRequest) (waiting : Option RecordRequest) (begins : Bool) (waited units : ℕ)
+    → suc units < (if not (is_free_by plug waiting) || begins then 32000 - waited else never)
+    → where_due ((waited + units) % 32000 + 1 == 32000) (beside_by device octets plug waiting) ≡ []
+no_beside device octets None None begins waited units before = idle ((waited + units) % 32000 + 1 == 32000)
+no_beside device octets None (Some request) begins waited units before =
+    ap (λ (b : Bool). where_due b (accesses_by device octets (Some request))) (not_again waited units before)
+no_beside device octets (Some request) None begins waited units before =
+    ap (λ (b : Bool). where_due b (plugs_by device (Some request))) (not_again waited units before)
+no_beside device octets (Some request) (Some other) begins waited units before =
+    ap (λ (b : Bool). where_due b (plugs_by device (Some request))) (not_again waited units before)
+
+-- ---- the turn of a place
+
+turn_by : (setup : Setup) (is_due : Bool) (live : Live) → can_begin live ≡ false → turn_due setup is_due live ≡ live
+turn_by setup true live none = ap (λ (b : Bool). let l : Live = if b then begun_by setup (next_waiting live.places) live else live in l) none
+turn_by setup false live none = refl
+
+no_turn_by : (setup : Setup) (live : Live) (is_busy begins : Bool) (waited units : ℕ) → can_begin live ≡ begins
+    → suc units < (if is_busy || begins then 32000 - waited else never) → turn_due setup ((waited + units) % 32000 + 1 == 32000) live ≡ live
+no_turn_by setup live is_busy false waited units none before = turn_by setup ((waited + units) % 32000 + 1 == 32000) live none
+no_turn_by setup live true true waited units some before = ap (λ (b : Bool). turn_due setup b live) (not_again waited units before)
+no_turn_by setup live false true waited units some before = ap (λ (b : Bool). turn_due setup b live) (not_again waited units before)
+
+no_relation : (live : Live) → live.stands ≡ false → can_begin live ≡ false
+no_relation live stands = ap (λ (b : Bool). b && (is_exchanging live.phase && (is_free live.access && is_some (next_waiting live.places)))) stands
 
 no_pending : (live : Live) (asked : Option Request) (units : ℕ) → suc units < (if is_some asked then 32000 - live.waited else never) → suc units < access_due_in live
     → where_due ((live.waited + units) % 32000 + 1 == 32000) (pending_by live asked) ≡ []
-no_pending live None units before sooner = no_access live.device live.access.octets live.access.waiting live.waited units sooner
+no_pending live None units before sooner = no_beside live.device live.access.octets live.access.plug live.access.waiting (can_begin live) live.waited units sooner
 no_pending live (Some request) units before sooner = no_request live.device (Some request) live.waited units before
 
 wraps : (waited units : ℕ) → waited ≡ units % 32000 → (if (waited + 1 == 32000) then 0 else waited + 1) ≡ (units + 1) % 32000
@@ -146,8 +183,11 @@ lasts : (live : Live) (units : ℕ) → suc units < patience_due_in live → (is
 lasts live units before = ap (λ (b : Bool). is_limited live.phase && b) (lasts_by live.left units (live.left == 0) refl before) ∙ both_false (is_limited live.phase)
 
 -- A unit with which the patience does not end.
-goes_on : (setup : Setup) (live : Live) → is_spent live ≡ false → ticked setup live ≡ gone_on (later live) (is_again live)
-goes_on setup live unspent = ap (λ (b : Bool). if b then quit setup NoProgress (later live) live.phase else gone_on (later live) (is_again live)) unspent
+goes_on : (setup : Setup) (live : Live) → is_spent live ≡ false → turn_due setup (is_again live) (later live) ≡ later live
+    → ticked setup live ≡ gone_on (later live) (is_again live)
+goes_on setup live unspent none =
+    ap (λ (b : Bool). if b then quit setup NoProgress (later live) live.phase else gone_on (turn_due setup (is_again live) (later live)) (is_again live)) unspent
+    ∙ ap (λ (l : Live). gone_on l (is_again live)) none
 
 -- ---- units with which nothing is due, if the relation is not established
 
@@ -173,6 +213,7 @@ off_turn : (setup : Setup) (live : Live) (units : ℕ) → live.stands ≡ false
     → ticked setup (off_later units live) ≡ turn_with (off_later (suc units) live) []
 off_turn setup live units stands lasting before =
     goes_on setup (off_later units live) (lasts live units lasting)
+    (turn_by setup (is_again (off_later units live)) (later (off_later units live)) (no_relation (later (off_later units live)) stands))
     ∙ (gone_off (later (off_later units live)) (is_again (off_later units live)) stands
     ∙ (ap (turn_with (later (off_later units live))) (no_request live.device live.asked live.waited units before)
     ∙ ap (λ (l : Live). turn_with l []) (off_next live units)))
@@ -213,6 +254,7 @@ on_turn : (setup : Setup) (live : Live) (units : ℕ) → live.stands ≡ true �
 on_turn setup live units stands lasting before sooner none =
     let next = exchange_later (later (on_later units live)) in
     goes_on setup (on_later units live) (lasts live units lasting)
+    (no_turn_by setup (later (on_later units live)) (not (is_free live.access)) (can_begin live) live.waited units refl sooner)
     ∙ (gone_there (later (on_later units live)) (is_again (on_later units live)) stands none
     ∙ (ap (λ (s : List Sent). turn_with next (s ++ [])) (no_pending live live.asked units before sooner)
     ∙ ap (λ (l : Live). turn_with l []) (on_next live units)))

@@ -5,3 +5,5 @@ pub mod Nearer
 pub mod Taking
 pub mod StartUpAnswering
 pub mod ExchangeBegins
+pub mod FewSent
+pub mod Turning

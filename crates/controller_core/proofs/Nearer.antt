@@ -1,5 +1,5 @@
 -- What is due comes nearer by at most one with each unit.
-use Rattle.std.proofs.Common.{◌≡◌, ◌+◌, ◌-◌, ◌%◌, ◌≤◌, ◌<◌, ◌==◌, ℕ, zero, suc, Bool, true, false, Option, Some, None, if◌then◌else◌, refl, sym, ap, ◌∙◌, arith, inl, inr}
+use Rattle.std.proofs.Common.{◌≡◌, ◌+◌, ◌-◌, ◌%◌, ◌≤◌, ◌<◌, ◌==◌, ◌||◌, not, ℕ, zero, suc, Bool, true, false, Option, Some, None, if◌then◌else◌, refl, sym, ap, ◌∙◌, arith, inl, inr}
 use Rattle.std.specs.Prelude.{max, min, is_some}
 use Rattle.std.proofs.lemmas.Bool.{cases_lt, eqb-true, true≢false}
 use Rattle.std.proofs.Math.Nat.{mod-add-mod, mod-eq_of_lt}
@@ -13,7 +13,9 @@ use Rattle.pn_alarms.specs.Sending as alarm
 use Rattle.cyclic_data.specs.exchange.Cyclic.{Cyclic}
 use Rattle.cyclic_data.specs.exchange.Leaps.{cyclic_due_in}
 use Rattle.cyclic_data.specs.exchange.Units.{cyclic_later}
+use Rattle.controller_messages.specs.Access.{is_free}
 use Rattle.controller_core.specs.Leaps.{access_due_in, live_due_in, patience_due_in}
+use Rattle.controller_core.specs.Machine.{can_begin}
 use Rattle.controller_core.proofs.Leaping.{off_later, on_later}
 use Rattle.controller_core.specs.stored.State.{Live}
 
@@ -102,7 +104,7 @@ pub on_nearer : (live : Live) (units : ℕ) → units < patience_due_in live →
 on_nearer live units few =
     let patience = patience_nearer live.left units few in
     let request = request_by (is_some live.asked) live.waited units in
-    let access = request_by (is_some live.access.waiting) live.waited units in
+    let access = request_by (not (is_free live.access) || can_begin live) live.waited units in
     let cyclic = counts cyclic_due_in cyclic_later cyclic_nearer units live.cyclic in
     let high = counts (λ (end : ControllerEnd). data_due_in end.sending) controller_later alarm_nearer units live.alarms in
     let low = counts (λ (end : ControllerEnd). data_due_in end.sending) controller_later alarm_nearer units live.low_alarms in

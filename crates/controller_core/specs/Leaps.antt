@@ -1,18 +1,20 @@
 -- Several units of time at once, which do what as many Tick events do, one by one.
-use Rattle.std.specs.Prelude.{◌≡◌, ◌==◌, ◌<◌, ◌≤◌, ◌-◌, ◌++◌, ℕ, zero, suc, min, List, [], ◌∷◌, sum, is_some, if◌then◌else◌}
+use Rattle.std.specs.Prelude.{◌≡◌, ◌==◌, ◌||◌, ◌<◌, ◌≤◌, ◌-◌, ◌++◌, not, ℕ, zero, suc, min, List, [], ◌∷◌, sum, is_some, if◌then◌else◌}
 use Rattle.pn_alarms.specs.Leaps.{data_due_in, never}
 use Rattle.cyclic_data.specs.exchange.Leaps.{cyclic_due_in}
 use Rattle.controller_core.specs.declared.stored.event.Event.TheVariants.{Tick}
 use Rattle.controller_core.specs.stored.State.{Controlling, Live}
-use Rattle.controller_core.specs.Machine.{Stepped, step_of}
+use Rattle.controller_messages.specs.Access.{is_free}
+use Rattle.controller_core.specs.Machine.{Stepped, can_begin, step_of}
 
 -- The number of units up to and including the next one with which the request is sent again.
 abbrev pub request_due_in : Live → ℕ
 request_due_in live = if is_some live.asked then 32000 - live.waited else never
 
--- The number of units up to and including the next one with which the request of the application is sent again.
+-- The number of units up to and including the next one with which the request beside the exchange is sent again, or the turn of a
+-- place begins.
 abbrev pub access_due_in : Live → ℕ
-access_due_in live = if is_some live.access.waiting then 32000 - live.waited else never
+access_due_in live = if not (is_free live.access) || can_begin live then 32000 - live.waited else never
 
 -- The number of units up to and including the next one with which the relation sends a frame or ends.
 abbrev pub exchange_due_in : Live → ℕ

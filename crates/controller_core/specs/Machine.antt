@@ -1,5 +1,5 @@
 -- What an event does to a controller, and what is then sent (IEC 61158-6-10, 5.2; protocol machine CMCTL).
-use Rattle.std.specs.Prelude.{◌+◌, ◌-◌, ◌%◌, ◌==◌, ◌&&◌, ◌++◌, ℕ, Bool, true, false, not, List, [], ◌∷◌, length, map, nat_lt, if◌then◌else◌, is_some, option_map, Option, Some, None}
+use Rattle.std.specs.Prelude.{◌+◌, ◌-◌, ◌%◌, ◌==◌, ◌&&◌, ◌||◌, ◌++◌, ℕ, Bool, true, false, not, List, [], ◌∷◌, length, map, nat_lt, if◌then◌else◌, is_some, option_map, Option, Some, None}
 use Rattle.pn_values.specs.declared.mac.Mac.{Mac}
 use Rattle.frame_codec.specs.declared.udp.Caller.{Caller}
 use Rattle.dcp_core.specs.Response.{Answered}
@@ -51,7 +51,7 @@ use Rattle.controller_messages.specs.Heard.{Cyclic as Comes}
 use Rattle.controller_messages.specs.Options.{default_options}
 use Rattle.controller_messages.specs.RecordRequests.{most_record_octets}
 use Rattle.controller_messages.specs.Requests.{first_of, writing_from}
-use Rattle.controller_messages.specs.Sent.{Sent, Requests, Accesses, Agrees, Cycles, Confirms, Replies, Ends, bytes_of, ready_answer}
+use Rattle.controller_messages.specs.Sent.{Sent, Requests, Accesses, Parametrizes, Agrees, Cycles, Confirms, Replies, Ends, bytes_of, ready_answer}
 use Rattle.controller_messages.specs.Sent.{done as no_error}
 use Rattle.connects.specs.declared.answers.connect.Found.{Found}
 use Rattle.diagnosis.specs.reported.Reported.{after_report, nothing_reported}
@@ -62,7 +62,18 @@ use Rattle.controller_core.specs.declared.stored.state.State.{State}
 use Rattle.controller_core.specs.declared.stored.state.State.TheVariants.{Looking, Addressing, Connecting, Ending, Waiting, Exchanging, Ended}
 use Rattle.controller_core.specs.declared.stored.event.Event.{Event}
 use Rattle.controller_core.specs.declared.stored.event.Event.TheVariants.{Frame, Tick as Ticks, Give, Status as Rate, Read, Write, Stop}
-use Rattle.controller_messages.specs.Access.{answered_with, call_number, dropped, is_rejected, is_reply, made, no_access, record_in}
+use Rattle.connect_blocks.specs.declared.plug_control.PlugControlBlock.{PlugControlBlock}
+use Rattle.controller_messages.specs.declared.plug_request.PlugRequest.{PlugRequest}
+use Rattle.controller_messages.specs.declared.plug_request.PlugStep.{PlugStep}
+use Rattle.controller_messages.specs.declared.plug_request.PlugStep.TheVariants.{Record, PrmEnd}
+use Rattle.controller_messages.specs.PlugRequests.{is_plug_answer, is_plug_ready, plug_answer, plug_ready_in}
+use Rattle.plan_places.specs.declared.report.Plug.{Plug}
+use Rattle.plan_places.specs.declared.place.PlaceState.{PlaceState}
+use Rattle.plan_places.specs.declared.place.PlaceState.TheVariants as known
+use Rattle.plan_places.specs.Places.{after_alarm, has_turn_at, is_awaited, next_waiting, no_places, opened, with_state}
+use Rattle.plan_places.specs.Places.{readied as places_readied}
+use Rattle.plan_places.specs.Records.{record_from}
+use Rattle.controller_messages.specs.Access.{answered_with, call_number, dropped, is_free, is_rejected, is_reply, made, no_access, plugged, record_in, unplugged}
 use Rattle.controller_core.specs.stored.Outputs.{awaits, change_by, iops_of, mark_at, marked}
 use Rattle.controller_core.specs.stored.State.{Controlling, Live, is_limited, left_in, phase_for, with_live}
 use Rattle.controller_core.specs.start_up.Answers.{is_addressed, is_answer, is_found, is_ready, is_refused, is_right, is_set_answer, ready_in}
@@ -94,9 +105,9 @@ asking setup phase request live = record {
 
 -- ---- ends
 
--- The controller has ended, and so has its relation. What the device reported of its diagnosis ends with it.
+-- The controller has ended, and so has its relation. What the device reported of its diagnosis and of places ends with it.
 abbrev pub over : Cause → Live → Live
-over cause live = record live { phase = Ended cause; asked = None; waited = 0; left = 0; stands = false; cyclic = ended_of live.cyclic; access = dropped live.access; diagnosis = nothing_reported }
+over cause live = record live { phase = Ended cause; asked = None; waited = 0; left = 0; stands = false; cyclic = ended_of live.cyclic; access = dropped live.access; diagnosis = nothing_reported; places = no_places }
 
 -- The device refuses a call with this status: the controller has ended.
 abbrev pub denied : Status → Live → Live
@@ -158,17 +169,21 @@ abbrev pub related_by : Setup → Live → Option Chosen → Turn
 related_by setup live (Some chosen) = writing setup (writing_from setup.plan 0) (standing setup live chosen)
 related_by setup live None = stays live
 
--- After the response to the Connect: the relation is established, or ended by a Release if a wrong module is listed.
-abbrev pub connected_by : Setup → Live → Found → Turn
-connected_by setup live found =
+-- The places of the plan, as the response to the Connect with these blocks tells of them.
+abbrev pub placed : Setup → List ℕ → Live → Live
+placed setup blocks live = record live { places = opened setup.plan 400 blocks }
+
+-- After the response to the Connect with these blocks: the relation is established, or ended by a Release if a wrong module is listed.
+abbrev pub connected_by : Setup → Live → List ℕ → Found → Turn
+connected_by setup live blocks found =
     if is_whole found
-    then (if found.differs then released setup cause.ModuleDiff live else related_by setup live (chosen_of found))
+    then (if found.differs then released setup cause.ModuleDiff live else related_by setup (placed setup blocks live) (chosen_of found))
     else stays live
 
 -- What a response to the Connect does: nothing if its blocks cannot be read.
-abbrev pub connected : Setup → Live → Option Found → Turn
-connected setup live (Some found) = connected_by setup live found
-connected setup live None = stays live
+abbrev pub connected : Setup → Live → List ℕ → Option Found → Turn
+connected setup live blocks (Some found) = connected_by setup live blocks found
+connected setup live blocks None = stays live
 
 -- The device refused a record: the controller ends, or goes on with the next Write if the plan says so.
 abbrev pub noted : Status → ℕ → Live → Live
@@ -194,7 +209,7 @@ after_write setup live number Unreadable = stays live
 abbrev pub done : Setup → Live → List ℕ → Request → Turn
 done setup live blocks asks.Identify = stays live
 done setup live blocks asks.Address = stays live
-done setup live blocks asks.Connect = connected setup live (found_in 400 blocks nothing)
+done setup live blocks asks.Connect = connected setup live blocks (found_in 400 blocks nothing)
 done setup live blocks (asks.Write number) = after_write setup live number (outcomes_of setup.plan number blocks)
 done setup live blocks asks.PrmEnd = stays (record live { phase = Waiting; asked = None; left = setup.options.waiting_patience })
 done setup live blocks (asks.Release sequence) = stays (record live { asked = None })
@@ -239,11 +254,163 @@ abbrev pub replied : Setup → Live → Response → Option RecordRequest → Li
 replied setup live response (Some request) = if is_reply setup request response.header then replied_by live response request else live
 replied setup live response None = live
 
--- A response to the call that waits, of the start-up or else of the application.
+-- ---- the parameters of a place after its plug
+
+-- Whether data is exchanged.
+abbrev pub is_exchanging : State → Bool
+is_exchanging Exchanging = true
+is_exchanging phase = false
+
+-- Whether a place waits for its turn, and nothing is in its way: data is exchanged, and no request waits for its answer.
+abbrev pub can_begin : Live → Bool
+can_begin live = live.stands && (is_exchanging live.phase && (is_free live.access && is_some (next_waiting live.places)))
+
+-- The record that is written, or PrmEnd if no record is left.
+abbrev pub step_of_record : Option ℕ → PlugStep
+step_of_record (Some number) = Record number
+step_of_record None = PrmEnd
+
+-- What is asked of a place: the first of its records from a number on, or PrmEnd if it has none.
+abbrev pub step_from : Parts → ℕ → ℕ → ℕ → PlugStep
+step_from plan slot subslot from = step_of_record (record_from plan slot subslot from)
+
+-- The state of a place of which this is asked, after the plug with this number.
+abbrev pub state_of_step : PlugStep → ℕ → PlaceState
+state_of_step (Record record_number) number = known.Writing number
+state_of_step PrmEnd number = known.Ending number
+
+-- This is asked of a place from now on.
+abbrev pub plug_asked : Setup → ℕ → ℕ → ℕ → PlugStep → Live → Live
+plug_asked setup slot subslot number step live = record live {
+  waited = 0;
+  places = with_state slot subslot (state_of_step step number) live.places;
+  access = plugged (record { sequence = call_number setup.plan live.access.calls; slot = slot; subslot = subslot; number = number; step = step }) live.access;
+}
+
+-- The request after a plug that waits for its answer, as it is sent.
+abbrev pub plugs_by : Mac → Option PlugRequest → List Sent
+plugs_by device (Some request) = Parametrizes device request ∷ []
+plugs_by device None = []
+
+-- That of a controller.
+abbrev pub plugs_of : Live → List Sent
+plugs_of live = plugs_by live.device live.access.plug
+
+-- The turn of this place begins: its first record, or PrmEnd, is asked.
+abbrev pub begun_by : Setup → Option Plug → Live → Live
+begun_by setup (Some plug) live = plug_asked setup plug.slot plug.subslot plug.number (step_from setup.plan plug.slot plug.subslot 0) live
+begun_by setup None live = live
+
+-- The next turn begins, if one can.
+abbrev pub begun_turn : Setup → Live → Live
+begun_turn setup live = if can_begin live then begun_by setup (next_waiting live.places) live else live
+
+-- After an event: the next turn begins, if one could not begin before and can now. One that could waits for the end of a second, so
+-- that data exchange begins with the answer to ApplicationReady alone.
+abbrev pub then_turn : Setup → Bool → Live → Turn
+then_turn setup could live =
+    if could || not (can_begin live) then stays live else record { live = begun_turn setup live; sent = plugs_of (begun_turn setup live) }
+
+-- The same after the messages of an event.
+abbrev pub after_turn : Setup → Bool → Turn → Turn
+after_turn setup could turn =
+    if could || not (can_begin turn.live) then turn
+    else record { live = begun_turn setup turn.live; sent = turn.sent ++ plugs_of (begun_turn setup turn.live) }
+
+-- After a step that was done, or is left out: the next one of the same turn. After PrmEnd the ApplicationReady is awaited. A further
+-- alarm of the place has dropped the rest of the turn.
+abbrev pub plug_passed_by : Setup → Live → PlugRequest → PlugStep → Live
+plug_passed_by setup live request (Record number) =
+    if has_turn_at request.slot request.subslot live.places
+    then plug_asked setup request.slot request.subslot request.number (step_from setup.plan request.slot request.subslot (number + 1)) live
+    else live
+plug_passed_by setup live request PrmEnd = live
+
+-- The same of the step of the request.
+abbrev pub plug_passed : Setup → Live → PlugRequest → Live
+plug_passed setup live request = plug_passed_by setup live request request.step
+
+-- The turn is over, and its place is refused, if it still has its turn.
+abbrev pub refused_place : PlugRequest → Live → Live
+refused_place request live =
+    if has_turn_at request.slot request.subslot live.places
+    then record live { places = with_state request.slot request.subslot known.Refused live.places }
+    else live
+
+-- The device refuses a step with this status. A record is passed over if the plan says so.
+abbrev pub plug_refused : Setup → Live → Status → PlugRequest → PlugStep → Live
+plug_refused setup live status request (Record number) =
+    if setup.plan.continue_on_refused_record then plug_passed setup (noted status number live) request
+    else refused_place request (noted status number live)
+plug_refused setup live status request PrmEnd = refused_place request (record live { refusal = Some status })
+
+-- The request is answered.
+abbrev pub plug_finished : Live → Live
+plug_finished live = record live { access = unplugged live.access }
+
+-- The response to the request has this status.
+abbrev pub plug_replied : Setup → Live → Status → PlugRequest → Live
+plug_replied setup live status request =
+    if is_done status then plug_passed setup (plug_finished live) request
+    else plug_refused setup (plug_finished live) status request request.step
+
+-- Its next request is sent, if one is asked.
+abbrev pub asks_next : Live → Turn
+asks_next live = record { live = live; sent = plugs_of live }
+
+-- What a response does, while this request waits.
+abbrev pub plug_responded : Setup → Live → Response → PlugRequest → Turn
+plug_responded setup live response request =
+    if is_plug_answer setup request response.header.activity response.header.sequence
+    then asks_next (plug_replied setup live response.status request) else stays live
+
+-- What a reject or a fault does, while this request waits: the turn is over.
+abbrev pub plug_rejected : Setup → Live → Refusal → PlugRequest → Live
+plug_rejected setup live refusal request =
+    if is_plug_answer setup request refusal.activity refusal.sequence
+    then refused_place request (record (plug_finished live) { refusal = Some refusal.status }) else live
+
+-- Whether the PrmEnd after the plug with this number waits for its answer.
+abbrev pub is_end_by : ℕ → PlugRequest → PlugStep → Bool
+is_end_by number request PrmEnd = request.number == number
+is_end_by number request (Record record_number) = false
+
+-- The same of the request that waits, if one does.
+abbrev pub is_end_of : ℕ → Option PlugRequest → Bool
+is_end_of number (Some request) = is_end_by number request request.step
+is_end_of number None = false
+
+-- Whether an ApplicationReady with this number is one of a place, while data is exchanged.
+abbrev pub is_plug_awaited : Live → ℕ → Bool
+is_plug_awaited live number = is_exchanging live.phase && is_awaited number live.places
+
+-- The place with this number is there. With this call the device says that it has accepted PrmEnd, so its answer is not needed.
+abbrev pub plug_readied : Live → ℕ → Live
+plug_readied live number = record live {
+  places = places_readied number live.places;
+  access = if is_end_of number live.access.plug then unplugged live.access else live.access;
+}
+
+-- An ApplicationReady for a plug, if it is one of a place of this relation, is answered; any other call is dropped.
+abbrev pub plug_called : Setup → Live → Caller → Call → Option PlugControlBlock → Turn
+plug_called setup live caller call (Some block) =
+    if is_plug_ready setup block && is_plug_awaited live block.alarm_sequence_number
+    then record { live = plug_readied live block.alarm_sequence_number; sent = Agrees caller (plug_answer call block) ∷ [] }
+    else stays live
+plug_called setup live caller call None = stays live
+
+-- ---- responses beside the exchange
+
+-- A response while no request of the start-up waits: to the request after a plug, or else to that of the application.
+abbrev pub beside : Setup → Live → Response → Option PlugRequest → Turn
+beside setup live response (Some request) = plug_responded setup live response request
+beside setup live response None = stays (replied setup live response live.access.waiting)
+
+-- A response to the call that waits, of the start-up or else beside the exchange.
 abbrev pub responded : Setup → Live → Response → Option Request → Turn
 responded setup live response (Some request) =
     if is_answer setup request response.header then decided setup live response request else stays live
-responded setup live response None = stays (replied setup live response live.access.waiting)
+responded setup live response None = beside setup live response live.access.plug
 
 -- ---- rejects and faults
 
@@ -257,10 +424,15 @@ abbrev pub rejected : Setup → Live → Refusal → Option RecordRequest → Li
 rejected setup live refusal (Some request) = if is_rejected setup request refusal then failed refusal.status request live else live
 rejected setup live refusal None = live
 
--- What a reject or a fault does: to the request of the start-up, or to that of the application.
+-- While no request of the start-up waits: of the request after a plug, or else of that of the application.
+abbrev pub refused_beside : Setup → Live → Refusal → Option PlugRequest → Live
+refused_beside setup live refusal (Some request) = plug_rejected setup live refusal request
+refused_beside setup live refusal None = rejected setup live refusal live.access.waiting
+
+-- What a reject or a fault does: to the request of the start-up, or to one beside the exchange.
 abbrev pub refused : Setup → Live → Refusal → Option Request → Turn
 refused setup live refusal (Some request) = if is_refused setup request refusal then refused_by live refusal request else stays live
-refused setup live refusal None = stays (rejected setup live refusal live.access.waiting)
+refused setup live refusal None = stays (refused_beside setup live refusal live.access.plug)
 
 -- ---- ApplicationReady
 
@@ -277,10 +449,11 @@ readied live caller call block Waiting = record {
 readied live caller call block Exchanging = record { live = live; sent = Agrees caller (ready_answer call block) ∷ [] }
 readied live caller call block phase = stays live
 
--- What a call does: an ApplicationReady of this relation is answered, any other is dropped.
+-- What a call does: an ApplicationReady of this relation is answered, of the start-up or after a plug; any other is dropped. After that of
+-- a plug the next turn begins.
 abbrev pub called : Setup → Live → Caller → Call → Option ControlBlock → Turn
 called setup live caller call (Some block) = if is_ready setup block then readied live caller call block live.phase else stays live
-called setup live caller call None = stays live
+called setup live caller call None = after_turn setup (can_begin live) (plug_called setup live caller call (plug_ready_in call))
 
 -- ---- alarms
 
@@ -307,9 +480,9 @@ behind_data live priority number = with_end live priority (with_data (end_of liv
 abbrev pub acking : Live → Priority → AlarmAck → Live
 acking live priority ack = with_end live priority (confirmed (end_of live priority) ack)
 
--- What an alarm reports of the device's diagnosis.
+-- What an alarm reports of the device's diagnosis, and of the places of the plan.
 abbrev pub diagnosing : Report → Live → Live
-diagnosing report live = record live { diagnosis = after_report report live.diagnosis }
+diagnosing report live = record live { diagnosis = after_report report live.diagnosis; places = after_alarm report live.places }
 
 -- The state once an alarm is accepted: its AlarmAck is sent, it is shown, and what it reports of diagnosis is listed.
 abbrev pub confirming : Live → Report → Live
@@ -377,11 +550,11 @@ come live source frame_id body = if live.stands then record live { cyclic = behi
 abbrev pub turned : Setup → Live → Heard → Turn
 turned setup live Nothing = stays live
 turned setup live (Answers source answer) = answered setup live source answer live.phase
-turned setup live (Responds response) = responded setup live response live.asked
-turned setup live (Refuses refusal) = refused setup live refusal live.asked
+turned setup live (Responds response) = after_turn setup (can_begin live) (responded setup live response live.asked)
+turned setup live (Refuses refusal) = after_turn setup (can_begin live) (refused setup live refusal live.asked)
 turned setup live (Calls caller call) = called setup live caller call (ready_in call)
 turned setup live (Comes source frame_id body) = stays (come live source frame_id body)
-turned setup live (Alarms source under header notice) = alarmed live source under header notice
+turned setup live (Alarms source under header notice) = after_turn setup (can_begin live) (alarmed live source under header notice)
 
 -- ---- units
 
@@ -415,10 +588,14 @@ accesses_by device octets None = []
 abbrev pub accesses_of : Live → List Sent
 accesses_of live = accesses_by live.device live.access.octets live.access.waiting
 
--- The request that waits: of the start-up, or else of the application. There is at most one.
+-- The request beside the exchange that waits: after a plug, or else of the application.
+abbrev pub beside_of : Live → List Sent
+beside_of live = if is_some live.access.plug then plugs_of live else accesses_of live
+
+-- The request that waits: of the start-up, or else beside the exchange. There is at most one.
 abbrev pub pending_by : Live → Option Request → List Sent
 pending_by live (Some request) = Requests live.device request ∷ []
-pending_by live None = accesses_of live
+pending_by live None = beside_of live
 
 -- The requests that wait for an answer.
 abbrev pub pending_of : Live → List Sent
@@ -482,10 +659,16 @@ gone_on live is_request =
     then flowed (exchange_later live) (due live.alarms.sending) (due live.low_alarms.sending) is_request (brought live) (brought live).ending
     else record { live = live; sent = where_due is_request (requests_of live.device live.asked) }
 
+-- With the unit at which a request is due, a turn begins that can.
+abbrev pub turn_due : Setup → Bool → Live → Live
+turn_due setup is_due live = if is_due then begun_turn setup live else live
+
 -- A unit passes: if the patience of the phase ends, the controller ends, and nothing else is sent. Otherwise what is due of the
 -- relation, if it is established, and the request again.
 abbrev pub ticked : Setup → Live → Turn
-ticked setup live = if is_spent live then quit setup cause.NoProgress (later live) live.phase else gone_on (later live) (is_again live)
+ticked setup live =
+    if is_spent live then quit setup cause.NoProgress (later live) live.phase
+    else gone_on (turn_due setup (is_again live) (later live)) (is_again live)
 
 -- ---- events
 
@@ -535,14 +718,9 @@ given live slot subslot value = record live {
 abbrev pub provider_of : Live → ℕ → ℕ → Option ProviderStatus
 provider_of live slot subslot = if live.stands then provider_at live.cyclic slot subslot else None
 
--- Whether the application can make a request: data is exchanged, and no other one waits.
-abbrev pub is_exchanging : State → Bool
-is_exchanging Exchanging = true
-is_exchanging phase = false
-
 -- Whether the application may read or write a record: data is exchanged, and no other request waits.
 abbrev pub can_request : Live → Bool
-can_request live = is_exchanging live.phase && not (is_some live.access.waiting)
+can_request live = is_exchanging live.phase && is_free live.access
 
 -- The application reads or writes a record. The request is sent, and waits from now on.
 abbrev pub accessing : RecordRequest → List ℕ → Live → Turn
@@ -601,6 +779,7 @@ first plan = record {
   low_alarm = None;
   low_user_structure = None;
   diagnosis = nothing_reported;
+  places = no_places;
 }
 
 -- Before it starts, with this exchange: no request was made, no timer runs, no relation is established, and nothing was
@@ -627,6 +806,7 @@ before_start cyclic = record {
   low_alarm = None;
   low_user_structure = None;
   diagnosis = nothing_reported;
+  places = no_places;
 }
 
 -- The controller of a plan, with this ARUUID, this activity and these options; and without options.

@@ -54,7 +54,7 @@ impl Controller {
         send_alarm_ack(&self.setup, route, priority, &header, ack, outbox);
     }
 
-    // Stores an alarm as the last one of its priority, with its AlarmAck, and what it reports of the device's diagnosis.
+    // Stores an alarm as the last one of its priority, with its AlarmAck, and what it reports of the device's diagnosis and of places.
     fn keep(&mut self, report: &Report<'_>, ack: AlarmAck)
         requires { ack ≡ ack_of report.now.notification }
         ensures { self.new ≡ with_live self.old (confirming self.old.live report.now) }
@@ -70,6 +70,7 @@ impl Controller {
             }
         }
         self.diagnosis.take(report);
+        self.places.take(report);
     }
 
     // Sends the AlarmAck of an alarm, as new data of the alarm's priority.
@@ -187,5 +188,6 @@ impl Controller {
         self.exchange.end();
         self.access.drop_waiting();
         self.diagnosis.clear();
+        self.places.clear();
     }
 }

@@ -4,6 +4,7 @@ ghost use Rattle.cyclic_data.specs.exchange.Process.{value_at};
 ghost use Rattle.frame_codec.specs.Outbox.{boxed};
 ghost use Rattle.controller_messages.specs.Access.{record_of};
 ghost use Rattle.controller_core.specs.stored.Opening.{IsClosed};
+ghost use Rattle.plan_places.specs.Places.{state_at};
 ghost use Rattle.controller_core.specs.Machine.{before_start, can_request, end_of, fresh, fresh_with, opening_of, provider_of, report_in};
 
 use crate::stored::{KeptAlarm, OutputMark, open};
@@ -16,6 +17,7 @@ use controller_messages::{
 use cyclic_data::{CyclicExchange, ProviderStatus};
 use diagnosis::{Diagnosis, Priority, Report, ReportedDiagnoses};
 use frame_codec::{Frame, Outbox};
+use plan_places::{PlaceState, PlanPlaces};
 use plans::{Plan, RTA_RETRIES, RTA_TIMEOUT_FACTOR};
 use pn_alarms::ControllerAlarms;
 use pn_values::Mac;
@@ -59,6 +61,8 @@ pub struct Controller {
     pub(crate) access: Access,
     /// The diagnoses that the device reported in this relation.
     pub(crate) diagnosis: ReportedDiagnoses,
+    /// The places of the plan in this relation.
+    pub(crate) places: PlanPlaces,
 }
 
 impl Model for Controller {
@@ -91,6 +95,7 @@ impl Model for Controller {
         low_user_structure = structure_in controller.low_alarm;
         access = controller.access;
         diagnosis = controller.diagnosis;
+        places = controller.places;
       };
     } };
 
@@ -155,6 +160,7 @@ impl Controller {
             low_alarm: None,
             access: Access::new(),
             diagnosis: ReportedDiagnoses::new(),
+            places: PlanPlaces::new(),
             setup: Setup {
                 plan,
                 ar,
@@ -185,6 +191,7 @@ impl Controller {
         self.low_alarm = None;
         self.access.clear();
         self.diagnosis.clear();
+        self.places.clear();
         open(&mut self.exchange, &mut self.outputs, &self.setup.plan);
     }
 
@@ -219,6 +226,7 @@ impl Controller {
             low_alarm: None,
             access: Access::new(),
             diagnosis: ReportedDiagnoses::new(),
+            places: PlanPlaces::new(),
         }
     }
 
@@ -295,11 +303,12 @@ impl Controller {
         self.refusal
     }
 
-    /// Whether the application can read or write a record: data is exchanged, and no other request waits for its answer.
+    /// Whether the application can read or write a record: data is exchanged, and no other request waits for its answer, also none
+    /// after a plug.
     pub fn can_request(&self) -> bool
         ensures { result ≡ can_request self.now.live }
     {
-        matches!(self.phase, State::Exchanging) && self.access.waiting().is_none()
+        matches!(self.phase, State::Exchanging) && self.access.is_free()
     }
 
     /// The request of the application that waits for its answer. It is sent again each second, and dropped if the relation
@@ -420,5 +429,13 @@ impl Controller {
         ensures { result ≡ self.now.live.diagnosis.left_out }
     {
         self.diagnosis.left_out()
+    }
+
+    /// What is known of a place of the plan: of a submodule that the Connect expects. `None` if the plan has no such submodule, before
+    /// the relation is established, and after it ended.
+    pub fn place(&self, slot: u16, subslot: u16) -> Option<PlaceState>
+        ensures { result ≡ state_at slot subslot self.now.live.places }
+    {
+        self.places.state(slot, subslot)
     }
 }

@@ -40,12 +40,12 @@ impl Controller {
         }
     }
 
-    // The same of the request of the application.
+    // The same of the request beside the exchange, or of the turn of a place that begins with it.
     fn access_due_in(&self) -> u32
         ensures value { result ≡ access_due_in self.now.live }
         ensures some { 0 < result }
     {
-        if self.access.waiting().is_some() {
+        if !self.access.is_free() || self.can_begin() {
             SECOND - self.waited
         } else {
             NEVER

@@ -13,6 +13,7 @@ mod silent;
 mod start_up;
 mod step;
 mod stored;
+mod turns;
 
 pub use controller::Controller;
 pub use controller_messages::{
@@ -21,6 +22,7 @@ pub use controller_messages::{
 pub use cyclic_data::ProviderStatus;
 pub use diagnosis::{Diagnosis, Priority, Report};
 pub use leaps::leaps_are_ticks;
+pub use plan_places::PlaceState;
 pub use start_up::{
     Outcomes, is_addressed, is_answer, is_found, is_ready, is_refused, is_right, is_set_answer,
     next_sequence, outcomes_of, ready_in, request_behind,

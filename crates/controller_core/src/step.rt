@@ -12,13 +12,14 @@ ghost use Rattle.controller_core.specs.declared.stored.state.Cause.TheVariants.{
 ghost use Rattle.controller_core.specs.declared.stored.state.State.TheVariants.{Exchanging};
 ghost use Rattle.controller_core.specs.Readied.{IsReadied};
 ghost use Rattle.controller_core.specs.stored.State.{with_live};
-ghost use Rattle.controller_core.specs.Machine.{accesses_of, accessing, failed, granted, pending_of, rejected, replied, replied_by, requested, written};
+ghost use Rattle.controller_messages.specs.PlugRequests.{plug_ready_in as plug_block};
+ghost use Rattle.controller_core.specs.Machine.{accesses_of, accessing, after_turn, begun_turn, beside, beside_of, can_begin, failed, granted, pending_of, plug_called, refused_beside, rejected, replied, replied_by, requested, written};
 ghost use Rattle.controller_core.specs.Machine.{acks_of, addressed, alarmed, answered, asking, called, come, connected, connected_by};
 ghost use Rattle.controller_core.specs.Machine.{brought, decided, denied, done, due_frames, ended_by, exchange_later, flowed, found, given};
 ghost use Rattle.controller_core.specs.Machine.{after_write, gone_on, is_again, handled, later, noted, outputs_of, past_record};
 ghost use Rattle.controller_core.specs.Machine.{rated, readied, refused, refused_by, refused_record as ended_by_record, related_by, released, remarked, requests_of, responded, step_of};
 ghost use Rattle.controller_core.specs.start_up.Answers.{ready_in as block_of_ready};
-ghost use Rattle.controller_core.specs.Machine.{is_spent, quit, ticked, turn_of, turned, undone, where_due, writing};
+ghost use Rattle.controller_core.specs.Machine.{is_spent, quit, ticked, turn_due, turn_of, turned, undone, where_due, writing};
 ghost use Rattle.frame_codec.specs.Outbox.{boxed};
 ghost use Rattle.pn_alarms.specs.Sending.{due};
 ghost use Rattle.pn_alarms.specs.Sending.{is_again as is_repeated};
@@ -296,14 +297,14 @@ impl Controller {
         match hearing {
             Hearing::Nothing => {}
             Hearing::Answers(source, answer) => self.hear_answer(*source, answer, outbox),
-            Hearing::Responds(response) => self.hear_response(response, outbox),
-            Hearing::Refuses(refusal) => self.hear_refusal(refusal),
+            Hearing::Responds(response) => self.take_response(response, outbox),
+            Hearing::Refuses(refusal) => self.take_refusal(refusal, outbox),
             Hearing::Calls(caller, call) => self.hear_call(caller, call, outbox),
             // Not reached: `hear` handles a cyclic frame before a `Hearing` is made of it. It is here because the
             // contract covers any `Hearing`.
             Hearing::Cyclic(source, frame_id, body) => self.hear_cyclic(*source, *frame_id, body),
             Hearing::Alarms(source, under, header, notice) => {
-                self.hear_alarm(*source, *under, header, notice, outbox)
+                self.take_alarm(*source, *under, header, notice, outbox)
             }
         }
     }
@@ -371,6 +372,55 @@ impl Controller {
         }
     }
 
+    // A response, and the turn of a place that begins after it.
+    fn take_response(&mut self, response: &Response<'_>, outbox: &mut Outbox)
+        requires empty { outbox.old.items ≡ [] }
+        ensures state { self.new ≡ with_live self.old (after_turn self.old.setup (can_begin self.old.live)
+            (responded self.old.setup self.old.live (responded_as response.now) self.old.live.asked)).live }
+        ensures frames { boxed outbox.new
+            ≡ map (bytes_of self.old.setup) (after_turn self.old.setup (can_begin self.old.live)
+            (responded self.old.setup self.old.live (responded_as response.now) self.old.live.asked)).sent }
+    {
+        let could = self.can_begin();
+        self.hear_response(response, outbox);
+        self.go_on_turn(could, outbox);
+    }
+
+    // A reject or a fault, and the turn of a place that begins after it.
+    fn take_refusal(&mut self, refusal: &Refusal, outbox: &mut Outbox)
+        requires empty { outbox.old.items ≡ [] }
+        ensures state { self.new ≡ with_live self.old (after_turn self.old.setup (can_begin self.old.live)
+            (refused self.old.setup self.old.live refusal.now self.old.live.asked)).live }
+        ensures frames { boxed outbox.new
+            ≡ map (bytes_of self.old.setup) (after_turn self.old.setup (can_begin self.old.live)
+            (refused self.old.setup self.old.live refusal.now self.old.live.asked)).sent }
+    {
+        let could = self.can_begin();
+        self.hear_refusal(refusal);
+        self.go_on_turn(could, outbox);
+    }
+
+    // An alarm frame, and the turn of a place that begins after it.
+    fn take_alarm(
+        &mut self,
+        source: Mac,
+        under: Priority,
+        header: &Header,
+        notice: &Notice<Report<'_>>,
+        outbox: &mut Outbox,
+    )
+        requires empty { outbox.old.items ≡ [] }
+        ensures state { self.new ≡ with_live self.old (after_turn self.old.setup (can_begin self.old.live)
+            (alarmed self.old.live source under header.now notice.now)).live }
+        ensures frames { boxed outbox.new
+            ≡ map (bytes_of self.old.setup) (after_turn self.old.setup (can_begin self.old.live)
+            (alarmed self.old.live source under header.now notice.now)).sent }
+    {
+        let could = self.can_begin();
+        self.hear_alarm(source, under, header, notice, outbox);
+        self.go_on_turn(could, outbox);
+    }
+
     // A response.
     fn hear_response(&mut self, response: &Response<'_>, outbox: &mut Outbox)
         requires empty { outbox.old.items ≡ [] }
@@ -385,6 +435,20 @@ impl Controller {
                     self.decide(request, response, outbox);
                 }
             }
+            None => self.hear_beside(response, outbox),
+        }
+    }
+
+    // A response, while no request of the start-up waits: to the request after a plug, or else to that of the application.
+    fn hear_beside(&mut self, response: &Response<'_>, outbox: &mut Outbox)
+        requires empty { outbox.old.items ≡ [] }
+        ensures state { self.new ≡ with_live self.old (beside self.old.setup self.old.live (responded_as response.now)
+            self.old.live.access.plug).live }
+        ensures frames { boxed outbox.new
+            ≡ map (bytes_of self.old.setup) (beside self.old.setup self.old.live (responded_as response.now) self.old.live.access.plug).sent }
+    {
+        match self.access.plug() {
+            Some(request) => self.hear_plug_response(request, response, outbox),
             None => self.hear_reply(response),
         }
     }
@@ -547,6 +611,16 @@ impl Controller {
                     self.refuse(request, refusal);
                 }
             }
+            None => self.hear_refusal_beside(refusal),
+        }
+    }
+
+    // A reject or a fault, while no request of the start-up waits: of the request after a plug, or else of that of the application.
+    fn hear_refusal_beside(&mut self, refusal: &Refusal)
+        ensures { self.new ≡ with_live self.old (refused_beside self.old.setup self.old.live refusal.now self.old.live.access.plug) }
+    {
+        match self.access.plug() {
+            Some(request) => self.hear_plug_refusal(request, refusal),
             None => self.hear_rejection(refusal),
         }
     }
@@ -633,21 +707,21 @@ impl Controller {
     // The Connect is answered.
     fn connect(&mut self, blocks: &[u8], outbox: &mut Outbox)
         requires empty { outbox.old.items ≡ [] }
-        ensures state { self.new ≡ with_live self.old (connected self.old.setup self.old.live (all_found 400 blocks.now nothing)).live }
+        ensures state { self.new ≡ with_live self.old (connected self.old.setup self.old.live blocks.now (all_found 400 blocks.now nothing)).live }
         ensures frames { boxed outbox.new
-            ≡ map (bytes_of self.old.setup) (connected self.old.setup self.old.live (all_found 400 blocks.now nothing)).sent }
+            ≡ map (bytes_of self.old.setup) (connected self.old.setup self.old.live blocks.now (all_found 400 blocks.now nothing)).sent }
     {
         // Blocks that cannot be read are not an answer: the Connect is sent again, and the device repeats its answer.
         if let Some(found) = found_in(MOST_BLOCKS, blocks) {
-            self.connect_by(&found, outbox);
+            self.connect_by(&found, blocks, outbox);
         }
     }
 
     // The Connect is answered with these blocks.
-    fn connect_by(&mut self, found: &Found, outbox: &mut Outbox)
+    fn connect_by(&mut self, found: &Found, blocks: &[u8], outbox: &mut Outbox)
         requires empty { outbox.old.items ≡ [] }
-        ensures state { self.new ≡ with_live self.old (connected_by self.old.setup self.old.live found.now).live }
-        ensures frames { boxed outbox.new ≡ map (bytes_of self.old.setup) (connected_by self.old.setup self.old.live found.now).sent }
+        ensures state { self.new ≡ with_live self.old (connected_by self.old.setup self.old.live blocks.now found.now).live }
+        ensures frames { boxed outbox.new ≡ map (bytes_of self.old.setup) (connected_by self.old.setup self.old.live blocks.now found.now).sent }
     {
         if !found.is_whole() {
             return;
@@ -663,10 +737,11 @@ impl Controller {
         let Some(reference) = found.alarm else {
             return;
         };
+        self.places.open(&self.setup.plan, MOST_BLOCKS, blocks);
         self.relate(frame_id, reference, found.deviates, outbox);
     }
 
-    // The relation is established.
+    // The relation is established, of which these places are known.
     fn relate(&mut self, frame_id: u16, reference: u16, deviates: bool, outbox: &mut Outbox)
         requires empty { outbox.old.items ≡ [] }
         ensures state { self.new ≡ with_live self.old (related_by self.old.setup self.old.live
@@ -693,12 +768,42 @@ impl Controller {
             ≡ map (bytes_of self.old.setup) (called self.old.setup self.old.live caller.now (asked call.now)
             (block_of_ready (asked call.now))).sent }
     {
-        let Some(block) = ready_in(call) else {
-            return;
-        };
-        if is_ready(&self.setup, &block) {
-            self.answer_ready(caller, call, &block, outbox);
+        match ready_in(call) {
+            Some(block) => self.hear_ready(caller, call, &block, outbox),
+            None => self.take_other_call(caller, call, outbox),
         }
+    }
+
+    // An ApplicationReady of a start-up.
+    fn hear_ready(
+        &mut self,
+        caller: &Caller,
+        call: &Call<'_>,
+        block: &ControlBlock,
+        outbox: &mut Outbox,
+    )
+        requires empty { outbox.old.items ≡ [] }
+        ensures state { self.new ≡ with_live self.old (called self.old.setup self.old.live caller.now (asked call.now) (Some block.now)).live }
+        ensures frames { boxed outbox.new
+            ≡ map (bytes_of self.old.setup) (called self.old.setup self.old.live caller.now (asked call.now) (Some block.now)).sent }
+    {
+        if is_ready(&self.setup, block) {
+            self.answer_ready(caller, call, block, outbox);
+        }
+    }
+
+    // A call that is no ApplicationReady of a start-up, and the turn of a place that begins after it.
+    fn take_other_call(&mut self, caller: &Caller, call: &Call<'_>, outbox: &mut Outbox)
+        requires empty { outbox.old.items ≡ [] }
+        ensures state { self.new ≡ with_live self.old (after_turn self.old.setup (can_begin self.old.live)
+            (plug_called self.old.setup self.old.live caller.now (asked call.now) (plug_block (asked call.now)))).live }
+        ensures frames { boxed outbox.new
+            ≡ map (bytes_of self.old.setup) (after_turn self.old.setup (can_begin self.old.live)
+            (plug_called self.old.setup self.old.live caller.now (asked call.now) (plug_block (asked call.now)))).sent }
+    {
+        let could = self.can_begin();
+        self.hear_plug_call(caller, call, outbox);
+        self.go_on_turn(could, outbox);
     }
 
     // ApplicationReady: data is exchanged from now on.
@@ -831,9 +936,10 @@ impl Controller {
     #[inline(always)]
     fn go_on_ticking(&mut self, outbox: &mut Outbox)
         requires empty { outbox.old.items ≡ [] }
-        ensures state { self.new ≡ with_live self.old (gone_on (later self.old.live) (is_again self.old.live)).live }
+        ensures state { self.new
+            ≡ with_live self.old (gone_on (turn_due self.old.setup (is_again self.old.live) (later self.old.live)) (is_again self.old.live)).live }
         ensures frames { boxed outbox.new
-            ≡ map (bytes_of self.old.setup) (gone_on (later self.old.live) (is_again self.old.live)).sent }
+            ≡ map (bytes_of self.old.setup) (gone_on (turn_due self.old.setup (is_again self.old.live) (later self.old.live)) (is_again self.old.live)).sent }
     {
         if self.pass() {
             return self.ask_again(outbox);
@@ -853,13 +959,14 @@ impl Controller {
         self.bring(&tick, high, low, false, outbox);
     }
 
-    // A unit with which the request is due again.
+    // A unit with which the request is due again. A turn that waits since before data was exchanged begins with it.
     #[inline(never)]
     fn ask_again(&mut self, outbox: &mut Outbox)
         requires empty { outbox.old.items ≡ [] }
-        ensures state { self.new ≡ with_live self.old (gone_on self.old.live true).live }
-        ensures frames { boxed outbox.new ≡ map (bytes_of self.old.setup) (gone_on self.old.live true).sent }
+        ensures state { self.new ≡ with_live self.old (gone_on (begun_turn self.old.setup self.old.live) true).live }
+        ensures frames { boxed outbox.new ≡ map (bytes_of self.old.setup) (gone_on (begun_turn self.old.setup self.old.live) true).sent }
     {
+        self.begin_turn();
         if !self.stands {
             return self.send_request_again(true, outbox);
         }
@@ -938,7 +1045,7 @@ impl Controller {
         send_request(&self.setup, self.device, request, outbox);
     }
 
-    // The request that waits again, of the start-up or else of the application, if it is due and there is one.
+    // The request that waits again, of the start-up or else beside the exchange, if it is due and there is one.
     fn send_pending_again(&self, is_due: bool, outbox: &mut Outbox)
         requires room { array_vec_len outbox.old < 4 }
         ensures frames { boxed outbox.new
@@ -950,7 +1057,20 @@ impl Controller {
         }
         match self.asked {
             Some(request) => send_request(&self.setup, self.device, request, outbox),
-            None => self.send_access_again(outbox),
+            None => self.send_beside_again(outbox),
+        }
+    }
+
+    // The request after a plug again, or else that of the application, if one waits.
+    fn send_beside_again(&self, outbox: &mut Outbox)
+        requires room { array_vec_len outbox.old < 4 }
+        ensures frames { boxed outbox.new ≡ boxed outbox.old ++ map (bytes_of self.now.setup) (beside_of self.now.live) }
+        ensures few { array_vec_len outbox.new ≤ array_vec_len outbox.old + 1 }
+    {
+        if self.access.plug().is_some() {
+            self.send_plug(outbox);
+        } else {
+            self.send_access_again(outbox);
         }
     }
 

@@ -1,5 +1,6 @@
--- The requests of the application while data is exchanged: one record at a time is read or written.
-use Rattle.std.specs.Prelude.{◌+◌, ◌%◌, ◌==◌, ◌&&◌, ℕ, Bool, nat_eq, List, [], take, Option, Some, None, Result, Ok, Err}
+-- The requests while data is exchanged, one at a time: the application reads or writes a record, or the records of the plan are
+-- written after a plug.
+use Rattle.std.specs.Prelude.{◌+◌, ◌%◌, ◌==◌, ◌&&◌, ℕ, Bool, not, nat_eq, List, [], take, is_some, Option, Some, None, Result, Ok, Err}
 use Rattle.std.specs.Cmp.Lexicographic.{pointwise}
 use Rattle.rpc_core.specs.declared.header.CallHeader.{CallHeader}
 use Rattle.rpc_core.specs.declared.response.Status.{Status}
@@ -8,6 +9,7 @@ use Rattle.block_codec.specs.declared.block.Block.{Block}
 use Rattle.block_codec.specs.Block.{in_iod_read_res}
 use Rattle.record_blocks.specs.declared.read_record.IodReadRes.{IodReadRes}
 use Rattle.plans.specs.declared.parts.Parts.{Parts}
+use Rattle.controller_messages.specs.declared.plug_request.PlugRequest.{PlugRequest}
 use Rattle.controller_messages.specs.declared.record_request.RecordRequest.{RecordRequest}
 use Rattle.controller_messages.specs.declared.refusal.Refusal.{Refusal}
 use Rattle.controller_messages.specs.declared.setup.Setup.{Setup}
@@ -16,16 +18,18 @@ use Rattle.controller_messages.specs.Requests.{write_count}
 use Rattle.controller_messages.specs.declared.access.Answer.{Answer}
 
 -- How many requests were made, modulo 2^32; the one that waits for its answer; what the last one was answered with; and the
--- octets of the record: those that a Write that waits carries, or those that an answered Read brought.
+-- octets of the record: those that a Write that waits carries, or those that an answered Read brought; and the request after a
+-- plug that waits for its answer.
 pub record Accessing : Type 0 where
   pub calls : ℕ
   pub waiting : Option RecordRequest
   pub answer : Option Answer
   pub octets : List ℕ
+  pub plug : Option PlugRequest
 
 -- No request was made.
 abbrev pub no_access : Accessing
-no_access = record { calls = 0; waiting = None; answer = None; octets = [] }
+no_access = record { calls = 0; waiting = None; answer = None; octets = []; plug = None }
 
 -- The number of the next call: those of the start-up are before it, up to PrmEnd.
 abbrev pub call_number : Parts → ℕ → ℕ
@@ -33,7 +37,7 @@ call_number plan calls = (write_count plan + 2 + calls) % 4294967296
 
 -- A request is made.
 abbrev pub made : RecordRequest → List ℕ → Accessing → Accessing
-made request octets access = record { calls = (access.calls + 1) % 4294967296; waiting = Some request; answer = None; octets = octets }
+made request octets access = record access { calls = (access.calls + 1) % 4294967296; waiting = Some request; answer = None; octets = octets }
 
 -- A request is answered with this status and these octets of a record.
 abbrev pub answered_with : RecordRequest → Status → List ℕ → Accessing → Accessing
@@ -42,7 +46,19 @@ answered_with request status octets access =
 
 -- The relation ends: a request that waits is dropped.
 abbrev pub dropped : Accessing → Accessing
-dropped access = record access { waiting = None }
+dropped access = record access { waiting = None; plug = None }
+
+-- Whether no request waits for its answer.
+abbrev pub is_free : Accessing → Bool
+is_free access = not (is_some access.waiting) && not (is_some access.plug)
+
+-- A request after a plug is made.
+abbrev pub plugged : PlugRequest → Accessing → Accessing
+plugged request access = record access { calls = (access.calls + 1) % 4294967296; plug = Some request }
+
+-- It is answered.
+abbrev pub unplugged : Accessing → Accessing
+unplugged access = record access { plug = None }
 
 -- The record that the answer brought.
 abbrev pub record_by : Option Answer → List ℕ → List ℕ

@@ -6,3 +6,4 @@ pub mod Reported
 pub mod Requests
 pub mod Sent
 pub mod Access
+pub mod PlugRequests

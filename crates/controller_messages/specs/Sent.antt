@@ -26,20 +26,23 @@ use Rattle.diagnosis.specs.reports.Report.{ack_bytes}
 use Rattle.cyclic_data.specs.declared.exchange.route.Route.{Route}
 use Rattle.cyclic_data.specs.exchange.Frames.{cyclic_frame, plain_frame, tagged_frame}
 use Rattle.plans.specs.Connect.{alarm_block}
+use Rattle.controller_messages.specs.declared.plug_request.PlugRequest.{PlugRequest}
 use Rattle.controller_messages.specs.declared.record_request.RecordRequest.{RecordRequest}
 use Rattle.controller_messages.specs.declared.setup.Setup.{Setup}
 use Rattle.controller_messages.specs.declared.request.Request.{Request}
 use Rattle.controller_messages.specs.declared.request.Request.TheVariants as asks
+use Rattle.controller_messages.specs.PlugRequests.{plug_call}
 use Rattle.controller_messages.specs.RecordRequests.{record_call}
 use Rattle.controller_messages.specs.Requests.{address_asked, call_for, identify_asked}
 
--- A message: a request to the device; a request of the application for a record, with the octets that it writes; the answer
--- to its ApplicationReady, to the caller; a cyclic frame of outputs at a CycleCounter; an AlarmAck of a priority as data, with
+-- A message: a request to the device; a request of the application for a record, with the octets that it writes; a request
+-- after a plug; the answer to its ApplicationReady, to the caller; a cyclic frame of outputs at a CycleCounter; an AlarmAck of a priority as data, with
 -- its header; the ACK or NACK that is the response to an alarm of a priority; or the ERR with
 -- which the controller ends its relation.
 pub data Sent : Type 0 where
   Requests : (device : Mac) → (request : Request) → Sent
   Accesses : (device : Mac) → (request : RecordRequest) → (octets : List ℕ) → Sent
+  Parametrizes : (device : Mac) → (request : PlugRequest) → Sent
   Agrees : (caller : Caller) → (answer : Answered) → Sent
   Cycles : (route : Route) → (shown : Shown) → (counter : ℕ) → Sent
   Confirms : (route : Route) → (priority : Priority) → (header : Header) → (ack : AlarmAck) → Sent
@@ -124,6 +127,7 @@ end_frame setup route pdu =
 abbrev pub bytes_of : Setup → Sent → List ℕ
 bytes_of setup (Requests device request) = request_frame setup device request
 bytes_of setup (Accesses device request octets) = call_frame setup device (record_call setup request octets)
+bytes_of setup (Parametrizes device request) = call_frame setup device (plug_call setup request)
 bytes_of setup (Agrees caller answer) = answer_frame setup caller answer
 bytes_of setup (Cycles route shown counter) = cyclic_frame setup.plan.controller.mac route shown counter
 bytes_of setup (Confirms route priority header ack) = alarm_frame setup route priority (ack_pdu priority header ack)

@@ -1,8 +1,10 @@
-//! The requests of the application while data is exchanged: one record at a time is read or written.
+//! The requests while data is exchanged, one at a time: the application reads or writes a record, or the records of the plan are
+//! written after a plug.
 ghost use Rattle.std.specs.Prelude.{◌≡◌, ◌≤◌, IfSome, length, option_map};
 ghost use Rattle.block_codec.specs.Block.{block_of};
-ghost use Rattle.controller_messages.specs.Access.{answered_with, call_number, dropped, is_rejected, is_reply, made, no_access, record_by, record_in, record_of};
+ghost use Rattle.controller_messages.specs.Access.{answered_with, call_number, dropped, is_free, is_rejected, is_reply, made, no_access, plugged, record_by, record_in, record_of, unplugged};
 
+use crate::plug_request::PlugRequest;
 use crate::record_request::{MOST_RECORD_OCTETS, RecordRequest};
 use crate::refusal::Refusal;
 use crate::setup::Setup;
@@ -34,6 +36,8 @@ pub struct Access {
     answer: Option<Answer>,
     /// The octets that a Write that waits carries, or those that an answered Read brought.
     octets: ArrayVec<u8, 1308>,
+    /// The request after a plug that waits for its answer.
+    plug: Option<PlugRequest>,
 }
 
 impl Model for Access {
@@ -46,6 +50,7 @@ impl Model for Access {
       waiting = access.waiting;
       answer = access.answer;
       octets = access.octets.items;
+      plug = access.plug;
     } };
 }
 
@@ -60,6 +65,7 @@ impl Access {
             waiting: None,
             answer: None,
             octets: ArrayVec::new(),
+            plug: None,
         }
     }
 
@@ -71,6 +77,7 @@ impl Access {
         self.waiting = None;
         self.answer = None;
         self.octets.clear();
+        self.plug = None;
     }
 
     /// How many requests were made, modulo 2^32.
@@ -140,6 +147,36 @@ impl Access {
         ensures { self.new ≡ dropped self.old }
     {
         self.waiting = None;
+        self.plug = None;
+    }
+
+    /// Whether no request waits for its answer.
+    pub fn is_free(&self) -> bool
+        ensures { result ≡ is_free self.now }
+    {
+        self.waiting.is_none() && self.plug.is_none()
+    }
+
+    /// The request after a plug that waits for its answer.
+    pub fn plug(&self) -> Option<PlugRequest>
+        ensures { result ≡ self.now.plug }
+    {
+        self.plug
+    }
+
+    /// A request after a plug is made.
+    pub fn make_plug(&mut self, request: PlugRequest)
+        ensures { self.new ≡ plugged request self.old }
+    {
+        self.calls = self.calls.wrapping_add(1);
+        self.plug = Some(request);
+    }
+
+    /// The request after a plug is answered.
+    pub fn finish_plug(&mut self)
+        ensures { self.new ≡ unplugged self.old }
+    {
+        self.plug = None;
     }
 }
 

@@ -1,9 +1,10 @@
 //! The answer to ApplicationReady.
-ghost use Rattle.std.specs.Prelude.{◌≡◌, ◌+◌, ◌<◌, ◌++◌, ◌∷◌, [], length};
+ghost use Rattle.std.specs.Prelude.{◌≡◌, ◌+◌, ◌<◌, ◌≤◌, ◌++◌, ◌∷◌, [], length};
 ghost use Rattle.arrayvec.specs.ArrayVec.{array_vec_len};
 ghost use Rattle.rpc_core.specs.Call.{asked};
 ghost use Rattle.block_codec.specs.Block.{block_bytes};
-ghost use Rattle.controller_messages.specs.Sent.{Agrees, bytes_of, ready_answer, ready_done};
+ghost use Rattle.rpc_core.specs.Response.{answer_to};
+ghost use Rattle.controller_messages.specs.Sent.{Agrees, bytes_of, done as no_error, ready_answer, ready_done};
 ghost use Rattle.frame_codec.specs.Outbox.{boxed};
 
 use crate::setup::Setup;
@@ -14,7 +15,7 @@ use frame_codec::{Caller, Endpoint, Layered, Outbox, Payload, Udp};
 use rpc_core::{Call, Datagram, Status, write_response};
 
 /// ControlCommand Done.
-const DONE: u16 = 8;
+pub(crate) const DONE: u16 = 8;
 
 /// The status without an error.
 const NO_ERROR: Status = Status {
@@ -54,9 +55,25 @@ pub fn send_ready_answer(
         ≡ boxed outbox.old ++ bytes_of setup.now (Agrees caller.now (ready_answer (asked call.now) block.now)) ∷ [] }
     ensures len { array_vec_len outbox.new ≡ array_vec_len outbox.old + 1 }
 {
-    let blocks = done_block(block);
+    send_answer(setup, caller, call, done_block(block).as_slice(), outbox);
+}
+
+/// Appends the positive answer to a call, with these blocks, to the outbox.
+pub(crate) fn send_answer(
+    setup: &Setup,
+    caller: &Caller,
+    call: &Call<'_>,
+    blocks: &[u8],
+    outbox: &mut Outbox,
+)
+    requires room { array_vec_len outbox.old < 4 }
+    requires short { length blocks.now ≤ 32 }
+    ensures frames { boxed outbox.new
+        ≡ boxed outbox.old ++ bytes_of setup.now (Agrees caller.now (answer_to (asked call.now) no_error blocks.now)) ∷ [] }
+    ensures len { array_vec_len outbox.new ≡ array_vec_len outbox.old + 1 }
+{
     let mut datagram = Datagram::new();
-    write_response(&call.response(NO_ERROR, blocks.as_slice()), &mut datagram);
+    write_response(&call.response(NO_ERROR, blocks), &mut datagram);
     outbox.put(&Layered {
         // To the address and port that the call came from: a device may call from another port than the one at which it
         // listens.

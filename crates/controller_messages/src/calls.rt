@@ -21,7 +21,7 @@ use rpc_core::{Call, CallHeader, Datagram, Interface, Uuid, write_request};
 const ARGS_MAXIMUM: u32 = 1_372;
 
 /// ControlCommand of PrmEnd.
-const PRM_END: u16 = 1;
+pub(crate) const PRM_END: u16 = 1;
 
 /// ControlCommand of Release.
 const RELEASE: u16 = 4;

@@ -5,7 +5,7 @@
 //! same.
 //!
 //! The requests of a controller's application while data is exchanged: one record at a time is read or written
-//! (IEC 61158-6-10, 5.2.3).
+//! (IEC 61158-6-10, 5.2.3). After a plug the controller writes the records of its plan again, beside the exchange too.
 #![tactic(auto)]
 
 mod access;
@@ -14,6 +14,8 @@ mod calls;
 mod exchange;
 mod hearing;
 mod law;
+mod plug_blocks;
+mod plug_request;
 mod record_request;
 mod refusal;
 mod request;
@@ -27,6 +29,9 @@ pub use calls::header_of;
 pub use exchange::{send_alarm_ack, send_alarm_end, send_alarm_reply, send_outputs};
 pub use hearing::{Hearing, heard, heard_real_time, real_time_in};
 pub use law::calls_are_no_refusals;
+pub use plug_request::{
+    PlugRequest, PlugStep, is_plug_ready, plug_ready_in, send_plug_answer, send_plug_request,
+};
 pub use record_request::{MOST_RECORD_OCTETS, RecordRequest, RecordService, send_record_request};
 pub use refusal::Refusal;
 pub use request::Request;

@@ -102,7 +102,7 @@ fn put_read(setup: &Setup, request: &RecordRequest, blocks: &mut ArrayVec<u8, 13
 
 /// Appends the block of a Write, and the record after it. There must be room.
 #[tactic(auto, unfolding(block_codec::specs::Block::block_size, block_codec::specs::Block::fields_of, wire::specs::blocks::Fields::body, wire::specs::blocks::Fields::version))]
-fn put_written(
+pub(crate) fn put_written(
     setup: &Setup,
     request: &RecordRequest,
     octets: &[u8],

@@ -10,6 +10,7 @@ pub mod RecordingOneStep
 pub mod RecordingLeaps
 pub mod HostDevice
 pub mod PortCounts
+pub mod PortExact
 pub mod PortHanded
 pub mod PortHosted
 pub mod PortLeaps

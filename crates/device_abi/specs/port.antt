@@ -1,3 +1,4 @@
+pub mod Exact
 pub mod Host
 pub mod Own
 pub mod Pace

@@ -336,25 +336,25 @@ impl<F: Flash<S>, const S: usize> Device<F, S> {
         if elapsed.is_inputs() {
             return self.send_inputs(outbox);
         }
-        self.bring(&elapsed, outbox)
+        self.bring(elapsed, outbox)
     }
 
     // What a unit of time brings: a timeout ends the relation, otherwise what is due is sent.
     #[inline(never)]
-    fn bring(&mut self, elapsed: &Elapsed, outbox: &mut Outbox) -> Note
+    fn bring(&mut self, elapsed: Elapsed, outbox: &mut Outbox) -> Note
         requires empty { outbox.old.items ≡ [] }
-        requires apart { elapsed.now.is_ready ≡ true → elapsed.now.is_plug_ready ≡ false }
-        ensures state { self.new ≡ with_rest self.old (with_log (err_log (farewell_for elapsed.now.tick.ending self.old.live.rest.link))
-            (record self.old.live.rest { link = left_behind elapsed.now.tick.ending self.old.live.rest.link })) }
-        ensures frames { boxed outbox.new ≡ map (bytes_of self.old.station.identity) (brought self.old elapsed.now) }
-        ensures sendable { AreSendable self.old.station.identity (brought self.old elapsed.now) }
+        requires apart { elapsed.is_ready ≡ true → elapsed.is_plug_ready ≡ false }
+        ensures state { self.new ≡ with_rest self.old (with_log (err_log (farewell_for elapsed.tick.ending self.old.live.rest.link))
+            (record self.old.live.rest { link = left_behind elapsed.tick.ending self.old.live.rest.link })) }
+        ensures frames { boxed outbox.new ≡ map (bytes_of self.old.station.identity) (brought self.old elapsed) }
+        ensures sendable { AreSendable self.old.station.identity (brought self.old elapsed) }
         ensures note { result ≡ Note.Done }
     {
         match elapsed.tick.ending() {
             Some(reason) => self.end(reason, outbox),
             None => self.send_each(
-                repeated_with(elapsed, self.relation.repeated()),
-                elapsed,
+                repeated_with(&elapsed, self.relation.repeated()),
+                &elapsed,
                 elapsed.tick.is_cyclic(),
                 outbox,
             ),

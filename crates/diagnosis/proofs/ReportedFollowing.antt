@@ -1,8 +1,8 @@
 -- The list of a controller, after the alarm of a change that the device accepted.
-use Rattle.std.proofs.Common.{◌≡◌, ◌==◌, ◌&&◌, ◌||◌, ◌++◌, ◌<◌, ◌≤◌, ◌^◌, ℕ, Bool, true, false, not, List, [], ◌∷◌, length, Option, Some, None, Ok, refl, sym, ap, ◌∙◌, arith, if◌then◌else◌}
+use Rattle.std.proofs.Common.{◌≡◌, ◌==◌, ◌&&◌, ◌||◌, ◌++◌, ◌<◌, ◌≤◌, ◌^◌, ℕ, Bool, true, false, not, List, [], ◌∷◌, length, Option, Some, None, Ok, refl, sym, ap, ◌∙◌, inl, inr, arith, if◌then◌else◌}
 use Rattle.std.specs.Prelude.{nat_lt}
 use Rattle.std.specs.List.{filter}
-use Rattle.std.proofs.lemmas.Bool.{and_parts, eqb-true, lt-ltb, ltb-true, not-true, true≢false}
+use Rattle.std.proofs.lemmas.Bool.{and_parts, cases_Bool, eqb-true, lt-ltb, ltb-true, not-true, true≢false}
 use Rattle.std.proofs.lemmas.List.{append-nil}
 use Rattle.std.proofs.lemmas.List.Elements.{filter-append}
 use Rattle.std.proofs.lemmas.List.Filters.{length-filter_both}
@@ -11,7 +11,7 @@ use Rattle.wire.specs.Codec.{IsSound}
 use Rattle.wire.proofs.Joined.{then_by_sound, seen_sound}
 use Rattle.wire.specs.blocks.Fields.{number_bytes}
 use Rattle.wire.proofs.BlocksSound.{numeral_sound}
-use Rattle.diagnosis.specs.Existing.{changed, exists, is_at, is_same, is_valid, others}
+use Rattle.diagnosis.specs.Existing.{changed, exists, is_at, is_same, is_valid, others, remaining}
 use Rattle.diagnosis.specs.Notices.{channel_bytes, properties_of}
 use Rattle.diagnosis.specs.declared.diagnosis.Change.{Change}
 use Rattle.diagnosis.specs.declared.diagnosis.Diagnosis.{Diagnosis}
@@ -21,9 +21,12 @@ use Rattle.diagnosis.specs.declared.reported.channel.Channel.{Channel}
 use Rattle.diagnosis.specs.declared.reported.channel.ChannelReport.{ChannelReport}
 use Rattle.diagnosis.specs.declared.reported.channel.Specifier.{Specifier}
 use Rattle.diagnosis.specs.declared.reported.channel.Specifier.TheVariants.{Appears, Disappears}
-use Rattle.diagnosis.specs.reported.Channel.{channel, channel_report, is_channel_diagnosis, report_of, specifier_in}
+use Rattle.module_diff.specs.declared.changes.Affected.{Affected}
+use Rattle.module_diff.specs.Changes.{covers}
+use Rattle.diagnosis.specs.reported.Channel.{channel, channel_by, channel_report, is_channel_diagnosis, is_channel_structure, report_by, report_of, specifier_in}
 use Rattle.diagnosis.specs.reported.Followed.{Reports, at_places}
-use Rattle.diagnosis.specs.reported.Reported.{Reported, after_found, after_report, after_specifier}
+use Rattle.diagnosis.specs.reported.Pulled.{pulled_by, pulled_by_type}
+use Rattle.diagnosis.specs.reported.Reported.{Reported, after_found, after_pull, after_report, after_specifier}
 
 -- ---- lists
 
@@ -179,14 +182,69 @@ reads change report reports number error =
     let is = is_diagnosis change report reports in
     rw (is, octets) (ap (λ (r : ChannelReport). Some r) (report_is change report.notification reports.slot reports.subslot))
 
+-- It reports no pull.
+not_by_type : (appears : Bool) (alarm : AlarmNotification) → alarm.alarm_type ≡ (if appears then 1 else 0x000C) → pulled_by_type alarm ≡ None
+not_by_type true alarm is = rw is refl
+not_by_type false alarm is = rw is refl
+
+not_in_api : (b : Bool) (gone : Option Affected) → gone ≡ None → (if b then gone else None) ≡ None
+not_in_api true gone is = is
+not_in_api false gone is = refl
+
+not_pulled : (change : Change) (report : Report) → Reports change report → pulled_by report ≡ None
+not_pulled change report reports =
+    not_in_api (report.notification.api == 0) (pulled_by_type report.notification) (not_by_type change.appears report.notification reports.kind)
+
 pub follows : (has : ℕ → ℕ → Bool) (change : Change) (report : Report) (before after : List Diagnosis) (left_out : ℕ) → Reports change report
     → change.diagnosis.channel < 65536 → change.diagnosis.error < 65536 → has change.diagnosis.slot change.diagnosis.subslot ≡ true
     → changed change before ≡ Some after
     → after_report report (record { existing = at_places has before; left_out = left_out }) ≡ record { existing = at_places has after; left_out = left_out }
 follows has change report before after left_out reports number error there e =
-    ap (λ (found : Option ChannelReport). after_found found (record { existing = at_places has before; left_out = left_out })) (reads change report reports number error)
-    ∙ follows_by has change.diagnosis change.appears before after left_out there e
+    let old : Reported = record { existing = at_places has before; left_out = left_out } in
+    ap (λ (gone : Option Affected). after_pull gone (after_found (channel_report report) old)) (not_pulled change report reports)
+    ∙ (ap (λ (found : Option ChannelReport). after_found found old) (reads change report reports number error)
+    ∙ follows_by has change.diagnosis change.appears before after left_out there e)
 
 pub elsewhere : (has : ℕ → ℕ → Bool) (change : Change) (before after : List Diagnosis) → has change.diagnosis.slot change.diagnosis.subslot ≡ false
     → changed change before ≡ Some after → at_places has after ≡ at_places has before
 elsewhere has change before after away e = elsewhere_by has change.diagnosis change.appears before after away e
+
+-- ---- the alarm of a pull
+
+-- Its type is not that of a diagnosis.
+type_apart : (kind : ℕ) (one other : Option Affected) (gone : Affected)
+    → (if kind == 0x0003 then one else if kind == 0x001F then other else None) ≡ Some gone → (kind == 1 || kind == 0x000C) ≡ false
+type_apart kind one other gone e =
+    elim (cases_Bool (kind == 0x0003)) [
+      | inl t ↦ ap (λ (k : ℕ). k == 1 || k == 0x000C) (eqb-true kind 0x0003 t)
+      | inr f ↦
+          let second : (if kind == 0x001F then other else None) ≡ Some gone =
+          sym (ap (λ (b : Bool). let o : Option Affected = if b then one else if kind == 0x001F then other else None in o) f) ∙ e in
+          elim (cases_Bool (kind == 0x001F)) [
+            | inl t ↦ ap (λ (k : ℕ). k == 1 || k == 0x000C) (eqb-true kind 0x001F t)
+            | inr g ↦
+                let none : ◌≡◌ {A = Option Affected} None (Some gone) =
+                sym (ap (λ (b : Bool). let o : Option Affected = if b then other else None in o) g) ∙ second in
+                absurd cc
+          ]
+    ]
+
+in_api : (b : Bool) (found : Option Affected) (gone : Affected) → (if b then found else None) ≡ Some gone → found ≡ Some gone
+in_api true found gone e = e
+in_api false found gone e = absurd cc
+
+no_channel : (gone : Affected) (report : Report) → pulled_by report ≡ Some gone → channel_report report ≡ None
+no_channel gone report e =
+    let alarm = report.notification in
+    let apart = type_apart alarm.alarm_type _ _ gone (in_api (alarm.api == 0) (pulled_by_type alarm) gone e) in
+    ap (λ (b : Bool). let o : Option ChannelReport = if b && is_channel_structure report.user_structure then report_by alarm (channel_by (channel.read alarm.alarm_data)) else None in o) apart
+
+pub pulls : (has : ℕ → ℕ → Bool) (gone : Affected) (report : Report) (before : List Diagnosis) (left_out : ℕ) → pulled_by report ≡ Some gone
+    → after_report report (record { existing = at_places has before; left_out = left_out })
+    ≡ record { existing = at_places has (remaining gone before); left_out = left_out }
+pulls has gone report before left_out e =
+    let old : Reported = record { existing = at_places has before; left_out = left_out } in
+    ap (λ (found : Option Affected). after_pull found (after_found (channel_report report) old)) e
+    ∙ (ap (λ (found : Option ChannelReport). after_pull (Some gone) (after_found found old)) (no_channel gone report e)
+    ∙ ap (λ (xs : List Diagnosis). let r : Reported = record { existing = xs; left_out = left_out } in r)
+    (filter_swap (λ (one : Diagnosis). not (covers gone one.slot one.subslot)) (λ (one : Diagnosis). has one.slot one.subslot) before))

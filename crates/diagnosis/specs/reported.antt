@@ -1,3 +1,4 @@
 pub mod Channel
+pub mod Pulled
 pub mod Reported
 pub mod Followed

@@ -30,7 +30,7 @@ pub use places::Places;
 pub use queue::{LowChange, QueuedAlarm};
 pub use record::put_diagnosis_data;
 pub use reported::{
-    ChannelReport, MOST_DIAGNOSES, ReportedDiagnoses, Specifier, channel_report,
+    ChannelReport, MOST_DIAGNOSES, ReportedDiagnoses, Specifier, channel_report, pulled_by,
     reports_are_followed,
 };
 pub use reports::{

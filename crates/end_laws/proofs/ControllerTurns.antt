@@ -1,6 +1,6 @@
 -- Each turn of a controller, as far as a start-up is concerned.
 use Rattle.std.proofs.Common.{◌≡◌, ◌⊎◌, inl, inr, ◌+◌, ◌<◌, ◌≤◌, ◌==◌, ◌&&◌, ℕ, Bool, true, false, cond, List, [], ◌∷◌, ◌++◌, Option, Some, None, refl, sym, ap, subst, ◌∙◌, add-one, arith}
-use Rattle.std.specs.Prelude.{nat_lt, nat_eq}
+use Rattle.std.specs.Prelude.{if◌then◌else◌, is_some, nat_lt, nat_eq}
 use Rattle.std.specs.List.{AllByRecursion}
 use Rattle.std.specs.Cmp.Lexicographic.{pointwise}
 use Rattle.std.proofs.lemmas.Bool.{and_parts, eqb-true, ltb-true, ltb-false}
@@ -22,13 +22,15 @@ use Rattle.pn_alarms.specs.Receiver.{taken_as}
 use Rattle.pn_alarms.specs.Sending.{due}
 use Rattle.pn_alarms.specs.Sending.{is_again as is_repeated}
 use Rattle.plans.specs.declared.parts.Parts.{Parts}
+use Rattle.controller_messages.specs.declared.plug_request.PlugRequest.{PlugRequest}
 use Rattle.controller_messages.specs.declared.record_request.RecordRequest.{RecordRequest}
 use Rattle.controller_messages.specs.declared.setup.Setup.{Setup}
 use Rattle.controller_messages.specs.declared.request.Request.{Request}
 use Rattle.controller_messages.specs.declared.request.Request.TheVariants as asks
 use Rattle.controller_messages.specs.Heard.{Heard, Responds, heard_of}
 use Rattle.controller_messages.specs.Requests.{sequence_of, write_count, writing_from}
-use Rattle.controller_messages.specs.Sent.{Sent}
+use Rattle.controller_messages.specs.PlugRequests.{plug_answer}
+use Rattle.controller_messages.specs.Sent.{Sent, Agrees, Parametrizes}
 use Rattle.controller_core.specs.declared.stored.state.Cause.{Cause}
 use Rattle.controller_core.specs.declared.stored.state.State.{State}
 use Rattle.controller_core.specs.declared.stored.state.State.TheVariants.{Looking, Addressing, Connecting, Writing, Ending, Waiting, Exchanging, Ended}
@@ -38,13 +40,15 @@ use Rattle.controller_core.specs.stored.State.{Live}
 use Rattle.controller_core.specs.stored.Alarms.{ack_of, kept_alarm}
 use Rattle.controller_core.specs.start_up.Answers.{is_answer, is_call}
 use Rattle.controller_core.specs.start_up.Outcomes.{are_written}
-use Rattle.controller_core.specs.Machine.{Turn, stays, noted, released, writing, standing, end_of, with_end, keeping, acking, behind_data, behind_ack, diagnosing, confirming, taken, is_again, later, where_due, requests_of, accesses_by, pending_by, pending_of, acks_in, acks_of, outputs_of, flow_later, due_frames, brought, turn_of}
+use Rattle.controller_core.specs.Machine.{Turn, stays, noted, released, writing, standing, end_of, with_end, keeping, acking, after_turn, asks_next, behind_data, behind_ack, can_begin, diagnosing, confirming, taken, is_again, later, where_due, requests_of, accesses_by, accesses_of, plug_readied, plugs_by, plugs_of, pending_by, pending_of, acks_in, acks_of, outputs_of, flow_later, due_frames, brought, turn_of}
 use Rattle.controller_core.specs.start_up.Requests.{next_sequence}
+use Rattle.end_laws.specs.turns.Beside.{IsBegun, MayBegin, MayFollow, flow_begun}
 use Rattle.end_laws.specs.turns.Ended.{IsReleased}
-use Rattle.end_laws.specs.turns.Turns.{Came, Hears, IsGranted, IsKind, IsReadied, IsSkipped, IsTurn, Kind, Rests, Connects, Addresses, Ends, Releases, Relates, Writes, Skips, Waits, Forgets, Begins, Repeats, Takes, IsAcked, Asks, IsReplied, Flows, Breaks, Idles, came_by, turn_by}
+use Rattle.end_laws.specs.turns.Turns.{Came, Hears, IsGranted, IsKind, IsReadied, IsSkipped, IsTurn, Kind, Rests, Connects, Addresses, Ends, Releases, Relates, Writes, Skips, Waits, Forgets, Begins, Repeats, Takes, IsAcked, Asks, IsReplied, IsPlugAnswered, IsPlugReadied, Flows, Breaks, Idles, came_by, turn_by}
+use Rattle.end_laws.proofs.TurnsBeside.{flows, follows}
 use Rattle.end_laws.specs.both.Small as small
 use Rattle.end_laws.specs.both.Small.{Controller, ToController, ToDevice}
-use Rattle.end_laws.specs.both.Steps.{SaysToDevice}
+use Rattle.end_laws.specs.both.Steps.{Moves, SaysToDevice}
 use Rattle.end_laws.specs.controller.Small.{asking_of, state_of, small_of, IsInStep, MayWait, IsSteady, says_written, is_positive, readied_by, said_to, asked_by, said_by, said_in, GoesOn}
 
 some_is : {A : Type 0} (x y : A) → Some x ≡ Some y → x ≡ y
@@ -67,8 +71,8 @@ module _ (plan : Parts) where
 
   -- ---- the cases in which nothing moves
 
-  still_waits : (phase : State) (before after : Option RecordRequest) → (after ≡ before) ⊎ (after ≡ None) → MayWait phase before → MayWait phase after
-  still_waits phase before after (inl same) waits = subst (λ (w : Option RecordRequest). MayWait phase w) (sym same) waits
+  still_waits : {A : Type 0} (phase : State) (before after : Option A) → (after ≡ before) ⊎ (after ≡ None) → MayWait phase before → MayWait phase after
+  still_waits {A} phase before after (inl same) waits = subst (λ (w : Option A). MayWait phase w) (sym same) waits
   still_waits Exchanging before after (inr none) waits = tt
   still_waits Looking before after (inr none) waits = none
   still_waits Addressing before after (inr none) waits = none
@@ -79,29 +83,31 @@ module _ (plan : Parts) where
   still_waits (Ended cause) before after (inr none) waits = none
 
   steady_on : (live after : Live) → IsSteady plan live → after.phase ≡ live.phase → after.asked ≡ live.asked
-      → (after.access.waiting ≡ live.access.waiting) ⊎ (after.access.waiting ≡ None) → IsSteady plan after
-  steady_on live after steady phase asked waits = record {
+      → (after.access.waiting ≡ live.access.waiting) ⊎ (after.access.waiting ≡ None) → (after.access.plug ≡ live.access.plug) ⊎ (after.access.plug ≡ None)
+      → IsSteady plan after
+  steady_on live after steady phase asked waits plugs = record {
     asked = subst (λ (p : State). IsInStep plan p after.asked) (sym phase) (subst (λ (a : Option Request). IsInStep plan live.phase a) (sym asked) steady.asked);
     waiting = subst (λ (p : State). MayWait p after.access.waiting) (sym phase) (still_waits live.phase live.access.waiting after.access.waiting waits steady.waiting);
+    plug = subst (λ (p : State). MayWait p after.access.plug) (sym phase) (still_waits live.phase live.access.plug after.access.plug plugs steady.plug);
   }
 
   same_goes : (heard : ToController) (live after : Live) (sent : List Sent) → IsSteady plan live → after.phase ≡ live.phase → after.asked ≡ live.asked
-      → (after.access.waiting ≡ live.access.waiting) ⊎ (after.access.waiting ≡ None)
+      → (after.access.waiting ≡ live.access.waiting) ⊎ (after.access.waiting ≡ None) → (after.access.plug ≡ live.access.plug) ⊎ (after.access.plug ≡ None)
       → AllByRecursion IsInactive sent → GoesOn plan heard live (record { live = after; sent = sent })
-  same_goes heard live after sent steady phase asked waits inactive = record {
-    in_step = steady_on live after steady phase asked waits;
+  same_goes heard live after sent steady phase asked waits plugs inactive = record {
+    in_step = steady_on live after steady phase asked waits plugs;
     moves = inl (ap (λ (p : State). state_of plan p after.asked) phase ∙ ap (λ (a : Option Request). state_of plan live.phase a) asked);
     says = all_inactive (small_of plan after) sent inactive;
   }
 
   stays_goes : (heard : ToController) (live : Live) → IsSteady plan live → GoesOn plan heard live (stays live)
-  stays_goes heard live steady = same_goes heard live live [] steady refl refl (inl refl) tt
+  stays_goes heard live steady = same_goes heard live live [] steady refl refl (inl refl) (inl refl) tt
 
   -- while a request of the start-up is active, and before, none of the application waits
   none_asked : (request : Request) → None ≡ Some request → ⊥
   none_asked request e = absurd cc
 
-  none_waits : (phase : State) (asked : Option Request) (request : Request) (waiting : Option RecordRequest) → IsInStep plan phase asked → asked ≡ Some request → MayWait phase waiting → waiting ≡ None
+  none_waits : {A : Type 0} (phase : State) (asked : Option Request) (request : Request) (waiting : Option A) → IsInStep plan phase asked → asked ≡ Some request → MayWait phase waiting → waiting ≡ None
   none_waits Exchanging asked request waiting in_step stands waits = absurd (none_asked request (sym in_step ∙ stands))
   none_waits Looking asked request waiting in_step stands waits = waits
   none_waits Addressing asked request waiting in_step stands waits = waits
@@ -113,7 +119,7 @@ module _ (plan : Parts) where
 
 module _ (setup : Setup) where
   released_goes : (heard : ToController) (reason : Cause) (live after : Live) → GoesOn setup.plan heard live (released setup reason after)
-  released_goes heard reason live after = record { in_step = record { asked = inr (next_sequence setup.plan after.access.calls after.asked, refl); waiting = refl }; moves = inr (inl refl); says = (inl refl, tt) }
+  released_goes heard reason live after = record { in_step = record { asked = inr (next_sequence setup.plan after.access.calls after.asked, refl); waiting = refl; plug = refl }; moves = inr (inl refl); says = (inl refl, tt) }
 
   -- what a pending request says of the state: the call that makes it, that its record exists, or that the relation has
   -- ended
@@ -131,7 +137,7 @@ module _ (setup : Setup) where
   none_stands : (request : Request) → None ≡ Some request → ⊥
   none_stands request e = absurd cc
 
-  none_some : (request : RecordRequest) → Some request ≡ None → ⊥
+  none_some : {A : Type 0} (request : A) → Some request ≡ None → ⊥
   none_some request e = absurd cc
 
   -- the request that belongs to each state
@@ -151,18 +157,18 @@ module _ (setup : Setup) where
   -- the next request is made by the next call
   module _ (live after : Live) (number : ℕ) (heard : ToController) (positive : Bool) (before : small_of setup.plan live ≡ small.Asking number)
       (answers : heard ≡ small.Answers number positive) (granted : (positive ≡ true) ⊎ (setup.plan.continue_on_refused_record ≡ true))
-      (few : number ≤ write_count setup.plan) (idle : after.access.waiting ≡ None) where
+      (few : number ≤ write_count setup.plan) (idle : after.access.waiting ≡ None) (free : after.access.plug ≡ None) where
     writing_by : (b : Bool) → nat_lt number (write_count setup.plan) ≡ b
         → GoesOn setup.plan heard live (writing setup (cond b (asks.Write number) asks.PrmEnd) after)
     writing_by true below = record {
-      in_step = record { asked = (number, ltb-true number (write_count setup.plan) below, refl); waiting = idle };
+      in_step = record { asked = (number, ltb-true number (write_count setup.plan) below, refl); waiting = idle; plug = free };
       moves = inr (inr (inr (inl (record { sequence = number; positive = positive; asked = before; answered = answers; granted = granted; becomes = inl (few, refl) }))));
       says = (inr (inl (refl, (ltb-true number (write_count setup.plan) below, refl))), tt);
     }
     writing_by false above =
         let last : write_count setup.plan ≡ number = omega (arith, few, ltb-false number (write_count setup.plan) above) in
         record {
-          in_step = record { asked = refl; waiting = idle };
+          in_step = record { asked = refl; waiting = idle; plug = free };
           moves = inr (inr (inr (inl (record { sequence = number; positive = positive; asked = before; answered = answers; granted = granted; becomes = inl (few, ap (λ (n : ℕ). small.Asking (n + 1)) last) }))));
           says = (inr (inl (refl, refl)), tt);
         }
@@ -209,23 +215,24 @@ module _ (setup : Setup) where
     phase : after.phase ≡ live.phase
     asked : after.asked ≡ live.asked
     waits : after.access.waiting ≡ live.access.waiting
+    plugs : after.access.plug ≡ live.access.plug
 
   alike : (live : Live) → IsAlike live live
-  alike live = record { phase = refl; asked = refl; waits = refl }
+  alike live = record { phase = refl; asked = refl; waits = refl; plugs = refl }
 
   end_alike : (live : Live) (priority : Priority) (end : ControllerEnd) → IsAlike live (with_end live priority end)
-  end_alike live High end = record { phase = refl; asked = refl; waits = refl }
-  end_alike live Low end = record { phase = refl; asked = refl; waits = refl }
+  end_alike live High end = record { phase = refl; asked = refl; waits = refl; plugs = refl }
+  end_alike live Low end = record { phase = refl; asked = refl; waits = refl; plugs = refl }
 
   keeping_alike : (live : Live) (priority : Priority) (alarm : AlarmNotification) (user_structure : Option ℕ) → IsAlike live (keeping live priority alarm user_structure)
-  keeping_alike live High alarm user_structure = record { phase = refl; asked = refl; waits = refl }
-  keeping_alike live Low alarm user_structure = record { phase = refl; asked = refl; waits = refl }
+  keeping_alike live High alarm user_structure = record { phase = refl; asked = refl; waits = refl; plugs = refl }
+  keeping_alike live Low alarm user_structure = record { phase = refl; asked = refl; waits = refl; plugs = refl }
 
   alike_on : (live next after : Live) → IsAlike live next → IsAlike next after → IsAlike live after
-  alike_on live next after one other = record { phase = other.phase ∙ one.phase; asked = other.asked ∙ one.asked; waits = other.waits ∙ one.waits }
+  alike_on live next after one other = record { phase = other.phase ∙ one.phase; asked = other.asked ∙ one.asked; waits = other.waits ∙ one.waits; plugs = other.plugs ∙ one.plugs }
 
   diagnosing_alike : (live after : Live) (report : Report) → IsAlike live after → IsAlike live (diagnosing report after)
-  diagnosing_alike live after report is = record { phase = is.phase; asked = is.asked; waits = is.waits }
+  diagnosing_alike live after report is = record { phase = is.phase; asked = is.asked; waits = is.waits; plugs = is.plugs }
 
   confirming_alike : (live after : Live) (report : Report) → IsAlike live after → IsAlike live (confirming after report)
   confirming_alike live after report is =
@@ -237,7 +244,7 @@ module _ (setup : Setup) where
 
   alike_goes : (heard : ToController) (live after : Live) (sent : List Sent) → IsSteady setup.plan live → IsAlike live after → AllByRecursion (IsInactive setup.plan) sent
       → GoesOn setup.plan heard live (record { live = after; sent = sent })
-  alike_goes heard live after sent steady is inactive = same_goes setup.plan heard live after sent steady is.phase is.asked (inl is.waits) inactive
+  alike_goes heard live after sent steady is inactive = same_goes setup.plan heard live after sent steady is.phase is.asked (inl is.waits) (inl is.plugs) inactive
 
   taken_goes : (heard : ToController) (live after : Live) (report : Report) (came : Taken) → IsSteady setup.plan live → IsAlike live after
       → GoesOn setup.plan heard live (taken after report came)
@@ -283,9 +290,26 @@ module _ (setup : Setup) where
   accesses_say device octets Waiting asked (Some request) waits = absurd (none_some request waits)
   accesses_say device octets (Ended cause) asked (Some request) waits = absurd (none_some request waits)
 
+  -- and so does that after a plug
+  plugs_say : (device : Mac) (phase : State) (asked : Option Request) (plug : Option PlugRequest) → MayWait phase plug
+      → AreSaid (state_of setup.plan phase asked) (plugs_by device plug)
+  plugs_say device phase asked None waits = tt
+  plugs_say device Exchanging asked (Some request) waits = (inr (inr (refl, refl)), tt)
+  plugs_say device Looking asked (Some request) waits = absurd (none_some request waits)
+  plugs_say device Addressing asked (Some request) waits = absurd (none_some request waits)
+  plugs_say device Connecting asked (Some request) waits = absurd (none_some request waits)
+  plugs_say device Writing asked (Some request) waits = absurd (none_some request waits)
+  plugs_say device Ending asked (Some request) waits = absurd (none_some request waits)
+  plugs_say device Waiting asked (Some request) waits = absurd (none_some request waits)
+  plugs_say device (Ended cause) asked (Some request) waits = absurd (none_some request waits)
+
+  beside_say : (live : Live) (is_plug : Bool) → IsSteady setup.plan live → AreSaid (small_of setup.plan live) (if is_plug then plugs_of live else accesses_of live)
+  beside_say live true steady = plugs_say live.device live.phase live.asked live.access.plug steady.plug
+  beside_say live false steady = accesses_say live.device live.access.octets live.phase live.asked live.access.waiting steady.waiting
+
   pending_say : (live : Live) (asked : Option Request) → asked ≡ live.asked → IsSteady setup.plan live → AreSaid (small_of setup.plan live) (pending_by live asked)
   pending_say live (Some request) is steady = requests_say live.device live.phase live.asked (Some request) is steady.asked
-  pending_say live None is steady = accesses_say live.device live.access.octets live.phase live.asked live.access.waiting steady.waiting
+  pending_say live None is steady = beside_say live (is_some live.access.plug) steady
 
   acks_say : (now : Controller) (live : Live) (priority : Priority) (ack : Option AlarmAck) → AreSaid now (acks_in live priority ack)
   acks_say now live priority (Some ack) = (tt, tt)
@@ -299,6 +323,74 @@ module _ (setup : Setup) where
       (both_say now (where_due is_request (pending_of live)) _
       (due_say now is_request (pending_of live) (pending_say live live.asked refl steady))
       (due_say now is_cyclic (outputs_of live) (tt, tt))))
+
+  -- ---- the turn of a place that begins
+
+  turn_steady : (before after : Live) → IsBegun setup before after → IsSteady setup.plan before → IsSteady setup.plan after
+  turn_steady before after begun steady =
+      let phase : after.phase ≡ Exchanging = ap (λ (l : Live). l.phase) begun.beside ∙ begun.phase in
+      record {
+        asked = subst (λ (l : Live). IsInStep setup.plan l.phase l.asked) (sym begun.beside) steady.asked;
+        waiting = subst (λ (p : State). MayWait p after.access.waiting) (sym phase) tt;
+        plug = subst (λ (p : State). MayWait p after.access.plug) (sym phase) tt;
+      }
+
+  turn_small : (before after : Live) → IsBegun setup before after → small_of setup.plan after ≡ small_of setup.plan before
+  turn_small before after begun = ap (λ (l : Live). state_of setup.plan l.phase l.asked) begun.beside
+
+  begins_steady : (before after : Live) → MayBegin setup before after → IsSteady setup.plan before → IsSteady setup.plan after
+  begins_steady before after (inl e) steady = subst (λ (l : Live). IsSteady setup.plan l) (sym e) steady
+  begins_steady before after (inr begun) steady = turn_steady before after begun steady
+
+  begins_small : (before after : Live) → MayBegin setup before after → small_of setup.plan after ≡ small_of setup.plan before
+  begins_small before after (inl e) = ap (λ (l : Live). small_of setup.plan l) e
+  begins_small before after (inr begun) = turn_small before after begun
+
+  -- its call is one that is made while data is exchanged
+  follows_goes : (heard : ToController) (live : Live) (turn after : Turn) → MayFollow setup turn after → GoesOn setup.plan heard live turn → GoesOn setup.plan heard live after
+  follows_goes heard live turn after (inl e) goes = subst (λ (t : Turn). GoesOn setup.plan heard live t) (sym e) goes
+  follows_goes heard live turn after (inr followed) goes =
+      let begun = followed.begun in
+      let same = turn_small turn.live after.live begun in
+      let exchanges : small_of setup.plan turn.live ≡ small.Exchanges = ap (λ (p : State). state_of setup.plan p turn.live.asked) begun.phase in
+      record {
+        in_step = turn_steady turn.live after.live begun goes.in_step;
+        moves = subst (λ (c : Controller). Moves setup.plan.continue_on_refused_record (write_count setup.plan) heard (small_of setup.plan live) c) (sym same) goes.moves;
+        says = subst (λ (c : Controller). AreSaid c after.sent) (sym same)
+            (subst (λ (sent : List Sent). AreSaid (small_of setup.plan turn.live) sent) (sym followed.sent)
+            (both_say (small_of setup.plan turn.live) turn.sent (Parametrizes turn.live.device begun.request ∷ []) goes.says (inr (inr (refl, exchanges)), tt)));
+      }
+
+  after_goes : (heard : ToController) (live : Live) (turn : Turn) → GoesOn setup.plan heard live turn → GoesOn setup.plan heard live (after_turn setup (can_begin live) turn)
+  after_goes heard live turn goes = follows_goes heard live turn (after_turn setup (can_begin live) turn) (follows setup (can_begin live) turn) goes
+
+  -- what waits beside the exchange waits only while data is exchanged
+  waits_exchanging : {A : Type 0} (phase : State) (waiting : Option A) (request : A) → MayWait phase waiting → waiting ≡ Some request → phase ≡ Exchanging
+  waits_exchanging Exchanging waiting request waits is = refl
+  waits_exchanging Looking waiting request waits is = absurd (none_some request (sym is ∙ waits))
+  waits_exchanging Addressing waiting request waits is = absurd (none_some request (sym is ∙ waits))
+  waits_exchanging Connecting waiting request waits is = absurd (none_some request (sym is ∙ waits))
+  waits_exchanging Writing waiting request waits is = absurd (none_some request (sym is ∙ waits))
+  waits_exchanging Ending waiting request waits is = absurd (none_some request (sym is ∙ waits))
+  waits_exchanging Waiting waiting request waits is = absurd (none_some request (sym is ∙ waits))
+  waits_exchanging (Ended cause) waiting request waits is = absurd (none_some request (sym is ∙ waits))
+
+  -- a turn while data is exchanged
+  exchanging_goes : (heard : ToController) (live after : Live) (sent : List Sent) → IsSteady setup.plan live → live.phase ≡ Exchanging → after.phase ≡ live.phase
+      → after.asked ≡ live.asked → AreSaid small.Exchanges sent → GoesOn setup.plan heard live (record { live = after; sent = sent })
+  exchanging_goes heard live after sent steady exchanges phase asked says =
+      let now : after.phase ≡ Exchanging = phase ∙ exchanges in
+      let same : small_of setup.plan after ≡ small_of setup.plan live =
+      ap (λ (p : State). state_of setup.plan p after.asked) phase ∙ ap (λ (a : Option Request). state_of setup.plan live.phase a) asked in
+      record {
+        in_step = record {
+          asked = subst (λ (p : State). IsInStep setup.plan p after.asked) (sym phase) (subst (λ (a : Option Request). IsInStep setup.plan live.phase a) (sym asked) steady.asked);
+          waiting = subst (λ (p : State). MayWait p after.access.waiting) (sym now) tt;
+          plug = subst (λ (p : State). MayWait p after.access.plug) (sym now) tt;
+        };
+        moves = inl same;
+        says = subst (λ (p : State). AreSaid (state_of setup.plan p after.asked) sent) (sym now) says;
+      }
 
   -- ---- each kind
 
@@ -329,6 +421,14 @@ module _ (setup : Setup) where
     idle_asked : (request : Request) → live.asked ≡ Some request → live.access.waiting ≡ None
     idle_asked request stood = none_waits setup.plan live.phase live.asked request live.access.waiting in_step stood steady.waiting
 
+    -- and none after a plug
+    free_seeking : (live.phase ≡ Looking) ⊎ (live.phase ≡ Addressing) → live.access.plug ≡ None
+    free_seeking (inl is) = subst (λ (p : State). MayWait p live.access.plug) is steady.plug
+    free_seeking (inr is) = subst (λ (p : State). MayWait p live.access.plug) is steady.plug
+
+    free_asked : (request : Request) → live.asked ≡ Some request → live.access.plug ≡ None
+    free_asked request stood = none_waits setup.plan live.phase live.asked request live.access.plug in_step stood steady.plug
+
     granted_said : (request : Request) → (g : IsGranted setup live came request) → says_written setup.plan (sequence_of setup.plan request) g.response.blocks ≡ true
         → heard ≡ small.Answers (sequence_of setup.plan request) true
     granted_said request g says =
@@ -351,26 +451,26 @@ module _ (setup : Setup) where
     kind_goes : (kind : Kind) → IsKind setup live came kind → GoesOn setup.plan heard live (turn_by setup live kind)
     kind_goes Rests holds = stays_goes setup.plan heard live steady
     kind_goes (Connects source) holds =
-        record { in_step = record { asked = refl; waiting = idle_seeking holds.seeking }; moves = inr (inr (inl refl)); says = (inr (inl (refl, refl)), tt) }
+        record { in_step = record { asked = refl; waiting = idle_seeking holds.seeking; plug = free_seeking holds.seeking }; moves = inr (inr (inl refl)); says = (inr (inl (refl, refl)), tt) }
     kind_goes (Addresses source) holds =
-        record { in_step = record { asked = refl; waiting = idle_seeking holds.0.seeking }; moves = inl (sym (seeking holds.0.seeking)); says = (tt, tt) }
-    kind_goes (Ends reason refusal refused units) holds = record { in_step = record { asked = inl refl; waiting = refl }; moves = inr (inl refl); says = tt }
+        record { in_step = record { asked = refl; waiting = idle_seeking holds.0.seeking; plug = free_seeking holds.0.seeking }; moves = inl (sym (seeking holds.0.seeking)); says = (tt, tt) }
+    kind_goes (Ends reason refusal refused units) holds = record { in_step = record { asked = inl refl; waiting = refl; plug = refl }; moves = inr (inl refl); says = tt }
     kind_goes (Releases reason refusal refused units) holds = released_goes heard reason live (record live { refusal = refusal; refused_record = refused; units = units })
-    kind_goes (Relates chosen) holds =
+    kind_goes (Relates places chosen) holds =
         let granted = holds.0 in
-        writing_goes live (standing setup live chosen) 0 heard true (tells live.phase live.asked in_step asks.Connect granted.stood) (granted_said asks.Connect granted refl) (inl refl) (omega arith)
-        (idle_asked asks.Connect granted.stood)
+        writing_goes live (standing setup (record live { places = places }) chosen) 0 heard true (tells live.phase live.asked in_step asks.Connect granted.stood) (granted_said asks.Connect granted refl) (inl refl) (omega arith)
+        (idle_asked asks.Connect granted.stood) (free_asked asks.Connect granted.stood)
     kind_goes (Writes number) holds =
         let granted = holds.0 in
         let there = tells live.phase live.asked in_step (asks.Write number) granted.stood in
         writing_goes live live (number + 1) heard true there.1 (granted_said (asks.Write number) granted (write_says number granted.response.blocks holds.1)) (inl refl)
-        (omega (arith, there.0)) (idle_asked (asks.Write number) granted.stood)
+        (omega (arith, there.0)) (idle_asked (asks.Write number) granted.stood) (free_asked (asks.Write number) granted.stood)
     kind_goes (Skips number refused status) holds =
         let there = tells live.phase live.asked in_step (asks.Write number) holds.stood in
         writing_goes live (noted status refused live) (number + 1) heard (is_well (asks.Write number) holds.response) there.1 (skipped_said number holds) (inr holds.goes_on) (omega (arith, there.0))
-        (idle_asked (asks.Write number) holds.stood)
+        (idle_asked (asks.Write number) holds.stood) (free_asked (asks.Write number) holds.stood)
     kind_goes Waits holds = record {
-      in_step = record { asked = refl; waiting = idle_asked asks.PrmEnd holds.stood };
+      in_step = record { asked = refl; waiting = idle_asked asks.PrmEnd holds.stood; plug = free_asked asks.PrmEnd holds.stood };
       moves = inr (inr (inr (inl (record {
         sequence = write_count setup.plan + 1;
         positive = true;
@@ -384,40 +484,57 @@ module _ (setup : Setup) where
     kind_goes Forgets holds =
         let there = release_in holds.0 holds.2 in
         let ends = tells live.phase live.asked in_step (asks.Release there.0) there.1 in
-        record { in_step = record { asked = ends.0; waiting = steady.waiting }; moves = inr (inl ends.1); says = tt }
+        record { in_step = record { asked = ends.0; waiting = steady.waiting; plug = steady.plug }; moves = inr (inl ends.1); says = tt }
     kind_goes (Begins caller call block) holds = record {
-      in_step = record { asked = refl; waiting = tt };
+      in_step = record { asked = refl; waiting = tt; plug = tt };
       moves = inr (inr (inr (inr (readied_said caller call block holds.1, refl))));
       says = (refl, tt);
     }
     kind_goes (Repeats caller call block) holds =
         record { in_step = steady; moves = inl refl; says = (ap (λ (p : State). state_of setup.plan p live.asked) holds.0, tt) }
     kind_goes (Takes number report) holds =
-        taken_goes heard live (behind_data live report.priority number) report (taken_as (end_of live report.priority).seen number) steady
-        (end_alike live report.priority (with_data (end_of live report.priority) number))
+        let behind = behind_data live report.priority number in
+        let as_what = taken_as (end_of live report.priority).seen number in
+        after_goes heard live (taken behind report as_what)
+        (taken_goes heard live behind report as_what steady
+        (end_alike live report.priority (with_data (end_of live report.priority) number)))
     kind_goes (IsAcked priority number) holds =
         alike_goes heard live (behind_ack live priority number) [] steady (end_alike live priority (with_ack (end_of live priority) number)) tt
     kind_goes (Asks request octets) holds =
         let now = ap (λ (p : State). state_of setup.plan p live.asked) holds.0 in
         record {
-          in_step = record { asked = in_step; waiting = subst (λ (p : State). MayWait p (Some request)) (sym holds.0) tt };
+          in_step = record { asked = in_step; waiting = subst (λ (p : State). MayWait p (Some request)) (sym holds.0) tt; plug = steady.plug };
           moves = inl refl;
           says = (inr (inr (refl, now)), tt);
         }
-    kind_goes (IsReplied refusal access) holds = same_goes setup.plan heard live _ [] steady refl refl (inr holds.1) tt
-    kind_goes Flows holds = record {
-      in_step = steady_on setup.plan live (flow_later live) steady refl refl (inl refl);
-      moves = inl refl;
-      says = due_frames_say (flow_later live) (is_repeated (due live.alarms.sending)) (is_repeated (due live.low_alarms.sending)) (is_again live) (brought live).is_cyclic
-          (steady_on setup.plan live (flow_later live) steady refl refl (inl refl));
-    }
-    kind_goes (Breaks reason) holds = record { in_step = record { asked = inl refl; waiting = refl }; moves = inr (inl refl); says = (tt, tt) }
+    kind_goes (IsReplied refusal access) holds =
+        let next : Live = record live { refusal = refusal; access = access } in
+        after_goes heard live (stays next) (same_goes setup.plan heard live next [] steady refl refl (inr holds.1) (inr holds.6) tt)
+    kind_goes (IsPlugAnswered refusal refused waited places access) holds =
+        let next : Live = record live { refusal = refusal; refused_record = refused; waited = waited; places = places; access = access } in
+        after_goes heard live (asks_next next)
+        (exchanging_goes heard live next (plugs_of next) steady (waits_exchanging live.phase live.access.plug holds.4 steady.plug holds.5) refl refl
+        (plugs_say live.device Exchanging live.asked access.plug tt))
+    kind_goes (IsPlugReadied caller call block) holds =
+        let number = block.alarm_sequence_number in
+        let sent : List Sent = Agrees caller (plug_answer call block) ∷ [] in
+        after_goes heard live (record { live = plug_readied live number; sent = sent })
+        (exchanging_goes heard live (plug_readied live number) sent steady holds.0 refl refl (refl, tt))
+    kind_goes Flows holds =
+        let next = flow_begun setup live in
+        let now = begins_steady (flow_later live) next (flows setup live) (steady_on setup.plan live (flow_later live) steady refl refl (inl refl) (inl refl)) in
+        record {
+          in_step = now;
+          moves = inl (begins_small (flow_later live) next (flows setup live));
+          says = due_frames_say next (is_repeated (due live.alarms.sending)) (is_repeated (due live.low_alarms.sending)) (is_again live) (brought live).is_cyclic now;
+        }
+    kind_goes (Breaks reason) holds = record { in_step = record { asked = inl refl; waiting = refl; plug = refl }; moves = inr (inl refl); says = (tt, tt) }
     kind_goes Idles holds = record {
-      in_step = steady_on setup.plan live (later live) steady refl refl (inl refl);
+      in_step = steady_on setup.plan live (later live) steady refl refl (inl refl) (inl refl);
       moves = inl refl;
       says = due_say (small_of setup.plan live) (is_again live) (requests_of live.device live.asked) (requests_say live.device live.phase live.asked live.asked refl in_step);
     }
-    kind_goes other holds = same_goes setup.plan heard live _ [] steady refl refl (inl refl) tt
+    kind_goes other holds = same_goes setup.plan heard live _ [] steady refl refl (inl refl) (inl refl) tt
 
   pub event_goes : (live : Live) (event : Event) → IsTurn setup live (came_by setup event) (turn_of setup live event) → IsSteady setup.plan live
       → GoesOn setup.plan (said_in setup (heard_of setup.plan.controller) event) live (turn_of setup live event)

@@ -4,7 +4,7 @@ use Rattle.std.specs.List.{AllByRecursion, slice_get}
 use Rattle.std.specs.Prelude.{replicate}
 use Rattle.std.proofs.lemmas.Bool.{leb-true}
 use Rattle.std.proofs.lemmas.List.{length-append}
-use Rattle.wire.specs.blocks.Fields.{body, number_bytes, octet_bytes, version, zeros}
+use Rattle.wire.specs.blocks.Fields.{body, version}
 use Rattle.connect_blocks.specs.Control.{command, control}
 use Rattle.connect_blocks.specs.ArBlock.{ar_block_req, ar_uuid, initiator_mac}
 use Rattle.connect_blocks.specs.declared.control.ControlBlock.{ControlBlock}
@@ -23,24 +23,27 @@ use Rattle.plans.specs.declared.parts.PlanRecord.{PlanRecord}
 use Rattle.plans.specs.declared.parts.Station.{Station}
 use Rattle.plans.specs.Connect.{ar_block, blocks_of, bytes_of, connect_of, size_of, some_uuid}
 use Rattle.plans.specs.Plan.{AreShort, IsPlan}
+use Rattle.controller_messages.specs.declared.plug_request.PlugRequest.{PlugRequest}
+use Rattle.controller_messages.specs.declared.plug_request.PlugStep.{PlugStep}
+use Rattle.controller_messages.specs.declared.plug_request.PlugStep.TheVariants as step
 use Rattle.controller_messages.specs.declared.record_request.RecordRequest.{RecordRequest}
 use Rattle.controller_messages.specs.declared.record_request.RecordService.{RecordService}
 use Rattle.controller_messages.specs.declared.record_request.RecordService.TheVariants as service
 use Rattle.controller_messages.specs.declared.request.Request.{Request}
 use Rattle.controller_messages.specs.declared.request.Request.TheVariants as asks
 use Rattle.controller_messages.specs.declared.setup.Setup.{Setup}
+use Rattle.controller_messages.specs.PlugRequests.{plug_blocks, plug_call, plug_end, plug_operation, plug_write, plug_write_blocks}
 use Rattle.controller_messages.specs.RecordRequests.{read_of, record_blocks, record_call, service_operation, written_of}
 use Rattle.controller_messages.specs.Requests.{blocks_of as blocks_for, call_for, control_of, entries_bytes, entry_bytes, first_of, group_of, header_of, list_blocks, list_of, object_of, operation_of, padding_of, per_call, sequence_of, write_blocks, write_of}
 use Rattle.relations.specs.declared.plugging.PlugReady.{PlugReady}
 use Rattle.relations.specs.declared.ready.Ready.{Ready}
-use Rattle.connect_blocks.specs.declared.plug_control.PlugControlBlock.{PlugControlBlock}
 use Rattle.connect_blocks.specs.PlugControl.{plug_control}
 use Rattle.rpc_core.specs.Call.{Asked as Call}
 use Rattle.controller_messages.specs.Sent.{ready_answer, ready_done}
 use Rattle.rpc_core.specs.Sendable.{CanBeAnswered, CanBeCalled, IsHeader, IsUuid}
-use Rattle.end_laws.specs.hearing.Stations.{IsCalled, IsNumbered, IsRecordCall, IsSetup, plug_ready_call, ready_call}
+use Rattle.end_laws.specs.hearing.Stations.{IsCalled, IsNumbered, IsPlugCall, IsRecordCall, IsSetup, plug_ready_call, ready_call}
 use Rattle.end_laws.proofs.HearingGiven.{BlocksAreLong}
-use Rattle.end_laws.proofs.SendingSizes.{count_few}
+use Rattle.end_laws.proofs.SendingSizes.{count_few, plug_size}
 
 -- ---- the header
 
@@ -91,13 +94,6 @@ release_size block sixteen = omega (arith, sixteen)
 ready_size : (block : ControlBlock) → length block.ar_uuid ≡ 16 → block_size (is.ApplicationReady block) ≡ 32
 unfolding block_size fields_of body version control command
 ready_size block sixteen = omega (arith, sixteen)
-
-plug_size : (block : PlugControlBlock) → length block.ar_uuid ≡ 16 → length ((plug_control 0x0113).write block []) ≡ 32
-unfolding plug_control number_bytes octet_bytes zeros
-plug_size block sixteen =
-    let behind = number_bytes 2 block.session_key
-    (number_bytes 2 block.alarm_sequence_number (number_bytes 2 block.control_command (number_bytes 2 block.control_block_properties []))) in
-    omega (arith, sixteen, length-append block.ar_uuid behind)
 
 done_size : (block : ControlBlock) → length block.ar_uuid ≡ 16 → block_size (is.ApplicationReadyRes block) ≡ 32
 unfolding block_size fields_of body version control command
@@ -249,6 +245,39 @@ module _ (long : BlocksAreLong) where
     few = asked_few setup request octets request.service good can.1;
   }
 
+  -- ---- a request after a plug
+
+  entry_few : (setup : Setup) (request : PlugRequest) (entries : List PlanRecord) (at : ℕ) → IsSetup setup → AreShort entries
+      → length (plug_write_blocks setup request (slice_get entries at)) ≤ 1372
+  entry_few setup request [] at good short = omega arith
+  entry_few setup request (entry ∷ entries) zero good short =
+      asked_few setup (plug_write request entry) entry.data.items service.Write good (omega (arith, short.0))
+  entry_few setup request (entry ∷ entries) (suc at) good short = entry_few setup request entries at good short.1
+
+  plug_few : (setup : Setup) (request : PlugRequest) (asked : PlugStep) → IsSetup setup → length (plug_blocks setup request asked) ≤ 1372
+  plug_few setup request (step.Record number) good = entry_few setup request setup.plan.records.items number good good.plan.short_records
+  plug_few setup request step.PrmEnd good = omega (arith, plug_size 0x0111 (plug_end setup request.number) good.ar)
+
+  step_small : (asked : PlugStep) → plug_operation asked < 65536
+  step_small (step.Record number) = omega arith
+  step_small step.PrmEnd = omega arith
+
+  pub plug_call_can : (setup : Setup) (request : PlugRequest) → IsSetup setup → IsPlugCall request → CanBeCalled Device (plug_call setup request)
+  plug_call_can setup request good can = record {
+    header = record {
+      object = object_long setup.plan.station;
+      interface = refl;
+      activity = good.activity;
+      sequence = can;
+      operation = step_small request.step;
+    };
+    named = refl;
+    maximum = omega arith;
+    blocks = plug_blocks setup request request.step;
+    whole = refl;
+    few = plug_few setup request request.step good;
+  }
+
   ready_few : (block : ControlBlock) → length block.ar_uuid ≡ 16 → length (block_bytes (is.ApplicationReady block)) ≤ 1372
   ready_few block sixteen = omega (arith, long (is.ApplicationReady block), ready_size block sixteen)
 
@@ -277,5 +306,5 @@ plug_can ready header named sixteen = record {
   maximum = omega arith;
   blocks = (plug_control 0x0113).write ready.block [];
   whole = refl;
-  few = omega (arith, plug_size ready.block sixteen);
+  few = omega (arith, plug_size 0x0113 ready.block sixteen);
 }

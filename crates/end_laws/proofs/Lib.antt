@@ -7,6 +7,7 @@ pub mod HearingSendings
 pub mod HearingExchanges
 pub mod HearingLow
 pub mod HearingRequests
+pub mod TurnsBeside
 pub mod TurnsOneTurn
 pub mod TurnsWhole
 pub mod TurnsEnded

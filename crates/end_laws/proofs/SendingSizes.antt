@@ -7,9 +7,11 @@ use Rattle.std.proofs.lemmas.List.{length-append}
 use Rattle.wire.specs.Formats.{big_bytes}
 use Rattle.std.proofs.lemmas.List.FromFn.{length-map-range_with_len}
 use Rattle.std.proofs.Math.Nat.{mod-lt}
-use Rattle.wire.specs.blocks.Fields.{body, version}
+use Rattle.wire.specs.blocks.Fields.{body, number_bytes, octet_bytes, version, zeros}
 use Rattle.connect_blocks.specs.Control.{command, control}
 use Rattle.connect_blocks.specs.declared.control.ControlBlock.{ControlBlock}
+use Rattle.connect_blocks.specs.declared.plug_control.PlugControlBlock.{PlugControlBlock}
+use Rattle.connect_blocks.specs.PlugControl.{plug_control}
 use Rattle.block_codec.specs.declared.block.Block.{Block}
 use Rattle.block_codec.specs.declared.block.Block.TheVariants as is
 use Rattle.block_codec.specs.Block.{block_bytes, block_size, fields_of}
@@ -28,6 +30,7 @@ use Rattle.plans.specs.Plan.{IsPlan}
 use Rattle.controller_messages.specs.declared.request.Request.{Request}
 use Rattle.controller_messages.specs.declared.request.Request.TheVariants as asks
 use Rattle.controller_messages.specs.Heard.{Heard}
+use Rattle.controller_messages.specs.PlugRequests.{plug_answer, plug_done}
 use Rattle.controller_messages.specs.Requests.{write_count, writing_from}
 use Rattle.controller_messages.specs.Sent.{Sent, ready_answer, ready_done}
 use Rattle.controller_messages.specs.Access.{call_number}
@@ -73,6 +76,23 @@ answer_can long call block header maximum sixteen = record {
   status = record { code = omega arith; decode = omega arith; code1 = omega arith; code2 = omega arith };
   maximum = maximum;
   few = omega (arith, long (is.ApplicationReadyRes (ready_done block)), done_size (ready_done block) sixteen);
+}
+
+-- the block of PrmEnd, of ApplicationReady and of its answer after a plug
+pub plug_size : (kind : ℕ) (block : PlugControlBlock) → length block.ar_uuid ≡ 16 → length ((plug_control kind).write block []) ≡ 32
+unfolding plug_control number_bytes octet_bytes zeros
+plug_size kind block sixteen =
+    let behind = number_bytes 2 block.session_key
+    (number_bytes 2 block.alarm_sequence_number (number_bytes 2 block.control_command (number_bytes 2 block.control_block_properties []))) in
+    omega (arith, sixteen, length-append block.ar_uuid behind)
+
+pub plug_answer_can : (call : Call) (block : PlugControlBlock) → IsHeader call.header → call.args_maximum < 4294967296 → length block.ar_uuid ≡ 16
+    → CanBeAnswered (plug_answer call block)
+plug_answer_can call block header maximum sixteen = record {
+  header = header;
+  status = record { code = omega arith; decode = omega arith; code1 = omega arith; code2 = omega arith };
+  maximum = maximum;
+  few = omega (arith, plug_size 0x8113 (plug_done block) sixteen);
 }
 
 -- a block of the relation has its ARUUID

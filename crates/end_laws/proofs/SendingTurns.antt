@@ -1,5 +1,6 @@
 -- The state of a controller has its sizes, and so has what it sends.
-use Rattle.std.proofs.Common.{◌≡◌, ◌⊎◌, inl, inr, ◌≤◌, ◌<◌, ◌+◌, ◌==◌, ℕ, Bool, true, false, List, length, Option, Some, None, if◌then◌else◌, refl, sym, subst, arith}
+use Rattle.std.proofs.Common.{◌≡◌, ◌⊎◌, inl, inr, ◌≤◌, ◌<◌, ◌+◌, ◌==◌, ◌&&◌, ℕ, Bool, true, false, List, [], ◌∷◌, length, Option, Some, None, if◌then◌else◌, refl, sym, subst, arith}
+use Rattle.std.specs.Prelude.{is_some}
 use Rattle.std.specs.List.{AllByRecursion}
 use Rattle.std.proofs.Math.Nat.{max-le}
 use Rattle.pn_alarms.specs.declared.pdu.PduType.{PduType}
@@ -24,34 +25,40 @@ use Rattle.pn_alarms.specs.Receiver.{taken_as}
 use Rattle.cyclic_data.specs.Image.{Cell}
 use Rattle.cyclic_data.specs.exchange.Cyclic.{Cyclic}
 use Rattle.cyclic_data.specs.exchange.Received.{behind_frame}
+use Rattle.connect_blocks.specs.declared.plug_control.PlugControlBlock.{PlugControlBlock}
+use Rattle.plans.specs.Numbers.{session_number}
+use Rattle.controller_messages.specs.declared.plug_request.PlugRequest.{PlugRequest}
 use Rattle.controller_messages.specs.declared.record_request.RecordRequest.{RecordRequest}
 use Rattle.controller_messages.specs.declared.request.Request.{Request}
 use Rattle.controller_messages.specs.declared.request.Request.TheVariants as asks
 use Rattle.controller_messages.specs.declared.setup.Setup.{Setup}
 use Rattle.controller_messages.specs.Heard.{Alarms, Answers, Calls, Responds}
 use Rattle.controller_messages.specs.Requests.{writing_from}
-use Rattle.controller_messages.specs.Sent.{Agrees, ready_answer}
+use Rattle.controller_messages.specs.PlugRequests.{is_plug_ready, plug_answer}
+use Rattle.controller_messages.specs.Sent.{Sent, Agrees, Parametrizes, ready_answer}
 use Rattle.controller_core.specs.declared.stored.event.Event.{Event}
 use Rattle.controller_core.specs.declared.stored.event.Event.TheVariants.{Frame, Give, Read, Status, Stop, Tick, Write}
-use Rattle.controller_messages.specs.Access.{Accessing}
+use Rattle.controller_messages.specs.Access.{Accessing, unplugged}
 use Rattle.controller_core.specs.declared.stored.outputs.OutputMark.{OutputMark}
 use Rattle.controller_core.specs.declared.stored.state.Cause.{Cause}
 use Rattle.controller_core.specs.declared.stored.state.State.{State}
 use Rattle.controller_core.specs.declared.stored.state.State.TheVariants.{Addressing, Connecting, Ended, Exchanging, Waiting}
 use Rattle.controller_core.specs.stored.State.{Live}
-use Rattle.end_laws.specs.turns.Turns.{Came, Hears, IsKind, IsReadied, IsTurn, Kind, Rests, Connects, Addresses, Ends, Releases, Relates, Writes, Skips, Waits, Forgets, Begins, Repeats, Follows, Takes, IsAcked, Asks, IsReplied, Gives, GivesStatus, Flows, Breaks, Idles, came_by, turn_by}
+use Rattle.end_laws.specs.turns.Beside.{IsBegun, MayBegin, MayFollow, flow_begun}
+use Rattle.end_laws.specs.turns.Turns.{Came, Hears, IsKind, IsReadied, IsStepped, IsTurn, Kind, Rests, Connects, Addresses, Ends, Releases, Relates, Writes, Skips, Waits, Forgets, Begins, Repeats, Follows, Takes, IsAcked, Asks, IsReplied, IsPlugAnswered, IsPlugReadied, Gives, GivesStatus, Flows, Breaks, Idles, came_by, turn_by}
 use Rattle.frame_codec.specs.Sendable.{IsMac}
 use Rattle.controller_core.specs.stored.Alarms.{ack_of, header_of}
 use Rattle.connects.specs.answers.Connect.{Chosen}
-use Rattle.controller_core.specs.Machine.{Turn, accesses_by, acking, acks_in, acks_of, asking, behind_ack, behind_data, brought, confirming, diagnosing, due_frames, end_of, first, flow_later, given, is_again, keeping, later, noted, over, pending_by, pending_of, rated, released, requests_of, standing, stays, taken, turn_of, where_due, with_end, writing}
+use Rattle.controller_core.specs.Machine.{Turn, accesses_by, accesses_of, acking, acks_in, acks_of, after_turn, asking, asks_next, behind_ack, behind_data, brought, can_begin, confirming, diagnosing, due_frames, end_of, first, flow_later, given, is_again, is_end_of, keeping, later, noted, over, pending_by, pending_of, plug_readied, plugs_by, plugs_of, rated, released, requests_of, standing, stays, taken, turn_of, where_due, with_end, writing}
 use Rattle.controller_core.specs.start_up.Requests.{next_sequence}
 use Rattle.controller_core.specs.stored.State.{phase_for}
 use Rattle.diagnosis.specs.Sendable.{IsHeader}
 use Rattle.block_codec.specs.Writable.{IsAck}
 use Rattle.end_laws.specs.hearing.Stations.{IsRecordCall, IsSetup}
 use Rattle.end_laws.specs.sending.Messages.{CanBeSent, IsWay}
-use Rattle.end_laws.specs.sending.Sized.{AreFew, IsAccess, IsAckOrNone, IsFew, IsLive, IsNoted, IsShort, IsSized, IsSizedEnd, IsSizedEvent, IsWaiting}
-use Rattle.end_laws.proofs.SendingSizes.{BlocksAreLong, CameSo, Stays, all_append, answer_can, body_few, due_all, frame_stays, named_so, next_short, number_few, numbered, sequence_few, writing_few}
+use Rattle.end_laws.specs.sending.Sized.{AreFew, IsAccess, IsAckOrNone, IsFew, IsLive, IsNoted, IsPlugging, IsShort, IsSized, IsSizedEnd, IsSizedEvent, IsWaiting}
+use Rattle.end_laws.proofs.SendingSizes.{BlocksAreLong, CameSo, Stays, all_append, answer_can, body_few, due_all, frame_stays, named_so, next_short, number_few, numbered, plug_answer_can, sequence_few, writing_few}
+use Rattle.end_laws.proofs.TurnsBeside.{flows as flows_so, follows}
 
 -- a turn after which everything has its size
 pub record IsRight (setup : Setup) (turn : Turn) : Type 0 where
@@ -76,7 +83,7 @@ asking_right setup phase request live is few = record {
 }
 
 over_live : (cause_is : Cause) (live : Live) → IsLive live → IsLive (over cause_is live)
-over_live cause_is live is = record { device = is.device; asked = tt; way = is.way; few = is.few; high = is.high; low = is.low; access = tt }
+over_live cause_is live is = record { device = is.device; asked = tt; way = is.way; few = is.few; high = is.high; low = is.low; access = (tt, tt) }
 
 released_right : (setup : Setup) (cause_is : Cause) (live : Live) → IsSetup setup → IsLive live → IsRight setup (released setup cause_is live)
 released_right setup cause_is live good is =
@@ -233,9 +240,17 @@ access_all : (setup : Setup) (device : Mac) (octets : List ℕ) (waiting : Optio
 access_all setup device octets (Some request) mac can = ((mac, can), tt)
 access_all setup device octets None mac can = tt
 
+plug_all : (setup : Setup) (device : Mac) (plug : Option PlugRequest) → length device.octets ≡ 6 → IsPlugging plug → AllByRecursion (CanBeSent setup) (plugs_by device plug)
+plug_all setup device (Some request) mac can = ((mac, can), tt)
+plug_all setup device None mac can = tt
+
+beside_all : (setup : Setup) (live : Live) (is_plug : Bool) → IsLive live → AllByRecursion (CanBeSent setup) (if is_plug then plugs_of live else accesses_of live)
+beside_all setup live true is = plug_all setup live.device live.access.plug is.device is.access.1
+beside_all setup live false is = access_all setup live.device live.access.octets live.access.waiting is.device is.access.0
+
 pending_all : (setup : Setup) (live : Live) (asked : Option Request) → IsLive live → AreFew asked → AllByRecursion (CanBeSent setup) (pending_by live asked)
 pending_all setup live (Some request) is few = ((is.device, numbered request few), tt)
-pending_all setup live None is few = access_all setup live.device live.access.octets live.access.waiting is.device is.access
+pending_all setup live None is few = beside_all setup live (is_some live.access.plug) is
 
 acks_all : (setup : Setup) (live : Live) (priority : Priority) (ack : Option AlarmAck) → IsLive live → IsAckOrNone ack → AllByRecursion (CanBeSent setup) (acks_in live priority ack)
 acks_all setup live priority (Some ack) is good = ((is.way, refl, header_is live priority pdu.Data is, good), tt)
@@ -250,8 +265,55 @@ due_right setup live is_high is_low is_request is_cyclic is =
 
 -- ---- requests of the application
 
-none_waits : (access : Accessing) → access.waiting ≡ None → IsAccess access
-none_waits access e = subst (λ (w : Option RecordRequest). IsWaiting w access.octets) (sym e) tt
+pub none_waits : (access : Accessing) → access.waiting ≡ None → access.plug ≡ None → IsAccess access
+none_waits access e f = (subst (λ (w : Option RecordRequest). IsWaiting w access.octets) (sym e) tt, subst (λ (p : Option PlugRequest). IsPlugging p) (sym f) tt)
+
+-- ---- requests after a plug
+
+-- the request that is made next has its sizes
+stepped_few : (setup : Setup) (live : Live) (access : Accessing) → IsStepped setup live access → IsPlugging access.plug
+stepped_few setup live access (inl e) = subst (λ (a : Accessing). IsPlugging a.plug) (sym e) tt
+stepped_few setup live access (inr next) =
+    subst (λ (a : Accessing). IsPlugging a.plug) (sym next.2) (subst (λ (n : ℕ). n < 4294967296) (sym next.1) (number_few setup.plan live.access.calls))
+
+-- and so have those that wait after the answer
+pub stepped_access : (setup : Setup) (live : Live) (access : Accessing) → access.waiting ≡ live.access.waiting → access.octets ≡ live.access.octets
+    → IsStepped setup live access → IsAccess live.access → IsAccess access
+stepped_access setup live access waiting octets stepped is = (
+  subst (λ (w : Option RecordRequest). IsWaiting w access.octets) (sym waiting) (subst (λ (xs : List ℕ). IsWaiting live.access.waiting xs) (sym octets) is.0),
+  stepped_few setup live access stepped,
+)
+
+-- its answer is no longer awaited
+pub answered_access : (access : Accessing) (b : Bool) → IsAccess access → IsAccess (if b then unplugged access else access)
+answered_access access true is = (is.0, tt)
+answered_access access false is = is
+
+turn_live : (setup : Setup) (before after : Live) → IsBegun setup before after → IsLive before → IsLive after
+turn_live setup before after begun is =
+    let access : IsAccess after.access =
+    subst (λ (a : Accessing). IsAccess a) (sym begun.access)
+    (is.access.0, subst (λ (n : ℕ). n < 4294967296) (sym begun.numbered) (number_few setup.plan before.access.calls)) in
+    subst (λ (l : Live). IsLive l) (sym begun.beside)
+    (record { device = is.device; asked = is.asked; way = is.way; few = is.few; high = is.high; low = is.low; access = access })
+
+begins_live : (setup : Setup) (before after : Live) → MayBegin setup before after → IsLive before → IsLive after
+begins_live setup before after (inl e) is = subst (λ (l : Live). IsLive l) (sym e) is
+begins_live setup before after (inr begun) is = turn_live setup before after begun is
+
+follows_right : (setup : Setup) (turn after : Turn) → MayFollow setup turn after → IsRight setup turn → IsRight setup after
+follows_right setup turn after (inl e) is = subst (λ (t : Turn). IsRight setup t) (sym e) is
+follows_right setup turn after (inr followed) is =
+    let begun = followed.begun in
+    record {
+      live = turn_live setup turn.live after.live begun is.live;
+      sent = subst (λ (sent : List Sent). AllByRecursion (CanBeSent setup) sent) (sym followed.sent)
+          (all_append (CanBeSent setup) turn.sent (Parametrizes turn.live.device begun.request ∷ []) is.sent
+          ((is.live.device, subst (λ (n : ℕ). n < 4294967296) (sym begun.numbered) (number_few setup.plan turn.live.access.calls)), tt));
+    }
+
+after_right : (setup : Setup) (live : Live) (turn : Turn) → IsRight setup turn → IsRight setup (after_turn setup (can_begin live) turn)
+after_right setup live turn is = follows_right setup turn (after_turn setup (can_begin live) turn) (follows setup (can_begin live) turn) is
 
 -- ---- each kind
 
@@ -271,18 +333,26 @@ module _ (long : BlocksAreLong) (setup : Setup) (live : Live) (came : Came) (goo
       let heard : IsSized (Calls caller call) = reported (Hears (Calls caller call)) ready.comes in
       (heard.0, answer_can long call block heard.1 heard.2 (named_so block.ar_uuid setup.ar (block.session_key == 1) ready.right good.ar))
 
+  plug_agrees : (caller : Caller) (call : Call) (block : PlugControlBlock) → came ≡ Hears (Calls caller call) → is_plug_ready setup block ≡ true
+      → CanBeSent setup (Agrees caller (plug_answer call block))
+  plug_agrees caller call block comes ready =
+      let heard : IsSized (Calls caller call) = reported (Hears (Calls caller call)) comes in
+      (heard.0, plug_answer_can call block heard.1 heard.2 (named_so block.ar_uuid setup.ar (block.session_key == session_number && block.control_command == 2) ready good.ar))
+
   kind_right : (kind : Kind) → IsKind setup live came kind → IsRight setup (turn_by setup live kind)
   kind_right Rests holds = record { live = is; sent = tt }
   kind_right (Connects source) holds = asking_right setup Connecting asks.Connect _ (at_station source holds.known) tt
   kind_right (Addresses source) holds = asking_right setup Addressing asks.Address _ (at_station source holds.0.known) tt
   kind_right (Ends why refusal refused units) holds =
-      record { live = record { device = is.device; asked = tt; way = is.way; few = is.few; high = is.high; low = is.low; access = tt }; sent = tt }
+      record { live = record { device = is.device; asked = tt; way = is.way; few = is.few; high = is.high; low = is.low; access = (tt, tt) }; sent = tt }
   kind_right (Releases why refusal refused units) holds =
       released_right setup why (record live { refusal = refusal; refused_record = refused; units = units }) good
       (record { device = is.device; asked = is.asked; way = is.way; few = is.few; high = is.high; low = is.low; access = is.access })
-  kind_right (Relates chosen) holds =
+  kind_right (Relates places chosen) holds =
       let sized_so : IsSized (Responds holds.0.response) = reported (Hears (Responds holds.0.response)) holds.0.comes in
-      writing_right setup 0 (standing setup live chosen) good (stands_live setup live chosen is (sized_so chosen holds.1))
+      let placed : Live = record live { places = places } in
+      let same : IsLive placed = record { device = is.device; asked = is.asked; way = is.way; few = is.few; high = is.high; low = is.low; access = is.access } in
+      writing_right setup 0 (standing setup placed chosen) good (stands_live setup placed chosen same (sized_so chosen holds.1))
   kind_right (Writes number) holds = writing_right setup (number + 1) live good is
   kind_right (Skips number refused status) holds = writing_right setup (number + 1) (noted status refused live) good
       (record { device = is.device; asked = is.asked; way = is.way; few = is.few; high = is.high; low = is.low; access = is.access })
@@ -294,27 +364,53 @@ module _ (long : BlocksAreLong) (setup : Setup) (live : Live) (came : Came) (goo
       record { live = kept_live live (behind_frame live.cyclic source frame_id body) is (frame_stays live.cyclic source frame_id body); sent = tt }
   kind_right (Takes number report) holds =
       let noted : IsSized (Alarms holds.1 holds.2 holds.3 (notice.Data number report)) = reported (Hears (Alarms holds.1 holds.2 holds.3 (notice.Data number report))) holds.4 in
-      taken_right setup (behind_data live report.priority number) report (taken_as (end_of live report.priority).seen number) (data_live live report.priority number is noted.0) noted.1
+      let behind = behind_data live report.priority number in
+      let as_what = taken_as (end_of live report.priority).seen number in
+      after_right setup live (taken behind report as_what) (taken_right setup behind report as_what (data_live live report.priority number is noted.0) noted.1)
   kind_right (IsAcked priority number) holds = record { live = acked_live live priority number is; sent = tt }
   kind_right (Asks request octets) holds =
       let can : IsRecordCall request octets = (subst (λ (n : ℕ). n < 4294967296) (sym holds.2) (number_few setup.plan live.access.calls), holds.3) in
       record {
-        live = record { device = is.device; asked = is.asked; way = is.way; few = is.few; high = is.high; low = is.low; access = can };
+        live = record { device = is.device; asked = is.asked; way = is.way; few = is.few; high = is.high; low = is.low; access = (can, is.access.1) };
         sent = ((is.device, can), tt);
       }
-  kind_right (IsReplied refusal access) holds = record {
-    live = record { device = is.device; asked = is.asked; way = is.way; few = is.few; high = is.high; low = is.low; access = none_waits access holds.1 };
-    sent = tt;
-  }
+  kind_right (IsReplied refusal access) holds =
+      after_right setup live (stays (record live { refusal = refusal; access = access })) (record {
+        live = record { device = is.device; asked = is.asked; way = is.way; few = is.few; high = is.high; low = is.low; access = none_waits access holds.1 holds.6 };
+        sent = tt;
+      })
+  kind_right (IsPlugAnswered refusal refused waited places access) holds =
+      let next : Live = record live { refusal = refusal; refused_record = refused; waited = waited; places = places; access = access } in
+      let sized_access = stepped_access setup live access holds.1 holds.2 holds.3 is.access in
+      after_right setup live (asks_next next) (record {
+        live = record { device = is.device; asked = is.asked; way = is.way; few = is.few; high = is.high; low = is.low; access = sized_access };
+        sent = plug_all setup live.device access.plug is.device sized_access.1;
+      })
+  kind_right (IsPlugReadied caller call block) holds =
+      let number = block.alarm_sequence_number in
+      after_right setup live (record { live = plug_readied live number; sent = Agrees caller (plug_answer call block) ∷ [] }) (record {
+        live = record {
+          device = is.device;
+          asked = is.asked;
+          way = is.way;
+          few = is.few;
+          high = is.high;
+          low = is.low;
+          access = answered_access live.access (is_end_of number live.access.plug) is.access;
+        };
+        sent = (plug_agrees caller call block holds.1 holds.4, tt);
+      })
   kind_right (Gives slot subslot value) holds = record { live = same_live live (given live slot subslot value).cyclic.shown.cells (given live slot subslot value).outputs is; sent = tt }
   kind_right (GivesStatus slot subslot is_good) holds =
       record { live = same_live live (rated live slot subslot is_good).cyclic.shown.cells (rated live slot subslot is_good).outputs is; sent = tt }
   kind_right Flows holds =
-      let flows = flow_live live is in
-      record { live = flows; sent = due_right setup (flow_later live) _ _ (is_again live) (brought live).is_cyclic flows }
+      let next = flow_begun setup live in
+      let flows = begins_live setup (flow_later live) next (flows_so setup live) (flow_live live is) in
+      record { live = flows; sent = due_right setup next _ _ (is_again live) (brought live).is_cyclic flows }
   kind_right (Breaks reason) holds =
-      let flows = flow_live live is in
-      record { live = over_live _ (flow_later live) flows; sent = ((flows.way, header_is (flow_later live) High pdu.Error flows), tt) }
+      let next = flow_begun setup live in
+      let flows = begins_live setup (flow_later live) next (flows_so setup live) (flow_live live is) in
+      record { live = over_live _ next flows; sent = ((flows.way, header_is next High pdu.Error flows), tt) }
   kind_right Idles holds =
       record { live = later_live live is; sent = due_all (CanBeSent setup) (is_again live) _ (request_all setup live.device live.asked is.device is.asked) }
 
@@ -331,5 +427,5 @@ first_live setup good = record {
   few = max-le {a = 40} (omega arith) good.plan.output;
   high = record { last = tt; seen = tt; confirming = tt };
   low = record { last = tt; seen = tt; confirming = tt };
-  access = tt;
+  access = (tt, tt);
 }

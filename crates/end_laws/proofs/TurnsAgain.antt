@@ -27,14 +27,16 @@ use Rattle.controller_core.specs.declared.stored.state.State.{State}
 use Rattle.controller_core.specs.declared.stored.state.State.TheVariants.{Looking, Addressing, Connecting, Writing, Ending, Waiting, Exchanging, Ended}
 use Rattle.controller_core.specs.stored.Alarms.{ack_of, kept_alarm}
 use Rattle.controller_core.specs.stored.State.{Controlling, Live, is_limited}
-use Rattle.controller_core.specs.Machine.{Turn, acking, acks_in, acks_of, behind_data, brought, due_frames, end_of, exchange_later, flowed, gone_on, is_again, is_spent, keeping, later, outputs_of, pending_by, pending_of, quit, requests_of, step_of, taken, ticked, turn_of, where_due, with_end}
+use Rattle.controller_core.specs.Machine.{Turn, acking, acks_in, acks_of, after_turn, behind_data, brought, can_begin, due_frames, end_of, exchange_later, flowed, gone_on, is_again, is_spent, keeping, later, outputs_of, pending_by, pending_of, quit, requests_of, step_of, taken, ticked, turn_of, where_due, with_end}
 use Rattle.end_laws.specs.controller.Small.{IsInStep, IsSteady}
+use Rattle.end_laws.specs.turns.Beside.{MayFollow}
 use Rattle.end_laws.specs.turns.Again.{AsksEachSecond, StaysAsked, is_request, sends_request}
 use Rattle.end_laws.specs.turns.Ended.{is_unit}
 use Rattle.end_laws.specs.turns.Patience.{units_in}
 use Rattle.end_laws.specs.turns.Runs.{IsReached, behind_all}
-use Rattle.end_laws.specs.turns.Turns.{Came, IsEnd, IsKind, Kind, Passes, Rests, Connects, Addresses, Ends, Releases, Relates, Writes, Skips, Waits, Forgets, Begins, Repeats, Follows, Takes, IsAcked, Gives, GivesStatus, Asks, IsReplied, Flows, Breaks, Idles, came_by, turn_by}
+use Rattle.end_laws.specs.turns.Turns.{Came, IsEnd, IsKind, Kind, Passes, Rests, Connects, Addresses, Ends, Releases, Relates, Writes, Skips, Waits, Forgets, Begins, Repeats, Follows, Takes, IsAcked, Gives, GivesStatus, Asks, IsReplied, IsPlugAnswered, IsPlugReadied, Flows, Breaks, Idles, came_by, turn_by}
 use Rattle.end_laws.proofs.TurnsBelongs.{reached_steady}
+use Rattle.end_laws.proofs.TurnsBeside.{follows, still_is, unit_begun}
 use Rattle.end_laws.proofs.TurnsOneTurn.{event_is}
 use Rattle.end_laws.proofs.TurnsWhole.{reached_on, whole_end}
 
@@ -116,6 +118,31 @@ module _ (setup : Setup) (live : Live) (request : Request) (steady : IsSteady se
   taken_waited next report Again = refl
   taken_waited next report Refused = refl
 
+  -- ---- and the phase
+
+  end_phase : (next : Live) (priority : Priority) (end : ControllerEnd) → (with_end next priority end).phase ≡ next.phase
+  end_phase next High end = refl
+  end_phase next Low end = refl
+
+  kept_phase : (next : Live) (priority : Priority) (alarm : AlarmNotification) (structure : Option ℕ) → (keeping next priority alarm structure).phase ≡ next.phase
+  kept_phase next High alarm structure = refl
+  kept_phase next Low alarm structure = refl
+
+  taken_phase : (next : Live) (report : Report) (as_what : Taken) → (taken next report as_what).live.phase ≡ next.phase
+  taken_phase next report New =
+      kept_phase (acking next report.priority (ack_of report.notification)) report.priority (kept_alarm report.notification) report.user_structure
+      ∙ end_phase next report.priority (confirmed (end_of next report.priority) (ack_of report.notification))
+  taken_phase next report Again = refl
+  taken_phase next report Refused = refl
+
+  -- No data is exchanged, so no turn of a place begins.
+  not_exchanging : live.phase ≡ Exchanging → ⊥
+  not_exchanging is = none_some request (sym (in_phase Exchanging is) ∙ stood)
+
+  followed_waited : (turn after : Turn) → MayFollow setup turn after → turn.live.phase ≡ live.phase → after.live.waited ≡ turn.live.waited
+  followed_waited turn after (inl e) phase = ap (λ (t : Turn). t.live.waited) e
+  followed_waited turn after (inr followed) phase = absurd (not_exchanging (sym phase ∙ followed.begun.phase))
+
   -- ---- an event that is no unit
 
   kind_waits : (came : Came) (kind : Kind) → (came ≡ Passes → ⊥) → IsKind setup live came kind → (turn_by setup live kind).live.asked ≡ Some request
@@ -134,7 +161,7 @@ module _ (setup : Setup) (live : Live) (request : Request) (steady : IsSteady se
       not f = absurd cc
   kind_waits came (Ends cause refusal denied units) other holds e = none_some request e
   kind_waits came (Releases cause refusal denied units) other holds e = absurd (unreleased live.phase refl holds.0 _ (some_is _ request e))
-  kind_waits came (Relates chosen) other holds e = absurd (not_first _ (sym (some_is _ request e ∙ asked_is asks.Connect holds.0.stood)))
+  kind_waits came (Relates places chosen) other holds e = absurd (not_first _ (sym (some_is _ request e ∙ asked_is asks.Connect holds.0.stood)))
   kind_waits came (Writes number) other holds e = absurd (not_next request _ number (sym (some_is _ request e ∙ asked_is (asks.Write number) holds.0.stood)))
   kind_waits came (Skips number denied status) other holds e = absurd (not_next request _ number (sym (some_is _ request e ∙ asked_is (asks.Write number) holds.stood)))
   kind_waits came Waits other holds e = none_some request e
@@ -143,13 +170,19 @@ module _ (setup : Setup) (live : Live) (request : Request) (steady : IsSteady se
   kind_waits came (Repeats caller call block) other holds e = refl
   kind_waits came (Follows source frame_id body) other holds e = refl
   kind_waits came (Takes number report) other holds e =
-      taken_waited (behind_data live report.priority number) report (taken_as (end_of live report.priority).seen number)
-      ∙ end_waited live report.priority (with_data (end_of live report.priority) number)
+      let behind = behind_data live report.priority number in
+      let as_what = taken_as (end_of live report.priority).seen number in
+      let turn = taken behind report as_what in
+      followed_waited turn (after_turn setup (can_begin live) turn) (follows setup (can_begin live) turn)
+      (taken_phase behind report as_what ∙ end_phase live report.priority (with_data (end_of live report.priority) number))
+      ∙ (taken_waited behind report as_what ∙ end_waited live report.priority (with_data (end_of live report.priority) number))
   kind_waits came (IsAcked priority number) other holds e = end_waited live priority (with_ack (end_of live priority) number)
   kind_waits came (Gives slot subslot value) other holds e = refl
   kind_waits came (GivesStatus slot subslot is_good) other holds e = refl
   kind_waits came (Asks record_request octets) other holds e = none_some request (sym (in_phase Exchanging holds.0) ∙ stood)
-  kind_waits came (IsReplied refusal access) other holds e = refl
+  kind_waits came (IsReplied refusal access) other holds e = none_some request (sym holds.0 ∙ stood)
+  kind_waits came (IsPlugAnswered refusal refused waited places access) other holds e = none_some request (sym holds.0 ∙ stood)
+  kind_waits came (IsPlugReadied caller call block) other holds e = absurd (not_exchanging holds.0)
   kind_waits came Flows other holds e = absurd (other holds.0)
   kind_waits came (Breaks because) other holds e = absurd (other holds.0)
   kind_waits came Idles other holds e = absurd (other holds.0)
@@ -246,10 +279,12 @@ module _ (setup : Setup) (live : Live) (request : Request) (steady : IsSteady se
   goes_ticks false e = record { waited = refl; sends = asked_alone (is_again live) live.device live.asked stood }
 
   unit_by : (spent : Bool) → is_spent live ≡ spent
-      → (if spent then quit setup NoProgress (later live) live.phase else gone_on (later live) (is_again live)).live.asked ≡ Some request
-      → Ticks (if spent then quit setup NoProgress (later live) live.phase else gone_on (later live) (is_again live))
+      → (if spent then quit setup NoProgress (later live) live.phase else gone_on (unit_begun setup live) (is_again live)).live.asked ≡ Some request
+      → Ticks (if spent then quit setup NoProgress (later live) live.phase else gone_on (unit_begun setup live) (is_again live))
   unit_by true is e = quit_ticks live.phase refl (and_parts (is_limited live.phase) (live.left == 1) is).0 e
-  unit_by false is e = goes_ticks live.stands e
+  unit_by false is e =
+      subst (λ (next : Live). (gone_on next (is_again live)).live.asked ≡ Some request → Ticks (gone_on next (is_again live)))
+      (sym (still_is setup live not_exchanging)) (goes_ticks live.stands) e
 
   pub unit_ticks : (ticked setup live).live.asked ≡ Some request → Ticks (ticked setup live)
   unit_ticks e = unit_by (is_spent live) refl e

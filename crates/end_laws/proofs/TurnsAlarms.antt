@@ -1,5 +1,5 @@
 -- The alarms of one priority of a controller and of a device's end are those of an exchange: each move makes some moves of it.
-use Rattle.std.proofs.Common.{◌≡◌, ◌<◌, ◌≤◌, ◌+◌, ◌++◌, ℕ, zero, suc, Bool, true, false, List, [], ◌∷◌, length, Option, Some, None, refl, sym, ap, subst, ◌∙◌, arith}
+use Rattle.std.proofs.Common.{◌≡◌, inl, inr, ◌<◌, ◌≤◌, ◌+◌, ◌++◌, ℕ, zero, suc, Bool, true, false, List, [], ◌∷◌, length, Option, Some, None, refl, sym, ap, subst, ◌∙◌, arith}
 use Rattle.std.specs.Prelude.{if◌then◌else◌, nat_lt, slice_get}
 use Rattle.std.specs.List.{AllByRecursion}
 use Rattle.std.proofs.lemmas.Bool.Decides.{nat_tests}
@@ -31,19 +31,23 @@ use Rattle.diagnosis.specs.Taken.{AreAllTaken as AreAllExchanged, AreTakenInOrde
 use Rattle.diagnosis.specs.Line.{Line, empty, more_taken, with_come, with_sent}
 use Rattle.diagnosis.specs.World.{IsPrefixOf, World, after_alarm, after_confirm, after_confirms, after_raise, behind_all, happens, line_after}
 use Rattle.diagnosis.specs.World.{start as nothing_happened}
+use Rattle.plan_places.specs.Places.{Told}
 use Rattle.controller_messages.specs.declared.record_request.RecordService.TheVariants as service
 use Rattle.controller_messages.specs.declared.setup.Setup.{Setup}
 use Rattle.controller_messages.specs.Heard.{Heard, Alarms}
-use Rattle.controller_messages.specs.Sent.{Sent, Confirms}
+use Rattle.controller_messages.specs.Access.{Accessing}
+use Rattle.controller_messages.specs.Sent.{Sent, Confirms, Parametrizes}
 use Rattle.controller_core.specs.stored.Alarms.{ack_of, kept_alarm}
-use Rattle.controller_core.specs.Machine.{Turn, acked_under, acks_in, acks_of, behind_ack, behind_data, brought, due_frames, end_of, flow_later, flowed, given, gone_on, is_again, is_spent, later, noticed, outputs_of, over, pending_by, quit, rated, requested, requests_of, stays, stopped, taken, turned, where_due, written}
+use Rattle.controller_core.specs.Machine.{Turn, acked_under, acks_in, acks_of, after_turn, alarmed, behind_ack, behind_data, brought, can_begin, due_frames, end_of, flow_later, flowed, given, gone_on, is_again, is_spent, later, noticed, outputs_of, over, pending_by, quit, rated, requested, requests_of, stays, stopped, taken, turned, where_due, written}
 use Rattle.controller_core.specs.declared.stored.state.Cause.TheVariants.{NoProgress}
 use Rattle.controller_core.specs.declared.stored.state.State.{State}
 use Rattle.controller_core.specs.declared.stored.state.State.TheVariants.{Looking, Addressing, Ended}
 use Rattle.controller_core.specs.stored.Cause.{cause_of}
 use Rattle.controller_core.specs.stored.State.{Live}
 use Rattle.end_laws.specs.turns.Alarms.{AreAllTaken, AreTakenInOrder, LackAtMostTheLast, Move, Relation, Raises, PassesAtDevice, ComesToDevice, AckComesToDevice, AlarmComes, Hears, PassesAtController, Gives, GivesStatus, Reads, Writes, Stops, ShowsTheLast, acked_at_device, alarm_comes, behind, behind_one, comes_to_device, hears, is_looked_at, is_priority, last_of, passed_at_device, raised_by, report_as, shown_of, start, turns}
+use Rattle.end_laws.specs.turns.Beside.{IsBegun, IsBeside, MayFollow, flow_begun}
 use Rattle.end_laws.specs.turns.Turns as came
+use Rattle.end_laws.proofs.TurnsBeside.{begins as begins_so, begun_beside, flows, follows, gone_is, unit_begun}
 use Rattle.end_laws.proofs.TurnsInactive.{IsInactive, IsInactiveAt, IsNoAck, IsOneOf, IsThere, at_priority, inactive_stays, no_acks_there, outputs_no_ack, pending_no_ack, requests_no_ack, turn_inactive}
 
 -- ---- lists
@@ -72,6 +76,10 @@ all_at P (y ∷ ys) (suc k) x all e = all_at P ys k x all.1 e
 all_behind : {X : Type 0} (P : X → Type 0) (xs ys : List X) → AllByRecursion P xs → AllByRecursion P ys → AllByRecursion P (xs ++ ys)
 all_behind P [] ys all more = more
 all_behind P (x ∷ xs) ys all more = (all.0, all_behind P xs ys all.1 more)
+
+more_behind : {X : Type 0} (P : X → Type 0) (xs ys zs : List X) → AllByRecursion P (xs ++ ys) → AllByRecursion P zs → AllByRecursion P (xs ++ (ys ++ zs))
+more_behind P [] ys zs all more = all_behind P ys zs all more
+more_behind P (x ∷ xs) ys zs all more = (all.0, more_behind P xs ys zs all.1 more)
 
 last_is : (alarms : List AlarmNotification) (alarm : AlarmNotification) → last_of (alarms ++ alarm ∷ []) ≡ Some (kept_alarm alarm)
 last_is [] alarm = refl
@@ -136,25 +144,48 @@ other_inactive Low High e live number alarm structure New = record { end = refl;
 other_inactive Low High e live number alarm structure Again = record { end = refl; shown = refl; sent = λ pdus. (tt, tt) }
 other_inactive Low High e live number alarm structure Refused = record { end = refl; shown = refl; sent = λ pdus. (tt, tt) }
 
--- a unit
-later_end : (priority : Priority) (live : Live) → end_of (flow_later live) priority ≡ controller_later (end_of live priority)
-later_end High live = refl
-later_end Low live = refl
+-- what a turn of a place changes does not concern alarms
+beside_end : (priority : Priority) (before after : Live) → IsBeside before after → end_of after priority ≡ end_of before priority
+beside_end High before after is = ap (λ (l : Live). l.alarms) is
+beside_end Low before after is = ap (λ (l : Live). l.low_alarms) is
 
-later_shown : (priority : Priority) (live : Live) → shown_of priority (flow_later live) ≡ shown_of priority live
-later_shown High live = refl
-later_shown Low live = refl
+beside_shown : (priority : Priority) (before after : Live) → IsBeside before after → shown_of priority after ≡ shown_of priority before
+beside_shown High before after is = ap (λ (l : Live). l.alarm) is
+beside_shown Low before after is = ap (λ (l : Live). l.low_alarm) is
 
-broken_end : (priority : Priority) (live : Live) (reason : Abort) → end_of (over (cause_of reason) (flow_later live)) priority ≡ controller_later (end_of live priority)
-broken_end High live reason = refl
-broken_end Low live reason = refl
+-- a unit, with which a turn of a place may begin
+abbrev flow_with : Live → ℕ → Told → Accessing → Live
+flow_with live waited places access = record (flow_later live) { waited = waited; places = places; access = access }
 
-broken_shown : (priority : Priority) (live : Live) (reason : Abort) → shown_of priority (over (cause_of reason) (flow_later live)) ≡ shown_of priority live
-broken_shown High live reason = refl
-broken_shown Low live reason = refl
+later_end : (priority : Priority) (live : Live) (waited : ℕ) (places : Told) (access : Accessing)
+    → end_of (flow_with live waited places access) priority ≡ controller_later (end_of live priority)
+later_end High live waited places access = refl
+later_end Low live waited places access = refl
 
-idle_at : (priority : Priority) (live : Live) (sent : List Sent) → AllByRecursion IsNoAck sent → IsInactiveAt priority live (record { live = later live; sent = sent })
-idle_at priority live sent none = at_priority priority live (record { live = later live; sent = sent }) (record { high = refl; low = refl; alarm = refl; low_alarm = refl; sent = none })
+later_shown : (priority : Priority) (live : Live) (waited : ℕ) (places : Told) (access : Accessing)
+    → shown_of priority (flow_with live waited places access) ≡ shown_of priority live
+later_shown High live waited places access = refl
+later_shown Low live waited places access = refl
+
+broken_end : (priority : Priority) (live : Live) (waited : ℕ) (places : Told) (access : Accessing) (reason : Abort)
+    → end_of (over (cause_of reason) (flow_with live waited places access)) priority ≡ controller_later (end_of live priority)
+broken_end High live waited places access reason = refl
+broken_end Low live waited places access reason = refl
+
+broken_shown : (priority : Priority) (live : Live) (waited : ℕ) (places : Told) (access : Accessing) (reason : Abort)
+    → shown_of priority (over (cause_of reason) (flow_with live waited places access)) ≡ shown_of priority live
+broken_shown High live waited places access reason = refl
+broken_shown Low live waited places access reason = refl
+
+idle_at : (priority : Priority) (live next : Live) (sent : List Sent) → IsBeside (later live) next → AllByRecursion IsNoAck sent
+    → IsInactiveAt priority live (record { live = next; sent = sent })
+idle_at priority live next sent is none = at_priority priority live (record { live = next; sent = sent }) (record {
+  high = ap (λ (l : Live). l.alarms) is;
+  low = ap (λ (l : Live). l.low_alarms) is;
+  alarm = ap (λ (l : Live). l.alarm) is;
+  low_alarm = ap (λ (l : Live). l.low_alarm) is;
+  sent = none;
+})
 
 abbrev due_at : Priority → Due → Due → Due
 due_at High high low = high
@@ -187,22 +218,27 @@ other_part High Low e pdus live (Some ack) true = (tt, tt)
 other_part Low High e pdus live (Some ack) true = (tt, tt)
 
 -- the AlarmAcks after a unit
-record AreAcks (priority : Priority) (pdus : List (ℕ × AlarmAck)) (live : Live) (high low : Due) : Type 0 where
-  of_high : AllByRecursion (IsThere priority pdus) (where_due (is_again_due high) (acks_of (flow_later live) High))
-  of_low : AllByRecursion (IsThere priority pdus) (where_due (is_again_due low) (acks_of (flow_later live) Low))
+record AreAcks (priority : Priority) (pdus : List (ℕ × AlarmAck)) (next : Live) (high low : Due) : Type 0 where
+  of_high : AllByRecursion (IsThere priority pdus) (where_due (is_again_due high) (acks_of next High))
+  of_low : AllByRecursion (IsThere priority pdus) (where_due (is_again_due low) (acks_of next Low))
 
 abbrev line_later : Priority → Line AlarmAck → Live → Due → Line AlarmAck
 line_later priority line live due_now = line_after line (send_number (end_of live priority).sending.last) (end_of live priority).confirming due_now
 
-acks_there : (priority : Priority) (line : Line AlarmAck) (live : Live) (high low : Due) → AreAcks priority (line_later priority line live (due_at priority high low)).pdus live high low
-acks_there High line live high low = record {
-  of_high = own_part High line (flow_later live) live.alarms.confirming high;
-  of_low = other_part High Low refl (line_later High line live high).pdus (flow_later live) live.low_alarms.confirming (is_again_due low);
-}
-acks_there Low line live high low = record {
-  of_high = other_part Low High refl (line_later Low line live low).pdus (flow_later live) live.alarms.confirming (is_again_due high);
-  of_low = own_part Low line (flow_later live) live.low_alarms.confirming low;
-}
+acks_there : (priority : Priority) (line : Line AlarmAck) (live : Live) (waited : ℕ) (places : Told) (access : Accessing) (high low : Due)
+    → AreAcks priority (line_later priority line live (due_at priority high low)).pdus (flow_with live waited places access) high low
+acks_there High line live waited places access high low =
+    let next = flow_with live waited places access in
+    record {
+      of_high = own_part High line next live.alarms.confirming high;
+      of_low = other_part High Low refl (line_later High line live high).pdus next live.low_alarms.confirming (is_again_due low);
+    }
+acks_there Low line live waited places access high low =
+    let next = flow_with live waited places access in
+    record {
+      of_high = other_part Low High refl (line_later Low line live low).pdus next live.alarms.confirming (is_again_due high);
+      of_low = own_part Low line next live.low_alarms.confirming low;
+    }
 
 -- ---- what a unit makes of what was sent
 
@@ -265,6 +301,30 @@ module _ (priority : Priority) where
     same = p.same;
     shown = q.shown ∙ p.shown;
   }
+
+  -- The turn of a place that begins after a turn does not concern alarms.
+  begun_on : (setup : Setup) (r : Relation) (alarms : Line AlarmNotification) (turn after : Turn) (begun : IsBegun setup turn.live after.live)
+      → after.sent ≡ turn.sent ++ Parametrizes turn.live.device begun.request ∷ []
+      → IsPlayed (record (turns r turn) { alarms = alarms }) → IsPlayed (record (turns r after) { alarms = alarms })
+  begun_on setup r alarms turn after begun sent p = record {
+    confirms = p.confirms;
+    moves = p.moves;
+    made = p.made
+        ∙ ap (λ (end : ControllerEnd). record (world_of (record (turns r turn) { alarms = alarms }) p.confirms) { controller = end })
+        (sym (beside_end priority turn.live after.live begun.beside));
+    reported = subst (λ (messages : List Sent). AllByRecursion (IsThere priority p.confirms.pdus) (r.reported ++ messages)) (sym sent)
+        (more_behind (IsThere priority p.confirms.pdus) r.reported turn.sent (Parametrizes turn.live.device begun.request ∷ []) p.reported (tt, tt));
+    same = p.same;
+    shown = beside_shown priority turn.live after.live begun.beside ∙ p.shown;
+  }
+
+  follows_on : (setup : Setup) (r : Relation) (alarms : Line AlarmNotification) (turn after : Turn) → MayFollow setup turn after
+      → IsPlayed (record (turns r turn) { alarms = alarms }) → IsPlayed (record (turns r after) { alarms = alarms })
+  follows_on setup r alarms turn after (inl e) p = subst (λ (t : Turn). IsPlayed (record (turns r t) { alarms = alarms })) (sym e) p
+  follows_on setup r alarms turn after (inr followed) p = begun_on setup r alarms turn after followed.begun followed.sent p
+
+  after_on : (setup : Setup) (r : Relation) (turn : Turn) → IsPlayed (turns r turn) → IsPlayed (turns r (after_turn setup (can_begin r.live) turn))
+  after_on setup r turn p = follows_on setup r r.alarms turn (after_turn setup (can_begin r.live) turn) (follows setup (can_begin r.live) turn) p
 
   stays_on : (r : Relation) → IsPlayed r → IsPlayed (turns r (stays r.live))
   stays_on r p = inactive_on r (stays r.live) p (at_priority priority r.live (stays r.live) (inactive_stays r.live))
@@ -372,10 +432,14 @@ module _ (priority : Priority) where
       (ap (after_alarm (world_of r p.confirms)) there)
   looks_on r p under place data_is false there = stays_on r p
 
-  alarm_on : (r : Relation) (p : IsPlayed r) (source : Mac) (under : Priority) (header : Header) (place : ℕ) (data_is : Option (ℕ × AlarmNotification))
-      → slice_get r.alarms.pdus place ≡ data_is → IsPlayed (alarm_comes priority r source under header data_is)
-  alarm_on r p source under header place None there = p
-  alarm_on r p source under header place (Some data_is) there = looks_on r p under place data_is (is_looked_at r source header) there
+  alarm_on : (setup : Setup) (r : Relation) (p : IsPlayed r) (source : Mac) (under : Priority) (header : Header) (place : ℕ) (data_is : Option (ℕ × AlarmNotification))
+      → slice_get r.alarms.pdus place ≡ data_is → IsPlayed (alarm_comes priority setup r source under header data_is)
+  alarm_on setup r p source under header place None there = p
+  alarm_on setup r p source under header place (Some data_is) there =
+      let turn = alarmed r.live source under header (notice.Data data_is.0 (report_as priority data_is.1)) in
+      follows_on setup r (if is_looked_at r source header then with_come r.alarms (end_of r.live priority).seen data_is else r.alarms)
+      turn (after_turn setup (can_begin r.live) turn) (follows setup (can_begin r.live) turn)
+      (looks_on r p under place data_is (is_looked_at r source header) there)
 
   -- ---- an ACK arrives at the controller, or anything else
 
@@ -386,10 +450,12 @@ module _ (priority : Priority) where
       (other_inactive priority report.priority e r.live number report.notification report.user_structure (taken_as (end_of r.live report.priority).seen number))
   other_data r p under number report false e = stays_on r p
 
-  data_on : (r : Relation) (p : IsPlayed r) (source : Mac) (under : Priority) (header : Header) (number : ℕ) (report : Report) (is : Bool) → is_priority priority report.priority ≡ is
-      → IsPlayed (if is then r else turns r (if is_looked_at r source header then noticed r.live under (notice.Data number report) else stays r.live))
-  data_on r p source under header number report true e = p
-  data_on r p source under header number report false e = other_data r p under number report (is_looked_at r source header) e
+  data_on : (setup : Setup) (r : Relation) (p : IsPlayed r) (source : Mac) (under : Priority) (header : Header) (number : ℕ) (report : Report) (is : Bool)
+      → is_priority priority report.priority ≡ is
+      → IsPlayed (if is then r else turns r (turned setup r.live (Alarms source under header (notice.Data number report))))
+  data_on setup r p source under header number report true e = p
+  data_on setup r p source under header number report false e =
+      after_on setup r (alarmed r.live source under header (notice.Data number report)) (other_data r p under number report (is_looked_at r source header) e)
 
   passes_on : (r : Relation) (p : IsPlayed r) (number : ℕ) (live : Live) → end_of live priority ≡ end_of (behind_ack r.live priority number) priority
       → end_of (behind_ack r.live priority number) priority ≡ (happens (world_of r p.confirms) (happening.AckComesToController number)).controller
@@ -413,43 +479,44 @@ module _ (priority : Priority) where
 
   hears_on : (setup : Setup) (r : Relation) (p : IsPlayed priority r) (heard : Heard) → IsPlayed priority (hears priority setup r heard)
   hears_on setup r p (Alarms source under header (notice.Data number report)) =
-      data_on priority r p source under header number report (is_priority priority report.priority) refl
-  hears_on setup r p (Alarms source under header (notice.Ack number)) = ack_on r p under number (is_looked_at r source header)
+      data_on priority setup r p source under header number report (is_priority priority report.priority) refl
+  hears_on setup r p (Alarms source under header (notice.Ack number)) =
+      after_on priority setup r (alarmed r.live source under header (notice.Ack number)) (ack_on r p under number (is_looked_at r source header))
   hears_on setup r p heard =
       inactive_on priority r (turned setup r.live heard) p (at_priority priority r.live (turned setup r.live heard) (turn_inactive setup r.live (came.Hears heard) tt))
 
   -- ---- a unit passes at the controller
 
   -- `high` is due of the alarms of high priority, `low` of those of low priority, and `either` of any.
-  flows_on : (r : Relation) (p : IsPlayed priority r) (is_request : Bool) (high low either : Due) (reason : Option Abort)
+  flows_on : (r : Relation) (p : IsPlayed priority r) (waited : ℕ) (places : Told) (access : Accessing) (is_request : Bool) (high low either : Due) (reason : Option Abort)
       → happens (world_of priority r p.confirms) happening.ControllerTick ≡ record (world_of priority r p.confirms) {
         controller = controller_later (end_of r.live priority);
         confirms = line_later priority p.confirms r.live (due_at priority high low);
       }
-      → IsPlayed priority (turns r (flowed (flow_later r.live) high low is_request (tick_by r.live.cyclic either reason) reason))
-  flows_on r p is_request high low either (Some reason) e =
+      → IsPlayed priority (turns r (flowed (flow_with r.live waited places access) high low is_request (tick_by r.live.cyclic either reason) reason))
+  flows_on r p waited places access is_request high low either (Some reason) e =
       let line = line_later priority p.confirms r.live (due_at priority high low) in
-      let turn = flowed (flow_later r.live) high low is_request (tick_by r.live.cyclic either (Some reason)) (Some reason) in
+      let turn = flowed (flow_with r.live waited places access) high low is_request (tick_by r.live.cyclic either (Some reason)) (Some reason) in
       goes_on priority r p (happening.ControllerTick ∷ []) (turns r turn) line
-      (e ∙ ap (λ (end : ControllerEnd). record (world_of priority r p.confirms) { controller = end; confirms = line }) (sym (broken_end priority r.live reason)))
+      (e ∙ ap (λ (end : ControllerEnd). record (world_of priority r p.confirms) { controller = end; confirms = line }) (sym (broken_end priority r.live waited places access reason)))
       (all_behind (IsThere priority line.pdus) r.reported turn.sent
       (all_stay priority p.confirms.pdus line.pdus
       (lines_extend p.confirms (send_number (end_of r.live priority).sending.last) (end_of r.live priority).confirming (due_at priority high low)) r.reported p.reported)
       (tt, tt))
       (ap length (lines_same p.confirms (send_number (end_of r.live priority).sending.last) (end_of r.live priority).confirming (due_at priority high low)) ∙ p.same)
-      (broken_shown priority r.live reason ∙ p.shown)
-  flows_on r p is_request high low either None e =
+      (broken_shown priority r.live waited places access reason ∙ p.shown)
+  flows_on r p waited places access is_request high low either None e =
       let line = line_later priority p.confirms r.live (due_at priority high low) in
-      let live = flow_later r.live in
+      let live = flow_with r.live waited places access in
       let tick = tick_by r.live.cyclic either None in
       let There = IsThere priority line.pdus in
-      let acks = acks_there priority p.confirms r.live high low in
+      let acks = acks_there priority p.confirms r.live waited places access high low in
       let high_acks = where_due (is_again_due high) (acks_of live High) in
       let low_acks = where_due (is_again_due low) (acks_of live Low) in
       let request = where_due is_request (pending_by live live.asked) in
       let outputs = where_due tick.is_cyclic (outputs_of live) in
       goes_on priority r p (happening.ControllerTick ∷ []) (turns r (flowed live high low is_request tick None)) line
-      (e ∙ ap (λ (end : ControllerEnd). record (world_of priority r p.confirms) { controller = end; confirms = line }) (sym (later_end priority r.live)))
+      (e ∙ ap (λ (end : ControllerEnd). record (world_of priority r p.confirms) { controller = end; confirms = line }) (sym (later_end priority r.live waited places access)))
       (all_behind There r.reported (due_frames live (is_again_due high) (is_again_due low) is_request tick.is_cyclic)
       (all_stay priority p.confirms.pdus line.pdus
       (lines_extend p.confirms (send_number (end_of r.live priority).sending.last) (end_of r.live priority).confirming (due_at priority high low)) r.reported p.reported)
@@ -459,28 +526,33 @@ module _ (priority : Priority) where
       (no_acks_there priority line.pdus request (pending_no_ack live live.asked is_request))
       (no_acks_there priority line.pdus outputs (outputs_no_ack live tick.is_cyclic))))))
       (ap length (lines_same p.confirms (send_number (end_of r.live priority).sending.last) (end_of r.live priority).confirming (due_at priority high low)) ∙ p.same)
-      (later_shown priority r.live ∙ p.shown)
+      (later_shown priority r.live waited places access ∙ p.shown)
 
   -- The reason of a tick is the one from which it was made.
   reason_is : (r : Relation) (either : Due) (reason : Option Abort) → (tick_by r.live.cyclic either reason).ending ≡ reason
   reason_is r either (Some reason) = refl
   reason_is r either None = refl
 
-  stands_on : (r : Relation) (p : IsPlayed priority r) (is : Bool)
-      → IsPlayed priority (turns r (if is then flowed (flow_later r.live) (due r.live.alarms.sending) (due r.live.low_alarms.sending) (is_again r.live) (brought r.live) (brought r.live).ending
-      else record { live = later r.live; sent = where_due (is_again r.live) (requests_of r.live.device r.live.asked) }))
-  stands_on r p true =
+  stands_on : (setup : Setup) (r : Relation) (p : IsPlayed priority r) (is : Bool)
+      → IsPlayed priority (turns r (if is then flowed (flow_begun setup r.live) (due r.live.alarms.sending) (due r.live.low_alarms.sending) (is_again r.live) (brought r.live) (brought r.live).ending
+      else record { live = unit_begun setup r.live; sent = where_due (is_again r.live) (requests_of r.live.device r.live.asked) }))
+  stands_on setup r p true =
       let high = due r.live.alarms.sending in
       let low = due r.live.low_alarms.sending in
       let either = either_due high low in
       let reason = ending_of r.live.cyclic either in
-      subst (λ (o : Option Abort). IsPlayed priority (turns r (flowed (flow_later r.live) high low (is_again r.live) (tick_by r.live.cyclic either reason) o))) (sym (reason_is r either reason))
-      (flows_on r p (is_again r.live) high low either reason
+      let next = flow_begun setup r.live in
+      subst (λ (o : Option Abort). IsPlayed priority (turns r (flowed next high low (is_again r.live) (tick_by r.live.cyclic either reason) o))) (sym (reason_is r either reason))
+      (subst (λ (l : Live). IsPlayed priority (turns r (flowed l high low (is_again r.live) (tick_by r.live.cyclic either reason) reason)))
+      (sym (begun_beside setup (flow_later r.live) next (flows setup r.live)))
+      (flows_on r p next.waited next.places next.access (is_again r.live) high low either reason
       (ap (λ (due_now : Due). record (world_of priority r p.confirms) { controller = controller_later (end_of r.live priority); confirms = line_later priority p.confirms r.live due_now })
-      (same_due priority r.live)))
-  stands_on r p false =
-      inactive_on priority r (record { live = later r.live; sent = where_due (is_again r.live) (requests_of r.live.device r.live.asked) }) p
-      (idle_at priority r.live (where_due (is_again r.live) (requests_of r.live.device r.live.asked)) (requests_no_ack r.live.device r.live.asked (is_again r.live)))
+      (same_due priority r.live))))
+  stands_on setup r p false =
+      let next = unit_begun setup r.live in
+      inactive_on priority r (record { live = next; sent = where_due (is_again r.live) (requests_of r.live.device r.live.asked) }) p
+      (idle_at priority r.live next (where_due (is_again r.live) (requests_of r.live.device r.live.asked))
+      (begun_beside setup (later r.live) next (begins_so setup (is_again r.live) (later r.live))) (requests_no_ack r.live.device r.live.asked (is_again r.live)))
 
   plain_on : (r : Relation) (turn : Turn) → IsPlayed priority r → IsInactive r.live turn → IsPlayed priority (turns r turn)
   plain_on r turn p is = inactive_on priority r turn p (at_priority priority r.live turn is)
@@ -493,9 +565,9 @@ module _ (priority : Priority) where
   quit_inactive setup live phase = record { high = refl; low = refl; alarm = refl; low_alarm = refl; sent = (tt, tt) }
 
   spent_on : (setup : Setup) (r : Relation) (p : IsPlayed priority r) (is : Bool) (phase : State)
-      → IsPlayed priority (turns r (if is then quit setup NoProgress (later r.live) phase else gone_on (later r.live) (is_again r.live)))
+      → IsPlayed priority (turns r (if is then quit setup NoProgress (later r.live) phase else gone_on (unit_begun setup r.live) (is_again r.live)))
   spent_on setup r p true phase = plain_on r (quit setup NoProgress (later r.live) phase) p (quit_inactive setup r.live phase)
-  spent_on setup r p false phase = stands_on r p r.live.stands
+  spent_on setup r p false phase = subst (λ (t : Turn). IsPlayed priority (turns r t)) (sym (gone_is setup r.live)) (stands_on setup r p r.live.stands)
 
   -- ---- any moves
 
@@ -504,7 +576,7 @@ module _ (priority : Priority) where
   one_on setup r PassesAtDevice p = device_passes priority r p
   one_on setup r (ComesToDevice place) p = comes_on priority r p place (slice_get r.reported place) refl
   one_on setup r (AckComesToDevice number) p = ack_passes priority r number p
-  one_on setup r (AlarmComes source under header place) p = alarm_on priority r p source under header place (slice_get r.alarms.pdus place) refl
+  one_on setup r (AlarmComes source under header place) p = alarm_on priority setup r p source under header place (slice_get r.alarms.pdus place) refl
   one_on setup r (Hears heard) p = hears_on setup r p heard
   one_on setup r PassesAtController p = spent_on setup r p (is_spent r.live) r.live.phase
   one_on setup r (Gives slot subslot value) p =

@@ -1,6 +1,6 @@
 -- An answer that belongs to another request is dropped, and each call that is sent is the one that waits.
 use Rattle.std.proofs.Common.{◌≡◌, ◌≢◌, ◌⊎◌, inl, inr, ◌+◌, ◌++◌, ◌==◌, ◌<◌, ◌≤◌, ◌&&◌, ℕ, Bool, true, false, List, [], ◌∷◌, Option, Some, None, refl, sym, ap, subst, ◌∙◌, arith}
-use Rattle.std.specs.Prelude.{if◌then◌else◌, nat_eq}
+use Rattle.std.specs.Prelude.{if◌then◌else◌, is_some, nat_eq}
 use Rattle.std.specs.Cmp.Lexicographic.{pointwise, same_text}
 use Rattle.std.specs.List.{AllByRecursion}
 use Rattle.std.proofs.lemmas.Bool.{eqb-true}
@@ -21,17 +21,19 @@ use Rattle.diagnosis.specs.declared.reports.priority.Priority.TheVariants.{High,
 use Rattle.diagnosis.specs.declared.reports.report.Report.{Report}
 use Rattle.pn_values.specs.declared.mac.Mac.{Mac}
 use Rattle.plans.specs.declared.parts.Parts.{Parts}
+use Rattle.controller_messages.specs.declared.plug_request.PlugRequest.{PlugRequest}
 use Rattle.controller_messages.specs.declared.record_request.RecordRequest.{RecordRequest}
 use Rattle.controller_messages.specs.declared.refusal.Refusal.{Refusal}
 use Rattle.controller_messages.specs.declared.setup.Setup.{Setup}
 use Rattle.controller_messages.specs.declared.request.Request.{Request}
 use Rattle.controller_messages.specs.declared.request.Request.TheVariants as asks
-use Rattle.controller_messages.specs.Access.{call_number}
+use Rattle.controller_messages.specs.Access.{Accessing, call_number}
 use Rattle.controller_messages.specs.Heard.{Heard, Nothing, Answers, Responds, Refuses, Calls, Alarms, heard_of}
 use Rattle.controller_messages.specs.Heard.{Cyclic as Comes}
+use Rattle.controller_messages.specs.PlugRequests.{plug_answer, plug_header}
 use Rattle.controller_messages.specs.RecordRequests.{record_header}
 use Rattle.controller_messages.specs.Requests.{header_of, write_count, writing_from}
-use Rattle.controller_messages.specs.Sent.{Sent}
+use Rattle.controller_messages.specs.Sent.{Sent, Requests, Accesses, Parametrizes, Agrees}
 use Rattle.controller_core.specs.declared.stored.event.Event.{Event}
 use Rattle.controller_core.specs.declared.stored.state.State.{State}
 use Rattle.controller_core.specs.declared.stored.state.State.TheVariants.{Looking, Addressing, Exchanging}
@@ -39,11 +41,13 @@ use Rattle.controller_core.specs.start_up.Answers.{is_answer, is_found, is_ident
 use Rattle.controller_core.specs.start_up.Requests.{next_sequence}
 use Rattle.controller_core.specs.stored.State.{Controlling, Live}
 use Rattle.controller_messages.specs.declared.setup.ControllerOptions.{ControllerOptions}
-use Rattle.controller_core.specs.Machine.{Turn, accesses_by, addressed, answered, behind_data, brought, decided, due_frames, end_of, failed, flow_later, found, is_again, later, noted, outputs_of, acks_in, acks_of, pending_by, pending_of, refused, refused_by, rejected, replied, replied_by, requests_of, responded, standing, stays, fresh_with, step_of, stepped, taken, turn_of, turned, where_due, writing}
+use Rattle.controller_core.specs.Machine.{Turn, accesses_by, accesses_of, addressed, after_turn, answered, asks_next, behind_data, beside, brought, can_begin, decided, due_frames, end_of, failed, found, is_again, later, noted, outputs_of, acks_in, acks_of, pending_by, pending_of, plug_readied, plug_replied, plugs_by, refused, refused_beside, refused_by, rejected, replied, replied_by, requests_of, responded, standing, stays, fresh_with, step_of, stepped, taken, turn_of, turned, where_due, writing}
 use Rattle.end_laws.specs.controller.Small.{IsInStep, IsSteady}
-use Rattle.end_laws.specs.turns.Belongs.{AreNumberedApart, AreNumberedLater, BelongsToAnother, DropsAnswersToOthers, IsOfAnotherCall, IsOfAnotherRequest, IsOfStartUp, IsTheWaiting, WaitsForWhatIsSent, call_by, waiting_by, waiting_dcp, waiting_in}
+use Rattle.end_laws.specs.turns.Belongs.{AreNumberedApart, AreNumberedLater, BelongsToAnother, DropsAnswersToOthers, IsOfAnotherCall, IsOfAnotherRequest, IsOfStartUp, IsTheWaiting, WaitsForWhatIsSent, call_by, waiting_beside, waiting_by, waiting_dcp, waiting_in}
+use Rattle.end_laws.specs.turns.Beside.{MayFollow, flow_begun}
 use Rattle.end_laws.specs.turns.Runs.{IsReached, behind_all}
-use Rattle.end_laws.specs.turns.Turns.{Came, IsKind, Kind, Rests, Connects, Addresses, Ends, Releases, Relates, Writes, Skips, Waits, Forgets, Begins, Repeats, Follows, Takes, IsAcked, Gives, GivesStatus, Asks, IsReplied, Flows, Breaks, Idles, came_by, turn_by}
+use Rattle.end_laws.specs.turns.Turns.{Came, IsKind, Kind, Rests, Connects, Addresses, Ends, Releases, Relates, Writes, Skips, Waits, Forgets, Begins, Repeats, Follows, Takes, IsAcked, Gives, GivesStatus, Asks, IsReplied, IsPlugAnswered, IsPlugReadied, Flows, Breaks, Idles, came_by, turn_by}
+use Rattle.end_laws.proofs.TurnsBeside.{follows, rejected_now, stays_alone}
 use Rattle.end_laws.proofs.TurnsOneTurn.{event_is}
 use Rattle.end_laws.proofs.ControllerTurns.{event_goes}
 
@@ -96,23 +100,50 @@ module _ (setup : Setup) where
 
   -- ---- it is dropped
 
-  responds_to_none : (live : Live) (response : Response) (asked : Option Request) (waiting : Option RecordRequest) → live.access.waiting ≡ waiting
-      → IsOfAnotherCall (waiting_by setup asked waiting) response.header.activity response.header.sequence → responded setup live response asked ≡ stays live
-  responds_to_none live response (Some request) waiting is other =
-      ap (λ (b : Bool). if b then decided setup live response request else stays live) (no_answer request response.header other)
-  responds_to_none live response None None is other = ap (λ (w : Option RecordRequest). stays (replied setup live response w)) is
-  responds_to_none live response None (Some request) is other =
-      ap (λ (w : Option RecordRequest). stays (replied setup live response w)) is
-      ∙ ap (λ (b : Bool). stays (if b then replied_by live response request else live)) (not_same (record_header setup request) response.header.activity response.header.sequence other)
+  -- of a request of the application
+  replies_to_none : (live : Live) (response : Response) (waiting : Option RecordRequest)
+      → IsOfAnotherCall (waiting_beside setup None waiting) response.header.activity response.header.sequence → stays (replied setup live response waiting) ≡ stays live
+  replies_to_none live response None other = refl
+  replies_to_none live response (Some request) other =
+      ap (λ (b : Bool). stays (if b then replied_by live response request else live)) (not_same (record_header setup request) response.header.activity response.header.sequence other)
 
-  refuses_none : (live : Live) (refusal : Refusal) (asked : Option Request) (waiting : Option RecordRequest) → live.access.waiting ≡ waiting
-      → IsOfAnotherCall (waiting_by setup asked waiting) refusal.activity refusal.sequence → refused setup live refusal asked ≡ stays live
-  refuses_none live refusal (Some request) waiting is other =
+  rejects_none : (live : Live) (refusal : Refusal) (waiting : Option RecordRequest)
+      → IsOfAnotherCall (waiting_beside setup None waiting) refusal.activity refusal.sequence → stays (rejected setup live refusal waiting) ≡ stays live
+  rejects_none live refusal None other = refl
+  rejects_none live refusal (Some request) other =
+      ap (λ (b : Bool). stays (if b then failed refusal.status request live else live)) (not_same (record_header setup request) refusal.activity refusal.sequence other)
+
+  -- of the request after a plug, or else of the application
+  beside_none : (live : Live) (response : Response) (plug : Option PlugRequest)
+      → IsOfAnotherCall (waiting_beside setup plug live.access.waiting) response.header.activity response.header.sequence → beside setup live response plug ≡ stays live
+  beside_none live response (Some request) other =
+      ap (λ (b : Bool). if b then asks_next (plug_replied setup live response.status request) else stays live)
+      (not_same (plug_header setup request) response.header.activity response.header.sequence other)
+  beside_none live response None other = replies_to_none live response live.access.waiting other
+
+  refuses_beside : (live : Live) (refusal : Refusal) (plug : Option PlugRequest)
+      → IsOfAnotherCall (waiting_beside setup plug live.access.waiting) refusal.activity refusal.sequence → stays (refused_beside setup live refusal plug) ≡ stays live
+  refuses_beside live refusal (Some request) other =
+      ap (λ (b : Bool). stays (if b then rejected_now setup live refusal request else live))
+      (not_same (plug_header setup request) refusal.activity refusal.sequence other)
+  refuses_beside live refusal None other = rejects_none live refusal live.access.waiting other
+
+  responds_to_none : (live : Live) (response : Response) (asked : Option Request)
+      → IsOfAnotherCall (waiting_by setup asked live.access.plug live.access.waiting) response.header.activity response.header.sequence
+      → responded setup live response asked ≡ stays live
+  responds_to_none live response (Some request) other =
+      ap (λ (b : Bool). if b then decided setup live response request else stays live) (no_answer request response.header other)
+  responds_to_none live response None other = beside_none live response live.access.plug other
+
+  refuses_none : (live : Live) (refusal : Refusal) (asked : Option Request)
+      → IsOfAnotherCall (waiting_by setup asked live.access.plug live.access.waiting) refusal.activity refusal.sequence → refused setup live refusal asked ≡ stays live
+  refuses_none live refusal (Some request) other =
       ap (λ (b : Bool). if b then refused_by live refusal request else stays live) (no_refusal request refusal other)
-  refuses_none live refusal None None is other = ap (λ (w : Option RecordRequest). stays (rejected setup live refusal w)) is
-  refuses_none live refusal None (Some request) is other =
-      ap (λ (w : Option RecordRequest). stays (rejected setup live refusal w)) is
-      ∙ ap (λ (b : Bool). stays (if b then failed refusal.status request live else live)) (not_same (record_header setup request) refusal.activity refusal.sequence other)
+  refuses_none live refusal None other = refuses_beside live refusal live.access.plug other
+
+  -- no turn of a place begins with it
+  drops_alone : (live : Live) (turn : Turn) → turn ≡ stays live → after_turn setup (can_begin live) turn ≡ stays live
+  drops_alone live turn e = ap (after_turn setup (can_begin live)) e ∙ stays_alone setup live
 
   no_identify : (service : Service) → Identify ≢ service → is_identify service ≡ false
   no_identify Identify other = absurd (other refl)
@@ -143,8 +174,8 @@ module _ (setup : Setup) where
   answers_none live source answer phase other = refl
 
   drops_it : (live : Live) (heard : Heard) → BelongsToAnother setup live heard → turned setup live heard ≡ stays live
-  drops_it live (Responds response) other = responds_to_none live response live.asked live.access.waiting refl other
-  drops_it live (Refuses refusal) other = refuses_none live refusal live.asked live.access.waiting refl other
+  drops_it live (Responds response) other = drops_alone live (responded setup live response live.asked) (responds_to_none live response live.asked other)
+  drops_it live (Refuses refusal) other = drops_alone live (refused setup live refusal live.asked) (refuses_none live refusal live.asked other)
   drops_it live (Answers source answer) other = answers_none live source answer live.phase other
   drops_it live Nothing other = absurd other
   drops_it live (Calls caller call) other = absurd other
@@ -170,7 +201,7 @@ steady_all [] controller steady = steady
 steady_all (event ∷ events) controller steady = steady_all events (step_of controller event).controller (steady_on controller event steady)
 
 first_steady : (plan : Parts) (ar activity : List ℕ) (options : ControllerOptions) → IsSteady plan (fresh_with plan ar activity options).live
-first_steady plan ar activity options = record { asked = refl; waiting = refl }
+first_steady plan ar activity options = record { asked = refl; waiting = refl; plug = refl }
 
 pub reached_steady : (controller : Controlling) → IsReached controller → IsSteady controller.setup.plan controller.live
 reached_steady controller r =
@@ -195,19 +226,30 @@ module _ (setup : Setup) where
   acks_wait after live priority (Some ack) = (tt, tt)
   acks_wait after live priority None = tt
 
-  requests_wait : (after : Live) (device : Mac) (asked : Option Request) (waiting : Option RecordRequest) → waiting_in setup after ≡ waiting_by setup asked waiting
-      → AreTheWaiting after (requests_of device asked)
-  requests_wait after device (Some request) waiting is = (is, tt)
-  requests_wait after device None waiting is = tt
+  requests_wait : (after : Live) (device : Mac) (asked : Option Request) (plug : Option PlugRequest) (waiting : Option RecordRequest)
+      → waiting_in setup after ≡ waiting_by setup asked plug waiting → AreTheWaiting after (requests_of device asked)
+  requests_wait after device (Some request) plug waiting is = (is, tt)
+  requests_wait after device None plug waiting is = tt
 
-  accesses_wait : (after : Live) (device : Mac) (octets : List ℕ) (waiting : Option RecordRequest) → waiting_in setup after ≡ waiting_by setup None waiting
+  plugs_wait : (after : Live) (device : Mac) (plug : Option PlugRequest) (waiting : Option RecordRequest) → waiting_in setup after ≡ waiting_beside setup plug waiting
+      → AreTheWaiting after (plugs_by device plug)
+  plugs_wait after device (Some request) waiting is = (is, tt)
+  plugs_wait after device None waiting is = tt
+
+  accesses_wait : (after : Live) (device : Mac) (octets : List ℕ) (waiting : Option RecordRequest) → waiting_in setup after ≡ waiting_beside setup None waiting
       → AreTheWaiting after (accesses_by device octets waiting)
   accesses_wait after device octets (Some request) is = (is, tt)
   accesses_wait after device octets None is = tt
 
-  pending_waits : (after live : Live) (asked : Option Request) → waiting_in setup after ≡ waiting_by setup asked live.access.waiting → AreTheWaiting after (pending_by live asked)
+  beside_waits : (after live : Live) (plug : Option PlugRequest) → waiting_in setup after ≡ waiting_beside setup plug live.access.waiting
+      → AreTheWaiting after (if is_some plug then plugs_by live.device plug else accesses_of live)
+  beside_waits after live (Some request) is = (is, tt)
+  beside_waits after live None is = accesses_wait after live.device live.access.octets live.access.waiting is
+
+  pending_waits : (after live : Live) (asked : Option Request) → waiting_in setup after ≡ waiting_by setup asked live.access.plug live.access.waiting
+      → AreTheWaiting after (pending_by live asked)
   pending_waits after live (Some request) is = (is, tt)
-  pending_waits after live None is = accesses_wait after live.device live.access.octets live.access.waiting is
+  pending_waits after live None is = beside_waits after live live.access.plug is
 
   due_wait : (live : Live) (is_high is_low is_request is_cyclic : Bool) → AreTheWaiting live (due_frames live is_high is_low is_request is_cyclic)
   due_wait live is_high is_low is_request is_cyclic =
@@ -230,37 +272,98 @@ module _ (setup : Setup) where
   none_asked : (live : Live) → IsSteady setup.plan live → live.phase ≡ Exchanging → live.asked ≡ None
   none_asked live steady exchanges = subst (λ (phase : State). IsInStep setup.plan phase live.asked) exchanges steady.asked
 
-  kind_waits : (live : Live) (came : Came) (kind : Kind) → IsSteady setup.plan live → IsKind setup live came kind
+  -- ---- the turn of a place that begins
+
+  -- A message that is no call.
+  abbrev IsNoCall : Sent → Type 0
+  IsNoCall (Requests device request) = ⊥
+  IsNoCall (Accesses device request octets) = ⊥
+  IsNoCall (Parametrizes device request) = ⊥
+  IsNoCall message = Unit {0}
+
+  no_call_waits : (after : Live) (message : Sent) → IsNoCall message → IsTheWaiting setup after message
+  no_call_waits after (Requests device request) none = absurd none
+  no_call_waits after (Accesses device request octets) none = absurd none
+  no_call_waits after (Parametrizes device request) none = absurd none
+  no_call_waits after message none = tt
+
+  no_calls_wait : (after : Live) (sent : List Sent) → AllByRecursion IsNoCall sent → AreTheWaiting after sent
+  no_calls_wait after [] none = tt
+  no_calls_wait after (message ∷ sent) none = (no_call_waits after message none.0, no_calls_wait after sent none.1)
+
+  -- If it begins, none waits before it, and its own request waits from then on.
+  follows_wait : (turn after : Turn) → MayFollow setup turn after → IsSteady setup.plan after.live → AreTheWaiting turn.live turn.sent
+      → (turn.live.access.plug ≡ None → AllByRecursion IsNoCall turn.sent) → AreTheWaiting after.live after.sent
+  follows_wait turn after (inl e) steady all silent = subst (λ (t : Turn). AreTheWaiting t.live t.sent) (sym e) all
+  follows_wait turn after (inr followed) steady all silent =
+      let begun = followed.begun in
+      let phase : after.live.phase ≡ Exchanging = ap (λ (l : Live). l.phase) begun.beside ∙ begun.phase in
+      let waits : waiting_in setup after.live ≡ Some (plug_header setup begun.request) =
+      ap (λ (asked : Option Request). waiting_by setup asked after.live.access.plug after.live.access.waiting) (none_asked after.live steady phase)
+      ∙ ap (λ (a : Accessing). waiting_beside setup a.plug after.live.access.waiting) begun.access in
+      subst (λ (sent : List Sent). AreTheWaiting after.live sent) (sym followed.sent)
+      (both_wait after.live turn.sent (Parametrizes turn.live.device begun.request ∷ []) (no_calls_wait after.live turn.sent (silent begun.plug)) (waits, tt))
+
+  after_waits : (live : Live) (turn : Turn) → IsSteady setup.plan (after_turn setup (can_begin live) turn).live → AreTheWaiting turn.live turn.sent
+      → (turn.live.access.plug ≡ None → AllByRecursion IsNoCall turn.sent)
+      → AreTheWaiting (after_turn setup (can_begin live) turn).live (after_turn setup (can_begin live) turn).sent
+  after_waits live turn steady all silent = follows_wait turn (after_turn setup (can_begin live) turn) (follows setup (can_begin live) turn) steady all silent
+
+  taken_silent : (live : Live) (report : Report) (as_what : Taken) → AllByRecursion IsNoCall (taken live report as_what).sent
+  taken_silent live report New = (tt, (tt, tt))
+  taken_silent live report Again = (tt, tt)
+  taken_silent live report Refused = (tt, tt)
+
+  plugs_silent : (device : Mac) (plug : Option PlugRequest) → plug ≡ None → AllByRecursion IsNoCall (plugs_by device plug)
+  plugs_silent device plug none = subst (λ (p : Option PlugRequest). AllByRecursion IsNoCall (plugs_by device p)) (sym none) tt
+
+  kind_waits : (live : Live) (came : Came) (kind : Kind) → IsSteady setup.plan live → IsSteady setup.plan (turn_by setup live kind).live → IsKind setup live came kind
       → AreTheWaiting (turn_by setup live kind).live (turn_by setup live kind).sent
-  kind_waits live came Rests steady holds = tt
-  kind_waits live came (Connects source) steady holds = (refl, tt)
-  kind_waits live came (Addresses source) steady holds = (refl, tt)
-  kind_waits live came (Ends cause refusal denied units) steady holds = tt
-  kind_waits live came (Releases cause refusal denied units) steady holds = (refl, tt)
-  kind_waits live came (Relates chosen) steady holds = writing_waits (writing_from setup.plan 0) (standing setup live chosen)
-  kind_waits live came (Writes number) steady holds = writing_waits (writing_from setup.plan (number + 1)) live
-  kind_waits live came (Skips number denied status) steady holds = writing_waits (writing_from setup.plan (number + 1)) (noted status denied live)
-  kind_waits live came Waits steady holds = tt
-  kind_waits live came Forgets steady holds = tt
-  kind_waits live came (Begins caller call block) steady holds = (tt, tt)
-  kind_waits live came (Repeats caller call block) steady holds = (tt, tt)
-  kind_waits live came (Follows source frame_id body) steady holds = tt
-  kind_waits live came (Takes number report) steady holds = taken_waits (behind_data live report.priority number) report (taken_as (end_of live report.priority).seen number)
-  kind_waits live came (IsAcked priority number) steady holds = tt
-  kind_waits live came (Gives slot subslot value) steady holds = tt
-  kind_waits live came (GivesStatus slot subslot is_good) steady holds = tt
-  kind_waits live came (Asks request octets) steady holds = (ap (λ (asked : Option Request). waiting_by setup asked (Some request)) (none_asked live steady holds.0), tt)
-  kind_waits live came (IsReplied refusal access) steady holds = tt
-  kind_waits live came Flows steady holds =
-      due_wait (flow_later live) (is_repeated (due live.alarms.sending)) (is_repeated (due live.low_alarms.sending)) (is_again live) (brought live).is_cyclic
-  kind_waits live came (Breaks reason) steady holds = (tt, tt)
-  kind_waits live came Idles steady holds =
-      where_due_waits (later live) (is_again live) (requests_of live.device live.asked) (requests_wait (later live) live.device live.asked live.access.waiting refl)
+  kind_waits live came Rests steady next holds = tt
+  kind_waits live came (Connects source) steady next holds = (refl, tt)
+  kind_waits live came (Addresses source) steady next holds = (refl, tt)
+  kind_waits live came (Ends cause refusal denied units) steady next holds = tt
+  kind_waits live came (Releases cause refusal denied units) steady next holds = (refl, tt)
+  kind_waits live came (Relates places chosen) steady next holds = writing_waits (writing_from setup.plan 0) (standing setup (record live { places = places }) chosen)
+  kind_waits live came (Writes number) steady next holds = writing_waits (writing_from setup.plan (number + 1)) live
+  kind_waits live came (Skips number denied status) steady next holds = writing_waits (writing_from setup.plan (number + 1)) (noted status denied live)
+  kind_waits live came Waits steady next holds = tt
+  kind_waits live came Forgets steady next holds = tt
+  kind_waits live came (Begins caller call block) steady next holds = (tt, tt)
+  kind_waits live came (Repeats caller call block) steady next holds = (tt, tt)
+  kind_waits live came (Follows source frame_id body) steady next holds = tt
+  kind_waits live came (Takes number report) steady next holds =
+      let behind = behind_data live report.priority number in
+      let as_what = taken_as (end_of live report.priority).seen number in
+      after_waits live (taken behind report as_what) next (taken_waits behind report as_what) (λ none. taken_silent behind report as_what)
+  kind_waits live came (IsAcked priority number) steady next holds = tt
+  kind_waits live came (Gives slot subslot value) steady next holds = tt
+  kind_waits live came (GivesStatus slot subslot is_good) steady next holds = tt
+  kind_waits live came (Asks request octets) steady next holds =
+      let waits : waiting_by setup live.asked live.access.plug (Some request) ≡ Some (record_header setup request) =
+      ap (λ (asked : Option Request). waiting_by setup asked live.access.plug (Some request)) (none_asked live steady holds.0)
+      ∙ ap (λ (plug : Option PlugRequest). waiting_beside setup plug (Some request)) holds.4 in
+      (waits, tt)
+  kind_waits live came (IsReplied refusal access) steady next holds =
+      after_waits live (stays (record live { refusal = refusal; access = access })) next tt (λ none. tt)
+  kind_waits live came (IsPlugAnswered refusal refused_one waited places access) steady next holds =
+      let after : Live = record live { refusal = refusal; refused_record = refused_one; waited = waited; places = places; access = access } in
+      after_waits live (asks_next after) next
+      (plugs_wait after live.device access.plug access.waiting (ap (λ (asked : Option Request). waiting_by setup asked access.plug access.waiting) holds.0))
+      (λ none. plugs_silent live.device access.plug none)
+  kind_waits live came (IsPlugReadied caller call block) steady next holds =
+      after_waits live (record { live = plug_readied live block.alarm_sequence_number; sent = Agrees caller (plug_answer call block) ∷ [] }) next (tt, tt) (λ none. (tt, tt))
+  kind_waits live came Flows steady next holds =
+      due_wait (flow_begun setup live) (is_repeated (due live.alarms.sending)) (is_repeated (due live.low_alarms.sending)) (is_again live) (brought live).is_cyclic
+  kind_waits live came (Breaks reason) steady next holds = (tt, tt)
+  kind_waits live came Idles steady next holds =
+      where_due_waits (later live) (is_again live) (requests_of live.device live.asked) (requests_wait (later live) live.device live.asked live.access.plug live.access.waiting refl)
 
   event_waits : (live : Live) (event : Event) → IsSteady setup.plan live → AreTheWaiting (turn_of setup live event).live (turn_of setup live event).sent
   event_waits live event steady =
       let turn = event_is setup live event in
-      subst (λ (t : Turn). AreTheWaiting t.live t.sent) (sym turn.is) (kind_waits live (came_by setup event) turn.kind steady turn.holds)
+      let next = subst (λ (t : Turn). IsSteady setup.plan t.live) turn.is (event_goes setup live event turn steady).in_step in
+      subst (λ (t : Turn). AreTheWaiting t.live t.sent) (sym turn.is) (kind_waits live (came_by setup event) turn.kind steady next turn.holds)
 
 pub waits_for_what_is_sent : WaitsForWhatIsSent
 waits_for_what_is_sent controller event reached = event_waits controller.setup controller.live event (reached_steady controller reached)

@@ -15,6 +15,7 @@ use Rattle.rpc_core.specs.declared.response.Status.{Status as Code}
 use Rattle.rpc_core.specs.Call.{Asked as Call}
 use Rattle.rpc_core.specs.Response.{Answered as Response, is_done}
 use Rattle.connect_blocks.specs.declared.control.ControlBlock.{ControlBlock}
+use Rattle.connect_blocks.specs.declared.plug_control.PlugControlBlock.{PlugControlBlock}
 use Rattle.block_codec.specs.Block.{block_of}
 use Rattle.record_blocks.specs.declared.alarm_notification.AlarmNotification.{AlarmNotification}
 use Rattle.pn_alarms.specs.declared.abort.Abort.{Abort}
@@ -37,6 +38,8 @@ use Rattle.cyclic_data.specs.exchange.Received.{behind_frame}
 use Rattle.cyclic_data.specs.exchange.Units.{ending_by, is_silent, tick_by}
 use Rattle.connects.specs.declared.answers.connect.Found.{Found}
 use Rattle.connects.specs.answers.Connect.{Chosen, chosen_of, found_in, is_whole, nothing}
+use Rattle.plan_places.specs.Places.{Told}
+use Rattle.controller_messages.specs.declared.plug_request.PlugRequest.{PlugRequest}
 use Rattle.controller_messages.specs.declared.record_request.RecordRequest.{RecordRequest}
 use Rattle.controller_messages.specs.declared.record_request.RecordService.{RecordService}
 use Rattle.controller_messages.specs.declared.record_request.RecordService.TheVariants as service
@@ -44,9 +47,10 @@ use Rattle.controller_messages.specs.declared.refusal.Refusal.{Refusal}
 use Rattle.controller_messages.specs.declared.setup.Setup.{Setup}
 use Rattle.controller_messages.specs.declared.request.Request.{Request}
 use Rattle.controller_messages.specs.declared.request.Request.TheVariants as asks
-use Rattle.controller_messages.specs.Access.{is_rejected, is_reply, record_in}
+use Rattle.controller_messages.specs.Access.{Accessing, is_rejected, is_reply, record_in}
 use Rattle.controller_messages.specs.Heard.{Heard, Nothing, Answers, Responds, Refuses, Calls, Alarms}
 use Rattle.controller_messages.specs.Heard.{Cyclic as Comes}
+use Rattle.controller_messages.specs.PlugRequests.{is_plug_answer, is_plug_ready, plug_ready_in}
 use Rattle.controller_messages.specs.RecordRequests.{most_record_octets}
 use Rattle.controller_messages.specs.Requests.{first_of, header_of, writing_from}
 use Rattle.controller_messages.specs.Sent.{Sent, bytes_of}
@@ -64,11 +68,13 @@ use Rattle.controller_core.specs.start_up.Outcomes.{is_all_written, outcomes_of}
 use Rattle.controller_core.specs.stored.Alarms.{ack_of, is_alarm, kept_alarm}
 use Rattle.controller_core.specs.stored.State.{Controlling, Live, is_limited, phase_for}
 use Rattle.controller_core.specs.stored.Cause.{cause_of}
-use Rattle.controller_core.specs.Machine.{Turn, acked_under, acking, after_write, alarmed, answered, asking, behind_data, brings, brought, called, can_request, connected, decided, done, end_of, ended_by, exchange_later, failed, flowed, found as is_found_by, fresh_with, gone_on, granted, is_again, is_spent, keeping, later, noted, noticed, over, past_record, quit, readied, refused, refused_by, rejected, related_by, released, replied, replied_by, requested, requests_of, responded, standing, stays, step_of, stopped, taken, ticked, turn_of, turned, undone, where_due, with_end, writing}
+use Rattle.controller_core.specs.Machine.{Turn, acked_under, acking, after_turn, after_write, alarmed, answered, asking, asks_next, behind_data, beside, brings, brought, called, can_begin, can_request, connected, decided, done, end_of, ended_by, exchange_later, failed, flow_later, flowed, found as is_found_by, fresh_with, gone_on, granted, is_again, is_plug_awaited, is_spent, keeping, later, noted, noticed, over, past_record, placed, plug_called, plug_replied, quit, readied, refused, refused_beside, refused_by, rejected, related_by, released, replied, replied_by, requested, requests_of, responded, standing, stays, step_of, stopped, taken, ticked, turn_of, turned, undone, where_due, with_end, writing}
 use Rattle.end_laws.specs.turns.Belongs.{call_by, waiting_by}
+use Rattle.end_laws.specs.turns.Beside.{MayFollow, flow_begun}
 use Rattle.end_laws.specs.turns.Causes.{EachCauseEnds, EachEndHasItsCause, EachRunHasItsCause, EndsBy, HasCause, IsNegative, IsNoRefusal, IsOfTheCall, IsOfWrongDevice, IsOutOfTime, IsRefusal, IsReleaseAlone, IsReleaseFromConnect, IsToldAs, WasEnded, has_ended}
 use Rattle.end_laws.specs.turns.Runs.{IsReached, behind_all}
 use Rattle.end_laws.specs.turns.Turns.{Came, Hears, Passes, Gets, GetsStatus, AsksRead, AsksWrite, Halts, came_by, turn_for}
+use Rattle.end_laws.proofs.TurnsBeside.{begins, begun_beside, flows, follows, gone_is, rejected_now, rejected_step, replied_step, unit_begun}
 use Rattle.end_laws.proofs.TurnsEnded.{keeps_its_cause}
 use Rattle.end_laws.proofs.TurnsWhole.{reached_on}
 
@@ -144,6 +150,15 @@ module _ (setup : Setup) (live : Live) (going : has_ended live.phase ≡ false) 
   either true one other = one
   either false one other = other
 
+  -- The turn of a place begins only while data is exchanged.
+  follows_for : {came : Came} (turn after : Turn) → MayFollow setup turn after → IsFor came turn → IsFor came after
+  follows_for {came = came} turn after (inl e) is = subst (λ (t : Turn). IsFor came t) (sym e) is
+  follows_for turn after (inr followed) is =
+      moves after (ap (λ (s : State). has_ended s) (ap (λ (l : Live). l.phase) followed.begun.beside ∙ followed.begun.phase))
+
+  after_for : {came : Came} (turn : Turn) → IsFor came turn → IsFor came (after_turn setup (can_begin live) turn)
+  after_for turn is = follows_for turn (after_turn setup (can_begin live) turn) (follows setup (can_begin live) turn) is
+
   -- ---- DCP answers
 
   wrong : (source : Mac) (answer : Answered) → live.phase ≡ Looking → is_found setup.plan answer ≡ true → is_right setup.plan answer ≡ false
@@ -185,7 +200,7 @@ module _ (setup : Setup) (live : Live) (going : has_ended live.phase ≡ false) 
       let parts = and_parts (pointwise nat_eq activity call.activity) (sequence == call.sequence) right in
       record {
         call = call;
-        waits = ap (λ (asked : Option Request). waiting_by setup asked live.access.waiting) stood ∙ is;
+        waits = ap (λ (asked : Option Request). waiting_by setup asked live.access.plug live.access.waiting) stood ∙ is;
         activity_is = sym (same_text activity call.activity (sym parts.0));
         sequence_is = sym (eqb-true sequence call.sequence parts.1);
       }
@@ -213,15 +228,18 @@ module _ (setup : Setup) (live : Live) (going : has_ended live.phase ≡ false) 
     heard_now = Hears (Responds response)
 
     module _ (stood : live.asked ≡ Some asks.Connect) (right : is_answer setup asks.Connect response.header ≡ true) (granted : is_done response.status ≡ true) where
-      related_for : (found : Option Chosen) → IsFor heard_now (related_by setup live found)
-      related_for (Some chosen) = moves (writing setup (writing_from setup.plan 0) (standing setup live chosen)) (goes_by (writing_from setup.plan 0))
+      abbrev now_placed : Live
+      now_placed = placed setup response.blocks live
+
+      related_for : (found : Option Chosen) → IsFor heard_now (related_by setup now_placed found)
+      related_for (Some chosen) = moves (writing setup (writing_from setup.plan 0) (standing setup now_placed chosen)) (goes_by (writing_from setup.plan 0))
         where
           goes_by : (request : Request) → has_ended (phase_for request) ≡ false
           goes_by (asks.Write number) = refl
           goes_by request = refl
-      related_for None = rests
+      related_for None = keeps (stays now_placed) refl
 
-      connected_for : (read : Option Found) → found_in 400 response.blocks nothing ≡ read → IsFor heard_now (connected setup live read)
+      connected_for : (read : Option Found) → found_in 400 response.blocks nothing ≡ read → IsFor heard_now (connected setup live response.blocks read)
       connected_for (Some found) e =
           by_cases (is_whole found)
           (λ whole. by_cases found.differs
@@ -306,9 +324,16 @@ module _ (setup : Setup) (live : Live) (going : has_ended live.phase ≡ false) 
         by_header true = by_status (is_done response.status)
         by_header false = refl
 
+    -- to the request after a plug, or else to that of the application
+    beside_for : (plug : Option PlugRequest) → IsFor heard_now (beside setup live response plug)
+    beside_for (Some request) =
+        either (is_plug_answer setup request response.header.activity response.header.sequence)
+        (keeps (asks_next (plug_replied setup live response.status request)) (ap (λ (l : Live). l.phase) (replied_step setup live response.status request))) rests
+    beside_for None = keeps _ (replied_same live.access.waiting)
+
     responded_for : (asked : Option Request) → live.asked ≡ asked → IsFor heard_now (responded setup live response asked)
     responded_for (Some request) stood = by_cases (is_answer setup request response.header) (λ right. decided_for request stood right) (λ other. rests)
-    responded_for None stood = keeps _ (replied_same live.access.waiting)
+    responded_for None stood = beside_for live.access.plug
 
   -- ---- rejects and faults
 
@@ -326,9 +351,17 @@ module _ (setup : Setup) (live : Live) (going : has_ended live.phase ≡ false) 
       by_header true = refl
       by_header false = refl
 
+  beside_same : (refusal : Refusal) (plug : Option PlugRequest) → (refused_beside setup live refusal plug).phase ≡ live.phase
+  beside_same refusal None = rejected_same refusal live.access.waiting
+  beside_same refusal (Some request) = by_header (is_plug_answer setup request refusal.activity refusal.sequence)
+    where
+      by_header : (is : Bool) → (if is then rejected_now setup live refusal request else live).phase ≡ live.phase
+      by_header true = ap (λ (l : Live). l.phase) (rejected_step setup live refusal request)
+      by_header false = refl
+
   refused_for : (refusal : Refusal) (asked : Option Request) → live.asked ≡ asked → IsFor (Hears (Refuses refusal)) (refused setup live refusal asked)
   refused_for refusal (Some request) stood = by_cases (is_refused setup request refusal) (λ right. refused_by_for refusal request stood right) (λ other. rests)
-  refused_for refusal None stood = keeps _ (rejected_same refusal live.access.waiting)
+  refused_for refusal None stood = keeps _ (beside_same refusal live.access.plug)
 
   -- ---- ApplicationReady
 
@@ -338,9 +371,13 @@ module _ (setup : Setup) (live : Live) (going : has_ended live.phase ≡ false) 
   readied_for caller call block Exchanging is = keeps _ refl
   readied_for caller call block phase is = rests
 
+  plug_called_for : (caller : Caller) (call : Call) (block : Option PlugControlBlock) → IsFor (Hears (Calls caller call)) (plug_called setup live caller call block)
+  plug_called_for caller call (Some block) = either (is_plug_ready setup block && is_plug_awaited live block.alarm_sequence_number) (keeps _ refl) rests
+  plug_called_for caller call None = rests
+
   called_for : (caller : Caller) (call : Call) (block : Option ControlBlock) → IsFor (Hears (Calls caller call)) (called setup live caller call block)
   called_for caller call (Some block) = either (is_ready setup block) (readied_for caller call block live.phase refl) rests
-  called_for caller call None = rests
+  called_for caller call None = after_for (plug_called setup live caller call (plug_ready_in call)) (plug_called_for caller call (plug_ready_in call))
 
   -- ---- alarms, and cyclic frames
 
@@ -378,65 +415,74 @@ module _ (setup : Setup) (live : Live) (going : has_ended live.phase ≡ false) 
   turned_for : (heard : Heard) → IsFor (Hears heard) (turned setup live heard)
   turned_for Nothing = rests
   turned_for (Answers source answer) = answered_for source answer live.phase refl
-  turned_for (Responds response) = responded_for response live.asked refl
-  turned_for (Refuses refusal) = refused_for refusal live.asked refl
+  turned_for (Responds response) = after_for (responded setup live response live.asked) (responded_for response live.asked refl)
+  turned_for (Refuses refusal) = after_for (refused setup live refusal live.asked) (refused_for refusal live.asked refl)
   turned_for (Calls caller call) = called_for caller call (ready_in call)
   turned_for (Comes source frame_id body) = keeps _ (come_same source frame_id body live.stands)
   turned_for (Alarms source under header reported) =
-      by_cases (live.stands && is_alarm live.cyclic.route source header)
+      after_for (alarmed live source under header reported)
+      (by_cases (live.stands && is_alarm live.cyclic.route source header)
       (λ e. let parts = and_parts live.stands (is_alarm live.cyclic.route source header) e in noticed_for source under header reported parts.0 parts.1)
-      (λ other. rests)
+      (λ other. rests))
 
   -- ---- units, and the application
 
   in_time : is_spent live ≡ false → IsOutOfTime live Passes → ⊥
   in_time going_on out = false≢true (sym going_on ∙ (ap (λ (b : Bool). b && live.left == 1) out.1 ∙ ap (λ (n : ℕ). n == 1) out.2))
 
-  abbrev unit_over : Live
-  unit_over = exchange_later (later live)
+  module _ (waited : ℕ) (places : Told) (access : Accessing) where
+    -- a unit with which the turn of a place may begin
+    abbrev unit_over : Live
+    unit_over = record (exchange_later (later live)) { waited = waited; places = places; access = access }
 
-  broken_for : (because : Abort) (sent : List Sent) (silent : Bool) (alarm : Due) → is_silent live.cyclic ≡ silent
-      → either_due (due live.alarms.sending) (due live.low_alarms.sending) ≡ alarm → is_spent live ≡ false → live.stands ≡ true
-      → (tick_by live.cyclic alarm (if silent then Some reason.DataHold else ending_by alarm)).ending ≡ Some because
-      → IsFor Passes (ended_by unit_over because)
-  broken_for because sent true alarm is due_is going_on up e = by_reason because (some_is because e)
-    where
-      some_is : (told : Abort) → Some reason.DataHold ≡ Some told → reason.DataHold ≡ told
-      some_is told same = cc
+    broken_for : (because : Abort) (sent : List Sent) (silent : Bool) (alarm : Due) → is_silent live.cyclic ≡ silent
+        → either_due (due live.alarms.sending) (due live.low_alarms.sending) ≡ alarm → is_spent live ≡ false → live.stands ≡ true
+        → (tick_by live.cyclic alarm (if silent then Some reason.DataHold else ending_by alarm)).ending ≡ Some because
+        → IsFor Passes (ended_by unit_over because)
+    broken_for because sent true alarm is due_is going_on up e = by_reason because (some_is because e)
+      where
+        some_is : (told : Abort) → Some reason.DataHold ≡ Some told → reason.DataHold ≡ told
+        some_is told same = cc
 
-      by_reason : (told : Abort) → reason.DataHold ≡ told → IsFor Passes (ended_by unit_over told)
-      by_reason told same =
-          subst (λ (r : Abort). IsFor Passes (ended_by unit_over r)) same
-          (ends why.DataHold unit_over (ended_by unit_over reason.DataHold).sent (refl, up, is, in_time going_on) refl)
-  broken_for because sent false is_due.Nothing is due_is going_on up e = absurd (no_reason because e)
-    where
-      no_reason : (told : Abort) → None ≡ Some told → ⊥
-      no_reason told same = cc
-  broken_for because sent false is_due.Again is due_is going_on up e = absurd (no_reason because e)
-    where
-      no_reason : (told : Abort) → None ≡ Some told → ⊥
-      no_reason told same = cc
-  broken_for because sent false is_due.Spent is due_is going_on up e = by_reason because (some_is because e)
-    where
-      some_is : (told : Abort) → Some reason.Other ≡ Some told → reason.Other ≡ told
-      some_is told same = cc
+        by_reason : (told : Abort) → reason.DataHold ≡ told → IsFor Passes (ended_by unit_over told)
+        by_reason told same =
+            subst (λ (r : Abort). IsFor Passes (ended_by unit_over r)) same
+            (ends why.DataHold unit_over (ended_by unit_over reason.DataHold).sent (refl, up, is, in_time going_on) refl)
+    broken_for because sent false is_due.Nothing is due_is going_on up e = absurd (no_reason because e)
+      where
+        no_reason : (told : Abort) → None ≡ Some told → ⊥
+        no_reason told same = cc
+    broken_for because sent false is_due.Again is due_is going_on up e = absurd (no_reason because e)
+      where
+        no_reason : (told : Abort) → None ≡ Some told → ⊥
+        no_reason told same = cc
+    broken_for because sent false is_due.Spent is due_is going_on up e = by_reason because (some_is because e)
+      where
+        some_is : (told : Abort) → Some reason.Other ≡ Some told → reason.Other ≡ told
+        some_is told same = cc
 
-      by_reason : (told : Abort) → reason.Other ≡ told → IsFor Passes (ended_by unit_over told)
-      by_reason told same =
-          subst (λ (r : Abort). IsFor Passes (ended_by unit_over r)) same
-          (ends why.AlarmRetries unit_over (ended_by unit_over reason.Other).sent (refl, up, is, due_is, in_time going_on) refl)
+        by_reason : (told : Abort) → reason.Other ≡ told → IsFor Passes (ended_by unit_over told)
+        by_reason told same =
+            subst (λ (r : Abort). IsFor Passes (ended_by unit_over r)) same
+            (ends why.AlarmRetries unit_over (ended_by unit_over reason.Other).sent (refl, up, is, due_is, in_time going_on) refl)
 
-  flowed_for : (ending : Option Abort) → is_spent live ≡ false → live.stands ≡ true → (brought live).ending ≡ ending
-      → IsFor Passes (flowed unit_over (due live.alarms.sending) (due live.low_alarms.sending) (is_again live) (brought live) ending)
-  flowed_for (Some because) going_on up e =
-      broken_for because [] (is_silent live.cyclic) (either_due (due live.alarms.sending) (due live.low_alarms.sending)) refl refl going_on up e
-  flowed_for None going_on up e = keeps _ refl
+    flowed_for : (ending : Option Abort) → is_spent live ≡ false → live.stands ≡ true → (brought live).ending ≡ ending
+        → IsFor Passes (flowed unit_over (due live.alarms.sending) (due live.low_alarms.sending) (is_again live) (brought live) ending)
+    flowed_for (Some because) going_on up e =
+        broken_for because [] (is_silent live.cyclic) (either_due (due live.alarms.sending) (due live.low_alarms.sending)) refl refl going_on up e
+    flowed_for None going_on up e = keeps _ refl
 
   gone_on_for : (is : Bool) → is_spent live ≡ false → live.stands ≡ is
-      → IsFor Passes (if is then flowed unit_over (due live.alarms.sending) (due live.low_alarms.sending) (is_again live) (brought live) (brought live).ending
-      else record { live = later live; sent = where_due (is_again live) (requests_of live.device live.asked) })
-  gone_on_for true going_on up = flowed_for (brought live).ending going_on up refl
-  gone_on_for false going_on down = keeps _ refl
+      → IsFor Passes (if is then flowed (flow_begun setup live) (due live.alarms.sending) (due live.low_alarms.sending) (is_again live) (brought live) (brought live).ending
+      else record { live = unit_begun setup live; sent = where_due (is_again live) (requests_of live.device live.asked) })
+  gone_on_for true going_on up =
+      let next = flow_begun setup live in
+      subst (λ (l : Live). IsFor Passes (flowed l (due live.alarms.sending) (due live.low_alarms.sending) (is_again live) (brought live) (brought live).ending))
+      (sym (begun_beside setup (flow_later live) next (flows setup live)))
+      (flowed_for next.waited next.places next.access (brought live).ending going_on up refl)
+  gone_on_for false going_on down =
+      keeps (record { live = unit_begun setup live; sent = where_due (is_again live) (requests_of live.device live.asked) })
+      (ap (λ (l : Live). l.phase) (begun_beside setup (later live) (unit_begun setup live) (begins setup (is_again live) (later live))))
 
   -- the cause of an end that the controller chooses, in any state from the Connect on, or before
   quit_for : {came : Came} (mine : Cause) (next : Live) (phase : State) → live.phase ≡ phase → next.device ≡ live.device → HasCause setup live came mine
@@ -456,7 +502,7 @@ module _ (setup : Setup) (live : Live) (going : has_ended live.phase ≡ false) 
       (λ spent.
       let parts = and_parts (is_limited live.phase) (live.left == 1) spent in
       quit_for why.NoProgress (later live) live.phase refl refl (refl, parts.0, eqb-true live.left 1 parts.1) (λ frames told. told))
-      (λ going_on. gone_on_for live.stands going_on refl)
+      (λ going_on. subst (λ (t : Turn). IsFor Passes t) (sym (gone_is setup live)) (gone_on_for live.stands going_on refl))
 
   stopped_for : IsFor Halts (stopped setup live live.phase)
   stopped_for = quit_for why.Stopped live live.phase refl refl refl (λ frames told. told)
@@ -520,6 +566,17 @@ module _ (setup : Setup) (live : Live) (going : has_ended live.phase ≡ false) 
   abbrev EndsFor : Cause → Turn → Type 0
   EndsFor cause turn = turn.live.phase ≡ Ended cause
 
+  -- No turn of a place begins after an end.
+  ended_exchanging : (cause : Cause) (state : State) → state ≡ Ended cause → state ≡ Exchanging → ⊥
+  ended_exchanging cause state one other = absurd (true≢false (sym (ap (λ (s : State). has_ended s) one) ∙ ap (λ (s : State). has_ended s) other))
+
+  ends_follow : (cause : Cause) (turn after : Turn) → MayFollow setup turn after → EndsFor cause turn → EndsFor cause after
+  ends_follow cause turn after (inl e) is = ap (λ (t : Turn). t.live.phase) e ∙ is
+  ends_follow cause turn after (inr followed) is = absurd (ended_exchanging cause turn.live.phase is followed.begun.phase)
+
+  ends_after : (cause : Cause) (turn : Turn) → EndsFor cause turn → EndsFor cause (after_turn setup (can_begin live) turn)
+  ends_after cause turn is = ends_follow cause turn (after_turn setup (can_begin live) turn) (follows setup (can_begin live) turn) is
+
   wrong_ends : (source : Mac) (answer : Answered) (phase : State) → phase ≡ Looking → is_found setup.plan answer ≡ true → is_right setup.plan answer ≡ false
       → EndsFor why.WrongDevice (answered setup live source answer phase)
   wrong_ends source answer phase looks found other =
@@ -542,7 +599,7 @@ module _ (setup : Setup) (live : Live) (going : has_ended live.phase ≡ false) 
       → is_answer setup asks.Connect response.header ≡ true
   connect_is response stood of_it =
       let is : header_of setup asks.Connect ≡ of_it.call =
-      same_header (header_of setup asks.Connect) of_it.call (sym (ap (λ (asked : Option Request). waiting_by setup asked live.access.waiting) stood) ∙ of_it.waits) in
+      same_header (header_of setup asks.Connect) of_it.call (sym (ap (λ (asked : Option Request). waiting_by setup asked live.access.plug live.access.waiting) stood) ∙ of_it.waits) in
       answer_is (header_of setup asks.Connect) response.header.activity response.header.sequence
       (ap (λ (h : CallHeader). h.activity) is ∙ of_it.activity_is) (ap (λ (h : CallHeader). h.sequence) is ∙ of_it.sequence_is)
 
@@ -552,9 +609,10 @@ module _ (setup : Setup) (live : Live) (going : has_ended live.phase ≡ false) 
       subst (λ (asked : Option Request). EndsFor why.ModuleDiff (responded setup live response asked)) (sym stood)
       (ap (λ (b : Bool). (if b then decided setup live response asks.Connect else stays live).live.phase) right
       ∙ (ap (λ (b : Bool). (if b then done setup live response.blocks asks.Connect else undone setup live response.status asks.Connect).live.phase) granted
-      ∙ (ap (λ (f : Option Found). (connected setup live f).live.phase) read
-      ∙ (ap (λ (b : Bool). (if b then (if found.differs then released setup why.ModuleDiff live else related_by setup live (chosen_of found)) else stays live).live.phase) whole
-      ∙ ap (λ (b : Bool). (if b then released setup why.ModuleDiff live else related_by setup live (chosen_of found)).live.phase) differs))))
+      ∙ (ap (λ (f : Option Found). (connected setup live response.blocks f).live.phase) read
+      ∙ (ap (λ (b : Bool). (if b then (if found.differs then released setup why.ModuleDiff live else related_by setup (placed setup response.blocks live) (chosen_of found))
+      else stays live).live.phase) whole
+      ∙ ap (λ (b : Bool). (if b then released setup why.ModuleDiff live else related_by setup (placed setup response.blocks live) (chosen_of found)).live.phase) differs))))
 
   aborted_ends : (source : Mac) (under : Priority) (header : Header) (status : Code) → live.stands ≡ true → is_alarm live.cyclic.route source header ≡ true
       → EndsFor why.Aborted (alarmed live source under header (notice.Abort status))
@@ -570,12 +628,13 @@ module _ (setup : Setup) (live : Live) (going : has_ended live.phase ≡ false) 
   unit_ends : (because : Abort) (mine : Cause) → (IsOutOfTime live Passes → ⊥) → live.stands ≡ true → (brought live).ending ≡ Some because → cause_of because ≡ mine
       → EndsFor mine (ticked setup live)
   unit_ends because mine out up breaks is =
-      ap (λ (b : Bool). (if b then quit setup why.NoProgress (later live) live.phase else gone_on (later live) (is_again live)).live.phase)
+      ap (λ (b : Bool). (if b then quit setup why.NoProgress (later live) live.phase else gone_on (unit_begun setup live) (is_again live)).live.phase)
       (not_out (is_limited live.phase) (live.left == 1) refl refl out)
-      ∙ (ap (λ (b : Bool). (if b then flowed (exchange_later (later live)) (due live.alarms.sending) (due live.low_alarms.sending) (is_again live) (brought live) (brought live).ending
-      else record { live = later live; sent = where_due (is_again live) (requests_of live.device live.asked) }).live.phase) up
-      ∙ (ap (λ (o : Option Abort). (flowed (exchange_later (later live)) (due live.alarms.sending) (due live.low_alarms.sending) (is_again live) (brought live) o).live.phase) breaks
-      ∙ ap (λ (c : Cause). Ended c) is))
+      ∙ (ap (λ (t : Turn). t.live.phase) (gone_is setup live)
+      ∙ (ap (λ (b : Bool). (if b then flowed (flow_begun setup live) (due live.alarms.sending) (due live.low_alarms.sending) (is_again live) (brought live) (brought live).ending
+      else record { live = unit_begun setup live; sent = where_due (is_again live) (requests_of live.device live.asked) }).live.phase) up
+      ∙ (ap (λ (o : Option Abort). (flowed (flow_begun setup live) (due live.alarms.sending) (due live.low_alarms.sending) (is_again live) (brought live) o).live.phase) breaks
+      ∙ ap (λ (c : Cause). Ended c) is)))
 
   hold_breaks : is_silent live.cyclic ≡ true → (brought live).ending ≡ Some reason.DataHold
   hold_breaks silent =
@@ -596,7 +655,7 @@ module _ (setup : Setup) (live : Live) (going : has_ended live.phase ≡ false) 
 
   time_ends : is_limited live.phase ≡ true → live.left ≡ 1 → EndsFor why.NoProgress (ticked setup live)
   time_ends limited last =
-      ap (λ (b : Bool). (if b then quit setup why.NoProgress (later live) live.phase else gone_on (later live) (is_again live)).live.phase)
+      ap (λ (b : Bool). (if b then quit setup why.NoProgress (later live) live.phase else gone_on (unit_begun setup live) (is_again live)).live.phase)
       (both_true (is_limited live.phase) (live.left == 1) limited (ap (λ (n : ℕ). n == 1) last))
       ∙ quit_ends why.NoProgress (later live) live.phase going
 
@@ -615,12 +674,14 @@ module _ (setup : Setup) (live : Live) (going : has_ended live.phase ≡ false) 
   cause_ends came why.Refused other has = absurd other
   cause_ends came why.ModuleDiff other has =
       at_came why.ModuleDiff came (Hears (Responds has.response)) has.comes
-      (module_ends has.response has.found has.connects (connect_is has.response has.connects has.of_it) has.granted has.read has.whole has.differs)
+      (ends_after why.ModuleDiff (responded setup live has.response live.asked)
+      (module_ends has.response has.found has.connects (connect_is has.response has.connects has.of_it) has.granted has.read has.whole has.differs))
   cause_ends came why.DataHold other has =
       at_came why.DataHold came Passes has.0 (unit_ends reason.DataHold why.DataHold (out_at came has.0 has.3) has.1 (hold_breaks has.2) refl)
   cause_ends came why.Aborted other has =
       at_came why.Aborted came (Hears (Alarms has.source has.under has.header (notice.Abort has.status))) has.comes
-      (aborted_ends has.source has.under has.header has.status has.stands has.own)
+      (ends_after why.Aborted (alarmed live has.source has.under has.header (notice.Abort has.status))
+      (aborted_ends has.source has.under has.header has.status has.stands has.own))
   cause_ends came why.AlarmRetries other has =
       at_came why.AlarmRetries came Passes has.0 (unit_ends reason.Other why.AlarmRetries (out_at came has.0 has.4) has.1 (alarm_breaks has.2 has.3) refl)
   cause_ends came why.Stopped other has = at_came why.Stopped came Halts has (quit_ends why.Stopped live live.phase going)

@@ -1,9 +1,10 @@
 -- What a controller that ended receives, and what it sends.
-use Rattle.std.proofs.Common.{◌≡◌, ◌⊎◌, inl, inr, ◌==◌, ◌&&◌, ◌++◌, ℕ, Bool, true, false, not, List, [], ◌∷◌, length, map, Option, Some, None, refl, sym, ap, subst, ◌∙◌}
-use Rattle.std.specs.Prelude.{if◌then◌else◌, is_some, nat_lt}
+use Rattle.std.proofs.Common.{◌≡◌, ◌⊎◌, inl, inr, ◌==◌, ◌&&◌, ◌++◌, ℕ, Bool, true, false, List, [], ◌∷◌, length, map, Option, Some, None, refl, sym, ap, subst, ◌∙◌}
+use Rattle.std.specs.Prelude.{if◌then◌else◌, nat_lt}
 use Rattle.std.proofs.lemmas.Bool.{false≢true}
 use Rattle.std.specs.List.{AllByRecursion}
 use Rattle.pn_values.specs.declared.mac.Mac.{Mac}
+use Rattle.controller_messages.specs.declared.plug_request.PlugRequest.{PlugRequest}
 use Rattle.controller_messages.specs.declared.record_request.RecordRequest.{RecordRequest}
 use Rattle.controller_messages.specs.declared.record_request.RecordService.{RecordService}
 use Rattle.controller_messages.specs.declared.record_request.RecordService.TheVariants as service
@@ -21,11 +22,13 @@ use Rattle.controller_core.specs.declared.stored.state.Cause.TheVariants.{NoProg
 use Rattle.controller_core.specs.declared.stored.state.State.{State}
 use Rattle.controller_core.specs.declared.stored.state.State.TheVariants.{Looking, Addressing, Ending, Waiting, Exchanging, Ended}
 use Rattle.controller_core.specs.stored.State.{Controlling, Live, is_limited, with_live}
-use Rattle.controller_core.specs.Machine.{Turn, accessing, flow_later, flowed, brought, gone_on, is_again, is_exchanging, later, quit, request_for, requested, requests_of, stays, step_of, stopped, ticked, turned, written}
+use Rattle.controller_messages.specs.Access.{is_free}
+use Rattle.controller_core.specs.Machine.{Turn, accessing, exchange_later, flowed, brought, gone_on, is_again, is_exchanging, later, quit, request_for, requested, requests_of, stays, step_of, stopped, ticked, turned, written}
 use Rattle.controller_core.specs.Machine.{where_due as sent_where_due}
 use Rattle.end_laws.specs.turns.Runs.{frames_of}
 use Rattle.end_laws.specs.turns.Ended.{CountsUnits, DropsWhatComes, HasEnded, IsReleased, IsDropped, IsOnlySet, IsSilent, KeepsItsCause, RepeatsItsRelease, is_unit, may_release, release_in, release_of, where_due}
-use Rattle.end_laws.specs.turns.Turns.{Hears, Passes, Gets, GetsStatus, IsEnd, IsKind, IsReported, Kind, Rests, Connects, Addresses, Ends, Releases, Relates, Writes, Skips, Waits, Forgets, Begins, Repeats, Follows, Takes, IsAcked, Gives, GivesStatus, Asks, IsReplied, Flows, Breaks, Idles, turn_by}
+use Rattle.end_laws.specs.turns.Turns.{Hears, Passes, Gets, GetsStatus, IsEnd, IsKind, IsReported, Kind, Rests, Connects, Addresses, Ends, Releases, Relates, Writes, Skips, Waits, Forgets, Begins, Repeats, Follows, Takes, IsAcked, Gives, GivesStatus, Asks, IsReplied, IsPlugAnswered, IsPlugReadied, Flows, Breaks, Idles, turn_by}
+use Rattle.end_laws.proofs.TurnsBeside.{still_is, unit_begun}
 use Rattle.end_laws.proofs.TurnsOneTurn.{is_over, is_release, not_over, turn_is, unreported}
 use Rattle.end_laws.proofs.TurnsWhole.{reached_on, whole_end}
 
@@ -63,6 +66,9 @@ module _ (setup : Setup) (live : Live) (heard : Heard) (cause : Cause) (h : IsEn
   none_waits : (request : RecordRequest) → None ≡ Some request → ⊥
   none_waits request e = cc
 
+  none_plugged : (request : PlugRequest) → None ≡ Some request → ⊥
+  none_plugged request e = cc
+
   not_passes : Hears heard ≡ Passes → ⊥
   not_passes e = cc
 
@@ -72,7 +78,7 @@ module _ (setup : Setup) (live : Live) (heard : Heard) (cause : Cause) (h : IsEn
   unmoved_by (Addresses source) holds = absurd (either_phase Looking Addressing refl refl holds.0.seeking)
   unmoved_by (Ends mine refusal refused units) holds = absurd (holds.0 cause h)
   unmoved_by (Releases mine refusal refused units) holds = absurd (holds.0 cause h)
-  unmoved_by (Relates chosen) holds = absurd (unasked asks.Connect refl holds.0.stood)
+  unmoved_by (Relates places chosen) holds = absurd (unasked asks.Connect refl holds.0.stood)
   unmoved_by (Writes number) holds = absurd (unasked (asks.Write number) refl holds.0.stood)
   unmoved_by (Skips number refused status) holds = absurd (unasked (asks.Write number) refl holds.stood)
   unmoved_by Waits holds = absurd (unasked asks.PrmEnd refl holds.stood)
@@ -86,6 +92,8 @@ module _ (setup : Setup) (live : Live) (heard : Heard) (cause : Cause) (h : IsEn
   unmoved_by (GivesStatus slot subslot is_good) holds = absurd (not_status slot subslot is_good holds)
   unmoved_by (Asks request octets) holds = absurd (other_phase Exchanging refl holds.0)
   unmoved_by (IsReplied refusal access) holds = absurd (none_waits holds.3 (sym h.idle ∙ holds.4))
+  unmoved_by (IsPlugAnswered refusal refused waited places access) holds = absurd (none_plugged holds.4 (sym h.plug ∙ holds.5))
+  unmoved_by (IsPlugReadied caller call block) holds = absurd (other_phase Exchanging refl holds.0)
   unmoved_by Flows holds = absurd (not_passes holds.0)
   unmoved_by (Breaks reason) holds = absurd (not_passes holds.0)
   unmoved_by Idles holds = absurd (not_passes holds.0)
@@ -104,7 +112,7 @@ stopped_as setup live cause e = ap (λ (phase : State). stopped setup live phase
 requested_as : (setup : Setup) (live : Live) (cause : Cause) (kind : RecordService) (slot subslot index : ℕ) (octets : List ℕ) → live.phase ≡ Ended cause
     → requested setup live kind slot subslot index octets ≡ stays live
 requested_as setup live cause kind slot subslot index octets e =
-    ap (λ (phase : State). if is_exchanging phase && not (is_some live.access.waiting)
+    ap (λ (phase : State). if is_exchanging phase && is_free live.access
     then accessing (request_for setup live kind slot subslot index) octets live else stays live) e
 
 written_as : (setup : Setup) (live : Live) (cause : Cause) (slot subslot index : ℕ) (octets : List ℕ) → live.phase ≡ Ended cause
@@ -130,11 +138,19 @@ not_spent : (limited is_last : Bool) → limited ≡ false → (limited && is_la
 not_spent true is_last e = absurd (no_unit e)
 not_spent false is_last e = refl
 
+exchanging_over : (live : Live) (cause : Cause) → live.phase ≡ Ended cause → live.phase ≡ Exchanging → ⊥
+exchanging_over live cause phase exchanges = not_over Exchanging cause refl (sym exchanges ∙ phase)
+
+-- The rest of a unit without a relation.
+gone_as : (live : Live) → live.stands ≡ false → gone_on (later live) (is_again live) ≡ unit_of live
+gone_as live down =
+    ap (λ (is : Bool). if is then flowed (exchange_later (later live)) (due live.alarms.sending) (due live.low_alarms.sending) (is_again live) (brought live) (brought live).ending else unit_of live) down
+
 ticked_as : (setup : Setup) (live : Live) (cause : Cause) → live.phase ≡ Ended cause → live.stands ≡ false → ticked setup live ≡ unit_of live
 ticked_as setup live cause phase down =
-    ap (λ (is : Bool). if is then quit setup NoProgress (later live) live.phase else gone_on (later live) (is_again live))
+    ap (λ (is : Bool). if is then quit setup NoProgress (later live) live.phase else gone_on (unit_begun setup live) (is_again live))
     (not_spent (is_limited live.phase) (live.left == 1) (unlimited cause live.phase phase))
-    ∙ ap (λ (is : Bool). if is then flowed (flow_later live) (due live.alarms.sending) (due live.low_alarms.sending) (is_again live) (brought live) (brought live).ending else unit_of live) down
+    ∙ (ap (λ (next : Live). gone_on next (is_again live)) (still_is setup live (exchanging_over live cause phase)) ∙ gone_as live down)
 
 unit_frames : (setup : Setup) (device : Mac) (asked : Option Request) (is : Bool) (cause : Cause) → IsReported setup.plan cause asked
     → map (bytes_of setup) (sent_where_due is (requests_of device asked)) ≡ where_due is (release_in setup device asked)

@@ -9,6 +9,7 @@ use Rattle.rpc_core.specs.declared.response.Status.{Status as Code}
 use Rattle.rpc_core.specs.Call.{Asked as Call}
 use Rattle.rpc_core.specs.Response.{Answered as Response, is_done}
 use Rattle.connect_blocks.specs.declared.control.ControlBlock.{ControlBlock}
+use Rattle.connect_blocks.specs.declared.plug_control.PlugControlBlock.{PlugControlBlock}
 use Rattle.block_codec.specs.Block.{block_of}
 use Rattle.record_blocks.specs.declared.alarm_notification.AlarmNotification.{AlarmNotification}
 use Rattle.pn_alarms.specs.declared.abort.Abort.{Abort}
@@ -32,6 +33,7 @@ use Rattle.cyclic_data.specs.exchange.Received.{behind_frame, behind_read, is_ne
 use Rattle.connects.specs.declared.answers.connect.Found.{Found}
 use Rattle.connects.specs.answers.Connect.{Chosen, chosen_of, found_in, is_whole, nothing}
 use Rattle.plans.specs.declared.parts.Parts.{Parts}
+use Rattle.controller_messages.specs.declared.plug_request.PlugRequest.{PlugRequest}
 use Rattle.controller_messages.specs.declared.record_request.RecordRequest.{RecordRequest}
 use Rattle.controller_messages.specs.declared.record_request.RecordService.{RecordService}
 use Rattle.controller_messages.specs.declared.record_request.RecordService.TheVariants as service
@@ -43,6 +45,7 @@ use Rattle.controller_messages.specs.declared.request.Request.TheVariants as ask
 use Rattle.controller_messages.specs.Access.{is_rejected, is_reply, record_in}
 use Rattle.controller_messages.specs.Heard.{Heard, Nothing, Answers, Responds, Refuses, Calls, Alarms, heard_of}
 use Rattle.controller_messages.specs.Heard.{Cyclic as Comes}
+use Rattle.controller_messages.specs.PlugRequests.{is_plug_answer, is_plug_ready, plug_ready_in}
 use Rattle.controller_messages.specs.RecordRequests.{most_record_octets}
 use Rattle.controller_messages.specs.Requests.{first_of, writing_from}
 use Rattle.controller_messages.specs.Sent.{Sent}
@@ -60,10 +63,12 @@ use Rattle.controller_core.specs.start_up.Outcomes.{outcomes_of}
 use Rattle.controller_core.specs.stored.Alarms.{ack_of, is_alarm, kept_alarm}
 use Rattle.controller_core.specs.stored.Cause.{cause_of}
 use Rattle.controller_core.specs.stored.State.{Controlling, Live}
-use Rattle.controller_core.specs.Machine.{Turn, acked_under, acking, after_write, answered, behind_data, brings, brought, called, can_request, connected, decided, done, end_of, exchange_later, flowed, fresh_with, granted, is_again, is_spent, keeping, later, noted, noticed, over, past_record, quit, readied, refused, refused_by, rejected, related_by, released, replied, requested, requests_of, responded, standing, stays, step_of, taken, ticked, turn_of, undone, where_due, with_end, writing}
+use Rattle.controller_core.specs.Machine.{Turn, acked_under, acking, after_turn, after_write, alarmed, answered, asks_next, behind_data, beside, brings, brought, called, can_begin, can_request, connected, decided, done, end_of, flow_later, flowed, fresh_with, granted, is_again, is_plug_awaited, is_spent, keeping, later, noted, noticed, over, past_record, placed, plug_called, plug_replied, quit, readied, refused, refused_beside, refused_by, rejected, related_by, released, replied, requested, requests_of, responded, standing, stays, step_of, taken, ticked, turn_of, undone, where_due, with_end, writing}
+use Rattle.end_laws.specs.turns.Beside.{IsBeside, MayFollow, flow_begun}
 use Rattle.end_laws.specs.turns.Inputs.{AreZeros, Brings, ComeFromOne, ShowsWhatCame, ShowsNothingWithout, no_inputs}
 use Rattle.end_laws.specs.turns.Runs.{behind_all}
 use Rattle.end_laws.specs.turns.Turns.{Came, Hears, Passes, Gets, GetsStatus, AsksRead, AsksWrite, Halts, came_by, turn_for}
+use Rattle.end_laws.proofs.TurnsBeside.{begins, begun_beside, flows, follows, gone_is, rejected_now, rejected_step, replied_step, unit_begun}
 use Rattle.end_laws.proofs.TurnsCauses.{turn_by_event}
 
 module _ (setup : Setup) (live : Live) where
@@ -106,13 +111,28 @@ module _ (setup : Setup) (live : Live) where
       either (is_set_answer answer) (either (is_agreed answer) (keeps _ refl (λ up. up)) (ends why.Refused live [] refl)) rests
   answered_goes source answer phase = rests
 
-  related_goes : (found : Option Chosen) → Goes (related_by setup live found)
-  related_goes (Some chosen) = writes (writing_from setup.plan 0) (standing setup live chosen) refl (λ up. refl)
-  related_goes None = rests
+  -- The turn of a place that begins changes neither.
+  beside_goes : (before : Live) (after : Turn) → IsBeside before after.live → Goes (stays before) → Goes after
+  beside_goes before after beside is = record { either_so = by_way is.either_so }
+    where
+      by_way : Keeps before ⊎ IsZeroed before → Keeps after.live ⊎ IsZeroed after.live
+      by_way (inl k) = inl (record { taken = ap (λ (l : Live). l.cyclic.taken) beside ∙ k.taken; stands = λ up. ap (λ (l : Live). l.stands) beside ∙ k.stands up })
+      by_way (inr z) = inr (ap (λ (l : Live). l.cyclic.taken) beside ∙ z)
 
-  connected_goes : (found : Option Found) → Goes (connected setup live found)
-  connected_goes (Some found) = either (is_whole found) (either found.differs (releases why.ModuleDiff live refl) (related_goes (chosen_of found))) rests
-  connected_goes None = rests
+  follows_goes : (turn after : Turn) → MayFollow setup turn after → Goes turn → Goes after
+  follows_goes turn after (inl e) is = subst (λ (t : Turn). Goes t) (sym e) is
+  follows_goes turn after (inr followed) is = beside_goes turn.live after followed.begun.beside (record { either_so = is.either_so })
+
+  after_goes : (turn : Turn) → Goes turn → Goes (after_turn setup (can_begin live) turn)
+  after_goes turn is = follows_goes turn (after_turn setup (can_begin live) turn) (follows setup (can_begin live) turn) is
+
+  related_goes : (blocks : List ℕ) (found : Option Chosen) → Goes (related_by setup (placed setup blocks live) found)
+  related_goes blocks (Some chosen) = writes (writing_from setup.plan 0) (standing setup (placed setup blocks live) chosen) refl (λ up. refl)
+  related_goes blocks None = keeps (stays (placed setup blocks live)) refl (λ up. up)
+
+  connected_goes : (blocks : List ℕ) (found : Option Found) → Goes (connected setup live blocks found)
+  connected_goes blocks (Some found) = either (is_whole found) (either found.differs (releases why.ModuleDiff live refl) (related_goes blocks (chosen_of found))) rests
+  connected_goes blocks None = rests
 
   passed_goes : (number denied : ℕ) (status : Code) → Goes (past_record setup number (noted status denied live))
   passed_goes number denied status =
@@ -127,7 +147,7 @@ module _ (setup : Setup) (live : Live) where
   done_goes : (blocks : List ℕ) (request : Request) → Goes (done setup live blocks request)
   done_goes blocks asks.Identify = rests
   done_goes blocks asks.Address = rests
-  done_goes blocks asks.Connect = connected_goes (found_in 400 blocks nothing)
+  done_goes blocks asks.Connect = connected_goes blocks (found_in 400 blocks nothing)
   done_goes blocks (asks.Write number) = outcomes_go number (outcomes_of setup.plan number blocks)
   done_goes blocks asks.PrmEnd = keeps _ refl (λ up. up)
   done_goes blocks (asks.Release sequence) = keeps _ refl (λ up. up)
@@ -169,9 +189,17 @@ module _ (setup : Setup) (live : Live) where
       same_if (is_reply setup request response.header)
       (same_if (is_done response.status) (granted_same request response.blocks request.service) (record { cyclic = refl; stands = refl })) (record { cyclic = refl; stands = refl })
 
+  -- the request after a plug, or else that of the application
+  beside_responds : (response : Response) (plug : Option PlugRequest) → Goes (beside setup live response plug)
+  beside_responds response (Some request) =
+      let step = replied_step setup live response.status request in
+      either (is_plug_answer setup request response.header.activity response.header.sequence)
+      (keeps (asks_next (plug_replied setup live response.status request)) (ap (λ (l : Live). l.cyclic.taken) step) (λ up. ap (λ (l : Live). l.stands) step ∙ up)) rests
+  beside_responds response None = same_goes _ (replied_same response live.access.waiting)
+
   responded_goes : (response : Response) (asked : Option Request) → Goes (responded setup live response asked)
   responded_goes response (Some request) = either (is_answer setup request response.header) (decided_goes response request) rests
-  responded_goes response None = same_goes _ (replied_same response live.access.waiting)
+  responded_goes response None = beside_responds response live.access.plug
 
   refused_by_goes : (refusal : Refusal) (request : Request) → Goes (refused_by live refusal request)
   refused_by_goes refusal (asks.Release sequence) = keeps _ refl (λ up. up)
@@ -181,9 +209,16 @@ module _ (setup : Setup) (live : Live) where
   rejected_same refusal None = record { cyclic = refl; stands = refl }
   rejected_same refusal (Some request) = same_if (is_rejected setup request refusal) (record { cyclic = refl; stands = refl }) (record { cyclic = refl; stands = refl })
 
+  beside_same : (refusal : Refusal) (plug : Option PlugRequest) → IsSame (refused_beside setup live refusal plug)
+  beside_same refusal None = rejected_same refusal live.access.waiting
+  beside_same refusal (Some request) =
+      let step = rejected_step setup live refusal request in
+      same_if (is_plug_answer setup request refusal.activity refusal.sequence)
+      (record { cyclic = ap (λ (l : Live). l.cyclic) step; stands = ap (λ (l : Live). l.stands) step }) (record { cyclic = refl; stands = refl })
+
   refused_goes : (refusal : Refusal) (asked : Option Request) → Goes (refused setup live refusal asked)
   refused_goes refusal (Some request) = either (is_refused setup request refusal) (refused_by_goes refusal request) rests
-  refused_goes refusal None = same_goes _ (rejected_same refusal live.access.waiting)
+  refused_goes refusal None = same_goes _ (beside_same refusal live.access.plug)
 
   readied_goes : (caller : Caller) (call : Call) (block : ControlBlock) (phase : State) → Goes (readied live caller call block phase)
   readied_goes caller call block Ending = keeps _ refl (λ up. up)
@@ -191,9 +226,14 @@ module _ (setup : Setup) (live : Live) where
   readied_goes caller call block Exchanging = keeps _ refl (λ up. up)
   readied_goes caller call block phase = rests
 
+  plug_called_goes : (caller : Caller) (call : Call) (block : Option PlugControlBlock) → Goes (plug_called setup live caller call block)
+  plug_called_goes caller call (Some block) =
+      either (is_plug_ready setup block && is_plug_awaited live block.alarm_sequence_number) (keeps _ refl (λ up. up)) rests
+  plug_called_goes caller call None = rests
+
   called_goes : (caller : Caller) (call : Call) (block : Option ControlBlock) → Goes (called setup live caller call block)
   called_goes caller call (Some block) = either (is_ready setup block) (readied_goes caller call block live.phase) rests
-  called_goes caller call None = rests
+  called_goes caller call None = after_goes (plug_called setup live caller call (plug_ready_in call)) (plug_called_goes caller call (plug_ready_in call))
 
   -- alarms
   record IsAlike (before next : Live) : Type 0 where
@@ -229,16 +269,21 @@ module _ (setup : Setup) (live : Live) where
 
   -- units, and the application
   abbrev unit_over : Live
-  unit_over = exchange_later (later live)
+  unit_over = flow_begun setup live
+
+  unit_beside : IsBeside (flow_later live) unit_over
+  unit_beside = begun_beside setup (flow_later live) unit_over (flows setup live)
 
   flowed_goes : (ending : Option Abort) → Goes (flowed unit_over (due live.alarms.sending) (due live.low_alarms.sending) (is_again live) (brought live) ending)
-  flowed_goes (Some because) = ends (cause_of because) unit_over _ refl
-  flowed_goes None = keeps _ refl (λ up. up)
+  flowed_goes (Some because) = ends (cause_of because) unit_over _ (ap (λ (l : Live). l.cyclic.taken) unit_beside)
+  flowed_goes None = beside_goes (flow_later live) _ unit_beside (keeps (stays (flow_later live)) refl (λ up. up))
 
   gone_on_goes : (is : Bool) → Goes (if is then flowed unit_over (due live.alarms.sending) (due live.low_alarms.sending) (is_again live) (brought live) (brought live).ending
-      else record { live = later live; sent = where_due (is_again live) (requests_of live.device live.asked) })
+      else record { live = unit_begun setup live; sent = where_due (is_again live) (requests_of live.device live.asked) })
   gone_on_goes true = flowed_goes (brought live).ending
-  gone_on_goes false = keeps _ refl (λ up. up)
+  gone_on_goes false =
+      beside_goes (later live) (record { live = unit_begun setup live; sent = where_due (is_again live) (requests_of live.device live.asked) })
+      (begun_beside setup (later live) (unit_begun setup live) (begins setup (is_again live) (later live))) (keeps (stays (later live)) refl (λ up. up))
 
   quit_goes : (cause : Cause) (next : Live) (phase : State) → next.cyclic.taken ≡ live.cyclic.taken → (live.stands ≡ true → next.stands ≡ true) → Goes (quit setup cause next phase)
   quit_goes cause next Looking same stands = ends cause next [] same
@@ -251,7 +296,8 @@ module _ (setup : Setup) (live : Live) where
   quit_goes cause next Exchanging same stands = releases cause next same
 
   ticked_goes : Goes (ticked setup live)
-  ticked_goes = either (is_spent live) (quit_goes why.NoProgress (later live) live.phase refl (λ up. up)) (gone_on_goes live.stands)
+  ticked_goes = either (is_spent live) (quit_goes why.NoProgress (later live) live.phase refl (λ up. up))
+      (subst (λ (t : Turn). Goes t) (sym (gone_is setup live)) (gone_on_goes live.stands))
 
   requested_goes : (kind : RecordService) (slot subslot index : ℕ) (octets : List ℕ) → Goes (requested setup live kind slot subslot index octets)
   requested_goes kind slot subslot index octets = either (can_request live) (keeps _ refl (λ up. up)) rests
@@ -303,11 +349,13 @@ module _ (setup : Setup) (live : Live) where
   came_goes : (came : Came) → GoesBy came (turn_for setup live came)
   came_goes (Hears Nothing) = rests
   came_goes (Hears (Answers source answer)) = answered_goes source answer live.phase
-  came_goes (Hears (Responds response)) = responded_goes response live.asked
-  came_goes (Hears (Refuses refusal)) = refused_goes refusal live.asked
+  came_goes (Hears (Responds response)) = after_goes (responded setup live response live.asked) (responded_goes response live.asked)
+  came_goes (Hears (Refuses refusal)) = after_goes (refused setup live refusal live.asked) (refused_goes refusal live.asked)
   came_goes (Hears (Calls caller call)) = called_goes caller call (ready_in call)
   came_goes (Hears (Comes source frame_id body)) = stands_as source frame_id body live.stands refl
-  came_goes (Hears (Alarms source under header reported)) = either (live.stands && is_alarm live.cyclic.route source header) (noticed_goes under reported) rests
+  came_goes (Hears (Alarms source under header reported)) =
+      after_goes (alarmed live source under header reported)
+      (either (live.stands && is_alarm live.cyclic.route source header) (noticed_goes under reported) rests)
   came_goes Passes = ticked_goes
   came_goes (Gets slot subslot value) = keeps _ refl (λ up. up)
   came_goes (GetsStatus slot subslot is_good) = keeps _ refl (λ up. up)

@@ -16,25 +16,29 @@ use Rattle.diagnosis.specs.declared.reports.priority.Priority.{Priority}
 use Rattle.diagnosis.specs.declared.reports.priority.Priority.TheVariants.{High, Low}
 use Rattle.diagnosis.specs.declared.reports.report.Report.{Report}
 use Rattle.diagnosis.specs.Line.{more_taken, with_come}
-use Rattle.diagnosis.specs.reported.Channel.{channel_report}
 use Rattle.diagnosis.specs.declared.reported.channel.ChannelReport.{ChannelReport}
-use Rattle.diagnosis.specs.reported.Reported.{Reported, after_found, after_report, nothing_reported}
+use Rattle.diagnosis.specs.reported.Pulled.{pulled_by}
+use Rattle.diagnosis.specs.reported.Reported.{Reported, after_found, after_pull, after_report, nothing_reported}
+use Rattle.module_diff.specs.declared.changes.Affected.{Affected}
 use Rattle.controller_messages.specs.declared.request.Request.{Request}
 use Rattle.controller_messages.specs.declared.request.Request.TheVariants as asks
 use Rattle.controller_messages.specs.declared.setup.Setup.{Setup}
 use Rattle.controller_messages.specs.Requests.{write_count}
 use Rattle.controller_messages.specs.Heard.{Heard, Alarms}
-use Rattle.controller_messages.specs.Sent.{Sent, Confirms}
+use Rattle.controller_messages.specs.PlugRequests.{plug_answer}
+use Rattle.controller_messages.specs.Sent.{Sent, Agrees, Confirms}
 use Rattle.controller_core.specs.stored.Alarms.{is_alarm}
 use Rattle.controller_core.specs.declared.stored.state.State.{State}
 use Rattle.controller_core.specs.declared.stored.state.State.TheVariants.{Looking, Addressing, Connecting}
-use Rattle.controller_core.specs.Machine.{Turn, alarmed, behind_data, end_of, noticed, stays, taken}
+use Rattle.controller_core.specs.Machine.{Turn, after_turn, alarmed, asks_next, behind_data, can_begin, end_of, flow_later, noticed, plug_readied, stays, taken, turned}
 use Rattle.controller_core.specs.stored.State.{phase_for}
 use Rattle.controller_core.specs.stored.State.{Live}
-use Rattle.end_laws.specs.turns.Alarms.{IsQuiet, ListsWhatIsReported, Move, Relation, Raises, PassesAtDevice, ComesToDevice, AckComesToDevice, AlarmComes, Hears, PassesAtController, Gives, GivesStatus, Reads, Writes, Stops, after_reports, alarm_comes, behind, behind_one, comes_to_device, hears, is_looked_at, is_priority, raised_by, report_as, start, turns}
+use Rattle.end_laws.specs.turns.Alarms.{IsQuiet, ListsWhatIsReported, Move, Relation, ReportsNone, Raises, PassesAtDevice, ComesToDevice, AckComesToDevice, AlarmComes, Hears, PassesAtController, Gives, GivesStatus, Reads, Writes, Stops, after_reports, alarm_comes, behind, behind_one, comes_to_device, hears, is_looked_at, is_priority, raised_by, report_as, start, turns}
+use Rattle.end_laws.specs.turns.Beside.{MayBegin, MayFollow, flow_begun}
 use Rattle.end_laws.specs.turns.Turns as came
 use Rattle.end_laws.specs.turns.Turns.{Came, IsKind, Kind, turn_by, turn_for}
 use Rattle.end_laws.proofs.TurnsAlarms.{lines_taken}
+use Rattle.end_laws.proofs.TurnsBeside.{flows, follows}
 use Rattle.end_laws.proofs.TurnsOneTurn.{turn_is}
 
 -- ---- the invariant
@@ -64,6 +68,22 @@ same_listed live next taken phase asked stands diagnosis is = record {
   lists = λ up. diagnosis ∙ is.lists (sym stands ∙ up);
 }
 
+-- The turn of a place that begins changes none of this.
+begins_listed : (setup : Setup) (before after : Live) (taken : List AlarmNotification) → MayBegin setup before after → IsListed before taken → IsListed after taken
+begins_listed setup before after taken (inl e) is = subst (λ (l : Live). IsListed l taken) (sym e) is
+begins_listed setup before after taken (inr begun) is =
+    same_listed before after taken
+    (ap (λ (l : Live). l.phase) begun.beside) (ap (λ (l : Live). l.asked) begun.beside)
+    (ap (λ (l : Live). l.stands) begun.beside) (ap (λ (l : Live). l.diagnosis) begun.beside) is
+
+follows_listed : (setup : Setup) (turn after : Turn) (taken : List AlarmNotification) → MayFollow setup turn after → IsListed turn.live taken → IsListed after.live taken
+follows_listed setup turn after taken (inl e) is = subst (λ (t : Turn). IsListed t.live taken) (sym e) is
+follows_listed setup turn after taken (inr followed) is = begins_listed setup turn.live after.live taken (inr followed.begun) is
+
+after_listed : (setup : Setup) (live : Live) (turn : Turn) (taken : List AlarmNotification) → IsListed turn.live taken
+    → IsListed (after_turn setup (can_begin live) turn).live taken
+after_listed setup live turn taken is = follows_listed setup turn (after_turn setup (can_begin live) turn) taken (follows setup (can_begin live) turn) is
+
 -- ---- data
 
 after_more : (alarms : List AlarmNotification) (alarm : AlarmNotification) (reported : Reported)
@@ -81,11 +101,13 @@ own_listed live number alarm alarms New up is = record {
 own_listed live number alarm alarms Again up is = same_listed live _ alarms refl refl refl refl is
 own_listed live number alarm alarms Refused up is = same_listed live _ alarms refl refl refl refl is
 
-quiet_is : (report : Report) (reported : Reported) → channel_report report ≡ None → after_report report reported ≡ reported
-quiet_is report reported e = ap (λ (found : Option ChannelReport). after_found found reported) e
+quiet_is : (report : Report) (reported : Reported) → ReportsNone report → after_report report reported ≡ reported
+quiet_is report reported e =
+    ap (λ (found : Option ChannelReport). after_pull (pulled_by report) (after_found found reported)) e.0
+    ∙ ap (λ (gone : Option Affected). after_pull gone reported) e.1
 
 quiet_listed : (priority : Priority) (live : Live) (number : ℕ) (alarm : AlarmNotification) (structure : Option ℕ) (alarms : List AlarmNotification) (as_what : Taken)
-    → channel_report (record { priority = priority; notification = alarm; user_structure = structure }) ≡ None → IsListed live alarms
+    → ReportsNone (record { priority = priority; notification = alarm; user_structure = structure }) → IsListed live alarms
     → IsListed (taken (behind_data live priority number) (record { priority = priority; notification = alarm; user_structure = structure }) as_what).live alarms
 quiet_listed High live number alarm structure alarms New e is =
     same_listed live _ alarms refl refl refl (quiet_is (record { priority = High; notification = alarm; user_structure = structure }) live.diagnosis e) is
@@ -152,7 +174,7 @@ module _ (setup : Setup) (live : Live) (alarms : List AlarmNotification) (is : I
         record { asks = λ e. tt; before = λ b. record { none = u.none; down = u.down; empty = u.empty }; lists = is.lists }
     listed_by (came.Ends cause refusal refused units) holds = record { asks = λ e. absurd (none_asks e); before = λ b. absurd b; lists = λ up. absurd (false≢true up) }
     listed_by (came.Releases cause refusal refused units) holds = record { asks = λ e. absurd (release_asks _ e); before = λ b. absurd b; lists = λ up. absurd (false≢true up) }
-    listed_by (came.Relates chosen) holds =
+    listed_by (came.Relates places chosen) holds =
         let u = is.before (is.asks holds.0.stood) in
         writes_listed _ (nat_lt 0 (write_count setup.plan)) 0 refl refl (λ up. u.empty ∙ ap (λ (xs : List AlarmNotification). after_reports xs nothing_reported) (sym u.none))
     listed_by (came.Writes number) holds = writes_listed _ (nat_lt (number + 1) (write_count setup.plan)) (number + 1) refl refl is.lists
@@ -168,8 +190,18 @@ module _ (setup : Setup) (live : Live) (alarms : List AlarmNotification) (is : I
     listed_by (came.Gives slot subslot value) holds = same_listed live _ alarms refl refl refl refl is
     listed_by (came.GivesStatus slot subslot is_good) holds = same_listed live _ alarms refl refl refl refl is
     listed_by (came.Asks request octets) holds = same_listed live _ alarms refl refl refl refl is
-    listed_by (came.IsReplied refusal access) holds = same_listed live _ alarms refl refl refl refl is
-    listed_by came.Flows holds = same_listed live _ alarms refl refl refl refl is
+    listed_by (came.IsReplied refusal access) holds =
+        let next : Live = record live { refusal = refusal; access = access } in
+        after_listed setup live (stays next) alarms (same_listed live next alarms refl refl refl refl is)
+    listed_by (came.IsPlugAnswered refusal refused waited places access) holds =
+        let next : Live = record live { refusal = refusal; refused_record = refused; waited = waited; places = places; access = access } in
+        after_listed setup live (asks_next next) alarms (same_listed live next alarms refl refl refl refl is)
+    listed_by (came.IsPlugReadied caller call block) holds =
+        let next = plug_readied live block.alarm_sequence_number in
+        let turn : Turn = record { live = next; sent = Agrees caller (plug_answer call block) ∷ [] } in
+        after_listed setup live turn alarms (same_listed live next alarms refl refl refl refl is)
+    listed_by came.Flows holds =
+        begins_listed setup (flow_later live) (flow_begun setup live) alarms (flows setup live) (same_listed live (flow_later live) alarms refl refl refl refl is)
     listed_by (came.Breaks reason) holds = record { asks = λ e. absurd (none_asks e); before = λ b. absurd b; lists = λ up. absurd (false≢true up) }
     listed_by came.Idles holds = same_listed live _ alarms refl refl refl refl is
 
@@ -203,12 +235,15 @@ looked_listed : (r : Relation) (under : Priority) (came_is : ℕ × AlarmNotific
 looked_listed r under came_is true up is = own_listed r.live came_is.0 came_is.1 r.alarms.taken (taken_as r.live.low_alarms.seen came_is.0) (up refl) is
 looked_listed r under came_is false up is = is
 
-alarm_listed : (r : Relation) (source : Mac) (under : Priority) (header : Header) (came_is : Option (ℕ × AlarmNotification)) → Listed r → Listed (alarm_comes Low r source under header came_is)
-alarm_listed r source under header None is = is
-alarm_listed r source under header (Some came_is) is =
-    looked_listed r under came_is (is_looked_at r source header) (λ e. (and_parts r.live.stands (is_alarm r.live.cyclic.route source header) e).0) is
+alarm_listed : (setup : Setup) (r : Relation) (source : Mac) (under : Priority) (header : Header) (came_is : Option (ℕ × AlarmNotification)) → Listed r
+    → Listed (alarm_comes Low setup r source under header came_is)
+alarm_listed setup r source under header None is = is
+alarm_listed setup r source under header (Some came_is) is =
+    after_listed setup r.live (alarmed r.live source under header (notice.Data came_is.0 (report_as Low came_is.1)))
+    (if is_looked_at r source header then with_come r.alarms (end_of r.live Low).seen came_is else r.alarms).taken
+    (looked_listed r under came_is (is_looked_at r source header) (λ e. (and_parts r.live.stands (is_alarm r.live.cyclic.route source header) e).0) is)
 
-other_listed : (r : Relation) (under : Priority) (number : ℕ) (report : Report) (b : Bool) → channel_report report ≡ None → Listed r
+other_listed : (r : Relation) (under : Priority) (number : ℕ) (report : Report) (b : Bool) → ReportsNone report → Listed r
     → Listed (turns r (if b then noticed r.live under (notice.Data number report) else stays r.live))
 other_listed r under number report true e is =
     quiet_listed report.priority r.live number report.notification report.user_structure r.alarms.taken (taken_as (end_of r.live report.priority).seen number) e is
@@ -216,10 +251,12 @@ other_listed r under number report false e is = is
 
 heard_listed : (setup : Setup) (r : Relation) (heard : Heard) → IsQuiet Low (Hears heard) → Listed r → Listed (hears Low setup r heard)
 heard_listed setup r (Alarms source under header (notice.Data number report)) quiet is =
-    unheard (is_priority Low report.priority) (other_listed r under number report (is_looked_at r source header) quiet is)
+    unheard (is_priority Low report.priority)
+    (after_listed setup r.live (alarmed r.live source under header (notice.Data number report)) r.alarms.taken
+    (other_listed r under number report (is_looked_at r source header) quiet is))
   where
-    unheard : (b : Bool) → Listed (turns r (alarmed r.live source under header (notice.Data number report)))
-        → Listed (if b then r else turns r (alarmed r.live source under header (notice.Data number report)))
+    unheard : (b : Bool) → Listed (turns r (turned setup r.live (Alarms source under header (notice.Data number report))))
+        → Listed (if b then r else turns r (turned setup r.live (Alarms source under header (notice.Data number report))))
     unheard true after = is
     unheard false after = after
 heard_listed setup r heard quiet is = plain_listed setup r.live r.alarms.taken is (came.Hears heard) tt
@@ -230,7 +267,7 @@ one_listed setup r PassesAtDevice quiet is =
     subst (λ (xs : List AlarmNotification). IsListed r.live xs) (sym (lines_taken r.alarms (send_number r.device.sender.sending.last) r.device.sender.standing (due r.device.sender.sending))) is
 one_listed setup r (ComesToDevice place) quiet is = come_listed r (slice_get r.reported place) is
 one_listed setup r (AckComesToDevice number) quiet is = is
-one_listed setup r (AlarmComes source under header place) quiet is = alarm_listed r source under header (slice_get r.alarms.pdus place) is
+one_listed setup r (AlarmComes source under header place) quiet is = alarm_listed setup r source under header (slice_get r.alarms.pdus place) is
 one_listed setup r (Hears heard) quiet is = heard_listed setup r heard quiet is
 one_listed setup r PassesAtController quiet is = plain_listed setup r.live r.alarms.taken is came.Passes tt
 one_listed setup r (Gives slot subslot value) quiet is = plain_listed setup r.live r.alarms.taken is (came.Gets slot subslot value) tt

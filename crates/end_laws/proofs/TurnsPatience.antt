@@ -21,7 +21,8 @@ use Rattle.controller_messages.specs.declared.setup.Setup.{Setup}
 use Rattle.controller_messages.specs.declared.request.Request.{Request}
 use Rattle.controller_messages.specs.declared.request.Request.TheVariants as asks
 use Rattle.controller_messages.specs.Requests.{writing_from}
-use Rattle.controller_messages.specs.Sent.{Sent, bytes_of}
+use Rattle.controller_messages.specs.PlugRequests.{plug_answer}
+use Rattle.controller_messages.specs.Sent.{Sent, Agrees, bytes_of}
 use Rattle.controller_core.specs.declared.stored.event.Event.{Event}
 use Rattle.controller_core.specs.declared.stored.event.Event.TheVariants.{Frame, Tick, Give, Status, Read, Write, Stop}
 use Rattle.controller_core.specs.declared.stored.state.Cause.TheVariants.{NoProgress}
@@ -29,12 +30,14 @@ use Rattle.controller_core.specs.declared.stored.state.State.{State}
 use Rattle.controller_core.specs.declared.stored.state.State.TheVariants.{Looking, Addressing, Connecting, Writing, Ending, Waiting, Exchanging, Ended}
 use Rattle.controller_core.specs.stored.Alarms.{ack_of, kept_alarm}
 use Rattle.controller_core.specs.stored.State.{Controlling, Live, is_limited, is_writing, left_in, patience_in, phase_for}
-use Rattle.controller_core.specs.Machine.{Turn, acking, behind_ack, behind_data, brought, confirming, end_of, exchange_later, flowed, fresh_with, gone_on, is_again, is_spent, keeping, later, quit, requests_of, step_of, taken, ticked, turn_of, where_due, with_end}
+use Rattle.controller_core.specs.Machine.{Turn, acking, after_turn, asks_next, behind_ack, behind_data, brought, can_begin, confirming, end_of, flow_later, flowed, fresh_with, gone_on, is_again, is_spent, keeping, later, plug_readied, quit, requests_of, stays, step_of, taken, ticked, turn_of, where_due, with_end}
 use Rattle.end_laws.specs.controller.Small.{IsInStep, IsSteady}
+use Rattle.end_laws.specs.turns.Beside.{IsBeside, MayFollow, flow_begun}
 use Rattle.end_laws.specs.turns.Ended.{is_unit, release_in}
 use Rattle.end_laws.specs.turns.Patience.{EndsInTime, HasTimeLeft, IsInformed, NoneLastsLonger, StaysIn, patience_of, units_in}
 use Rattle.end_laws.specs.turns.Runs.{IsReached, behind_all}
-use Rattle.end_laws.specs.turns.Turns.{Came, Passes, IsKind, Kind, Rests, Connects, Addresses, Ends, Releases, Relates, Writes, Skips, Waits, Forgets, Begins, Repeats, Follows, Takes, IsAcked, Gives, GivesStatus, Asks, IsReplied, Flows, Breaks, Idles, came_by, turn_by}
+use Rattle.end_laws.specs.turns.Turns.{Came, Passes, IsKind, Kind, Rests, Connects, Addresses, Ends, Releases, Relates, Writes, Skips, Waits, Forgets, Begins, Repeats, Follows, Takes, IsAcked, Gives, GivesStatus, Asks, IsReplied, IsPlugAnswered, IsPlugReadied, Flows, Breaks, Idles, came_by, turn_by}
+use Rattle.end_laws.proofs.TurnsBeside.{begins, begun_beside, flows, follows, gone_is, unit_begun}
 use Rattle.end_laws.proofs.TurnsOneTurn.{event_is}
 use Rattle.end_laws.proofs.ControllerTurns.{event_goes}
 
@@ -163,6 +166,14 @@ taken_alike live report New = confirming_alike live report
 taken_alike live report Again = (refl, refl)
 taken_alike live report Refused = (refl, refl)
 
+-- Nor does the turn of a place that begins.
+beside_alike : (live next after : Live) → IsBeside next after → IsAlike live next → IsAlike live after
+beside_alike live next after is one = alike_on live next after one (ap (λ (l : Live). l.phase) is, ap (λ (l : Live). l.left) is)
+
+follows_alike : (setup : Setup) (live : Live) (turn after : Turn) → MayFollow setup turn after → IsAlike live turn.live → IsAlike live after.live
+follows_alike setup live turn after (inl e) one = subst (λ (t : Turn). IsAlike live t.live) (sym e) one
+follows_alike setup live turn after (inr followed) one = beside_alike live turn.live after.live followed.begun.beside one
+
 -- ---- a turn that is not that of a unit
 
 module _ (setup : Setup) (live : Live) (timed : IsTimed setup.options live.phase live.left) where
@@ -176,6 +187,11 @@ module _ (setup : Setup) (live : Live) (timed : IsTimed setup.options live.phase
     timed_on = subst (λ (p : State). IsTimed setup.options p after.left) (sym phase) (subst (λ (l : ℕ). IsTimed setup.options live.phase l) (sym left) timed);
     same = λ e. omega (arith, left);
   }
+
+  after_lasts : (turn : Turn) → IsAlike live turn.live → Lasts (after_turn setup (can_begin live) turn)
+  after_lasts turn is =
+      let after = after_turn setup (can_begin live) turn in
+      alike_lasts after.live after.sent (follows_alike setup live turn after (follows setup (can_begin live) turn) is)
 
   module _ (came : Came) (other : came ≡ Passes → ⊥) (steady : IsSteady setup.plan live) where
     -- The next Write, or PrmEnd.
@@ -195,7 +211,7 @@ module _ (setup : Setup) (live : Live) (timed : IsTimed setup.options live.phase
         record { timed_on = entered setup.options live.left live.phase Addressing timed; same = λ e. absurd (not_looking live.phase e holds.1) }
     kind_lasts (Ends cause refusal refused units) holds = record { timed_on = unlimited; same = λ e. omega arith }
     kind_lasts (Releases cause refusal refused units) holds = record { timed_on = unlimited; same = λ e. omega arith }
-    kind_lasts (Relates chosen) holds =
+    kind_lasts (Relates places chosen) holds =
         let next = writing_from setup.plan 0 in
         let now : live.phase ≡ Connecting = connecting_is setup.plan live.phase live.asked steady.asked holds.0.stood in
         record { timed_on = entered setup.options live.left live.phase (phase_for next) timed; same = λ e. absurd (not_connecting next (e ∙ now)) }
@@ -215,13 +231,17 @@ module _ (setup : Setup) (live : Live) (timed : IsTimed setup.options live.phase
     kind_lasts (Takes number report) holds =
         let behind = behind_data live report.priority number in
         let as_what = taken_as (end_of live report.priority).seen number in
-        alike_lasts (taken behind report as_what).live (taken behind report as_what).sent
+        after_lasts (taken behind report as_what)
         (alike_on live behind (taken behind report as_what).live (end_alike live report.priority (with_data (end_of live report.priority) number)) (taken_alike behind report as_what))
     kind_lasts (IsAcked priority number) holds = alike_lasts (behind_ack live priority number) [] (end_alike live priority (with_ack (end_of live priority) number))
     kind_lasts (Gives slot subslot value) holds = alike_lasts _ [] (refl, refl)
     kind_lasts (GivesStatus slot subslot is_good) holds = alike_lasts _ [] (refl, refl)
     kind_lasts (Asks request octets) holds = alike_lasts _ _ (refl, refl)
-    kind_lasts (IsReplied refusal access) holds = alike_lasts _ [] (refl, refl)
+    kind_lasts (IsReplied refusal access) holds = after_lasts (stays (record live { refusal = refusal; access = access })) (refl, refl)
+    kind_lasts (IsPlugAnswered refusal refused waited places access) holds =
+        after_lasts (asks_next (record live { refusal = refusal; refused_record = refused; waited = waited; places = places; access = access })) (refl, refl)
+    kind_lasts (IsPlugReadied caller call block) holds =
+        after_lasts (record { live = plug_readied live block.alarm_sequence_number; sent = Agrees caller (plug_answer call block) ∷ [] }) (refl, refl)
     kind_lasts Flows holds = absurd (other holds.0)
     kind_lasts (Breaks reason) holds = absurd (other holds.0)
     kind_lasts Idles holds = absurd (other holds.0)
@@ -268,20 +288,25 @@ module _ (setup : Setup) (live : Live) (timed : IsTimed setup.options live.phase
   quits_on Addressing limited = over_on _ refl refl
   quits_on phase limited = over_on _ refl refl
 
+  flow_alike : IsAlike (later live) (flow_begun setup live)
+  flow_alike = beside_alike (later live) (flow_later live) (flow_begun setup live) (begun_beside setup (flow_later live) (flow_begun setup live) (flows setup live)) (refl, refl)
+
   flows_on : (high low : Due) (is_request : Bool) (tick : Brought) (ending : Option Abort) → is_spent live ≡ false
-      → Passes_on (flowed (exchange_later (later live)) high low is_request tick ending)
+      → Passes_on (flowed (flow_begun setup live) high low is_request tick ending)
   flows_on high low is_request tick (Some reason) unspent = over_on _ refl refl
-  flows_on high low is_request tick None unspent = later_on _ _ unspent (refl, refl)
+  flows_on high low is_request tick None unspent = later_on (flow_begun setup live) _ unspent flow_alike
 
   goes_on_by : (stands : Bool) → is_spent live ≡ false
-      → Passes_on (if stands then flowed (exchange_later (later live)) (due live.alarms.sending) (due live.low_alarms.sending) (is_again live) (brought (later live)) (brought (later live)).ending
-      else record { live = later live; sent = where_due (is_again live) (requests_of live.device live.asked) })
-  goes_on_by true unspent = flows_on (due live.alarms.sending) (due live.low_alarms.sending) (is_again live) (brought (later live)) (brought (later live)).ending unspent
-  goes_on_by false unspent = later_on _ _ unspent (refl, refl)
+      → Passes_on (if stands then flowed (flow_begun setup live) (due live.alarms.sending) (due live.low_alarms.sending) (is_again live) (brought live) (brought live).ending
+      else record { live = unit_begun setup live; sent = where_due (is_again live) (requests_of live.device live.asked) })
+  goes_on_by true unspent = flows_on (due live.alarms.sending) (due live.low_alarms.sending) (is_again live) (brought live) (brought live).ending unspent
+  goes_on_by false unspent =
+      later_on (unit_begun setup live) _ unspent
+      (beside_alike (later live) (later live) (unit_begun setup live) (begun_beside setup (later live) (unit_begun setup live) (begins setup (is_again live) (later live))) (refl, refl))
 
-  ticks_by : (spent : Bool) → is_spent live ≡ spent → Passes_on (if spent then quit setup NoProgress (later live) live.phase else gone_on (later live) (is_again live))
+  ticks_by : (spent : Bool) → is_spent live ≡ spent → Passes_on (if spent then quit setup NoProgress (later live) live.phase else gone_on (unit_begun setup live) (is_again live))
   ticks_by true e = quits_on live.phase (and_parts (is_limited live.phase) (live.left == 1) e).0
-  ticks_by false e = goes_on_by live.stands e
+  ticks_by false e = subst (λ (t : Turn). Passes_on t) (sym (gone_is setup live)) (goes_on_by live.stands e)
 
   ticks_on : Passes_on (ticked setup live)
   ticks_on = ticks_by (is_spent live) refl
@@ -332,7 +357,7 @@ sound_all [] controller is = is
 sound_all (event ∷ events) controller is = sound_all events (step_of controller event).controller (sound_on controller event is)
 
 first_sound : (plan : Parts) (ar activity : List ℕ) (options : ControllerOptions) → IsSound (fresh_with plan ar activity options)
-first_sound plan ar activity options = record { timed = unlimited; steady = record { asked = refl; waiting = refl } }
+first_sound plan ar activity options = record { timed = unlimited; steady = record { asked = refl; waiting = refl; plug = refl } }
 
 reached_sound : (controller : Controlling) → IsReached controller → IsSound controller
 reached_sound controller r =
@@ -397,5 +422,5 @@ ends_in_time controller limited last =
     let live = controller.live in
     let spent : is_spent live ≡ true = spent_is (is_limited live.phase) live.left limited last in
     let turn : ticked controller.setup live ≡ quit controller.setup NoProgress (later live) live.phase =
-    ap (λ (b : Bool). if b then quit controller.setup NoProgress (later live) live.phase else gone_on (later live) (is_again live)) spent in
+    ap (λ (b : Bool). if b then quit controller.setup NoProgress (later live) live.phase else gone_on (unit_begun controller.setup live) (is_again live)) spent in
     subst (λ (t : Turn). IsEnding controller.setup live.phase t) (sym turn) (quit_ends controller.setup (later live) live.phase limited)

@@ -1,6 +1,7 @@
 pub mod Runs
 pub mod Ended
 pub mod Patience
+pub mod Beside
 pub mod Turns
 pub mod Alarms
 pub mod Belongs

@@ -31,5 +31,5 @@ pub use sending::{frames_are_messages, messages_are_addressed, messages_can_be_s
 pub use turns::{
     alarms_are_taken_in_order, answers_belong_to_their_requests, each_end_has_its_cause,
     ended_is_kept, inputs_are_received, no_state_outlasts_its_patience, requests_are_repeated,
-    turns_are_of_a_kind,
+    turns_are_of_a_kind, turns_begin_beside,
 };

@@ -52,10 +52,11 @@ use Rattle.controller_messages.specs.declared.request.Request.{Request}
 use Rattle.controller_messages.specs.declared.request.Request.TheVariants as asks
 use Rattle.controller_messages.specs.declared.setup.Setup.{Setup}
 use Rattle.controller_messages.specs.Heard.{Heard, Nothing, Cyclic, heard_alarm, heard_answer, heard_body, heard_call, heard_content, heard_first, heard_of, heard_read, heard_real_time, heard_refusal, heard_response, is_to}
+use Rattle.controller_messages.specs.PlugRequests.{plug_call}
 use Rattle.controller_messages.specs.RecordRequests.{record_call}
 use Rattle.controller_messages.specs.Refusal.{refusal_of}
 use Rattle.controller_messages.specs.Requests.{address_asked, call_for, identify_asked}
-use Rattle.controller_messages.specs.Sent.{Sent as Message, Requests, Accesses, Agrees, Cycles, Confirms, Replies as Confirmed, Ends as Leaves, ack_pdu, alarm_frame, bytes_of as bytes_said, call_frame, calls_at, end_pdu, identify_multicast, reply_pdu, request_frame, tag_of as tag_at}
+use Rattle.controller_messages.specs.Sent.{Sent as Message, Requests, Accesses, Parametrizes, Agrees, Cycles, Confirms, Replies as Confirmed, Ends as Leaves, ack_pdu, alarm_frame, bytes_of as bytes_said, call_frame, calls_at, end_pdu, identify_multicast, reply_pdu, request_frame, tag_of as tag_at}
 use Rattle.both_ends.specs.exchange.Shown.{octets_in}
 use Rattle.both_ends.proofs.ExchangeLists.{holds_if}
 use Rattle.both_ends.proofs.ExchangeOutputsBrings.{IsAddressed, IsWay}
@@ -267,6 +268,7 @@ module _ (setup : Setup) (identity : Identity) where
       said_silent : (message : Message) → IsAddressed message → BringsNone (bytes_said setup message)
       said_silent (Requests device request) one = request_silent device request one
       said_silent (Accesses device request octets) one = call_silent device (record_call setup request octets) one
+      said_silent (Parametrizes device request) one = call_silent device (plug_call setup request) one
       said_silent (Agrees caller answer) one = own_silent caller.mac None (UdpDatagram (calls_at setup.plan.controller.address) caller.endpoint (response_bytes answer)) one tt
       said_silent (Cycles route shown counter) way = own_silent route.partner (Some route.sent_tag) (RealTime route.sent_id (cyclic_body shown counter)) way.partner way.sent_tag
       said_silent (Confirms route priority header ack) way = alarm_silent route priority (ack_pdu priority header ack) way

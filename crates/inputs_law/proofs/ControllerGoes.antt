@@ -1,5 +1,5 @@
 -- What becomes of the inputs that a controller shows, with any event: they stay, the relation ends, or a frame is accepted.
-use Rattle.std.proofs.Common.{◌≡◌, ◌⊎◌, inl, inr, ◌+◌, ◌&&◌, ℕ, Bool, true, false, List, [], length, Option, Some, None, Result, Ok, Err, refl, ap, ◌∙◌}
+use Rattle.std.proofs.Common.{◌≡◌, ◌⊎◌, inl, inr, ◌+◌, ◌&&◌, ◌||◌, ℕ, Bool, true, false, not, List, [], length, Option, Some, None, Result, Ok, Err, refl, sym, ap, subst, ◌∙◌}
 use Rattle.std.specs.Prelude.{if◌then◌else◌, is_some, nat_lt}
 use Rattle.pn_values.specs.declared.mac.Mac.{Mac}
 use Rattle.frame_codec.specs.declared.udp.Caller.{Caller}
@@ -9,6 +9,7 @@ use Rattle.rpc_core.specs.declared.response.Status.{Status as Code}
 use Rattle.rpc_core.specs.Call.{Asked as Call}
 use Rattle.rpc_core.specs.Response.{Answered as Response, is_done}
 use Rattle.connect_blocks.specs.declared.control.ControlBlock.{ControlBlock}
+use Rattle.connect_blocks.specs.declared.plug_control.PlugControlBlock.{PlugControlBlock}
 use Rattle.block_codec.specs.Block.{block_of}
 use Rattle.record_blocks.specs.declared.alarm_notification.AlarmNotification.{AlarmNotification}
 use Rattle.pn_alarms.specs.declared.abort.Abort.{Abort}
@@ -29,9 +30,11 @@ use Rattle.cyclic_data.specs.declared.tail.ShortFrame.{ShortFrame}
 use Rattle.cyclic_data.specs.Tail.{cyclic_of}
 use Rattle.cyclic_data.specs.Timing.{Hearing, held_on}
 use Rattle.cyclic_data.specs.exchange.Cyclic.{Cyclic as CyclicEnd}
+use Rattle.cyclic_data.specs.exchange.Units.{cyclic_later}
 use Rattle.cyclic_data.specs.exchange.Received.{behind_frame, behind_read, is_new, is_of_partner}
 use Rattle.connects.specs.declared.answers.connect.Found.{Found}
 use Rattle.connects.specs.answers.Connect.{Chosen, chosen_of, found_in, is_whole, nothing}
+use Rattle.controller_messages.specs.declared.plug_request.PlugRequest.{PlugRequest}
 use Rattle.controller_messages.specs.declared.record_request.RecordRequest.{RecordRequest}
 use Rattle.controller_messages.specs.declared.record_request.RecordService.{RecordService}
 use Rattle.controller_messages.specs.declared.record_request.RecordService.TheVariants as service
@@ -42,6 +45,7 @@ use Rattle.controller_messages.specs.declared.request.Request.TheVariants as ask
 use Rattle.controller_messages.specs.Access.{is_rejected, is_reply, record_in}
 use Rattle.controller_messages.specs.Heard.{Nothing, Answers, Responds, Refuses, Calls, Alarms}
 use Rattle.controller_messages.specs.Heard.{Cyclic as Comes}
+use Rattle.controller_messages.specs.PlugRequests.{is_plug_answer, is_plug_ready, plug_ready_in}
 use Rattle.controller_messages.specs.RecordRequests.{most_record_octets}
 use Rattle.controller_messages.specs.Requests.{first_of, writing_from}
 use Rattle.controller_messages.specs.Sent.{Sent}
@@ -57,7 +61,8 @@ use Rattle.controller_core.specs.start_up.Outcomes.{outcomes_of}
 use Rattle.controller_core.specs.stored.Alarms.{ack_of, is_alarm, kept_alarm}
 use Rattle.controller_core.specs.stored.Cause.{cause_of}
 use Rattle.controller_core.specs.stored.State.{Live}
-use Rattle.controller_core.specs.Machine.{Turn, acked_under, acking, after_write, answered, behind_data, brings, brought, called, can_request, connected, decided, done, end_of, exchange_later, flowed, granted, is_again, is_spent, keeping, later, noted, noticed, over, past_record, quit, readied, refused, refused_by, rejected, related_by, released, replied, requested, requests_of, responded, standing, stays, taken, ticked, undone, where_due, with_end, writing}
+use Rattle.controller_core.specs.Machine.{Turn, acked_under, acking, after_turn, after_write, alarmed, answered, asks_next, begun_turn, behind_data, beside, brings, brought, called, can_begin, can_request, is_plug_awaited, placed, plug_called, plug_readied, plug_rejected, plug_replied, refused_beside, turn_due, connected, decided, done, end_of, exchange_later, flowed, granted, is_again, is_spent, keeping, later, noted, noticed, over, past_record, quit, readied, refused, refused_by, rejected, related_by, released, replied, requested, requests_of, responded, standing, stays, taken, ticked, undone, where_due, with_end, writing}
+use Rattle.both_ends.proofs.ExchangePlugs.{IsAside, due_aside, readied_aside, rejected_aside, replied_aside, turn_aside}
 use Rattle.end_laws.specs.turns.Turns.{Came, Hears, Passes, Gets, GetsStatus, AsksRead, AsksWrite, Halts, turn_for}
 
 -- It has ended, its relation is over, and no request is active except its Release.
@@ -116,13 +121,13 @@ module _ (setup : Setup) (live : Live) where
       either (is_set_answer answer) (either (is_agreed answer) (keeps _ (refl, refl) (λ up. up)) (ends why.Refused live [])) rests
   answered_goes source answer phase = rests
 
-  related_goes : (found : Option Chosen) → Goes (related_by setup live found)
-  related_goes (Some chosen) = writes (writing_from setup.plan 0) (standing setup live chosen) (refl, refl) (λ up. refl)
-  related_goes None = rests
+  related_goes : (blocks : List ℕ) (found : Option Chosen) → Goes (related_by setup (placed setup blocks live) found)
+  related_goes blocks (Some chosen) = writes (writing_from setup.plan 0) (standing setup (placed setup blocks live) chosen) (refl, refl) (λ up. refl)
+  related_goes blocks None = keeps (stays (placed setup blocks live)) (refl, refl) (λ up. up)
 
-  connected_goes : (found : Option Found) → Goes (connected setup live found)
-  connected_goes (Some found) = either (is_whole found) (either found.differs (releases why.ModuleDiff live) (related_goes (chosen_of found))) rests
-  connected_goes None = rests
+  connected_goes : (blocks : List ℕ) (found : Option Found) → Goes (connected setup live blocks found)
+  connected_goes blocks (Some found) = either (is_whole found) (either found.differs (releases why.ModuleDiff live) (related_goes blocks (chosen_of found))) rests
+  connected_goes blocks None = rests
 
   passed_goes : (number denied : ℕ) (status : Code) → Goes (past_record setup number (noted status denied live))
   passed_goes number denied status =
@@ -137,7 +142,7 @@ module _ (setup : Setup) (live : Live) where
   done_goes : (blocks : List ℕ) (request : Request) → Goes (done setup live blocks request)
   done_goes blocks asks.Identify = rests
   done_goes blocks asks.Address = rests
-  done_goes blocks asks.Connect = connected_goes (found_in 400 blocks nothing)
+  done_goes blocks asks.Connect = connected_goes blocks (found_in 400 blocks nothing)
   done_goes blocks (asks.Write number) = outcomes_go number (outcomes_of setup.plan number blocks)
   done_goes blocks asks.PrmEnd = keeps _ (refl, refl) (λ up. up)
   done_goes blocks (asks.Release sequence) = keeps _ (refl, refl) (λ up. up)
@@ -179,9 +184,35 @@ module _ (setup : Setup) (live : Live) where
       same_if (is_reply setup request response.header)
       (same_if (is_done response.status) (granted_same request response.blocks request.service) (record { cyclic = refl; stands = refl })) (record { cyclic = refl; stands = refl })
 
+  -- after a plug
+  aside_same : (next : Live) → IsAside live next → IsSame next
+  aside_same next aside = record { cyclic = ap (λ (l : Live). l.cyclic) aside.is; stands = ap (λ (l : Live). l.stands) aside.is }
+
+  asks_goes : (next : Live) → IsAside live next → Goes (asks_next next)
+  asks_goes next aside =
+      let alike = aside_same next aside in
+      keeps (asks_next next) (ap (λ (c : CyclicEnd). c.taken) alike.cyclic, ap (λ (c : CyclicEnd). c.hearing.last) alike.cyclic) (λ up. alike.stands ∙ up)
+
+  -- a turn of a place begins, if one can
+  after_goes : (could : Bool) (turn : Turn) → Goes turn → Goes (after_turn setup could turn)
+  after_goes could turn goes = either (could || not (can_begin turn.live)) goes (record { either_so = by_either goes.either_so })
+    where
+      aside : IsAside turn.live (begun_turn setup turn.live)
+      aside = turn_aside setup turn.live
+
+      by_either : Keeps turn.live ⊎ IsOver turn.live → Keeps (begun_turn setup turn.live) ⊎ IsOver (begun_turn setup turn.live)
+      by_either (inl so) = inl (subst (λ (l : Live). Keeps l) (sym aside.is) (record { taken = so.taken; last = so.last; stands = so.stands }))
+      by_either (inr so) = inr (subst (λ (l : Live). IsOver l) (sym aside.is) (record { phase = so.phase; down = so.down; asked = so.asked }))
+
+  beside_goes : (response : Response) (plug : Option PlugRequest) → Goes (beside setup live response plug)
+  beside_goes response (Some request) =
+      either (is_plug_answer setup request response.header.activity response.header.sequence)
+      (asks_goes (plug_replied setup live response.status request) (replied_aside setup live response.status request)) rests
+  beside_goes response None = same_goes _ (replied_same response live.access.waiting)
+
   responded_goes : (response : Response) (asked : Option Request) → Goes (responded setup live response asked)
   responded_goes response (Some request) = either (is_answer setup request response.header) (decided_goes response request) rests
-  responded_goes response None = same_goes _ (replied_same response live.access.waiting)
+  responded_goes response None = beside_goes response live.access.plug
 
   refused_by_goes : (refusal : Refusal) (request : Request) → Goes (refused_by live refusal request)
   refused_by_goes refusal (asks.Release sequence) = keeps _ (refl, refl) (λ up. up)
@@ -191,9 +222,13 @@ module _ (setup : Setup) (live : Live) where
   rejected_same refusal None = record { cyclic = refl; stands = refl }
   rejected_same refusal (Some request) = same_if (is_rejected setup request refusal) (record { cyclic = refl; stands = refl }) (record { cyclic = refl; stands = refl })
 
+  refused_beside_same : (refusal : Refusal) (plug : Option PlugRequest) → IsSame (refused_beside setup live refusal plug)
+  refused_beside_same refusal (Some request) = aside_same (plug_rejected setup live refusal request) (rejected_aside setup live refusal request)
+  refused_beside_same refusal None = rejected_same refusal live.access.waiting
+
   refused_goes : (refusal : Refusal) (asked : Option Request) → Goes (refused setup live refusal asked)
   refused_goes refusal (Some request) = either (is_refused setup request refusal) (refused_by_goes refusal request) rests
-  refused_goes refusal None = same_goes _ (rejected_same refusal live.access.waiting)
+  refused_goes refusal None = same_goes _ (refused_beside_same refusal live.access.plug)
 
   readied_goes : (caller : Caller) (call : Call) (block : ControlBlock) (phase : State) → Goes (readied live caller call block phase)
   readied_goes caller call block Ending = keeps _ (refl, refl) (λ up. up)
@@ -201,9 +236,16 @@ module _ (setup : Setup) (live : Live) where
   readied_goes caller call block Exchanging = keeps _ (refl, refl) (λ up. up)
   readied_goes caller call block phase = rests
 
+  plug_called_goes : (caller : Caller) (call : Call) (block : Option PlugControlBlock) → Goes (plug_called setup live caller call block)
+  plug_called_goes caller call (Some block) =
+      let alike = aside_same (plug_readied live block.alarm_sequence_number) (readied_aside setup live block.alarm_sequence_number) in
+      either (is_plug_ready setup block && is_plug_awaited live block.alarm_sequence_number)
+      (keeps _ (ap (λ (c : CyclicEnd). c.taken) alike.cyclic, ap (λ (c : CyclicEnd). c.hearing.last) alike.cyclic) (λ up. alike.stands ∙ up)) rests
+  plug_called_goes caller call None = rests
+
   called_goes : (caller : Caller) (call : Call) (block : Option ControlBlock) → Goes (called setup live caller call block)
   called_goes caller call (Some block) = either (is_ready setup block) (readied_goes caller call block live.phase) rests
-  called_goes caller call None = rests
+  called_goes caller call None = after_goes (can_begin live) (plug_called setup live caller call (plug_ready_in call)) (plug_called_goes caller call (plug_ready_in call))
 
   -- alarms
   record IsAlike (before next : Live) : Type 0 where
@@ -238,17 +280,28 @@ module _ (setup : Setup) (live : Live) where
   noticed_goes under (notice.Abort status) = ends why.Aborted live []
 
   -- units, and the application
-  abbrev unit_over : Live
-  unit_over = exchange_later (later live)
+  module _ (next : Live) (alike : IsSame next) where
+    flowed_goes : (ending : Option Abort) → Goes (flowed (exchange_later next) (due next.alarms.sending) (due next.low_alarms.sending) (is_again live) (brought next) ending)
+    flowed_goes (Some because) = ends (cause_of because) (exchange_later next) _
+    flowed_goes None =
+        keeps _ (
+          ap (λ (c : CyclicEnd). (cyclic_later c).taken) alike.cyclic,
+          ap (λ (c : CyclicEnd). (cyclic_later c).hearing.last) alike.cyclic ∙ held_last live.cyclic.begun live.cyclic.hearing,
+        ) (λ up. alike.stands ∙ up)
 
-  flowed_goes : (ending : Option Abort) → Goes (flowed unit_over (due live.alarms.sending) (due live.low_alarms.sending) (is_again live) (brought live) ending)
-  flowed_goes (Some because) = ends (cause_of because) unit_over _
-  flowed_goes None = keeps _ (refl, held_last live.cyclic.begun live.cyclic.hearing) (λ up. up)
+    gone_on_goes : (is : Bool) → Goes (if is then flowed (exchange_later next) (due next.alarms.sending) (due next.low_alarms.sending) (is_again live) (brought next) (brought next).ending
+        else record { live = next; sent = where_due (is_again live) (requests_of next.device next.asked) })
+    gone_on_goes true = flowed_goes (brought next).ending
+    gone_on_goes false = keeps _ (ap (λ (c : CyclicEnd). c.taken) alike.cyclic, ap (λ (c : CyclicEnd). c.hearing.last) alike.cyclic) (λ up. alike.stands ∙ up)
 
-  gone_on_goes : (is : Bool) → Goes (if is then flowed unit_over (due live.alarms.sending) (due live.low_alarms.sending) (is_again live) (brought live) (brought live).ending
-      else record { live = later live; sent = where_due (is_again live) (requests_of live.device live.asked) })
-  gone_on_goes true = flowed_goes (brought live).ending
-  gone_on_goes false = keeps _ (refl, refl) (λ up. up)
+  -- the controller with the unit, when the turn of a place may begin
+  abbrev due_next : Live
+  due_next = turn_due setup (is_again live) (later live)
+
+  due_same : IsSame due_next
+  due_same =
+      let aside = due_aside setup (is_again live) (later live) in
+      record { cyclic = ap (λ (l : Live). l.cyclic) aside.is; stands = ap (λ (l : Live). l.stands) aside.is }
 
   quit_goes : (cause : Cause) (next : Live) (phase : State) → (next.cyclic.taken ≡ live.cyclic.taken) × (next.cyclic.hearing.last ≡ live.cyclic.hearing.last) → (live.stands ≡ true → next.stands ≡ true) → Goes (quit setup cause next phase)
   quit_goes cause next Looking unchanged_so stands = ends cause next []
@@ -261,7 +314,7 @@ module _ (setup : Setup) (live : Live) where
   quit_goes cause next Exchanging unchanged_so stands = releases cause next
 
   ticked_goes : Goes (ticked setup live)
-  ticked_goes = either (is_spent live) (quit_goes why.NoProgress (later live) live.phase (refl, refl) (λ up. up)) (gone_on_goes live.stands)
+  ticked_goes = either (is_spent live) (quit_goes why.NoProgress (later live) live.phase (refl, refl) (λ up. up)) (gone_on_goes due_next due_same due_next.stands)
 
   requested_goes : (kind : RecordService) (slot subslot index : ℕ) (octets : List ℕ) → Goes (requested setup live kind slot subslot index octets)
   requested_goes kind slot subslot index octets = either (can_request live) (keeps _ (refl, refl) (λ up. up)) rests
@@ -319,11 +372,12 @@ module _ (setup : Setup) (live : Live) where
   pub came_goes : (came : Came) → GoesBy came (turn_for setup live came)
   came_goes (Hears Nothing) = rests
   came_goes (Hears (Answers source answer)) = answered_goes source answer live.phase
-  came_goes (Hears (Responds response)) = responded_goes response live.asked
-  came_goes (Hears (Refuses refusal)) = refused_goes refusal live.asked
+  came_goes (Hears (Responds response)) = after_goes (can_begin live) (responded setup live response live.asked) (responded_goes response live.asked)
+  came_goes (Hears (Refuses refusal)) = after_goes (can_begin live) (refused setup live refusal live.asked) (refused_goes refusal live.asked)
   came_goes (Hears (Calls caller call)) = called_goes caller call (ready_in call)
   came_goes (Hears (Comes source frame_id body)) = stands_as source frame_id body live.stands refl
-  came_goes (Hears (Alarms source under header reported)) = either (live.stands && is_alarm live.cyclic.route source header) (noticed_goes under reported) rests
+  came_goes (Hears (Alarms source under header reported)) =
+      after_goes (can_begin live) (alarmed live source under header reported) (either (live.stands && is_alarm live.cyclic.route source header) (noticed_goes under reported) rests)
   came_goes Passes = ticked_goes
   came_goes (Gets slot subslot value) = keeps _ (refl, refl) (λ up. up)
   came_goes (GetsStatus slot subslot is_good) = keeps _ (refl, refl) (λ up. up)

@@ -1,5 +1,5 @@
 -- What a controller shows, over its events: zeros until it accepts a frame in its relation, then what the last accepted frame brought.
-use Rattle.std.proofs.Common.{◌≡◌, ◌⊎◌, inl, inr, ◌==◌, ◌&&◌, ℕ, Bool, true, false, cond, List, [], ◌∷◌, map, Option, Some, None, Result, refl, sym, ap, subst, ◌∙◌}
+use Rattle.std.proofs.Common.{◌≡◌, ◌⊎◌, inl, inr, ◌==◌, ◌&&◌, ◌||◌, ℕ, Bool, true, false, not, cond, List, [], ◌∷◌, ◌++◌, map, Option, Some, None, Result, refl, sym, ap, subst, ◌∙◌}
 use Rattle.std.specs.Prelude.{if◌then◌else◌, is_some, nat_eq}
 use Rattle.std.specs.Cmp.Lexicographic.{pointwise}
 use Rattle.std.proofs.lemmas.Bool.{and_parts, true≢false}
@@ -19,12 +19,13 @@ use Rattle.controller_core.specs.declared.stored.state.Cause.{Cause}
 use Rattle.controller_core.specs.declared.stored.state.State.{State}
 use Rattle.controller_core.specs.declared.stored.state.State.TheVariants.{Looking, Addressing, Ending, Waiting, Exchanging, Ended}
 use Rattle.controller_core.specs.stored.State.{Live}
-use Rattle.controller_core.specs.Machine.{Turn, turn_of}
+use Rattle.controller_core.specs.Machine.{Turn, after_turn, asks_next, begun_turn, can_begin, plugs_of, stays, turn_of}
 use Rattle.end_laws.specs.turns.Turns.{Came, Hears, Passes, Gets, GetsStatus, AsksRead, AsksWrite, Halts, IsKind, IsTurn, Kind, came_by, turn_by, turn_for}
 use Rattle.end_laws.specs.turns.Turns as kind
 use Rattle.end_laws.proofs.TurnsCauses.{turn_by_event}
 use Rattle.both_ends.specs.exchange.Shown.{octets_in}
 use Rattle.both_ends.proofs.ExchangeOutputsTurns.{KindsSo}
+use Rattle.both_ends.proofs.ExchangePlugs.{turn_aside}
 use Rattle.inputs_law.specs.Shown.{brought_in, has_accepted, zeros_for}
 use Rattle.inputs_law.proofs.ControllerGoes.{GoesBy, IsOver, IsReleasedOnly, Keeps, Takes, came_goes}
 
@@ -48,6 +49,17 @@ module _ (setup : Setup) (live : Live) (came : Came) (over : IsOver live) where
     asked = subst (λ (a : Option Request). IsReleasedOnly a) (sym asked) over.asked;
   }
 
+  -- the turn of a place changes nothing of it
+  after_over : (could : Bool) (turn : Turn) → IsOver turn.live → IsOver (after_turn setup could turn).live
+  after_over could turn ended = by_test (could || not (can_begin turn.live))
+    where
+      begun : IsOver (begun_turn setup turn.live)
+      begun = subst (λ (l : Live). IsOver l) (sym (turn_aside setup turn.live).is) (record { phase = ended.phase; down = ended.down; asked = ended.asked })
+
+      by_test : (b : Bool) → IsOver (cond b turn (record { live = begun_turn setup turn.live; sent = turn.sent ++ plugs_of (begun_turn setup turn.live) })).live
+      by_test true = ended
+      by_test false = begun
+
   ended_by : (one : Kind) → IsKind setup live came one → IsOver (turn_by setup live one).live
   ended_by kind.Rests holds = over
   ended_by (kind.Connects source) holds = by_phase holds.seeking
@@ -58,7 +70,7 @@ module _ (setup : Setup) (live : Live) (came : Came) (over : IsOver live) where
   ended_by (kind.Addresses source) holds = no_phase _ over.phase.0 live.phase Looking over.phase.1 holds.1 (λ e. absurd cc)
   ended_by (kind.Ends cause refusal refused units) holds = record { phase = (cause, refl); down = refl; asked = tt }
   ended_by (kind.Releases cause refusal refused units) holds = record { phase = (cause, refl); down = refl; asked = tt }
-  ended_by (kind.Relates chosen) holds = absurd (no_request live.asked asks.Connect over.asked holds.0.stood)
+  ended_by (kind.Relates places chosen) holds = absurd (no_request live.asked asks.Connect over.asked holds.0.stood)
   ended_by (kind.Writes number) holds = absurd (no_request live.asked (asks.Write number) over.asked holds.0.stood)
   ended_by (kind.Skips number refused status) holds = absurd (no_request live.asked (asks.Write number) over.asked holds.stood)
   ended_by kind.Waits holds = absurd (no_request live.asked asks.PrmEnd over.asked holds.stood)
@@ -75,7 +87,11 @@ module _ (setup : Setup) (live : Live) (came : Came) (over : IsOver live) where
   ended_by (kind.Gives slot subslot value) holds = same_end _ refl refl refl
   ended_by (kind.GivesStatus slot subslot is_good) holds = same_end _ refl refl refl
   ended_by (kind.Asks request octets) holds = no_phase _ over.phase.0 live.phase Exchanging over.phase.1 holds.0 (λ e. absurd cc)
-  ended_by (kind.IsReplied refusal access) holds = same_end _ refl refl refl
+  ended_by (kind.IsReplied refusal access) holds =
+      after_over (can_begin live) (stays (record live { refusal = refusal; access = access })) (same_end _ refl refl refl)
+  ended_by (kind.IsPlugAnswered refusal refused waited places access) holds =
+      after_over (can_begin live) (asks_next (record live { refusal = refusal; refused_record = refused; waited = waited; places = places; access = access })) (same_end _ refl refl refl)
+  ended_by (kind.IsPlugReadied caller call block) holds = no_phase _ over.phase.0 live.phase Exchanging over.phase.1 holds.0 (λ e. absurd cc)
   ended_by kind.Flows holds = not_up _ holds.1
   ended_by (kind.Breaks reason) holds = not_up _ holds.1
   ended_by kind.Idles holds = same_end _ refl refl refl

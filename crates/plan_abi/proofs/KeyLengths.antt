@@ -47,3 +47,4 @@ few_octets key.Records = omega arith
 few_octets key.Data = omega arith
 few_octets key.ContinueOnRefusedRecord = omega arith
 few_octets key.ReleaseOnRefusedRecord = omega arith
+few_octets key.ParametersAfterPlug = omega arith

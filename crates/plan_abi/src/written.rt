@@ -40,6 +40,7 @@ pub fn clear(written: &mut WrittenPlan)
     written.release_on_refused_record = 0;
     written.patience = 0;
     written.waiting_patience = 0;
+    written.parameters_after_plug = 0;
 }
 
 fn clear_modules(places: &mut [Module])
@@ -95,6 +96,7 @@ pub fn put(written: &mut WrittenPlan, plan: &Plan, station_type: &[u8])
     written.continue_on_refused_record = u32::from(plan.continues_on_refused_record());
     written.multiple_write = u32::from(plan.has_multiple_write());
     written.release_on_refused_record = u32::from(plan.release_on_refused_record());
+    written.parameters_after_plug = u32::from(plan.has_parameters_after_plug());
 }
 
 // The octets of a type of station: none if it has more than 28.

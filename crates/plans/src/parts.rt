@@ -64,4 +64,6 @@ pub struct Parts {
     pub release_on_refused_record: bool,
     /// Whether a Write carries several records (MultipleWrite).
     pub multiple_write: bool,
+    /// Whether the controller writes the records of a submodule again after it was plugged while data is exchanged.
+    pub parameters_after_plug: bool,
 }

@@ -202,6 +202,13 @@ impl Plan {
         self.parts.multiple_write
     }
 
+    /// Whether the controller writes the records of a submodule again after it was plugged while data is exchanged.
+    pub fn has_parameters_after_plug(&self) -> bool
+        ensures { result ≡ self.now.parameters_after_plug }
+    {
+        self.parts.parameters_after_plug
+    }
+
     /// The places of the submodules in the frames of a direction.
     pub fn layout(&self, direction: IocrType) -> Layout
         ensures { result ≡ layout_in direction (data_of self.now.real.modules.items) }

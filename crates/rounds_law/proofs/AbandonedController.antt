@@ -1,5 +1,6 @@
 -- What a controller does in the middle of its start-up if its device has no relation any more.
-use Rattle.std.proofs.Common.{◌≡◌, ◌⊎◌, inl, inr, ◌==◌, ◌&&◌, ◌+◌, ◌++◌, ◌≤◌, ◌<◌, ℕ, nat_lt, Bool, true, false, List, [], ◌∷◌, map, Option, Some, None, refl, sym, ap, subst, ◌∙◌, arith}
+use Rattle.std.proofs.Common.{◌≡◌, ◌⊎◌, inl, inr, ◌==◌, ◌&&◌, ◌+◌, ◌++◌, ◌≤◌, ◌<◌, ℕ, nat_lt, Bool, true, false, List, [], ◌∷◌, map, Option, Some, None}
+use Rattle.std.proofs.Common.{is_some, refl, sym, ap, subst, ◌∙◌, arith}
 use Rattle.std.specs.Prelude.{if◌then◌else◌}
 use Rattle.std.proofs.lemmas.Bool.Decides.{nat_tests}
 use Rattle.std.proofs.lemmas.List.{map-append}
@@ -17,6 +18,7 @@ use Rattle.cyclic_data.specs.exchange.Units.{ending_by}
 use Rattle.plans.specs.declared.parts.Controller.{Controller}
 use Rattle.plans.specs.declared.parts.Parts.{Parts}
 use Rattle.device_frames.specs.Sent.{response_frame}
+use Rattle.controller_messages.specs.declared.plug_request.PlugRequest.{PlugRequest}
 use Rattle.controller_messages.specs.declared.record_request.RecordRequest.{RecordRequest}
 use Rattle.controller_messages.specs.declared.request.Request.{Request}
 use Rattle.controller_messages.specs.declared.request.Request.TheVariants as asks
@@ -31,19 +33,25 @@ use Rattle.controller_core.specs.declared.stored.event.Event.TheVariants.{Frame,
 use Rattle.controller_core.specs.stored.State.{Controlling, Live, is_limited, left_in, phase_for}
 use Rattle.controller_core.specs.start_up.Answers.{is_answer}
 use Rattle.controller_core.specs.start_up.Requests.{next_sequence}
-use Rattle.controller_core.specs.Machine.{Stepped, Turn, accesses_by, brought, decided, done as done_turn, exchange_later, flow_later, flowed, gone_on, is_again, later, noted, outputs_of, over, past_record, pending_by, quit, refused_record, released, requests_of, responded, stays, step_of, stepped, ticked, turn_of, turned, undone, where_due, writing}
+use Rattle.controller_core.specs.Machine.{Stepped, Turn, accesses_by, accesses_of, after_turn, brought, can_begin, decided, done as done_turn, exchange_later}
+use Rattle.controller_core.specs.Machine.{flow_later, flowed, gone_on, is_again, is_exchanging, later, noted, outputs_of, over, past_record, pending_by}
+use Rattle.controller_core.specs.Machine.{plugs_by}
+use Rattle.controller_core.specs.Machine.{quit, refused_record, released, requests_of, responded, stays, step_of, stepped, ticked, turn_due, turn_of, turned}
+use Rattle.controller_core.specs.Machine.{undone, where_due, writing}
 use Rattle.end_laws.specs.hearing.Hearing.{mine_reported}
 use Rattle.end_laws.specs.hearing.Stations.{IsAddress, IsCaller, IsDevice, IsSetup}
 use Rattle.both_ends.specs.startup.answer.Answer.{caller_of}
-use Rattle.rounds_law.specs.Path.{controller_step, request_to}
+use Rattle.rounds_law.specs.Path.{AllAnswered, controller_step, request_to}
 use Rattle.rounds_law.specs.Again.{HasEnded, IsDenial}
-use Rattle.rounds_law.specs.Abandoned.{Awaited, EndsFor, IsInPlan, Expects, IsReleasing, Readiness, Releases, Response, StillExpects, WritesNext, asked_for, last_call, phase_at, repeated}
+use Rattle.rounds_law.specs.Abandoned.{Awaited, EndsFor, IsInPlan, Expects, IsReleasing, Readiness, Releases, Response, StillExpects, WritesNext, asked_for}
+use Rattle.rounds_law.specs.Abandoned.{last_call, phase_at, repeated}
 use Rattle.rounds_law.specs.Repeating.{completes, counts_on}
 use Rattle.rounds_law.proofs.Choices.{where_not, where_so}
 use Rattle.rounds_law.proofs.ControllerCallingAsks.{count_few, step_by, step_is}
-use Rattle.rounds_law.proofs.ControllerCallingResponses.{is_its_answer, is_reported}
+use Rattle.rounds_law.proofs.ControllerCallingResponses.{is_its_answer, is_reported, unexchanging}
 use Rattle.rounds_law.proofs.ControllerPassingParts.{unbegun_heard}
 use Rattle.rounds_law.proofs.ControllerPassingUnits.{only_outputs, sent_at, turn_there, turn_with}
+use Rattle.rounds_law.proofs.PlaceTurns.{elsewhere, undue, unfollowed, without_relation}
 
 -- ---- what is sent next
 
@@ -82,14 +90,14 @@ releases_by setup identity cause last live to sequence is after few = record {
     asked = ap (λ (n : ℕ). Some (asks.Release n)) is;
     of_device = to;
     unestablished = refl;
-    alone = refl;
+    alone = (refl, refl);
     waits = refl;
   };
 }
 
 -- without
 ends_by : (setup : Setup) (cause : Cause) (live : Live) → HasEnded setup cause (step_by setup (stays (over cause live))).controller
-ends_by setup cause live = record { of_setup = refl; in_phase = refl; unasked = refl; unestablished = refl; alone = refl }
+ends_by setup cause live = record { of_setup = refl; in_phase = refl; unasked = refl; unestablished = refl; alone = (refl, refl) }
 
 module _ (setup : Setup) (identity : Identity) (good : IsSetup setup) (device : IsDevice identity)
     (responses : (mine : Controller) (identity : Identity) (caller : Caller) (address : List ℕ) (answer : Answered)
@@ -110,12 +118,15 @@ module _ (setup : Setup) (identity : Identity) (good : IsSetup setup) (device : 
 
   response_turn : (request : Request) (live : Live) (octets : List ℕ) (denial : IsDenial setup identity request octets) → live.asked ≡ Some request
       → is_answer setup request (answer_to (call_for setup request) denial.status []).header ≡ true
-      → turn_of setup live (Frame (record { items = octets })) ≡ decided setup live (answer_to (call_for setup request) denial.status []) request
-  response_turn request live octets denial asked its =
+      → (turn : Turn) → decided setup live (answer_to (call_for setup request) denial.status []) request ≡ turn → can_begin turn.live ≡ false
+      → turn_of setup live (Frame (record { items = octets })) ≡ turn
+  response_turn request live octets denial asked its turn is none =
       let response = answer_to (call_for setup request) denial.status [] in
       ap (λ (h : Heard). turned setup live h) (denial_heard request octets denial)
-      ∙ (ap (λ (a : Option Request). responded setup live response a) asked
-      ∙ where_so (is_answer setup request response.header) (decided setup live response request) (stays live) its)
+      ∙ (ap (λ (a : Option Request). after_turn setup (can_begin live) (responded setup live response a)) asked
+      ∙ (ap (after_turn setup (can_begin live))
+      (where_so (is_answer setup request response.header) (decided setup live response request) (stays live) its ∙ is)
+      ∙ unfollowed setup (can_begin live) turn none))
 
   -- ---- the response to a Release
 
@@ -126,14 +137,18 @@ module _ (setup : Setup) (identity : Identity) (good : IsSetup setup) (device : 
   released_heard cause sequence waited controller octets releasing denial =
       let live = controller.live in
       let step = step_is setup controller octets (stays (record live { asked = None })) releasing.of_setup
-      (response_turn (asks.Release sequence) live octets denial releasing.asked (is_its_answer setup sequence)) in (
+      (response_turn (asks.Release sequence) live octets denial releasing.asked (is_its_answer setup sequence) (stays (record live { asked = None })) refl
+      (without_relation (record live { asked = None }) releasing.unestablished)) in (
         ap (λ (s : Stepped). s.frames) step,
         record {
           of_setup = ap (λ (s : Stepped). s.controller.setup) step;
           in_phase = ap (λ (s : Stepped). s.controller.live.phase) step ∙ releasing.in_phase;
           unasked = ap (λ (s : Stepped). s.controller.live.asked) step;
           unestablished = ap (λ (s : Stepped). s.controller.live.stands) step ∙ releasing.unestablished;
-          alone = ap (λ (s : Stepped). s.controller.live.access.waiting) step ∙ releasing.alone;
+          alone = (
+            ap (λ (s : Stepped). s.controller.live.access.waiting) step ∙ releasing.alone.0,
+            ap (λ (s : Stepped). s.controller.live.access.plug) step ∙ releasing.alone.1,
+          );
         },
       )
 
@@ -201,6 +216,18 @@ module _ (setup : Setup) (identity : Identity) (good : IsSetup setup) (device : 
       ∙ where_not setup.plan.release_on_refused_record (released setup Refused live) (stays (over Refused live)) f in
       subst (λ (t : Turn). After serial number controller (step_by setup t)) (sym turn) (inr (inl (refl, ends_by setup Refused live)))
 
+  -- After it no turn of a place can begin.
+  denied_none : (number : ℕ) (live : Live) → can_begin (past_record setup number live).live ≡ false
+  denied_none number live = by_plan setup.plan.continue_on_refused_record setup.plan.release_on_refused_record
+    where
+      by_plan : (goes_on releases : Bool)
+          → can_begin (if goes_on then writing setup (writing_from setup.plan (number + 1)) live
+          else (if releases then released setup Refused live else stays (over Refused live))).live ≡ false
+      by_plan true releases =
+          elsewhere (writing setup (writing_from setup.plan (number + 1)) live).live (unexchanging (writing_from setup.plan (number + 1)))
+      by_plan false true = refl
+      by_plan false false = refl
+
   pub denied_heard : (serial : ℕ) (controller : Controlling) (number : ℕ) (octets : List ℕ) → number ≤ write_count setup.plan
       → Expects setup serial identity.mac (Response number) controller
       → IsDenial setup identity (writing_from setup.plan number) octets → After serial number controller (controller_step controller octets)
@@ -215,8 +242,10 @@ module _ (setup : Setup) (identity : Identity) (good : IsSetup setup) (device : 
           let response = answer_to (call_for setup (asks.Write number)) denial.status [] in
           let place = first_of setup.plan number in
           let turn = response_turn (asks.Write number) controller.live octets denial asked (is_its_answer setup (number + 1))
-          ∙ where_not (is_done denial.status) (done_turn setup controller.live response.blocks (asks.Write number))
-          (undone setup controller.live denial.status (asks.Write number)) denial.negative in
+          (undone setup controller.live denial.status (asks.Write number))
+          (where_not (is_done denial.status) (done_turn setup controller.live response.blocks (asks.Write number))
+          (undone setup controller.live denial.status (asks.Write number)) denial.negative)
+          (denied_none number (noted denial.status place controller.live)) in
           subst (λ (s : Stepped). After serial number controller s)
           (sym (step_is setup controller octets (undone setup controller.live denial.status (asks.Write number)) it.of_setup turn))
           (write_denied serial number place denial.status controller is.0 it asked (it.in_phase ∙ ap phase_for whole)
@@ -227,8 +256,10 @@ module _ (setup : Setup) (identity : Identity) (good : IsSetup setup) (device : 
           let asked = it.asked ∙ ap (λ (r : Request). Some r) whole in
           let response = answer_to (call_for setup asks.PrmEnd) denial.status [] in
           let turn = response_turn asks.PrmEnd controller.live octets denial asked (is_its_answer setup (write_count setup.plan + 1))
-          ∙ where_not (is_done denial.status) (done_turn setup controller.live response.blocks asks.PrmEnd)
-          (undone setup controller.live denial.status asks.PrmEnd) denial.negative in
+          (undone setup controller.live denial.status asks.PrmEnd)
+          (where_not (is_done denial.status) (done_turn setup controller.live response.blocks asks.PrmEnd)
+          (undone setup controller.live denial.status asks.PrmEnd) denial.negative)
+          refl in
           subst (λ (s : Stepped). After serial number controller s)
           (sym (step_is setup controller octets (undone setup controller.live denial.status asks.PrmEnd) it.of_setup turn))
           (inr (inl (refl, ends_by setup Refused (record controller.live { refusal = Some denial.status }))))
@@ -281,11 +312,12 @@ module _ (setup : Setup) (identity : Identity) (good : IsSetup setup) (device : 
   quits live Readiness = refl
 
   -- The request that waits.
-  pending_is : (awaited : Awaited) (live : Live) → live.device ≡ identity.mac → live.access.waiting ≡ None
+  pending_is : (awaited : Awaited) (live : Live) → live.device ≡ identity.mac → AllAnswered live.access
       → map (bytes_of setup) (pending_by live (asked_for setup.plan awaited)) ≡ repeated setup identity awaited
   pending_is (Response number) live to alone = ap (λ (d : Mac). bytes_of setup (Requests d (writing_from setup.plan number)) ∷ []) to
   pending_is Readiness live to alone =
-      ap (λ (waiting : Option RecordRequest). map (bytes_of setup) (accesses_by live.device live.access.octets waiting)) alone
+      ap (λ (plug : Option PlugRequest). map (bytes_of setup) (if is_some plug then plugs_by live.device plug else accesses_of live)) alone.1
+      ∙ ap (λ (waiting : Option RecordRequest). map (bytes_of setup) (accesses_by live.device live.access.octets waiting)) alone.0
 
   -- What is sent is in two parts.
   parts_sent : (again : Bool) (request outputs : List Sent) (frames : List (List ℕ)) → map (bytes_of setup) request ≡ frames
@@ -315,8 +347,9 @@ module _ (setup : Setup) (identity : Identity) (good : IsSetup setup) (device : 
     spent_turn : (controller.live.left == 1) ≡ true → ticked setup controller.live ≡ released setup NoProgress (later controller.live)
     spent_turn last =
         let live = controller.live in
-        ap (λ (b : Bool). if b && live.left == 1 then quit setup NoProgress (later live) live.phase else gone_on (later live) (is_again live)) is_limited_now
-        ∙ (ap (λ (b : Bool). if b then quit setup NoProgress (later live) live.phase else gone_on (later live) (is_again live)) last
+        let on = gone_on (turn_due setup (is_again live) (later live)) (is_again live) in
+        ap (λ (b : Bool). if b && live.left == 1 then quit setup NoProgress (later live) live.phase else on) is_limited_now
+        ∙ (ap (λ (b : Bool). if b then quit setup NoProgress (later live) live.phase else on) last
         ∙ (ap (λ (p : Phases). quit setup NoProgress (later live) p) it.in_phase ∙ quits (later live) awaited))
 
     spent : (controller.live.left == 1) ≡ true → Releases setup identity NoProgress (last_call setup.plan awaited) (step_of controller Tick)
@@ -328,6 +361,11 @@ module _ (setup : Setup) (identity : Identity) (good : IsSetup setup) (device : 
         (releases_by setup identity NoProgress (last_call setup.plan awaited) (later live) it.of_device
         (next_sequence setup.plan live.access.calls live.asked) refl number.0 number.1)
 
+    -- data is not exchanged yet
+    before_exchange : (awaited : Awaited) → is_exchanging (phase_at setup.plan awaited) ≡ false
+    before_exchange (Response number) = unexchanging (writing_from setup.plan number)
+    before_exchange Readiness = refl
+
     -- it goes on
     waits_turn : (controller.live.left == 1) ≡ false → ticked setup controller.live
         ≡ turn_with (flow_later controller.live)
@@ -338,7 +376,9 @@ module _ (setup : Setup) (identity : Identity) (good : IsSetup setup) (device : 
         let none : due live.alarms.sending ≡ Nothing = ap (due_behind live.alarms.sending) it.high in
         let none_low : due live.low_alarms.sending ≡ Nothing = ap (due_behind live.low_alarms.sending) it.low in
         let unspent = ap (λ (b : Bool). b && live.left == 1) is_limited_now ∙ more in
-        let turn = turn_there setup live unspent it.established (unbegun_heard live.cyclic it.unbegun) (ap ending_by none) (ap ending_by none_low) in
+        let turn = turn_there setup live unspent
+        (undue setup (is_again live) (later live) (elsewhere (later live) (ap is_exchanging it.in_phase ∙ before_exchange awaited)))
+        it.established (unbegun_heard live.cyclic it.unbegun) (ap ending_by none) (ap ending_by none_low) in
         turn ∙ ap (turn_with (flow_later live))
         (ap (λ (d : Due). sent_at live d (due live.low_alarms.sending)) none ∙ ap (λ (d : Due). sent_at live Nothing d) none_low)
 
@@ -403,10 +443,11 @@ releasing_unit setup identity cause sequence waited controller it =
     let live = controller.live in
     let turn : turn_of setup live Tick ≡ turn_with (later live) (where_due (is_again live) (Requests identity.mac (asks.Release sequence) ∷ []))
     = ap (λ (p : Phases). if is_limited p && live.left == 1 then quit setup NoProgress (later live) live.phase
-    else gone_on (later live) (is_again live)) it.in_phase
+    else gone_on (turn_due setup (is_again live) (later live)) (is_again live)) it.in_phase
+    ∙ (ap (λ (l : Live). gone_on l (is_again live)) (undue setup (is_again live) (later live) (without_relation (later live) it.unestablished))
     ∙ (ap (λ (b : Bool). gone_with (later live) (is_again live) b) it.unestablished
     ∙ (ap (λ (a : Option Request). turn_with (later live) (where_due (is_again live) (requests_of live.device a))) it.asked
-    ∙ ap (λ (d : Mac). turn_with (later live) (where_due (is_again live) (Requests d (asks.Release sequence) ∷ []))) it.of_device)) in
+    ∙ ap (λ (d : Mac). turn_with (later live) (where_due (is_again live) (Requests d (asks.Release sequence) ∷ []))) it.of_device))) in
     let step : step_of controller Tick ≡ step_by setup (turn_with (later live) (where_due (is_again live) (Requests identity.mac (asks.Release sequence) ∷ [])))
     = ap (λ (s : Setup). stepped (record { setup = s; live = live }) (turn_of s live Tick)) it.of_setup ∙ ap (λ (t : Turn). step_by setup t) turn in (
       ap (λ (s : Stepped). s.frames) step
@@ -417,7 +458,10 @@ releasing_unit setup identity cause sequence waited controller it =
         asked = ap (λ (s : Stepped). s.controller.live.asked) step ∙ it.asked;
         of_device = ap (λ (s : Stepped). s.controller.live.device) step ∙ it.of_device;
         unestablished = ap (λ (s : Stepped). s.controller.live.stands) step ∙ it.unestablished;
-        alone = ap (λ (s : Stepped). s.controller.live.access.waiting) step ∙ it.alone;
+        alone = (
+          ap (λ (s : Stepped). s.controller.live.access.waiting) step ∙ it.alone.0,
+          ap (λ (s : Stepped). s.controller.live.access.plug) step ∙ it.alone.1,
+        );
         waits = ap (λ (s : Stepped). s.controller.live.waited) step ∙ ap counts_on it.waits;
       },
     )

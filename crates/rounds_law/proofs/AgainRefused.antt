@@ -27,8 +27,8 @@ use Rattle.controller_core.specs.declared.stored.state.Cause.TheVariants as caus
 use Rattle.controller_core.specs.declared.stored.event.Event.TheVariants.{Frame, Tick}
 use Rattle.controller_core.specs.stored.State.{Controlling, Live, is_limited}
 use Rattle.controller_core.specs.start_up.Answers.{is_answer}
-use Rattle.controller_core.specs.Machine.{Stepped, answered, decided, denied, flowed, gone_on, brought, exchange_later, is_again, later, over}
-use Rattle.controller_core.specs.Machine.{quit, requests_of, responded, where_due, step_of, stepped, stays, turn_of, turned, undone}
+use Rattle.controller_core.specs.Machine.{Stepped, after_turn, answered, can_begin, decided, denied, flowed, gone_on, brought, exchange_later, is_again}
+use Rattle.controller_core.specs.Machine.{later, over, quit, requests_of, responded, where_due, step_of, stepped, stays, turn_due, turn_of, turned, undone}
 use Rattle.end_laws.specs.hearing.Hearing.{mine_hears, mine_reported}
 use Rattle.end_laws.specs.hearing.Stations.{IsAddress, IsCaller, IsDevice, IsSetup}
 use Rattle.both_ends.specs.startup.answer.Answer.{caller_of}
@@ -36,20 +36,21 @@ use Rattle.rounds_law.specs.Path.{Asks, controller_step}
 use Rattle.rounds_law.specs.Again.{HasEnded, IsRefusal, unset_frame}
 use Rattle.rounds_law.proofs.Choices.{where_not, where_so}
 use Rattle.rounds_law.proofs.ControllerCallingResponses.{is_its_answer, is_reported}
+use Rattle.rounds_law.proofs.PlaceTurns.{undue, unfollowed, without_relation}
 use Rattle.rounds_law.proofs.SearchingController.{mine_so}
 
 -- ---- it has ended
 
 -- a controller that is over because it was refused, without an established relation and without a request of the application
-over_ended : (setup : Setup) (controller : Controlling) (live : Live) (step : Stepped) → controller.setup ≡ setup → live.access.waiting ≡ None
+over_ended : (setup : Setup) (controller : Controlling) (live : Live) (step : Stepped) → controller.setup ≡ setup
     → step ≡ stepped controller (stays (over cause.Refused live)) → HasEnded setup cause.Refused step.controller
-over_ended setup controller live step same alone e =
+over_ended setup controller live step same e =
     record {
       of_setup = ap (λ (s : Stepped). s.controller.setup) e ∙ same;
       in_phase = ap (λ (s : Stepped). s.controller.live.phase) e;
       unasked = ap (λ (s : Stepped). s.controller.live.asked) e;
       unestablished = ap (λ (s : Stepped). s.controller.live.stands) e;
-      alone = ap (λ (s : Stepped). s.controller.live.access.waiting) e;
+      alone = (ap (λ (s : Stepped). s.controller.live.access.waiting) e, ap (λ (s : Stepped). s.controller.live.access.plug) e);
     }
 
 unset_short : (setup : Setup) → length (set_bytes (address_asked setup.plan) (InOperation ∷ [])) ≤ 1498
@@ -81,9 +82,11 @@ module _ (setup : Setup) (identity : Identity) (good : IsSetup setup) (device : 
   refused_turn live octets refusal asked =
       let response = answer_to (call_for setup asks.Connect) refusal.status [] in
       ap (λ (h : Heard). turned setup live h) (refusal_heard octets refusal)
-      ∙ (ap (λ (a : Option Request). responded setup live response a) asked
-      ∙ (where_so (is_answer setup asks.Connect response.header) (decided setup live response asks.Connect) (stays live) (is_its_answer setup 0)
-      ∙ where_not (is_done refusal.status) _ (undone setup live refusal.status asks.Connect) refusal.negative))
+      ∙ (ap (λ (a : Option Request). after_turn setup (can_begin live) (responded setup live response a)) asked
+      ∙ (ap (after_turn setup (can_begin live))
+      (where_so (is_answer setup asks.Connect response.header) (decided setup live response asks.Connect) (stays live) (is_its_answer setup 0)
+      ∙ where_not (is_done refusal.status) _ (undone setup live refusal.status asks.Connect) refusal.negative)
+      ∙ unfollowed setup (can_begin live) (stays (denied refusal.status live)) refl))
 
   pub refused : (controller : Controlling) (spare : ℕ) (octets : List ℕ) → Asks setup identity.mac Connecting asks.Connect None spare controller
       → IsRefusal setup identity octets
@@ -94,7 +97,7 @@ module _ (setup : Setup) (identity : Identity) (good : IsSetup setup) (device : 
       ∙ ap (stepped controller) (refused_turn controller.live octets refusal asking.asked) in (
         ap (λ (s : Stepped). s.frames) step_is,
         over_ended setup controller (record controller.live { refusal = Some refusal.status })
-            (controller_step controller octets) asking.of_setup asking.alone step_is,
+            (controller_step controller octets) asking.of_setup step_is,
       )
 
   -- ---- the IP suite
@@ -119,7 +122,7 @@ module _ (setup : Setup) (identity : Identity) (good : IsSetup setup) (device : 
       let step_is = ap (λ (s : Setup). stepped controller (turn_of s controller.live (Frame (record { items = unset_frame setup identity })))) asking.of_setup
       ∙ ap (stepped controller) (unset_turn controller.live asking.in_phase) in (
         ap (λ (s : Stepped). s.frames) step_is,
-        over_ended setup controller controller.live (controller_step controller (unset_frame setup identity)) asking.of_setup asking.alone step_is,
+        over_ended setup controller controller.live (controller_step controller (unset_frame setup identity)) asking.of_setup step_is,
       )
 
 -- ---- units
@@ -129,12 +132,13 @@ ended_turn : (setup : Setup) (why : Cause) (live : Live) → live.phase ≡ Ende
     → turn_of setup live Tick ≡ stays (later live)
 ended_turn setup why live ended none unrelated =
     ap (λ (p : State). if is_limited p && live.left == 1 then quit setup cause.NoProgress (later live) live.phase
-    else gone_on (later live) (is_again live)) ended
+    else gone_on (turn_due setup (is_again live) (later live)) (is_again live)) ended
+    ∙ (ap (λ (l : Live). gone_on l (is_again live)) (undue setup (is_again live) (later live) (without_relation (later live) unrelated))
     ∙ (ap (λ (b : Bool). if b then flowed (exchange_later (later live)) (due live.alarms.sending) (due live.low_alarms.sending)
     (is_again live) (brought (later live)) (brought (later live)).ending
     else record { live = later live; sent = where_due (is_again live) (requests_of live.device live.asked) }) unrelated
     ∙ (ap (λ (a : Option Request). record { live = later live; sent = where_due (is_again live) (requests_of live.device a) }) none
-    ∙ nothing_due (is_again live)))
+    ∙ nothing_due (is_again live))))
   where
     nothing_due : (b : Bool) → record { live = later live; sent = where_due b [] } ≡ stays (later live)
     nothing_due true = refl
@@ -151,6 +155,9 @@ ended_unit setup why controller ended =
         in_phase = ap (λ (s : Stepped). s.controller.live.phase) step_is ∙ ended.in_phase;
         unasked = ap (λ (s : Stepped). s.controller.live.asked) step_is ∙ ended.unasked;
         unestablished = ap (λ (s : Stepped). s.controller.live.stands) step_is ∙ ended.unestablished;
-        alone = ap (λ (s : Stepped). s.controller.live.access.waiting) step_is ∙ ended.alone;
+        alone = (
+          ap (λ (s : Stepped). s.controller.live.access.waiting) step_is ∙ ended.alone.0,
+          ap (λ (s : Stepped). s.controller.live.access.plug) step_is ∙ ended.alone.1,
+        );
       },
     )

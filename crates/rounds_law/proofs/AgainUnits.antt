@@ -36,7 +36,8 @@ use Rattle.relations.specs.Plugging.{ready_for}
 use Rattle.relations.specs.RelationState.{RelationState}
 use Rattle.relations.specs.Timers.{Due, due_by, due_of, ending_of, is_timed, limit_of, unit_later}
 use Rattle.device_frames.specs.Heard.{Ticks}
-use Rattle.device_frames.specs.Relation.{alarms_of, due_frames, farewells_in, frames_in, inputs_of, low_alarms_of, plug_call_in, plug_calls, ready_calls, where_due}
+use Rattle.device_frames.specs.Relation.{alarms_of, due_frames, farewells_in, frames_in, inputs_of, low_alarms_of, plug_call_in, plug_calls, ready_calls}
+use Rattle.device_frames.specs.Relation.{where_due}
 use Rattle.device_frames.specs.Sendable.{AreSendable}
 use Rattle.device_frames.specs.Sent.{Sent, bytes_of}
 use Rattle.device_core.specs.State.{Live, Station, counter_of, units_after}
@@ -119,27 +120,32 @@ plug_made partner request call = record {
   };
 }
 
-plug_known : (setup : Setup) (ar : List ℕ) (call : PlugCall) → IsSetup setup → IsUuid ar → call.sequence < 4294967296
-    → IsPlugCall (plug_made (partner_of (caller_of setup.plan.controller)) (request_for setup.plan ar) call)
-plug_known setup ar call good sized few = record {
+plug_known : (setup : Setup) (ar : List ℕ) (call : PlugCall) → IsSetup setup → IsUuid ar → (ar ≡ setup.ar → ⊥) → call.sequence < 4294967296
+    → IsPlugCall setup (plug_made (partner_of (caller_of setup.plan.controller)) (request_for setup.plan ar) call)
+plug_known setup ar call good sized other few = record {
   mac = good.mac;
   address = good.address;
   header = record { object = refl; interface = refl; activity = sized; sequence = few; operation = omega arith };
   interface = refl;
+  operation = refl;
   uuid = sized;
+  key = omega arith;
+  command = omega arith;
+  properties = omega arith;
+  other = other;
 }
 
 module _ (setup : Setup) (good : IsSetup setup) where
-  plugs_all : (address : List ℕ) (link : RelationState) (ar : List ℕ) → IsUuid ar
+  plugs_all : (address : List ℕ) (link : RelationState) (ar : List ℕ) → IsUuid ar → (ar ≡ setup.ar → ⊥)
       → link.request ≡ request_for setup.plan ar → link.partner ≡ partner_of (caller_of setup.plan.controller)
       → (standing : Option PlugCall) → IsNumberedCall standing
       → AllByRecursion (IsOfUnit setup) (plug_call_in address (option_map (ready_for link) standing))
-  plugs_all address link ar sized request partner None few = tt
-  plugs_all address link ar sized request partner (Some call) few = (
-    subst IsPlugCall
+  plugs_all address link ar sized other request partner None few = tt
+  plugs_all address link ar sized other request partner (Some call) few = (
+    subst (IsPlugCall setup)
         (sym (ap (λ (p : Partner). plug_made p link.request call) partner
         ∙ ap (λ (r : Request). plug_made (partner_of (caller_of setup.plan.controller)) r call) request))
-        (plug_known setup ar call good sized few),
+        (plug_known setup ar call good sized other few),
     tt,
   )
 
@@ -160,7 +166,7 @@ module _ (setup : Setup) (good : IsSetup setup) where
       (all_due P due.is_low _ (low_all setup link.flow link.flow.low.alarms.sender.standing))
       (all_both P (where_due due.is_ready (ready_calls address (Some link))) _ (all_due P due.is_ready _ (calls, tt))
       (all_both P (where_due due.is_plug_ready (plug_calls address (Some link))) _
-      (all_due P due.is_plug_ready _ (plugs_all address link ar sized request partner link.plugs.calls.standing called.1))
+      (all_due P due.is_plug_ready _ (plugs_all address link ar sized other request partner link.plugs.calls.standing called.1))
       (all_due P due.is_cyclic (inputs_of counter (Some link.flow)) (ap (λ (r : Route). is_cyclic r.sent_id) route, tt))))))
 
   all_ignored : HeardLaws → (identity : Identity) → IsDevice identity → (sent : List Sent) → AllByRecursion (IsOfUnit setup) sent → AreSendable identity sent

@@ -46,7 +46,7 @@ lowered_good alarm few = record {
 
 -- ---- one number
 
-two_low : (x : ℕ) → big_bytes 2 (x % 65536) ≡ big_bytes 2 x
+pub two_low : (x : ℕ) → big_bytes 2 (x % 65536) ≡ big_bytes 2 x
 two_low x =
     let high : x % 65536 / 256 % 256 ≡ x / 256 % 256 = omega arith in
     let low : x % 65536 % 256 ≡ x % 256 = omega arith in

@@ -33,16 +33,18 @@ use Rattle.controller_messages.specs.Heard.{heard_alarm, heard_content, heard_of
 use Rattle.controller_messages.specs.Sent.{calls_at}
 use Rattle.controller_core.specs.declared.stored.state.State.{State}
 use Rattle.controller_core.specs.declared.stored.state.State.TheVariants.{Addressing, Connecting, Looking}
+use Rattle.controller_messages.specs.PlugRequests.{plug_ready_in}
 use Rattle.controller_core.specs.start_up.Answers.{is_ready, ready_in}
 use Rattle.controller_core.specs.stored.Alarms.{is_alarm}
 use Rattle.controller_core.specs.stored.State.{Controlling, Live}
-use Rattle.controller_core.specs.Machine.{Stepped, called, noticed, readied, step_of, stepped, stays, turned}
+use Rattle.controller_core.specs.Machine.{Stepped, after_turn, called, can_begin, is_exchanging, noticed, readied, step_of, stepped, stays, turned}
 use Rattle.end_laws.specs.hearing.Hearing.{mine_reported}
 use Rattle.end_laws.specs.hearing.Stations.{IsAddress, IsDevice, plug_ready_call, ready_call}
 use Rattle.rounds_law.specs.Path.{IsIgnored, controller_step}
 use Rattle.rounds_law.proofs.AgainIgnored as again
 use Rattle.rounds_law.proofs.AnywhereDeviceSays.{IsSizedPlug, IsSizedReady}
 use Rattle.rounds_law.proofs.Choices.{where_not, where_so}
+use Rattle.rounds_law.proofs.PlaceTurns.{uncalled, unchanged}
 use Rattle.rounds_law.proofs.CompositionLists.{Kept, keep}
 
 -- ---- what is ignored
@@ -92,9 +94,16 @@ readied_early live caller call block Addressing early = refl
 readied_early live caller call block Connecting early = refl
 readied_early live caller call block phase early = absurd early
 
+unexchanging : (phase : State) → IsEarly phase → is_exchanging phase ≡ false
+unexchanging Looking early = refl
+unexchanging Addressing early = refl
+unexchanging Connecting early = refl
+unexchanging phase early = absurd early
+
 called_early : (setup : Setup) (live : Live) (caller : Caller) (call : Call) (found : Option ControlBlock) → IsEarly live.phase
     → called setup live caller call found ≡ stays live
-called_early setup live caller call None early = refl
+called_early setup live caller call None early =
+    ap (after_turn setup (can_begin live)) (uncalled setup live caller call (plug_ready_in call) (unexchanging live.phase early)) ∙ unchanged setup live
 called_early setup live caller call (Some block) early = by_test (is_ready setup block)
   where
     by_test : (is : Bool) → (if is then readied live caller call block live.phase else stays live) ≡ stays live
@@ -110,7 +119,8 @@ turned_early setup live (Calls caller call) unrelated early quiet = called_early
 turned_early setup live (Cyclic source frame_id body) unrelated early quiet =
     ap (λ (b : Bool). stays (if b then record live { cyclic = behind_frame live.cyclic source frame_id body } else live)) unrelated
 turned_early setup live (Alarms source under header notice) unrelated early quiet =
-    ap (λ (b : Bool). if b && is_alarm live.cyclic.route source header then noticed live under notice else stays live) unrelated
+    ap (λ (b : Bool). after_turn setup (can_begin live) (if b && is_alarm live.cyclic.route source header then noticed live under notice else stays live))
+    unrelated ∙ unchanged setup live
 
 ignored_early : (setup : Setup) (octets : List ℕ) → IsQuiet (heard_of setup.plan.controller octets) → IsIgnoredEarly setup octets
 unfolding step_of

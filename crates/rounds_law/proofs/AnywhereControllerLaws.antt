@@ -5,10 +5,12 @@ use Rattle.std.proofs.lemmas.Bool.{and_parts}
 use Rattle.rpc_core.specs.Call.{Asked as Call}
 use Rattle.rpc_core.specs.Sendable.{CanBeAnswered, IsHeader, IsUuid}
 use Rattle.connect_blocks.specs.declared.control.ControlBlock.{ControlBlock}
+use Rattle.connect_blocks.specs.declared.plug_control.PlugControlBlock.{PlugControlBlock}
 use Rattle.plans.specs.declared.parts.Parts.{Parts}
 use Rattle.controller_messages.specs.declared.setup.ControllerOptions.{ControllerOptions}
 use Rattle.controller_messages.specs.declared.setup.Setup.{Setup}
 use Rattle.controller_messages.specs.Heard.{heard_of}
+use Rattle.controller_messages.specs.PlugRequests.{plug_answer}
 use Rattle.controller_messages.specs.Sent.{ready_answer}
 use Rattle.controller_core.specs.declared.stored.event.Event.{Event}
 use Rattle.controller_core.specs.stored.State.{Controlling, Live}
@@ -38,12 +40,18 @@ abbrev pub AnswersCanBeSent : Type 0
 AnswersCanBeSent = (call : Call) (block : ControlBlock) → IsHeader call.header → call.args_maximum < 4294967296 → IsUuid block.ar_uuid
     → CanBeAnswered (ready_answer call block)
 
+-- So can that of a plug.
+abbrev pub PlugAnswersCanBeSent : Type 0
+PlugAnswersCanBeSent = (call : Call) (block : PlugControlBlock) → IsHeader call.header → call.args_maximum < 4294967296 → IsUuid block.ar_uuid
+    → CanBeAnswered (plug_answer call block)
+
 -- The clauses of the functions below.
 pub record ControllerLaws : Type 0 where
   pub kinds : TurnsAreOfAKind
   pub begins : BeginsSteady
   pub goes_on : StaysSteady
   pub can_answer : AnswersCanBeSent
+  pub can_answer_plug : PlugAnswersCanBeSent
   pub left : HasTimeLeft
   pub cause : KeepsItsCause
   pub dropped : DropsWhatComes

@@ -1,6 +1,7 @@
 -- What holds of a controller holds in any state that events lead to.
 use Rattle.std.proofs.Common.{◌≡◌, ◌⊎◌, inl, inr, ◌≤◌, ◌<◌, ◌+◌, ℕ, Bool, true, false, List, [], ◌∷◌, Some, None, refl, sym, ap, subst, ◌∙◌, arith}
 use Rattle.std.proofs.Math.Nat.{max-le}
+use Rattle.std.proofs.lemmas.Option.{none-some}
 use Rattle.pn_values.specs.declared.mac.Mac.{Mac}
 use Rattle.frame_codec.specs.Sendable.{IsMac}
 use Rattle.dcp_core.specs.Response.{Answered}
@@ -13,7 +14,10 @@ use Rattle.connects.specs.answers.Connect.{Chosen}
 use Rattle.controller_messages.specs.declared.request.Request.{Request}
 use Rattle.controller_messages.specs.declared.request.Request.TheVariants as asks
 use Rattle.controller_messages.specs.declared.setup.Setup.{Setup}
+use Rattle.plan_places.specs.Places.{Told}
 use Rattle.controller_messages.specs.Access.{Accessing, made}
+use Rattle.controller_messages.specs.PlugRequests.{plug_answer}
+use Rattle.controller_messages.specs.Sent.{Agrees}
 use Rattle.controller_messages.specs.Heard.{Answers, Heard, Nothing}
 use Rattle.controller_messages.specs.Requests.{writing_from}
 use Rattle.controller_core.specs.declared.stored.event.Event.{Event}
@@ -22,26 +26,28 @@ use Rattle.controller_core.specs.declared.stored.state.State.{State}
 use Rattle.controller_core.specs.declared.stored.state.State.TheVariants.{Looking, Addressing, Connecting, Ending, Waiting, Exchanging}
 use Rattle.controller_core.specs.stored.Cause.{cause_of}
 use Rattle.controller_core.specs.stored.State.{Controlling, Live, phase_for}
-use Rattle.controller_core.specs.Machine.{Turn, behind_data, end_of, first, flow_later, fresh_with}
-use Rattle.controller_core.specs.Machine.{standing, step_of, writing}
+use Rattle.controller_core.specs.Machine.{Turn, after_turn, behind_data, can_begin, end_of, first, fresh_with, plug_readied}
+use Rattle.controller_core.specs.Machine.{standing, stays, step_of, taken, writing}
 use Rattle.end_laws.specs.hearing.Stations.{IsSetup}
 use Rattle.end_laws.specs.sending.Sized.{AreFew}
 use Rattle.end_laws.specs.controller.Small.{IsSteady}
 use Rattle.end_laws.specs.turns.Runs.{IsReached, behind_all}
 use Rattle.end_laws.specs.turns.Turns.{Came, Hears, IsKind, Kind, Rests, Connects, Addresses, Ends, Releases, Relates, Writes, Skips, Waits, Forgets}
-use Rattle.end_laws.specs.turns.Turns.{Begins, Repeats, Follows, Takes, IsAcked, Gives, GivesStatus, Asks, IsReplied, Flows, Breaks, Idles, came_by}
-use Rattle.end_laws.specs.turns.Turns.{turn_by}
+use Rattle.end_laws.specs.turns.Turns.{Begins, Repeats, Follows, Takes, IsAcked, Gives, GivesStatus, Asks, IsReplied, IsPlugAnswered, IsPlugReadied}
+use Rattle.end_laws.specs.turns.Turns.{Flows, Breaks, Idles, came_by, turn_by}
+use Rattle.end_laws.specs.turns.Beside.{flow_begun}
 use Rattle.rounds_law.proofs.AnywhereControllerKept.{IsKept, IsOfPlan, KeptWith, PhaseOf, Runs, acked_kept, asked_in, data_kept, flow_kept, later_kept}
 use Rattle.rounds_law.proofs.AnywhereControllerKept.{over_kept, released_kept, runs_for, stands_for, stands_in, taken_kept}
 use Rattle.rounds_law.proofs.AnywhereControllerHeard.{answered_by}
 use Rattle.rounds_law.proofs.AnywhereControllerLaws.{ControllerLaws, reached_on, reached_steady}
 use Rattle.rounds_law.proofs.AnywhereControllerSizes.{frame_long, writing_few}
+use Rattle.rounds_law.proofs.AnywhereTurnless.{IsTurnless, flow_same, no_turn, reached_turnless, setup_all, setup_on, taken_turnless}
 use Rattle.rounds_law.proofs.ControllerPassingParts.{frame_on}
 
 -- ---- each kind of turn
 
 module _ (setup : Setup) (good : IsSetup setup) (live : Live) (came : Came) (is : IsKept setup live) (steady : IsSteady setup.plan live)
-    (answers : (source : Mac) (answer : Answered) → came ≡ Hears (Answers source answer) → IsMac source) where
+    (answers : (source : Mac) (answer : Answered) → came ≡ Hears (Answers source answer) → IsMac source) (quiet : IsTurnless live) where
   pub station_six : (source : Mac) → (source ≡ live.device) ⊎ ((answer : Answered) × (came ≡ Hears (Answers source answer))) → IsMac source
   station_six source (inl same) = subst IsMac (sym same) is.device
   station_six source (inr heard) = answers source heard.0 heard.1
@@ -82,8 +88,9 @@ module _ (setup : Setup) (good : IsSetup setup) (live : Live) (came : Came) (is 
   in_phase_of request stood = asked_in setup.plan live.phase live.asked request steady.asked stood
 
   -- With what a device chose.
-  related_kept : (chosen : Chosen) → IsKept setup (writing setup (writing_from setup.plan 0) (standing setup live chosen)).live
-  related_kept chosen =
+  related_kept : (places : Told) (chosen : Chosen)
+      → IsKept setup (writing setup (writing_from setup.plan 0) (standing setup (record live { places = places }) chosen)).live
+  related_kept places chosen =
       let next = writing_from setup.plan 0 in
       record {
         device = is.device;
@@ -142,6 +149,10 @@ module _ (setup : Setup) (good : IsSetup setup) (live : Live) (came : Came) (is 
     low = is.low;
   }
 
+  -- No turn follows.
+  followed_kept : (turn : Turn) → turn.live.places.has_turns ≡ false → IsKept setup turn.live → IsKept setup (after_turn setup (can_begin live) turn).live
+  followed_kept turn off at = subst (λ (t : Turn). IsKept setup t.live) (sym (no_turn setup (can_begin live) turn off)) at
+
   pub kind_kept : (kind : Kind) → IsKind setup live came kind → IsKept setup (turn_by setup live kind).live
   kind_kept Rests holds = is
   kind_kept (Connects source) holds = asked_kept Connecting source asks.Connect (station_six source holds.known) tt (seeks holds.seeking) tt
@@ -149,7 +160,7 @@ module _ (setup : Setup) (good : IsSetup setup) (live : Live) (came : Came) (is 
   kind_kept (Ends cause refusal refused units) holds = over_kept setup cause (record live { refusal = refusal; refused_record = refused; units = units }) is
   kind_kept (Releases cause refusal refused units) holds =
       released_kept setup cause (record live { refusal = refusal; refused_record = refused; units = units }) is
-  kind_kept (Relates chosen) holds = related_kept chosen
+  kind_kept (Relates places chosen) holds = related_kept places chosen
   kind_kept (Writes number) holds = writing_kept (number + 1) (is.stands ∙ ap stands_in (in_phase_of (asks.Write number) holds.0.stood))
   kind_kept (Skips number refused status) holds = writing_kept (number + 1) (is.stands ∙ ap stands_in (in_phase_of (asks.Write number) holds.stood))
   kind_kept Waits holds = unasked_kept Waiting live.cyclic (is.stands ∙ ap stands_in (in_phase_of asks.PrmEnd holds.stood)) tt is.cyclic
@@ -158,15 +169,21 @@ module _ (setup : Setup) (good : IsSetup setup) (live : Live) (came : Came) (is 
   kind_kept (Repeats caller call block) holds = is
   kind_kept (Follows source frame_id body) holds = frame_kept source frame_id body
   kind_kept (Takes number report) holds =
-      taken_kept setup (behind_data live report.priority number) report (taken_as (end_of live report.priority).seen number)
-      (data_kept setup live report.priority number is)
+      let behind = behind_data live report.priority number in
+      let as_what = taken_as (end_of live report.priority).seen number in
+      followed_kept (taken behind report as_what) (taken_turnless live report number as_what quiet).0
+      (taken_kept setup behind report as_what (data_kept setup live report.priority number is))
   kind_kept (IsAcked priority number) holds = acked_kept setup live priority number is
   kind_kept (Gives slot subslot value) holds = is
   kind_kept (GivesStatus slot subslot is_good) holds = is
   kind_kept (Asks request octets) holds = accessing_kept (made request octets live.access)
-  kind_kept (IsReplied refusal access) holds = is
-  kind_kept Flows holds = flow_kept setup live is
-  kind_kept (Breaks reason) holds = over_kept setup (cause_of reason) (flow_later live) (flow_kept setup live is)
+  kind_kept (IsReplied refusal access) holds = followed_kept (stays (record live { refusal = refusal; access = access })) quiet.0 is
+  kind_kept (IsPlugAnswered refusal refused waited places access) holds = absurd (none-some holds.4 (sym quiet.1 ∙ holds.5))
+  kind_kept (IsPlugReadied caller call block) holds =
+      followed_kept (record { live = plug_readied live block.alarm_sequence_number; sent = Agrees caller (plug_answer call block) ∷ [] }) quiet.0 is
+  kind_kept Flows holds = subst (IsKept setup) (sym (flow_same setup live quiet.0)) (flow_kept setup live is)
+  kind_kept (Breaks reason) holds =
+      over_kept setup (cause_of reason) (flow_begun setup live) (subst (IsKept setup) (sym (flow_same setup live quiet.0)) (flow_kept setup live is))
   kind_kept Idles holds = later_kept setup live is
 
 -- ---- any events
@@ -179,14 +196,6 @@ heard_in came = Nothing
 pub stations_answer : (setup : Setup) (event : Event) (source : Mac) (answer : Answered) → came_by setup event ≡ Hears (Answers source answer) → IsMac source
 stations_answer setup (Frame bytes) source answer e = answered_by setup.plan.controller bytes.items source answer (ap heard_in e)
 stations_answer setup event source answer e = absurd cc
-
-setup_on : (controller : Controlling) (event : Event) → (step_of controller event).controller.setup ≡ controller.setup
-unfolding step_of
-setup_on controller event = refl
-
-setup_all : (events : List Event) (controller : Controlling) → (behind_all events controller).setup ≡ controller.setup
-setup_all [] controller = refl
-setup_all (event ∷ events) controller = setup_all events (step_of controller event).controller ∙ setup_on controller event
 
 first_kept : (setup : Setup) → IsSetup setup → IsKept setup (first setup.plan)
 first_kept setup good = record {
@@ -201,27 +210,32 @@ first_kept setup good = record {
 }
 
 module _ (laws : ControllerLaws) where
-  kept_on : (controller : Controlling) (event : Event) → IsSetup controller.setup → IsSteady controller.setup.plan controller.live
+  kept_on : (controller : Controlling) (event : Event) → IsSetup controller.setup → IsSteady controller.setup.plan controller.live → IsTurnless controller.live
       → IsKept controller.setup controller.live
       → IsKept (step_of controller event).controller.setup (step_of controller event).controller.live
   unfolding step_of
-  kept_on controller event good steady is =
+  kept_on controller event good steady quiet is =
       let turn = laws.kinds controller.setup controller.live event in
       subst (λ (t : Turn). IsKept controller.setup t.live) (sym turn.is)
-      (kind_kept controller.setup good controller.live (came_by controller.setup event) is steady (stations_answer controller.setup event) turn.kind turn.holds)
+      (kind_kept controller.setup good controller.live (came_by controller.setup event) is steady (stations_answer controller.setup event) quiet turn.kind
+      turn.holds)
 
-  kept_all : (events : List Event) (controller : Controlling) → IsReached controller → IsSetup controller.setup → IsKept controller.setup controller.live
+  kept_all : (events : List Event) (controller : Controlling) → IsReached controller → IsSetup controller.setup
+      → controller.setup.plan.parameters_after_plug ≡ false → IsKept controller.setup controller.live
       → IsKept (behind_all events controller).setup (behind_all events controller).live
-  kept_all [] controller reached good is = is
-  kept_all (event ∷ events) controller reached good is =
+  kept_all [] controller reached good keyless is = is
+  kept_all (event ∷ events) controller reached good keyless is =
       kept_all events (step_of controller event).controller (reached_on controller event reached) (subst IsSetup (sym (setup_on controller event)) good)
-      (kept_on controller event good (reached_steady laws controller reached) is)
+      (subst (λ (s : Setup). s.plan.parameters_after_plug ≡ false) (sym (setup_on controller event)) keyless)
+      (kept_on controller event good (reached_steady laws controller reached) (reached_turnless laws controller reached keyless) is)
 
-  pub reached_kept : (setup : Setup) (controller : Controlling) → IsSetup setup → controller.setup ≡ setup → IsReached controller → IsKept setup controller.live
-  reached_kept setup controller good of_setup r =
+  pub reached_kept : (setup : Setup) (controller : Controlling) → IsSetup setup → controller.setup ≡ setup → IsReached controller
+      → setup.plan.parameters_after_plug ≡ false → IsKept setup controller.live
+  reached_kept setup controller good of_setup r keyless =
       let fresh = fresh_with r.plan r.ar r.activity r.options in
       let same : fresh.setup ≡ setup = sym (ap (λ (c : Controlling). c.setup) r.made ∙ setup_all r.events fresh) ∙ of_setup in
       let begun : IsSetup fresh.setup = subst IsSetup (sym same) good in
       let reached : IsReached fresh = record { plan = r.plan; ar = r.ar; activity = r.activity; options = r.options; events = []; made = refl } in
       subst (λ (s : Setup). IsKept s controller.live) of_setup
-      (subst (λ (c : Controlling). IsKept c.setup c.live) (sym r.made) (kept_all r.events fresh reached begun (first_kept fresh.setup begun)))
+      (subst (λ (c : Controlling). IsKept c.setup c.live) (sym r.made) (kept_all r.events fresh reached begun
+      (subst (λ (s : Setup). s.plan.parameters_after_plug ≡ false) (sym same) keyless) (first_kept fresh.setup begun)))

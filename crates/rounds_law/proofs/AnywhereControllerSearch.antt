@@ -18,12 +18,15 @@ use Rattle.controller_messages.specs.declared.request.Request.TheVariants as ask
 use Rattle.controller_messages.specs.declared.setup.Setup.{Setup}
 use Rattle.controller_messages.specs.Heard.{Heard, Nothing, Answers, Responds, Refuses, Calls, Alarms, heard_of}
 use Rattle.controller_messages.specs.Heard.{Cyclic as Comes}
+use Rattle.controller_messages.specs.PlugRequests.{plug_ready_in}
 use Rattle.controller_messages.specs.Sent.{Requests, Sent, bytes_of}
 use Rattle.controller_core.specs.declared.stored.state.State.{State}
 use Rattle.controller_core.specs.declared.stored.state.State.TheVariants.{Looking}
 use Rattle.controller_core.specs.start_up.Answers.{is_addressed, is_found, is_ready, is_right, ready_in}
+use Rattle.controller_core.specs.stored.Alarms.{is_alarm}
 use Rattle.controller_core.specs.stored.State.{Controlling, Live, is_limited}
-use Rattle.controller_core.specs.Machine.{Stepped, Turn, answered, called, found, gone_on, is_again, is_spent, later, opening_of, readied, refused}
+use Rattle.controller_core.specs.Machine.{Stepped, Turn, after_turn, answered, called, can_begin, found, gone_on, is_again, is_exchanging, is_spent}
+use Rattle.controller_core.specs.Machine.{later, noticed, opening_of, readied, refused}
 use Rattle.controller_core.specs.Machine.{requests_of, responded}
 use Rattle.controller_core.specs.Machine.{stays, step_of, ticked, turned, where_due}
 use Rattle.end_laws.specs.hearing.Hearing.{mine_hears}
@@ -37,6 +40,7 @@ use Rattle.rounds_law.proofs.AnywhereControllerLaws.{ControllerLaws, reached_ste
 use Rattle.rounds_law.proofs.AnywhereControllerReached.{reached_kept}
 use Rattle.rounds_law.proofs.AnywhereParts.{ControllerFinds, ControllerSearch, SearchFrame}
 use Rattle.rounds_law.proofs.ControllerPassingUnits.{goes_on}
+use Rattle.rounds_law.proofs.PlaceTurns.{uncalled, unchanged, undue, without_relation}
 use Rattle.rounds_law.proofs.SearchingController.{found_by_name, mine_so, step_is}
 use Rattle.rounds_law.proofs.SearchingSizes.{identify_short}
 
@@ -58,7 +62,7 @@ searches_so : ControllerLaws → (setup : Setup) (controller : Controlling) → 
 searches_so laws setup controller good any looking = record {
   in_phase = looking;
   asked = subst (λ (p : State). IsInStep controller.setup.plan p controller.live.asked) looking (reached_steady laws controller any.reached).asked;
-  down = (reached_kept laws setup controller good any.of_setup any.reached).stands ∙ ap stands_in looking;
+  down = (reached_kept laws setup controller good any.of_setup any.reached any.turnless).stands ∙ ap stands_in looking;
 }
 
 -- The turn with this state and these messages.
@@ -71,7 +75,8 @@ search_turn setup live is =
     let unspent : is_spent live ≡ false = ap (λ (p : State). is_limited p && live.left == 1) is.in_phase in
     let bare : gone_on (later live) (is_again live) ≡ turn_with (later live) (where_due (is_again live) (requests_of live.device live.asked)) =
     rw is.down refl in
-    goes_on setup live unspent ∙ (bare ∙ ap (λ (o : Option Request). turn_with (later live) (where_due (is_again live) (requests_of live.device o))) is.asked)
+    goes_on setup live unspent (undue setup (is_again live) (later live) (without_relation (later live) is.down))
+    ∙ (bare ∙ ap (λ (o : Option Request). turn_with (later live) (where_due (is_again live) (requests_of live.device o))) is.asked)
 
 -- What a turn of the search shows.
 abbrev Shows : Controlling → Turn → Type 0
@@ -96,6 +101,9 @@ module _ (setup : Setup) (live : Live) (is : Searches live) where
   either true one other first second = first
   either false one other first second = second
 
+  unchanged_so : (turn : Turn) → turn ≡ stays live → GoesOn live turn
+  unchanged_so turn same = subst (GoesOn live) (sym same) (inr refl)
+
   found_so : (source : Mac) (answer : Answered) → GoesOn live (found setup live source answer)
   found_so source answer =
       either (is_right setup.plan answer) _ _ (either (is_addressed setup.plan answer) _ _ (inl (λ e. absurd cc)) (inl (λ e. absurd cc))) (inl (λ e. absurd cc))
@@ -111,16 +119,25 @@ module _ (setup : Setup) (live : Live) (is : Searches live) where
   called_so : (caller : Caller) (call : Call) (block : Option ControlBlock) → GoesOn live (called setup live caller call block)
   called_so caller call (Some block) =
       either (is_ready setup block) (readied live caller call block live.phase) (stays live) (readied_so caller call block) (inr refl)
-  called_so caller call None = inr refl
+  called_so caller call None =
+      unchanged_so (called setup live caller call None)
+      (ap (after_turn setup (can_begin live)) (uncalled setup live caller call (plug_ready_in call) (ap is_exchanging is.in_phase)) ∙ unchanged setup live)
 
   heard_so : (heard : Heard) → GoesOn live (turned setup live heard)
   heard_so Nothing = inr refl
   heard_so (Answers source answer) = answered_so source answer
-  heard_so (Responds response) = subst (λ (o : Option Request). GoesOn live (responded setup live response o)) (sym is.asked) (inr refl)
-  heard_so (Refuses refusal) = subst (λ (o : Option Request). GoesOn live (refused setup live refusal o)) (sym is.asked) (inr refl)
+  heard_so (Responds response) =
+      unchanged_so (turned setup live (Responds response))
+      (ap (λ (o : Option Request). after_turn setup (can_begin live) (responded setup live response o)) is.asked ∙ unchanged setup live)
+  heard_so (Refuses refusal) =
+      unchanged_so (turned setup live (Refuses refusal))
+      (ap (λ (o : Option Request). after_turn setup (can_begin live) (refused setup live refusal o)) is.asked ∙ unchanged setup live)
   heard_so (Calls caller call) = called_so caller call (ready_in call)
   heard_so (Comes source frame_id body) = rw is.down (inr refl)
-  heard_so (Alarms source under header notice) = rw is.down (inr refl)
+  heard_so (Alarms source under header notice) =
+      unchanged_so (turned setup live (Alarms source under header notice))
+      (ap (λ (b : Bool). after_turn setup (can_begin live) (if b && is_alarm live.cyclic.route source header then noticed live under notice else stays live))
+      is.down ∙ unchanged setup live)
 
 -- ---- the parts
 
@@ -128,7 +145,7 @@ module _ (laws : ControllerLaws) (setup : Setup) where
   pub controller_search : ControllerSearch setup
   unfolding step_of
   controller_search good controller any looking =
-      let kept = reached_kept laws setup controller good any.of_setup any.reached in
+      let kept = reached_kept laws setup controller good any.of_setup any.reached any.turnless in
       subst (Shows controller) (sym (search_turn controller.setup controller.live (searches_so laws setup controller good any looking)))
       (shows controller looking kept.waited)
 

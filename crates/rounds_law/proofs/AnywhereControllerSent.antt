@@ -1,5 +1,6 @@
 -- What a controller in any state sends: its own messages, with their sizes.
-use Rattle.std.proofs.Common.{◌≡◌, ◌⊎◌, inl, inr, ◌<◌, ◌==◌, ℕ, Bool, true, List, [], ◌∷◌, map, Option, Some, None, refl, sym, ap, subst, arith}
+use Rattle.std.proofs.Common.{◌≡◌, ◌⊎◌, inl, inr, ◌<◌, ◌==◌, ◌&&◌, ℕ, Bool, true, List, [], ◌∷◌, map, Option, Some, None, is_some, refl, sym, ap, subst, arith}
+use Rattle.std.specs.Prelude.{if◌then◌else◌}
 use Rattle.std.specs.List.{AllByRecursion}
 use Rattle.pn_values.specs.declared.mac.Mac.{Mac}
 use Rattle.frame_codec.specs.declared.udp.Caller.{Caller}
@@ -8,6 +9,7 @@ use Rattle.frame_codec.specs.Sendable.{IsMac}
 use Rattle.rpc_core.specs.Call.{Asked as Call}
 use Rattle.rpc_core.specs.Response.{Answered as Response}
 use Rattle.connect_blocks.specs.declared.control.ControlBlock.{ControlBlock}
+use Rattle.connect_blocks.specs.declared.plug_control.PlugControlBlock.{PlugControlBlock}
 use Rattle.record_blocks.specs.declared.alarm_ack.AlarmAck.{AlarmAck}
 use Rattle.pn_alarms.specs.declared.abort.Abort.{Abort}
 use Rattle.pn_alarms.specs.declared.pdu.Header.{Header}
@@ -22,15 +24,17 @@ use Rattle.diagnosis.specs.declared.reports.report.Report.{Report}
 use Rattle.diagnosis.specs.Sendable.{IsHeader}
 use Rattle.cyclic_data.specs.Image.{Shown}
 use Rattle.cyclic_data.specs.declared.exchange.route.Route.{Route}
+use Rattle.controller_messages.specs.declared.plug_request.PlugRequest.{PlugRequest}
 use Rattle.controller_messages.specs.declared.record_request.RecordRequest.{RecordRequest}
 use Rattle.controller_messages.specs.declared.request.Request.{Request}
 use Rattle.controller_messages.specs.declared.setup.Setup.{Setup}
 use Rattle.controller_messages.specs.Heard.{Calls, Heard}
+use Rattle.controller_messages.specs.PlugRequests.{is_plug_ready, plug_answer}
 use Rattle.controller_messages.specs.Sent.{Sent, Requests, Agrees, Cycles, Confirms, Replies, Ends, bytes_of, ready_answer}
 use Rattle.controller_core.specs.stored.Alarms.{ack_of, header_of}
 use Rattle.controller_core.specs.stored.State.{Live}
-use Rattle.controller_core.specs.Machine.{accesses_by, acks_in, acks_of, confirming, due_frames, end_of, outputs_of, pending_by, pending_of}
-use Rattle.controller_core.specs.Machine.{taken, where_due}
+use Rattle.controller_core.specs.Machine.{accesses_by, accesses_of, acks_in, acks_of, confirming, due_frames, end_of, outputs_of, pending_by, pending_of}
+use Rattle.controller_core.specs.Machine.{plugs_by, taken, where_due}
 use Rattle.end_laws.specs.hearing.Stations.{IsRoute, IsSetup}
 use Rattle.end_laws.specs.sending.Messages.{CanBeSent, IsWay}
 use Rattle.end_laws.specs.sending.Sized.{AreFew, IsFew, IsShort}
@@ -38,7 +42,7 @@ use Rattle.end_laws.specs.turns.Turns.{Hears, IsReadied}
 use Rattle.rounds_law.specs.Anywhere.{IsFit}
 use Rattle.rounds_law.proofs.AnywhereControllerAcks.{cut, cut_fits, sent_cut}
 use Rattle.rounds_law.proofs.AnywhereControllerKept.{IsKept, confirming_kept, end_kept}
-use Rattle.rounds_law.proofs.AnywhereControllerLaws.{AnswersCanBeSent, named_so}
+use Rattle.rounds_law.proofs.AnywhereControllerLaws.{AnswersCanBeSent, PlugAnswersCanBeSent, named_so}
 use Rattle.rounds_law.proofs.AnywhereControllerReached.{heard_in}
 use Rattle.rounds_law.proofs.AnywhereControllerSizes.{all_append, body_few, cyclic_small, due_all, numbered}
 use Rattle.rounds_law.proofs.AnywhereParts.{AreOwn, HasWay, IsOwn}
@@ -118,6 +122,16 @@ module _ (setup : Setup) (kind : Sent → Type 0) where
       said (Agrees caller (ready_answer call block))
       (sizes.0, can_answer call block sizes.1 sizes.2 (named_so block.ar_uuid setup.ar (block.session_key == 1) ready.right good.ar)) tt is
 
+  -- That to one of a plug.
+  pub plug_agreed : PlugAnswersCanBeSent → IsSetup setup → (caller : Caller) (call : Call) (block : PlugControlBlock) → IsFit setup (Calls caller call)
+      → is_plug_ready setup block ≡ true → kind (Agrees caller (plug_answer call block)) → IsSaid (Agrees caller (plug_answer call block))
+  plug_agreed can_answer good caller call block fit right is =
+      said (Agrees caller (plug_answer call block)) (
+        fit.0,
+        can_answer call block fit.1 fit.2
+            (named_so block.ar_uuid setup.ar (block.session_key == 1 && block.control_command == 2) right good.ar),
+      ) tt is
+
   module _ (live : Live) (kept : IsKept setup live) (chosen : IsChosenIn live.cyclic.route) (allows : Allows kind live.cyclic.route) where
     -- An AlarmAck.
     confirmed : (priority : Priority) (ack : AlarmAck)
@@ -157,14 +171,17 @@ module _ (setup : Setup) (kind : Sent → Type 0) where
           tt,
         )
 
-    module _ (requests : (request : Request) → live.asked ≡ Some request → kind (Requests live.device request)) (alone : live.access.waiting ≡ None) where
+    module _ (requests : (request : Request) → live.asked ≡ Some request → kind (Requests live.device request)) (alone : live.access.waiting ≡ None)
+        (unplugged : live.access.plug ≡ None) where
       none_accesses : (waiting : Option RecordRequest) → waiting ≡ None → AreSaid (accesses_by live.device live.access.octets waiting)
       none_accesses None e = tt
       none_accesses (Some request) e = absurd cc
 
       pending_said : (asked : Option Request) → live.asked ≡ asked → AreFew asked → AreSaid (pending_by live asked)
       pending_said (Some request) e few = (request_said live.device request kept.device few (requests request e), tt)
-      pending_said None e few = none_accesses live.access.waiting alone
+      pending_said None e few =
+          subst (λ (p : Option PlugRequest). AreSaid (if is_some p then plugs_by live.device p else accesses_of live)) (sym unplugged)
+          (none_accesses live.access.waiting alone)
 
       pub due_said : (is_high is_low is_request is_cyclic : Bool) → AreSaid (due_frames live is_high is_low is_request is_cyclic)
       due_said is_high is_low is_request is_cyclic =

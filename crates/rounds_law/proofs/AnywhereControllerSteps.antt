@@ -1,5 +1,5 @@
 -- A step of a controller in any state: a frame, and a unit, also while it exchanges data.
-use Rattle.std.proofs.Common.{◌≡◌, ◌≢◌, ◌⊎◌, inl, inr, ◌≤◌, ◌<◌, ℕ, suc, true, List, [], ◌∷◌, None, refl, sym, ap, subst, ◌∙◌, arith}
+use Rattle.std.proofs.Common.{◌≡◌, ◌≢◌, ◌⊎◌, inl, inr, ◌≤◌, ◌<◌, ℕ, suc, true, false, List, [], ◌∷◌, None, refl, sym, ap, subst, ◌∙◌, arith}
 use Rattle.std.proofs.lemmas.Bool.{false≢true}
 use Rattle.controller_messages.specs.declared.setup.ControllerOptions.{ControllerOptions}
 use Rattle.controller_messages.specs.declared.setup.Setup.{Setup}
@@ -24,6 +24,7 @@ use Rattle.rounds_law.proofs.AnywhereControllerReached.{reached_kept, stations_a
 use Rattle.rounds_law.proofs.AnywhereControllerSent.{AreSaid, IsChosenIn, all_own}
 use Rattle.rounds_law.proofs.AnywhereControllerTurns.{IsWell, kind_well}
 use Rattle.rounds_law.proofs.AnywhereControllerUnits.{PassesWell, unit_well}
+use Rattle.rounds_law.proofs.AnywhereTurnless.{IsTurnless, reached_turnless}
 use Rattle.rounds_law.proofs.AnywhereParts.{Accepts, AreOwn, ControllerFrame, ControllerUnit, ExchangeFrame, ExchangeUnit, IsAnything, IsOfExchange}
 use Rattle.rounds_law.proofs.AnywhereParts.{StillExchanges, ahead, ahead_in}
 
@@ -59,7 +60,7 @@ is_exchange phase = inr (λ e. absurd cc)
 -- ---- one controller
 
 module _ (laws : ControllerLaws) (controller : Controlling) (good : IsSetup controller.setup) (reached : IsReached controller) (routed : HasRoute controller)
-    (alone : controller.live.access.waiting ≡ None) where
+    (alone : controller.live.access.waiting ≡ None) (keyless : controller.setup.plan.parameters_after_plug ≡ false) where
   -- Its set-up and its state.
   abbrev own : Setup
   own = controller.setup
@@ -68,7 +69,10 @@ module _ (laws : ControllerLaws) (controller : Controlling) (good : IsSetup cont
   live = controller.live
 
   kept : IsKept own live
-  kept = reached_kept laws own controller good refl reached
+  kept = reached_kept laws own controller good refl reached keyless
+
+  quiet : IsTurnless live
+  quiet = reached_turnless laws controller reached keyless
 
   steady : IsSteady own.plan live
   steady = reached_steady laws controller reached
@@ -90,10 +94,10 @@ module _ (laws : ControllerLaws) (controller : Controlling) (good : IsSetup cont
     other_well other =
         let is = laws.kinds own live (frame_with octets) in
         subst (IsWell own live) (sym is.is)
-        (kind_well laws own good live heard kept steady (stations_answer own (frame_with octets)) routed alone fit other is.kind is.holds)
+        (kind_well laws own good live heard kept steady (stations_answer own (frame_with octets)) quiet routed alone fit other is.kind is.holds)
 
-    becomes : (exchanges : live.phase ≡ Exchanging) → Becomes laws own good live kept steady (chosen_in_exchange exchanges) alone exchanges heard turn
-    becomes exchanges = frame_so laws own good live kept steady (chosen_in_exchange exchanges) alone exchanges heard fit
+    becomes : (exchanges : live.phase ≡ Exchanging) → Becomes laws own good live kept steady quiet (chosen_in_exchange exchanges) alone exchanges heard turn
+    becomes exchanges = frame_so laws own good live kept steady quiet (chosen_in_exchange exchanges) alone exchanges heard fit
 
     ends_well : EndsNow own live.cyclic.route turn → IsWell own live turn
     ends_well over = record {
@@ -112,7 +116,7 @@ module _ (laws : ControllerLaws) (controller : Controlling) (good : IsSetup cont
     }
 
     exchange_well : (exchanges : live.phase ≡ Exchanging)
-        → Becomes laws own good live kept steady (chosen_in_exchange exchanges) alone exchanges heard turn → IsWell own live turn
+        → Becomes laws own good live kept steady quiet (chosen_in_exchange exchanges) alone exchanges heard turn → IsWell own live turn
     exchange_well exchanges (inl over) = ends_well over
     exchange_well exchanges (inr on) = goes_well exchanges on.0
 
@@ -128,7 +132,7 @@ module _ (laws : ControllerLaws) (controller : Controlling) (good : IsSetup cont
         × (ahead (controller_step controller octets).controller ≤ ahead controller)
     unfolding step_of
     frame_on = (
-      record { of_setup = refl; reached = reached_on controller (frame_with octets) reached; routed = well.routed; alone = well.alone },
+      record { of_setup = refl; reached = reached_on controller (frame_with octets) reached; routed = well.routed; alone = well.alone; turnless = keyless },
       all_own own IsAnything turn.sent well.said,
       well.ahead,
     )
@@ -152,7 +156,7 @@ module _ (laws : ControllerLaws) (controller : Controlling) (good : IsSetup cont
     })
 
     in_exchange : (exchanges : live.phase ≡ Exchanging)
-        → Becomes laws own good live kept steady (chosen_in_exchange exchanges) alone exchanges heard turn → FrameInExchange own
+        → Becomes laws own good live kept steady quiet (chosen_in_exchange exchanges) alone exchanges heard turn → FrameInExchange own
     unfolding step_of
     in_exchange exchanges (inl over) = inl over.ends
     in_exchange exchanges (inr on) = inr (
@@ -182,8 +186,8 @@ module _ (laws : ControllerLaws) (controller : Controlling) (good : IsSetup cont
       × (is_limited controller.live.phase ≡ true → suc (ahead (step_of controller Tick).controller) ≤ ahead controller)
   unfolding step_of
   unit_on patience =
-      let well : PassesWell own live (turn_of own live Tick) = unit_well own live kept routed alone (timed patience) in (
-        record { of_setup = refl; reached = reached_on controller Tick reached; routed = well.routed; alone = well.alone },
+      let well : PassesWell own live (turn_of own live Tick) = unit_well own live kept routed alone quiet (timed patience) in (
+        record { of_setup = refl; reached = reached_on controller Tick reached; routed = well.routed; alone = well.alone; turnless = keyless },
         all_own own IsAnything (turn_of own live Tick).sent well.said,
         well.ahead,
       )
@@ -198,7 +202,7 @@ module _ (laws : ControllerLaws) (controller : Controlling) (good : IsSetup cont
       × (suc controller.live.cyclic.hearing.held < hold_of setup.plan))
 
   passes_in_exchange : (exchanges : live.phase ≡ Exchanging)
-      → Passes laws own good live kept steady (chosen_in_exchange exchanges) alone exchanges (turn_of own live Tick)
+      → Passes laws own good live kept steady quiet (chosen_in_exchange exchanges) alone exchanges (turn_of own live Tick)
       → UnitInExchange own
   unfolding step_of
   passes_in_exchange exchanges (inl over) = inl over.ends
@@ -211,18 +215,22 @@ module _ (laws : ControllerLaws) (controller : Controlling) (good : IsSetup cont
 
   pub unit_in_exchange : live.phase ≡ Exchanging → UnitInExchange own
   unit_in_exchange exchanges =
-      passes_in_exchange exchanges (unit_so laws own good live kept steady (chosen_in_exchange exchanges) alone exchanges)
+      passes_in_exchange exchanges (unit_so laws own good live kept steady quiet (chosen_in_exchange exchanges) alone exchanges)
 
 -- ---- the parts
 
 module _ (laws : ControllerLaws) (setup : Setup) where
+  keyless_in : (controller : Controlling) → IsAnyController setup controller → controller.setup.plan.parameters_after_plug ≡ false
+  keyless_in controller any = subst (λ (s : Setup). s.plan.parameters_after_plug ≡ false) (sym any.of_setup) any.turnless
+
   pub controller_frame : ControllerFrame setup
   controller_frame good patience controller octets any fit =
       let same = sym any.of_setup in
       subst (λ (s : Setup). IsAnyController s (controller_step controller octets).controller
       × AreOwn s IsAnything (controller_step controller octets).frames
       × (ahead (controller_step controller octets).controller ≤ ahead controller)) any.of_setup
-      (frame_on laws controller (subst IsSetup same good) any.reached any.routed any.alone octets (subst (λ (s : Setup). ChoosesWell s octets) same fit))
+      (frame_on laws controller (subst IsSetup same good) any.reached any.routed any.alone (keyless_in controller any) octets
+      (subst (λ (s : Setup). ChoosesWell s octets) same fit))
 
   pub controller_unit : ControllerUnit setup
   controller_unit good patience controller any =
@@ -230,18 +238,19 @@ module _ (laws : ControllerLaws) (setup : Setup) where
       subst (λ (s : Setup). IsAnyController s (step_of controller Tick).controller
       × AreOwn s IsAnything (step_of controller Tick).frames
       × (is_limited controller.live.phase ≡ true → suc (ahead (step_of controller Tick).controller) ≤ ahead controller)) any.of_setup
-      (unit_on laws controller (subst IsSetup same good) any.reached any.routed any.alone (subst (λ (s : Setup). HasPatience s.options) same patience))
+      (unit_on laws controller (subst IsSetup same good) any.reached any.routed any.alone (keyless_in controller any)
+      (subst (λ (s : Setup). HasPatience s.options) same patience))
 
   pub exchange_frame : ExchangeFrame setup
   exchange_frame good controller octets any fit exchanges =
       let same = sym any.of_setup in
       let goods = subst IsSetup same good in
       let fits = subst (λ (s : Setup). ChoosesWell s octets) same fit in
-      subst (FrameInExchange laws controller goods any.reached any.routed any.alone octets fits) any.of_setup
-      (frame_in_exchange laws controller goods any.reached any.routed any.alone octets fits exchanges)
+      subst (FrameInExchange laws controller goods any.reached any.routed any.alone (keyless_in controller any) octets fits) any.of_setup
+      (frame_in_exchange laws controller goods any.reached any.routed any.alone (keyless_in controller any) octets fits exchanges)
 
   pub exchange_unit : ExchangeUnit setup
   exchange_unit good controller any exchanges =
       let goods = subst IsSetup (sym any.of_setup) good in
-      subst (UnitInExchange laws controller goods any.reached any.routed any.alone) any.of_setup
-      (unit_in_exchange laws controller goods any.reached any.routed any.alone exchanges)
+      subst (UnitInExchange laws controller goods any.reached any.routed any.alone (keyless_in controller any)) any.of_setup
+      (unit_in_exchange laws controller goods any.reached any.routed any.alone (keyless_in controller any) exchanges)

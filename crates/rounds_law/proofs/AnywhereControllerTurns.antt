@@ -1,6 +1,7 @@
 -- What a frame does to a controller in any state, except while it exchanges data.
 use Rattle.std.proofs.Common.{◌≡◌, ◌⊎◌, inl, inr, ◌≤◌, ◌+◌, ℕ, true, false, List, [], ◌∷◌, Option, Some, None, refl, sym, ap, subst, ◌∙◌, arith}
 use Rattle.std.proofs.lemmas.Bool.{false≢true}
+use Rattle.std.proofs.lemmas.Option.{none-some}
 use Rattle.pn_values.specs.declared.mac.Mac.{Mac}
 use Rattle.frame_codec.specs.Sendable.{IsMac}
 use Rattle.dcp_core.specs.Response.{Answered}
@@ -28,11 +29,12 @@ use Rattle.controller_core.specs.declared.stored.state.State.TheVariants.{Lookin
 use Rattle.controller_core.specs.start_up.Requests.{next_sequence}
 use Rattle.controller_core.specs.stored.Alarms.{ack_of, kept_alarm}
 use Rattle.controller_core.specs.stored.State.{Live, left_in, phase_for}
-use Rattle.controller_core.specs.Machine.{Turn, acking, behind_ack, behind_data, confirming, end_of, keeping, taken, with_end}
+use Rattle.controller_core.specs.Machine.{Turn, acking, after_turn, behind_ack, behind_data, can_begin, confirming, end_of, keeping, stays, taken, with_end}
 use Rattle.end_laws.specs.hearing.Stations.{IsSetup}
 use Rattle.end_laws.specs.controller.Small.{IsSteady}
 use Rattle.end_laws.specs.turns.Turns.{Hears, IsKind, Kind, Rests, Connects, Addresses, Ends, Releases, Relates, Writes, Skips, Waits, Forgets}
-use Rattle.end_laws.specs.turns.Turns.{Begins, Repeats, Follows, Takes, IsAcked, Gives, GivesStatus, Asks, IsReplied, Flows, Breaks, Idles, turn_by}
+use Rattle.end_laws.specs.turns.Turns.{Begins, Repeats, Follows, Takes, IsAcked, Gives, GivesStatus, Asks, IsReplied, IsPlugAnswered, IsPlugReadied}
+use Rattle.end_laws.specs.turns.Turns.{Flows, Breaks, Idles, turn_by}
 use Rattle.rounds_law.specs.Anywhere.{IsFit}
 use Rattle.rounds_law.proofs.AnywhereControllerKept.{IsKept, PhaseOf, asked_in, data_kept}
 use Rattle.rounds_law.proofs.AnywhereControllerLaws.{ControllerLaws}
@@ -40,6 +42,7 @@ use Rattle.rounds_law.proofs.AnywhereControllerReached.{heard_in, station_six}
 use Rattle.rounds_law.proofs.AnywhereControllerSent.{Allows, AreSaid, IsChosenIn, agreed, request_said, taken_said}
 use Rattle.rounds_law.proofs.AnywhereControllerSizes.{sequence_few, writing_few}
 use Rattle.rounds_law.proofs.AnywhereParts.{IsAnything, ahead_in}
+use Rattle.rounds_law.proofs.AnywhereTurnless.{IsTurnless, no_turn, taken_turnless}
 use Rattle.rounds_law.proofs.ControllerPassingParts.{frame_on}
 
 -- Any message may be sent.
@@ -159,7 +162,7 @@ over_routed route e = absurd (false≢true e)
 
 module _ (laws : ControllerLaws) (setup : Setup) (good : IsSetup setup) (live : Live) (heard : Heard) (kept : IsKept setup live)
     (steady : IsSteady setup.plan live) (answers : (source : Mac) (answer : Answered) → Hears heard ≡ Hears (Answers source answer) → IsMac source)
-    (routed : live.stands ≡ true → IsChosenIn live.cyclic.route) (alone : live.access.waiting ≡ None) (fit : IsFit setup heard)
+    (quiet : IsTurnless live) (routed : live.stands ≡ true → IsChosenIn live.cyclic.route) (alone : live.access.waiting ≡ None) (fit : IsFit setup heard)
     (other : live.phase ≡ Exchanging → ⊥) where
   in_phase_of : (request : Request) → live.asked ≡ Some request → PhaseOf request live.phase
   in_phase_of request stood = asked_in setup.plan live.phase live.asked request steady.asked stood
@@ -174,7 +177,7 @@ module _ (laws : ControllerLaws) (setup : Setup) (good : IsSetup setup) (live : 
   }
 
   station : (source : Mac) → (source ≡ live.device) ⊎ ((answer : Answered) × (Hears heard ≡ Hears (Answers source answer))) → IsMac source
-  station source known = station_six setup good live (Hears heard) kept steady answers source known
+  station source known = station_six setup good live (Hears heard) kept steady answers quiet source known
 
   next_said : (number : ℕ) → AreSaid setup IsAnything (Requests live.device (writing_from setup.plan number) ∷ [])
   next_said number = (request_said setup IsAnything live.device (writing_from setup.plan number) kept.device (writing_few setup.plan number good.plan) tt, tt)
@@ -185,6 +188,10 @@ module _ (laws : ControllerLaws) (setup : Setup) (good : IsSetup setup) (live : 
         (sequence_few setup.plan live.access.calls live.asked kept.asked) tt,
     tt,
   )
+
+  -- No turn follows.
+  followed_well : (turn : Turn) → turn.live.places.has_turns ≡ false → IsWell setup live turn → IsWell setup live (after_turn setup (can_begin live) turn)
+  followed_well turn off is = subst (IsWell setup live) (sym (no_turn setup (can_begin live) turn off)) is
 
   pub kind_well : (kind : Kind) → IsKind setup live (Hears heard) kind → IsWell setup live (turn_by setup live kind)
   kind_well Rests holds = rests_well live [] (alike live) tt
@@ -203,7 +210,7 @@ module _ (laws : ControllerLaws) (setup : Setup) (good : IsSetup setup) (live : 
   kind_well (Ends cause refusal refused units) holds = record { said = tt; routed = over_routed live.cyclic.route; alone = refl; ahead = omega arith }
   kind_well (Releases cause refusal refused units) holds =
       record { said = release_said; routed = over_routed live.cyclic.route; alone = refl; ahead = omega arith }
-  kind_well (Relates chosen) holds =
+  kind_well (Relates places chosen) holds =
       let fits : IsFit setup (Responds holds.0.response) = subst (λ (h : Heard). IsFit setup h) (ap heard_in holds.0.comes) fit in
       record {
         said = next_said 0;
@@ -248,13 +255,18 @@ module _ (laws : ControllerLaws) (setup : Setup) (good : IsSetup setup) (live : 
       let behind = behind_data live report.priority number in
       let at : IsAlike live behind = behind_alike live report.priority number in
       let chosen : IsChosenIn behind.cyclic.route = subst (λ (c : Cyclic). IsChosenIn c.route) (sym at.cyclic) (routed holds.0) in
-      rests_well (taken behind report as_what).live (taken behind report as_what).sent (data_alike live report number as_what)
-      (taken_said setup IsAnything behind (data_kept setup live report.priority number kept) chosen (all_allowed behind.cyclic.route) report as_what)
+      followed_well (taken behind report as_what) (taken_turnless live report number as_what quiet).0
+      (rests_well (taken behind report as_what).live (taken behind report as_what).sent (data_alike live report number as_what)
+      (taken_said setup IsAnything behind (data_kept setup live report.priority number kept) chosen (all_allowed behind.cyclic.route) report as_what))
   kind_well (IsAcked priority number) holds = rests_well (behind_ack live priority number) [] (ack_alike live priority number) tt
   kind_well (Gives slot subslot value) holds = absurd cc
   kind_well (GivesStatus slot subslot is_good) holds = absurd cc
   kind_well (Asks request octets) holds = absurd (other holds.0)
-  kind_well (IsReplied refusal access) holds = record { said = tt; routed = routed; alone = holds.1; ahead = omega arith }
+  kind_well (IsReplied refusal access) holds =
+      followed_well (stays (record live { refusal = refusal; access = access })) quiet.0
+      (record { said = tt; routed = routed; alone = holds.1; ahead = omega arith })
+  kind_well (IsPlugAnswered refusal refused waited places access) holds = absurd (none-some holds.4 (sym quiet.1 ∙ holds.5))
+  kind_well (IsPlugReadied caller call block) holds = absurd (other holds.0)
   kind_well Flows holds = let bad = holds.0 in absurd cc
   kind_well (Breaks reason) holds = let bad = holds.0 in absurd cc
   kind_well Idles holds = let bad = holds.0 in absurd cc

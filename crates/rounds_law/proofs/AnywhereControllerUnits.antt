@@ -1,5 +1,5 @@
 -- A unit at a controller in any state.
-use Rattle.std.proofs.Common.{◌≡◌, ◌≤◌, ◌-◌, ◌==◌, ℕ, suc, Bool, true, false, [], ◌∷◌, Option, Some, None, if◌then◌else◌, refl, sym, ap, ◌∙◌, arith}
+use Rattle.std.proofs.Common.{◌≡◌, ◌≤◌, ◌-◌, ◌==◌, ℕ, suc, Bool, true, false, [], ◌∷◌, Option, Some, None, if◌then◌else◌, refl, sym, ap, subst, ◌∙◌, arith}
 use Rattle.std.proofs.lemmas.Bool.{and_parts, false≢true}
 use Rattle.pn_alarms.specs.declared.abort.Abort.{Abort}
 use Rattle.pn_alarms.specs.declared.repeats.Due.{Due}
@@ -23,6 +23,7 @@ use Rattle.rounds_law.proofs.AnywhereControllerSent.{AreSaid, IsChosenIn, IsSaid
 use Rattle.rounds_law.proofs.AnywhereControllerSizes.{due_all, sequence_few}
 use Rattle.rounds_law.proofs.AnywhereControllerTurns.{all_allowed, over_routed}
 use Rattle.rounds_law.proofs.AnywhereParts.{IsAnything, ahead_in}
+use Rattle.rounds_law.proofs.AnywhereTurnless.{IsTurnless, no_turn_due}
 
 -- ---- the units until the exchange or the end
 
@@ -51,7 +52,7 @@ pub record PassesWell (setup : Setup) (live : Live) (turn : Turn) : Type 0 where
   pub ahead : is_limited live.phase ≡ true → suc (ahead_in setup.options turn.live.left turn.live.phase) ≤ ahead_in setup.options live.left live.phase
 
 module _ (setup : Setup) (live : Live) (kept : IsKept setup live) (routed : live.stands ≡ true → IsChosenIn live.cyclic.route)
-    (alone : live.access.waiting ≡ None)
+    (alone : live.access.waiting ≡ None) (quiet : IsTurnless live)
     (timed : is_limited live.phase ≡ true → 1 ≤ live.left) where
   over_well : (turn : Turn) → AreSaid setup IsAnything turn.sent → turn.live.stands ≡ false → turn.live.access.waiting ≡ None
       → ahead_in setup.options turn.live.left turn.live.phase ≡ 0 → PassesWell setup live turn
@@ -80,7 +81,7 @@ module _ (setup : Setup) (live : Live) (kept : IsKept setup live) (routed : live
   flows_well up high low tick (Some reason) =
       over_well _ (ended setup IsAnything (flow_later live) (flow_kept setup live kept) (routed up) (all_allowed live.cyclic.route) reason, tt) refl refl refl
   flows_well up high low tick None = record {
-    said = due_said setup IsAnything (flow_later live) (flow_kept setup live kept) (routed up) (all_allowed live.cyclic.route) (λ request e. tt) alone
+    said = due_said setup IsAnything (flow_later live) (flow_kept setup live kept) (routed up) (all_allowed live.cyclic.route) (λ request e. tt) alone quiet.1
         (is_repeated high) (is_repeated low) (is_again live) tick.is_cyclic;
     routed = routed;
     alone = alone;
@@ -109,4 +110,8 @@ module _ (setup : Setup) (live : Live) (kept : IsKept setup live) (routed : live
   by_patience false e = goes_well live.stands refl
 
   pub unit_well : PassesWell setup live (ticked setup live)
-  unit_well = by_patience (is_spent live) refl
+  unit_well =
+      subst (PassesWell setup live)
+      (ap (λ (l : Live). if is_spent live then quit setup NoProgress (later live) live.phase else gone_on l (is_again live))
+      (sym (no_turn_due setup live quiet.0)))
+      (by_patience (is_spent live) refl)

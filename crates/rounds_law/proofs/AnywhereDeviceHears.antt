@@ -36,7 +36,7 @@ use Rattle.controller_messages.specs.declared.request.Request.{Request}
 use Rattle.controller_messages.specs.declared.request.Request.TheVariants as asks
 use Rattle.controller_messages.specs.declared.setup.Setup.{Setup}
 use Rattle.controller_messages.specs.Requests.{address_asked, call_for, identify_asked}
-use Rattle.controller_messages.specs.Sent.{Sent, Requests, Accesses, Agrees, Cycles, Confirms, Replies, Ends}
+use Rattle.controller_messages.specs.Sent.{Sent, Requests, Accesses, Parametrizes, Agrees, Cycles, Confirms, Replies, Ends}
 use Rattle.controller_messages.specs.Sent.{answer_frame, bytes_of, call_frame, end_pdu}
 use Rattle.end_laws.specs.hearing.Hearing.{comes, own_hears, own_reported, padded}
 use Rattle.end_laws.specs.hearing.Stations.{IsCalled, IsCaller, IsNumbered, IsRoute, IsSetup}
@@ -70,6 +70,7 @@ replied_said setup priority header pdu.Error = Elsewhere
 abbrev pub message_said : Setup → Sent → Heard
 message_said setup (Requests device request) = request_said setup request
 message_said setup (Accesses device request octets) = Elsewhere
+message_said setup (Parametrizes device request) = Elsewhere
 message_said setup (Agrees caller answer) = Reported (caller_of setup.plan.controller) caller.endpoint.address (Responds answer)
 message_said setup (Cycles route shown counter) = Cyclic setup.plan.controller.mac route.sent_id
     (padded setup.plan.controller.mac route.partner (Some route.sent_tag) route.sent_id (cyclic_body shown counter))
@@ -220,6 +221,7 @@ module _ (laws : HearsLaws) (setup : Setup) (identity : Identity) (good : IsSetu
       → IsHeardAs (heard_of identity (comes (bytes_of setup message))) (message_said setup message)
   message_heard (Requests device request) can way = request_heard device request can.0 can.1
   message_heard (Accesses device request octets) can way = absurd way
+  message_heard (Parametrizes device request) can way = absurd way
   message_heard (Agrees caller answer) can way =
       heard_by_law _ _ _ (laws.answer identity setup caller answer good can.0 can.1)
       (reported_or identity setup.plan.controller.mac caller.mac (calls_at setup.plan.controller.address) caller.endpoint (Responds answer))

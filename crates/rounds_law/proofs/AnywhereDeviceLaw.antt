@@ -45,7 +45,8 @@ use Rattle.controller_messages.specs.declared.request.Request.{Request}
 use Rattle.controller_messages.specs.declared.request.Request.TheVariants as asks
 use Rattle.controller_messages.specs.declared.setup.Setup.{Setup}
 use Rattle.controller_messages.specs.Requests.{address_asked, call_for, control_of, identify_asked}
-use Rattle.controller_messages.specs.Sent.{Sent, Requests, Accesses, Agrees, Cycles, Confirms, Replies, Ends, bytes_of as controller_bytes, end_pdu}
+use Rattle.controller_messages.specs.Sent.{Sent, Requests, Accesses, Parametrizes, Agrees, Cycles, Confirms, Replies, Ends, bytes_of as controller_bytes}
+use Rattle.controller_messages.specs.Sent.{end_pdu}
 use Rattle.controller_core.specs.Machine.{opening_of}
 use Rattle.controller_core.specs.stored.State.{Controlling}
 use Rattle.end_laws.specs.hearing.Hearing.{comes, padded}
@@ -242,6 +243,7 @@ module _ {F : Type 0} {S : ℕ} (as_flash : Flash F S) (setup next : Setup) (ide
     message_goes : (message : Sent) → CanBeSent setup message → HasWay message → IsGoing (handled station live (message_said setup message))
     message_goes (Requests to request) can way = request_goes request can.1
     message_goes (Accesses to request octets) can way = absurd way
+    message_goes (Parametrizes to request) can way = absurd way
     message_goes (Agrees caller answer) can way =
         fine_goes (message_said setup (Agrees caller answer)) tt
         (datagram_fine (caller_of setup.plan.controller) caller.endpoint.address (Responds answer)

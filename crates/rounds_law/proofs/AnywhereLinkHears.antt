@@ -15,7 +15,7 @@ use Rattle.cyclic_data.specs.declared.exchange.route.Route.{Route}
 use Rattle.device_frames.specs.Heard.{Said, Calls, Garbled, Responds, heard_of, heard_reply, is_own}
 use Rattle.device_frames.specs.Heard.{Heard, Elsewhere, Reported, Cyclic, Alarms, LowReplies, LowConfirms}
 use Rattle.controller_messages.specs.declared.setup.Setup.{Setup}
-use Rattle.controller_messages.specs.Sent.{Sent, Accesses, Agrees, Confirms, Cycles, Ends, Replies, Requests, bytes_of as controller_bytes}
+use Rattle.controller_messages.specs.Sent.{Sent, Accesses, Parametrizes, Agrees, Confirms, Cycles, Ends, Replies, Requests, bytes_of as controller_bytes}
 use Rattle.end_laws.specs.hearing.Hearing.{comes, own_hears}
 use Rattle.end_laws.specs.hearing.Stations.{IsSetup}
 use Rattle.end_laws.specs.sending.Messages.{CanBeSent}
@@ -68,6 +68,7 @@ module _ (setup : Setup) (laws : ExchangeLaws setup) (good : IsSetup setup) (ide
       → IsOfData setup route (heard_of identity (comes (controller_bytes setup message)))
   message_so (Requests device request) can way is = absurd is
   message_so (Accesses device request octets) can way is = absurd is
+  message_so (Parametrizes device request) can way is = absurd is
   message_so (Agrees caller answer) can way is =
       subst (IsOfData setup route) (sym (laws.agrees identity caller answer can.0 can.1))
       (reported_so setup route _ caller.endpoint.address answer (is_own identity caller.mac) _)

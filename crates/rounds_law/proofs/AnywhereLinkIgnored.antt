@@ -10,20 +10,24 @@ use Rattle.rpc_core.specs.declared.header.CallHeader.{CallHeader}
 use Rattle.rpc_core.specs.Response.{Answered}
 use Rattle.device_frames.specs.Sendable.{IsSendable}
 use Rattle.device_frames.specs.Sent.{CallAnswer, bytes_of}
+use Rattle.controller_messages.specs.declared.plug_request.PlugRequest.{PlugRequest}
 use Rattle.controller_messages.specs.declared.record_request.RecordRequest.{RecordRequest}
 use Rattle.controller_messages.specs.declared.request.Request.{Request}
 use Rattle.controller_messages.specs.declared.setup.Setup.{Setup}
 use Rattle.controller_messages.specs.Access.{is_reply}
 use Rattle.controller_messages.specs.Heard.{Heard, Nothing, Responds, heard_of, is_to}
+use Rattle.controller_messages.specs.PlugRequests.{is_plug_answer}
 use Rattle.controller_messages.specs.Requests.{sequence_of}
 use Rattle.controller_core.specs.start_up.Answers.{is_answer, is_call}
 use Rattle.controller_core.specs.stored.State.{Live}
-use Rattle.controller_core.specs.Machine.{decided, replied, replied_by, responded, step_of, stepped, stays, turned}
+use Rattle.controller_core.specs.Machine.{after_turn, asks_next, beside, can_begin, decided, plug_replied, replied, replied_by, responded, step_of, stepped}
+use Rattle.controller_core.specs.Machine.{stays, turned}
 use Rattle.end_laws.specs.hearing.Hearing.{mine_reported}
 use Rattle.end_laws.specs.hearing.Stations.{IsDevice}
 use Rattle.rounds_law.specs.Path.{IsIgnored}
 use Rattle.rounds_law.proofs.AnywhereLinkLaws.{AnswerLaws}
 use Rattle.rounds_law.proofs.Choices.{and_false, where_not}
+use Rattle.rounds_law.proofs.PlaceTurns.{unchanged}
 
 other_activity : (one other : List ℕ) → (one ≡ other → ⊥) → pointwise nat_eq one other ≡ false
 other_activity one other differs = by_test (pointwise nat_eq one other) refl
@@ -44,9 +48,17 @@ unreplied setup live response (Some request) other =
     where_not (is_reply setup request response.header) (replied_by live response request) live
     (ap (λ (b : Bool). b && response.header.sequence == request.sequence) (other_activity response.header.activity setup.activity other))
 
+unresponded_beside : (setup : Setup) (live : Live) (response : Answered) (plug : Option PlugRequest) → (response.header.activity ≡ setup.activity → ⊥)
+    → beside setup live response plug ≡ stays live
+unresponded_beside setup live response None other = ap stays (unreplied setup live response live.access.waiting other)
+unresponded_beside setup live response (Some request) other =
+    where_not (is_plug_answer setup request response.header.activity response.header.sequence)
+    (asks_next (plug_replied setup live response.status request)) (stays live)
+    (ap (λ (b : Bool). b && response.header.sequence == request.sequence) (other_activity response.header.activity setup.activity other))
+
 unresponded : (setup : Setup) (live : Live) (response : Answered) (asked : Option Request) → (response.header.activity ≡ setup.activity → ⊥)
     → responded setup live response asked ≡ stays live
-unresponded setup live response None other = ap stays (unreplied setup live response live.access.waiting other)
+unresponded setup live response None other = unresponded_beside setup live response live.access.plug other
 unresponded setup live response (Some request) other =
     where_not (is_answer setup request response.header) (decided setup live response request) (stays live) (unanswered setup request response.header other)
 
@@ -56,7 +68,7 @@ reported_other setup live destination to answer other =
     outer (pointwise nat_eq destination.octets setup.plan.controller.mac.octets) (is_to setup.plan.controller.address to)
   where
     outer : (own here : Bool) → turned setup live (if own then (if here then Responds answer else Nothing) else Nothing) ≡ stays live
-    outer true true = unresponded setup live answer live.asked other
+    outer true true = ap (after_turn setup (can_begin live)) (unresponded setup live answer live.asked other) ∙ unchanged setup live
     outer true false = refl
     outer false here = refl
 

@@ -15,7 +15,7 @@ use Rattle.device_core.specs.State.{State}
 use Rattle.controller_messages.specs.declared.setup.ControllerOptions.{ControllerOptions}
 use Rattle.controller_messages.specs.declared.setup.Setup.{Setup}
 use Rattle.controller_messages.specs.Heard.{Cyclic as Comes, heard_of as heard_by}
-use Rattle.controller_messages.specs.Sent.{Sent, Requests, Accesses, Agrees, Cycles, Confirms, Replies, Ends}
+use Rattle.controller_messages.specs.Sent.{Sent, Requests, Accesses, Parametrizes, Agrees, Cycles, Confirms, Replies, Ends}
 use Rattle.controller_core.specs.declared.stored.event.Event.TheVariants.{Tick}
 use Rattle.controller_core.specs.declared.stored.state.State.{State as Phases}
 use Rattle.controller_core.specs.declared.stored.state.State.TheVariants.{Looking, Addressing, Connecting, Writing, Ending, Waiting, Exchanging, Ended}
@@ -38,6 +38,7 @@ use Rattle.rounds_law.specs.Start.{CanStart}
 abbrev pub IsOfExchange : Route → Sent → Type 0
 IsOfExchange route (Requests device request) = ⊥
 IsOfExchange route (Accesses device request octets) = ⊥
+IsOfExchange route (Parametrizes device request) = ⊥
 IsOfExchange route (Agrees caller answer) = Unit {0}
 IsOfExchange route (Cycles way shown counter) = way ≡ route
 IsOfExchange route (Confirms way priority header ack) = Unit {0}

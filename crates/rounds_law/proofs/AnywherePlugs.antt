@@ -1,22 +1,21 @@
 -- What becomes of the calls of plugs in a relation of a device in any state: their numbers keep their size.
-use Rattle.std.proofs.Common.{◌≡◌, ◌==◌, ◌<◌, ◌+◌, ℕ, Bool, true, false, List, [], ◌∷◌, Option, Some, None, refl, sym, subst, arith}
+use Rattle.std.proofs.Common.{◌≡◌, ◌==◌, ◌<◌, ◌+◌, ℕ, Bool, true, false, List, Option, Some, None, refl, sym, subst, arith}
 use Rattle.std.specs.Prelude.{if◌then◌else◌, option_map, unwrap_or}
-use Rattle.std.proofs.lemmas.Bool.{eqb-true}
 use Rattle.std.proofs.lemmas.Bool.Decides.{nat_tests}
 use Rattle.diagnosis.specs.declared.alarms.alarms.SentAlarm.{SentAlarm}
 use Rattle.diagnosis.specs.declared.module_change.ModuleChange.{ModuleChange}
 use Rattle.diagnosis.specs.declared.queue.LowChange.{LowChange}
 use Rattle.diagnosis.specs.declared.queue.LowChange.TheVariants as change
 use Rattle.diagnosis.specs.declared.queue.QueuedAlarm.{QueuedAlarm}
-use Rattle.diagnosis.specs.Queue.{is_plug, waits_for_plug}
+use Rattle.diagnosis.specs.Queue.{is_plug}
 use Rattle.expected_places.specs.declared.calls.PlugCall.{PlugCall}
 use Rattle.expected_places.specs.declared.calls.WaitingCall.{WaitingCall}
-use Rattle.expected_places.specs.Calls.{PlugQueue, counted, counted_with, first_ready, next_sequence, sent_beside, sent_next, sent_with}
+use Rattle.expected_places.specs.Calls.{PlugQueue, counted, counted_with, first_ready, next_sequence, sent_beside, sent_with}
 use Rattle.expected_places.specs.Machine.{PlugState, answered_by, next_called, told}
 use Rattle.relations.specs.declared.plugging.PlugAnswer.{PlugAnswer}
 use Rattle.relations.specs.declared.plugging.PlugAnswer.TheVariants as answer
 use Rattle.relations.specs.Plugging.{plugs_after, plugs_answered, plugs_told}
-use Rattle.end_laws.specs.device.Orderly.{AreNumbered, IsNumberedCall}
+use Rattle.end_laws.specs.device.Orderly.{AreNumbered}
 
 -- ---- a unit
 

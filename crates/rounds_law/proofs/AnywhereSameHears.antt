@@ -21,7 +21,7 @@ use Rattle.controller_messages.specs.declared.request.Request.{Request}
 use Rattle.controller_messages.specs.declared.request.Request.TheVariants as asks
 use Rattle.controller_messages.specs.declared.setup.Setup.{Setup}
 use Rattle.controller_messages.specs.Requests.{blocks_of, call_for}
-use Rattle.controller_messages.specs.Sent.{Sent, Requests, Accesses, Agrees, Cycles, Confirms, Replies, Ends}
+use Rattle.controller_messages.specs.Sent.{Sent, Requests, Accesses, Parametrizes, Agrees, Cycles, Confirms, Replies, Ends}
 use Rattle.end_laws.specs.both.Small as small
 use Rattle.end_laws.specs.both.Small.{Rules}
 use Rattle.end_laws.specs.device.Small.{IsPlanned, IsPlannedAs, IsPlannedCall}
@@ -130,6 +130,7 @@ module _ (setup : Setup) (real : Real) (read : request_of None (connect_of setup
   said_known : (message : Sent) → HasWay message → IsKnown (message_said setup message)
   said_known (Requests device request) way = request_known request
   said_known (Accesses device request octets) way = absurd way
+  said_known (Parametrizes device request) way = absurd way
   said_known (Agrees caller answer) way = (tt, tt)
   said_known (Cycles route shown counter) way = (tt, tt)
   said_known (Confirms route High header ack) way = (tt, tt)

@@ -119,9 +119,10 @@ module _ {F : Type 0} {S : ℕ} (as_flash : Flash F S) (setup next : Setup) (ide
           not_both : {A : Type 0} (kept : Kept) → None ≡ Some kept → A
           not_both kept bad = absurd cc
 
-  under_first : (device : State F) → IsBare device → IsUnderWay as_flash next (third device) identity silence (first device)
-  under_first device is = record {
-    controller = any_first next;
+  under_first : (device : State F) → IsBare device → next.plan.parameters_after_plug ≡ false
+      → IsUnderWay as_flash next (third device) identity silence (first device)
+  under_first device is keyless = record {
+    controller = any_first next keyless;
     device = device_is device is;
     to_device = (own_opening next, tt);
     to_controller = tt;
@@ -187,7 +188,8 @@ module _ {F : Type 0} {S : ℕ} (as_flash : Flash F S) (setup next : Setup) (ide
       let other = third parts.between in
       let longer = long_after as_flash setup next identity silence parts.between.live.rest.calls long in
       let one = first_round net round.net silent round.round parts heard.1 in
-      let under_one = under_first parts.between heard.0 in
+      let keyless = subst (λ (p : Parts). p.parameters_after_plug ≡ false) (sym long.starts.plan) under.controller.turnless in
+      let under_one = under_first parts.between heard.0 keyless in
       let at = under_on as_flash next other identity silence next_laws longer patience_next (first parts.between) round.net under_one one in
       let same = same_on as_flash next other identity silence next_laws longer (first parts.between) round.net under_one one
       (same_first parts.between heard.0) in

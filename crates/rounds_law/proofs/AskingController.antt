@@ -9,13 +9,14 @@ use Rattle.controller_messages.specs.Sent.{Requests, bytes_of}
 use Rattle.controller_core.specs.declared.stored.event.Event.TheVariants.{Tick}
 use Rattle.controller_core.specs.declared.stored.state.Cause.TheVariants.{NoProgress}
 use Rattle.controller_core.specs.declared.stored.state.State.{State as Phases}
-use Rattle.controller_core.specs.Machine.{Stepped, Turn, gone_on, is_again, is_spent, later, quit, requests_of, step_of, stepped, turn_of, where_due}
-use Rattle.controller_core.specs.stored.State.{Controlling, is_limited}
+use Rattle.controller_core.specs.Machine.{Stepped, Turn, gone_on, is_again, is_spent, later, quit, requests_of, step_of, stepped, turn_due, turn_of, where_due}
+use Rattle.controller_core.specs.stored.State.{Controlling, Live, is_limited}
 use Rattle.rounds_law.specs.Path.{HasAsked}
 use Rattle.rounds_law.specs.Asking.{AsksAgain}
 use Rattle.rounds_law.proofs.AbandonedController.{gone_with}
 use Rattle.rounds_law.proofs.ControllerCallingAsks.{step_by}
 use Rattle.rounds_law.proofs.ControllerPassingUnits.{turn_with}
+use Rattle.rounds_law.proofs.PlaceTurns.{undue, without_relation}
 
 module _ (setup : Setup) (device : Mac) (phase : Phases) (request : Request) (controller : Controlling)
     (it : HasAsked setup device phase request controller) (lasts : is_limited phase ≡ true → controller.live.left ≡ 1 → ⊥) where
@@ -36,10 +37,12 @@ module _ (setup : Setup) (device : Mac) (phase : Phases) (request : Request) (co
   asks_again =
       let live = controller.live in
       let turn : turn_of setup live Tick ≡ turn_with (later live) (where_due (is_again live) (Requests device request ∷ []))
-      = ap (λ (b : Bool). if b then quit setup NoProgress (later live) live.phase else gone_on (later live) (is_again live)) unspent
+      = ap (λ (b : Bool). if b then quit setup NoProgress (later live) live.phase
+      else gone_on (turn_due setup (is_again live) (later live)) (is_again live)) unspent
+      ∙ (ap (λ (l : Live). gone_on l (is_again live)) (undue setup (is_again live) (later live) (without_relation (later live) it.unestablished))
       ∙ (ap (λ (b : Bool). gone_with (later live) (is_again live) b) it.unestablished
       ∙ (ap (λ (a : Option Request). turn_with (later live) (where_due (is_again live) (requests_of live.device a))) it.asked
-      ∙ ap (λ (d : Mac). turn_with (later live) (where_due (is_again live) (Requests d request ∷ []))) it.of_device)) in
+      ∙ ap (λ (d : Mac). turn_with (later live) (where_due (is_again live) (Requests d request ∷ []))) it.of_device))) in
       let step : step_of controller Tick ≡ step_by setup (turn_with (later live) (where_due (is_again live) (Requests device request ∷ [])))
       = ap (λ (s : Setup). stepped (record { setup = s; live = live }) (turn_of s live Tick)) it.of_setup ∙ ap (λ (t : Turn). step_by setup t) turn in
       subst (λ (s : Stepped). AsksAgain setup device phase request controller s) (sym step) (record {

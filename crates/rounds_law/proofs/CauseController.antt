@@ -22,11 +22,12 @@ use Rattle.controller_core.specs.declared.stored.state.State.TheVariants.{Addres
 use Rattle.controller_core.specs.stored.State.{Controlling, Live, is_limited}
 use Rattle.controller_core.specs.start_up.Answers.{ident_bytes, is_addressed, is_found, is_right}
 use Rattle.controller_core.specs.Machine.{Stepped, Turn, answered, asking, brought, exchange_later, first as first_live, flowed, gone_on}
-use Rattle.controller_core.specs.Machine.{is_again, later, over, quit, requests_of, stays, step_of, stepped, where_due}
+use Rattle.controller_core.specs.Machine.{is_again, later, over, quit, requests_of, stays, step_of, stepped, turn_due, where_due}
 use Rattle.end_laws.specs.hearing.Hearing.{mine_hears}
 use Rattle.pn_alarms.specs.Sending.{due}
 use Rattle.rounds_law.specs.Causes.{EndedWith, IsOther, IsUnstored}
 use Rattle.rounds_law.specs.Path.{Asks, controller_step}
+use Rattle.rounds_law.proofs.PlaceTurns.{undue, without_relation}
 use Rattle.rounds_law.proofs.SearchingController.{found_by_name, mine_so, step_is}
 
 -- ---- it stays ended
@@ -40,7 +41,8 @@ unrelated_unit controller why ended unrelated =
     let setup = controller.setup in
     ap (λ (p : State). (if is_limited p && live.left == 1
     then quit setup cause.NoProgress (later live) live.phase
-    else gone_on (later live) (is_again live)).live) ended
+    else gone_on (turn_due setup (is_again live) (later live)) (is_again live)).live) ended
+    ∙ ap (λ (l : Live). (gone_on l (is_again live)).live) (undue setup (is_again live) (later live) (without_relation (later live) unrelated))
     ∙ ap (λ (b : Bool). (if b
     then flowed (exchange_later (later live)) (due live.alarms.sending) (due live.low_alarms.sending) (is_again live)
     (brought (later live)) (brought (later live)).ending

@@ -26,7 +26,8 @@ use Rattle.device_frames.specs.Sendable.{AreSendable}
 use Rattle.device_frames.specs.Sent.{Sent, bytes_of, response_frame}
 use Rattle.device_core.specs.State.{Live, Rest, Station}
 use Rattle.device_core.specs.Log.{connect_log, with_log}
-use Rattle.device_core.specs.Handled.{counted_by, number_now, Moves, answer_from, handled_call, handled_looked, handled_said, is_running, kept_behind, partner_of, starting_of}
+use Rattle.device_core.specs.Handled.{counted_by, number_now, Moves, answer_from, handled_call, handled_looked, handled_said, is_running, kept_behind}
+use Rattle.device_core.specs.Handled.{partner_of, starting_of}
 use Rattle.device_core.specs.Machine.{Stepped}
 use Rattle.controller_messages.specs.declared.request.Request.{Request as Requested}
 use Rattle.controller_messages.specs.declared.request.Request.TheVariants as asks
@@ -36,7 +37,9 @@ use Rattle.controller_messages.specs.Requests.{blocks_of, call_for}
 use Rattle.controller_core.specs.declared.stored.state.Cause.TheVariants as cause
 use Rattle.controller_core.specs.declared.stored.state.State.TheVariants.{Connecting}
 use Rattle.controller_core.specs.start_up.Answers.{is_answer}
-use Rattle.controller_core.specs.Machine.{Stepped as ControllerStepped, Turn, connected, decided, related_by, released, responded, stays, stepped}
+use Rattle.controller_core.specs.Machine.{Stepped as ControllerStepped, Turn, after_turn, can_begin, connected, decided, placed, related_by, released}
+use Rattle.controller_core.specs.Machine.{responded}
+use Rattle.controller_core.specs.Machine.{stays, stepped}
 use Rattle.controller_core.specs.stored.State.{Controlling, Live as ControllerLive}
 use Rattle.end_laws.specs.hearing.Hearing.{comes, mine_reported}
 use Rattle.end_laws.specs.hearing.Stations.{IsAddress, IsCaller, IsDevice, IsSetup}
@@ -47,6 +50,7 @@ use Rattle.rounds_law.specs.Causes.{Differs, EndedWith, blocks_with, differing_f
 use Rattle.rounds_law.proofs.ControllerCallingResponses.{is_its_answer, is_reported}
 use Rattle.rounds_law.proofs.DeviceCallingConnected.{is_connect}
 use Rattle.rounds_law.proofs.DeviceCallingSteps.{first_new, step_is}
+use Rattle.rounds_law.proofs.PlaceTurns.{unfollowed}
 use Rattle.rounds_law.proofs.SearchingController.{step_is as hears_so}
 
 -- ---- the device
@@ -131,11 +135,12 @@ differing_turn setup identity serial real live differs asked =
     let answer = answer_with setup identity serial real in
     ap (λ (a : Option Requested). responded setup live answer a) asked
     ∙ (where_so (is_answer setup asks.Connect answer.header) (decided setup live answer asks.Connect) (stays live) (is_its_answer setup 0)
-    ∙ (ap (λ (o : Option Found). connected setup live o) differs.read
+    ∙ (ap (λ (o : Option Found). connected setup live (blocks_with setup identity serial real) o) differs.read
     ∙ (where_so (is_whole differs.found) (if differs.found.differs
     then released setup cause.ModuleDiff live
-    else related_by setup live (chosen_of differs.found)) (stays live) differs.whole
-    ∙ where_so differs.found.differs (released setup cause.ModuleDiff live) (related_by setup live (chosen_of differs.found)) differs.differs)))
+    else related_by setup (placed setup (blocks_with setup identity serial real) live) (chosen_of differs.found)) (stays live) differs.whole
+    ∙ where_so differs.found.differs (released setup cause.ModuleDiff live)
+    (related_by setup (placed setup (blocks_with setup identity serial real) live) (chosen_of differs.found)) differs.differs)))
 
 pub differing_so : (setup : Setup) (identity : Identity) (serial : ℕ) (real : Real) (controller : Controlling) (spare : ℕ) → IsSetup setup → IsDevice identity
     → ((mine : Controller) (identity : Identity) (caller : Caller) (address : List ℕ) (answer : Answered)
@@ -149,7 +154,9 @@ differing_so setup identity serial real controller spare good device responses w
     let hears = responses mine identity (caller_of mine) setup.plan.station.suite.address answer device
     (record { mac = good.mac; endpoint = (good.address, omega arith) }) good.station can ∙ is_reported mine (Responds answer) in
     let steps = hears_so setup controller controller.live (Responds answer) (differing_frame setup identity serial real) waits.of_setup refl hears
-    ∙ ap (λ (turn : Turn). stepped controller turn) (differing_turn setup identity serial real controller.live differs waits.asked) in
+    ∙ ap (λ (turn : Turn). stepped controller turn)
+    (ap (after_turn setup (can_begin controller.live)) (differing_turn setup identity serial real controller.live differs waits.asked)
+    ∙ unfollowed setup (can_begin controller.live) (released setup cause.ModuleDiff controller.live) refl) in
     record {
       in_phase = ap (λ (s : ControllerStepped). s.controller.live.phase) steps;
       unestablished = ap (λ (s : ControllerStepped). s.controller.live.stands) steps;

@@ -15,7 +15,8 @@ use Rattle.controller_core.specs.declared.stored.event.Event.TheVariants.{Tick}
 use Rattle.controller_core.specs.declared.stored.state.State.{State as Phases}
 use Rattle.controller_core.specs.stored.State.{Controlling, is_limited}
 use Rattle.controller_core.specs.Machine.{Stepped, first as first_live, step_of}
-use Rattle.rounds_law.specs.Path.{Asks, AsksNext, HasRelation, IsAddressed, IsFree, IsIgnored, IsInputs, IsNamed, IsOutputs, IsSearching, device_step, request_to}
+use Rattle.rounds_law.specs.Path.{Asks, AsksNext, HasRelation, IsAddressed, IsFree, IsIgnored, IsInputs, IsNamed, IsOutputs, IsSearching, device_step}
+use Rattle.rounds_law.specs.Path.{request_to}
 use Rattle.rounds_law.specs.Rounds.{Goes, Net, Round, hears_all}
 use Rattle.rounds_law.specs.Start.{CanBeAddressed}
 use Rattle.rounds_law.proofs.CompositionLaws.{Laws}
@@ -144,7 +145,7 @@ searching_first setup controller of_setup made = record {
   high = ap (λ l. l.alarms.sending.waiting) made;
   low = ap (λ l. l.low_alarms.sending.waiting) made;
   low_limit = subst (λ l. 3200 ≤ l.low_alarms.sending.limit) (sym made) (omega arith);
-  alone = ap (λ l. l.access.waiting) made;
+  alone = (ap (λ l. l.access.waiting) made, ap (λ l. l.access.plug) made);
   unbegun = ap (λ l. l.cyclic.begun) made;
   limit = ap (λ l. l.cyclic.hearing.limit) made;
 }

@@ -4,7 +4,7 @@ use Rattle.settings_journal.specs.settings_store.Machine.{Outcome}
 use Rattle.controller_messages.specs.declared.request.Request.TheVariants.{Address, Connect, Identify, PrmEnd, Write}
 use Rattle.device_core.specs.State.{Live, Station}
 use Rattle.device_core.specs.Local.{OnlyPullsAndPlugsChangeModules}
-use Rattle.rounds_law.specs.Path.{Asks, AsksNext, Controls, Exchanges, FindsIt, HasRelation, IsAddressed, IsFree, IsInputs}
+use Rattle.rounds_law.specs.Path.{Asks, AsksNext, BeginsNoTurn, Controls, Exchanges, FindsIt, HasRelation, IsAddressed, IsFree, IsInputs}
 use Rattle.rounds_law.specs.Path.{IsNamed, IsOutputs, IsReport, IsSearching, IsSized, IsWritten, confirmed_frame, controller_step}
 use Rattle.rounds_law.specs.Path.{device_step, ended_frame, found_frame, hold_of, readied_frame, request_to, set_frame}
 use Rattle.rounds_law.specs.Start.{AreWritable, CanBeAddressed, IsOfPlan, IsPatient}
@@ -122,6 +122,7 @@ pub record Laws (setup : Setup) (identity : Identity) : Type 0 where
       ≡ confirmed_frame setup identity ∷ [])
       × Controls setup serial identity.mac 0 (hears_all controller (ended_frame setup identity ∷ readied_frame setup identity ∷ [])).controller
       × ((hears_all controller (ended_frame setup identity ∷ readied_frame setup identity ∷ [])).controller.live.low_alarms.sending.waiting ≡ None)
+      × BeginsNoTurn (hears_all controller (ended_frame setup identity ∷ readied_frame setup identity ∷ [])).controller.live
   pub controller_unit : (controller : Controlling) (phase : Phases) (request : Request) (stands : Option ℕ) (spare : ℕ) → is_limited phase ≡ true
       → Asks setup identity.mac phase request stands (suc spare) controller
       → AllByRecursion (IsOutputs setup stands identity.mac) (step_of controller Tick).frames
@@ -133,7 +134,8 @@ pub record Laws (setup : Setup) (identity : Identity) : Type 0 where
       → ((controller_step controller octets).frames ≡ []) × Asks setup identity.mac phase request stands spare (controller_step controller octets).controller
   pub controller_later_unit : (serial : ℕ) (controller : Controlling) (age : ℕ) → age + 2 ≤ hold_of setup.plan → age < 3000 → Controls setup serial identity.mac age controller
       → Controls setup serial identity.mac (suc age) (step_of controller Tick).controller
-      × (controller.live.low_alarms.sending.waiting ≡ None → AllByRecursion (IsOutputs setup (Some serial) identity.mac) (step_of controller Tick).frames
+      × (controller.live.low_alarms.sending.waiting ≡ None → BeginsNoTurn controller.live
+      → AllByRecursion (IsOutputs setup (Some serial) identity.mac) (step_of controller Tick).frames
       × ((step_of controller Tick).controller.live.low_alarms.sending.waiting ≡ None))
   pub controller_later_inputs : (serial : ℕ) (controller : Controlling) (age : ℕ) (octets : List ℕ)
       → IsInputs setup identity octets → Controls setup serial identity.mac age controller

@@ -343,7 +343,7 @@ module _ {F : Type 0} {S : ℕ} (as_flash : Flash F S) (setup : Setup) (identity
         under_way = record {
           outputs = (step_of heard.controller Tick).frames;
           frames = u.to_device ∙ ap (λ (fs : List (List ℕ)). fs ++ (step_of heard.controller Tick).frames) ready.0;
-          are_outputs = (later.1 ready.2).0;
+          are_outputs = (later.1 ready.2 ready.3).0;
         };
         inputs = unit.inputs;
       }

@@ -14,10 +14,10 @@ use Rattle.controller_messages.specs.Sent.{Requests, bytes_of}
 use Rattle.controller_core.specs.declared.stored.event.Event.TheVariants.{Frame}
 use Rattle.controller_core.specs.declared.stored.state.State.{State}
 use Rattle.controller_core.specs.declared.stored.state.State.TheVariants.{Connecting, Writing}
-use Rattle.controller_core.specs.Machine.{Stepped, Turn, standing, stepped, step_of, turn_of, writing}
+use Rattle.controller_core.specs.Machine.{Stepped, Turn, placed, standing, stepped, step_of, turn_of, writing}
 use Rattle.controller_core.specs.stored.State.{Controlling, Live, left_in, patience_in, phase_for}
 use Rattle.both_ends.specs.startup.answer.Answer.{chosen_with}
-use Rattle.rounds_law.specs.Path.{Asks, AsksNext, controller_step, hold_of, route_to}
+use Rattle.rounds_law.specs.Path.{AllAnswered, Asks, AsksNext, controller_step, hold_of, route_to}
 use Rattle.rounds_law.specs.Start.{IsPatient}
 
 -- ---- a step
@@ -92,7 +92,7 @@ pub record IsRelated (setup : Setup) (serial : ℕ) (device : Mac) (live : Live)
   pub high : live.alarms.sending.waiting ≡ None
   pub low : live.low_alarms.sending.waiting ≡ None
   pub low_limit : 3200 ≤ live.low_alarms.sending.limit
-  pub alone : live.access.waiting ≡ None
+  pub alone : AllAnswered live.access
   pub unbegun : live.cyclic.begun ≡ false
   pub limit : live.cyclic.hearing.limit ≡ hold_of setup.plan
 
@@ -112,8 +112,9 @@ related_asks serial setup device phase request spare controller it = record {
 }
 
 pub related_first : (serial : ℕ) → serial < 14336 → (setup : Setup) (device : Mac) (phase : State) (request : Request) (spare : ℕ) (controller : Controlling)
-    → Asks setup device phase request None spare controller → IsRelated setup serial device (standing setup controller.live (chosen_with serial))
-related_first serial small setup device phase request spare controller it = record {
+    (blocks : List ℕ) → Asks setup device phase request None spare controller
+    → IsRelated setup serial device (standing setup (placed setup blocks controller.live) (chosen_with serial))
+related_first serial small setup device phase request spare controller blocks it = record {
   of_device = it.of_device;
   established = refl;
   few = small;

@@ -1,5 +1,6 @@
 -- What a controller does with the responses of its device, and with ApplicationReady.
-use Rattle.std.proofs.Common.{◌<◌, ◌≡◌, ◌≤◌, ◌+◌, ◌==◌, ◌&&◌, ◌++◌, ℕ, nat_eq, true, List, [], ◌∷◌, length, Option, Some, None, Result, refl, sym, ap}
+use Rattle.std.proofs.Common.{◌<◌, ◌≡◌, ◌≤◌, ◌+◌, ◌==◌, ◌&&◌, ◌++◌, inr, ℕ, nat_eq, true, false, List, [], ◌∷◌, length, Option, Some, None, Result, refl, sym}
+use Rattle.std.proofs.Common.{ap}
 use Rattle.std.proofs.Common.{subst, ◌∙◌, arith, eq-eqb}
 use Rattle.std.specs.Prelude.{if◌then◌else◌}
 use Rattle.std.specs.Cmp.Lexicographic.{pointwise}
@@ -32,18 +33,20 @@ use Rattle.controller_messages.specs.Sent.{Agrees, calls_at, ready_answer}
 use Rattle.controller_core.specs.declared.stored.event.Event.TheVariants.{Frame}
 use Rattle.controller_core.specs.declared.stored.state.State.TheVariants.{Connecting, Ending, Exchanging, Waiting, Writing}
 use Rattle.controller_core.specs.start_up.Answers.{is_answer, is_ready, ready_block, ready_in}
-use Rattle.controller_core.specs.Machine.{Stepped, Turn, after_write, called, decided, readied, responded, standing, stays, turn_of, turned, writing}
+use Rattle.controller_core.specs.Machine.{Stepped, Turn, after_turn, after_write, called, can_begin, decided, is_exchanging, placed, readied, responded}
+use Rattle.controller_core.specs.Machine.{standing, stays, turn_of, turned, writing}
 use Rattle.controller_core.specs.stored.State.{Controlling, Live, phase_for}
 use Rattle.cyclic_data.specs.exchange.Opening.{begun_of}
 use Rattle.end_laws.specs.hearing.Hearing.{mine_reported}
 use Rattle.end_laws.specs.hearing.Stations.{IsAddress, IsCalled, IsCaller, IsDevice, IsNumbered, IsSetup, ready_call}
 use Rattle.both_ends.specs.startup.answer.Answer.{caller_of, chosen_with}
 use Rattle.rounds_law.specs.Rounds.{hears_all}
-use Rattle.rounds_law.specs.Path.{Asks, AsksNext, Controls, IsWritten, WaitsFew, confirmed_frame, controller_step, device_as_caller, ended_frame}
+use Rattle.rounds_law.specs.Path.{Asks, AsksNext, BeginsNoTurn, Controls, IsWritten, WaitsFew, confirmed_frame, controller_step, device_as_caller, ended_frame}
 use Rattle.rounds_law.specs.Path.{prm_end_done, readied_frame, ready_for, response_to}
 use Rattle.rounds_law.specs.Start.{IsPatient}
 use Rattle.rounds_law.proofs.ControllerCallingAsks.{asks_after, count_few, related_asks, related_first, step_by, step_is, within_first, within_next}
 use Rattle.rounds_law.proofs.Choices.{both_true, where_so}
+use Rattle.rounds_law.proofs.PlaceTurns.{elsewhere, unfollowed}
 
 -- the laws of the crates below
 pub record HeardSo : Type 0 where
@@ -74,6 +77,11 @@ is_reported mine heard =
     (nat_list_eq_equiv.refl mine.mac.octets)
     ∙ where_so (is_to mine.address (calls_at mine.address)) heard Nothing (to_it mine.address)
 
+-- the state of a request of the start-up is no exchange
+pub unexchanging : (request : Request) → is_exchanging (phase_for request) ≡ false
+unexchanging (asks.Write number) = refl
+unexchanging request = refl
+
 -- a response to a call of this controller
 pub is_its_answer : (setup : Setup) (sequence : ℕ) → (pointwise nat_eq setup.activity setup.activity && sequence == sequence) ≡ true
 is_its_answer setup sequence =
@@ -95,11 +103,13 @@ module _ (so : HeardSo) (setup : Setup) (identity : Identity) (good : IsSetup se
   -- the turn of a controller that waits for a response, with it
   response_turns : (request : Request) (blocks : List ℕ) (live : Live) → live.asked ≡ Some request
       → CanBeAnswered (answer_to (call_for setup request) done blocks)
-      → turn_of setup live (Frame (record { items = response_to setup identity request blocks }))
-      ≡ responded setup live (answer_to (call_for setup request) done blocks) (Some request)
-  response_turns request blocks live asked can =
+      → (turn : Turn) → responded setup live (answer_to (call_for setup request) done blocks) (Some request) ≡ turn → can_begin turn.live ≡ false
+      → turn_of setup live (Frame (record { items = response_to setup identity request blocks })) ≡ turn
+  response_turns request blocks live asked can turn is none =
       ap (λ (heard : Heard). turned setup live heard) (response_heard request blocks can)
-      ∙ ap (λ (a : Option Request). responded setup live (answer_to (call_for setup request) done blocks) a) asked
+      ∙ (ap (λ (a : Option Request). after_turn setup (can_begin live) (responded setup live (answer_to (call_for setup request) done blocks) a)) asked
+      ∙ (ap (after_turn setup (can_begin live)) is
+      ∙ unfollowed setup (can_begin live) turn none))
 
   -- ---- a Write
 
@@ -108,10 +118,11 @@ module _ (so : HeardSo) (setup : Setup) (identity : Identity) (good : IsSetup se
   written_turns number octets live asked written =
       let answer = answer_to (call_for setup (asks.Write number)) done written.blocks in
       ap (λ (o : List ℕ). turn_of setup live (Frame (record { items = o }))) written.frame
-      ∙ (response_turns (asks.Write number) written.blocks live asked written.fits
-      ∙ (where_so (is_answer setup (asks.Write number) answer.header) (decided setup live answer (asks.Write number)) (stays live)
+      ∙ response_turns (asks.Write number) written.blocks live asked written.fits (writing setup (writing_from setup.plan (number + 1)) live)
+      (where_so (is_answer setup (asks.Write number) answer.header) (decided setup live answer (asks.Write number)) (stays live)
       (is_its_answer setup (number + 1))
-      ∙ ap (after_write setup live number) written.written))
+      ∙ ap (after_write setup live number) written.written)
+      (elsewhere (writing setup (writing_from setup.plan (number + 1)) live).live (unexchanging (writing_from setup.plan (number + 1))))
 
   -- ---- PrmEnd
 
@@ -136,9 +147,10 @@ module _ (so : HeardSo) (setup : Setup) (identity : Identity) (good : IsSetup se
   ended_turns live asked =
       let blocks = block_bytes (is.PrmEndRes (prm_end_done setup)) in
       let answer = answer_to (call_for setup asks.PrmEnd) done blocks in
-      response_turns asks.PrmEnd blocks live asked ended_fits
-      ∙ where_so (is_answer setup asks.PrmEnd answer.header) (decided setup live answer asks.PrmEnd) (stays live)
-      (is_its_answer setup (write_count setup.plan + 1))
+      response_turns asks.PrmEnd blocks live asked ended_fits (stays (awaiting live))
+      (where_so (is_answer setup asks.PrmEnd answer.header) (decided setup live answer asks.PrmEnd) (stays live)
+      (is_its_answer setup (write_count setup.plan + 1)))
+      (elsewhere (awaiting live) refl)
 
   -- ---- ApplicationReady
 
@@ -198,6 +210,7 @@ module _ (so : HeardSo) (setup : Setup) (identity : Identity) (good : IsSetup se
       (step.frames ≡ confirmed_frame setup identity ∷ [])
       × Controls setup serial identity.mac 0 step.controller
       × (step.controller.live.low_alarms.sending.waiting ≡ None)
+      × BeginsNoTurn step.controller.live
 
   pub readied_next : (serial : ℕ) (controller : Controlling) (spare : ℕ) → Asks setup identity.mac Ending asks.PrmEnd (Some serial) spare controller
       → IsReadied serial (hears_all controller (ended_frame setup identity ∷ readied_frame setup identity ∷ []))
@@ -218,25 +231,25 @@ module _ (so : HeardSo) (setup : Setup) (identity : Identity) (good : IsSetup se
         low_limit = it.low_limit;
         limit = it.limit;
         unasked = refl;
-        alone = it.alone;
+        alone = it.alone.0;
         held_few = omega arith;
       } in
       subst (λ (s : Stepped). IsReadied serial s) (sym (both_heard controller (ended_frame setup identity) (readied_frame setup identity) first second one other))
-      (refl, controls, it.low)
+      (refl, controls, it.low, (it.alone.1, inr (omega (arith, it.unrepeated))))
 
   -- ---- what is asked next
 
-  pub connected_next : (serial : ℕ) → serial < 14336 → (controller : Controlling) (spare : ℕ) (octets : List ℕ) → IsPatient setup.plan setup.options
+  pub connected_next : (serial : ℕ) → serial < 14336 → (controller : Controlling) (spare : ℕ) (octets blocks : List ℕ) → IsPatient setup.plan setup.options
       → Asks setup identity.mac Connecting asks.Connect None spare controller
       → turn_of setup controller.live (Frame (record { items = octets }))
-      ≡ writing setup (writing_from setup.plan 0) (standing setup controller.live (chosen_with serial))
+      ≡ writing setup (writing_from setup.plan 0) (standing setup (placed setup blocks controller.live) (chosen_with serial))
       → AsksNext setup identity (phase_for (writing_from setup.plan 0)) (writing_from setup.plan 0) (Some serial) (write_count setup.plan + 2)
       (controller_step controller octets)
-  connected_next serial small controller spare octets patient it turns =
+  connected_next serial small controller spare octets blocks patient it turns =
       let count = write_count setup.plan in
       asks_after serial setup identity (writing_from setup.plan 0) (count + 2) controller octets
-      (standing setup controller.live (chosen_with serial)) it.of_setup turns
-      (related_first serial small setup identity.mac Connecting asks.Connect spare controller it) (omega (arith, count_few setup.plan good.plan))
+      (standing setup (placed setup blocks controller.live) (chosen_with serial)) it.of_setup turns
+      (related_first serial small setup identity.mac Connecting asks.Connect spare controller blocks it) (omega (arith, count_few setup.plan good.plan))
       (within_first setup.plan setup.options controller.live.left (count + 2) 0 controller.live.phase it.in_phase (omega arith) patient)
 
   pub written_next : (serial : ℕ) (controller : Controlling) (number spare : ℕ) (octets : List ℕ) → IsPatient setup.plan setup.options → spare ≤ write_count setup.plan + 2

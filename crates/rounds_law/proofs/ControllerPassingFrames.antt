@@ -39,13 +39,14 @@ use Rattle.controller_messages.specs.Heard.{Cyclic as Comes}
 use Rattle.controller_core.specs.declared.stored.state.State.{State as Phases}
 use Rattle.controller_core.specs.stored.Alarms.{is_alarm}
 use Rattle.controller_core.specs.stored.State.{Controlling, Live, with_live}
-use Rattle.controller_core.specs.Machine.{Stepped, Turn, behind_data, noticed, stays, step_of, stepped, taken, turned}
+use Rattle.controller_core.specs.Machine.{Stepped, Turn, alarmed, behind_data, can_begin, noticed, stays, step_of, stepped, taken, turned}
 use Rattle.end_laws.specs.hearing.Hearing.{mine_hears, padded}
 use Rattle.end_laws.specs.hearing.Stations.{IsDevice, IsRoute as IsRouted, IsSetup}
 use Rattle.both_ends.specs.startup.request.Request.{request_for}
 use Rattle.rounds_law.specs.Path.{Asks, Controls, IsInputs, IsReport, IsRoute, controller_step}
 use Rattle.rounds_law.proofs.ControllerPassingLong.{long_unread}
 use Rattle.rounds_law.proofs.ControllerPassingParts.{IsHeardOn, as_before, frame_on}
+use Rattle.rounds_law.proofs.PlaceTurns.{HoldsBeside, followed_beside}
 
 -- ---- one frame
 
@@ -259,10 +260,32 @@ module _ (setup : Setup) (serial : ℕ) (device : Mac) (age : ℕ) (controller :
   alarm_in number user alarm true = taken_in number user alarm (taken_as controller.live.low_alarms.seen number)
   alarm_in number user alarm false = is
 
+  -- So it is whatever the turn of a place is.
+  abbrev StaysWith : Live → Type 0
+  StaysWith live = Controls setup serial device age (with_live controller live)
+
+  any_turn : (live : Live) → StaysWith live → HoldsBeside StaysWith live
+  any_turn live it waited places access less same = record {
+    of_setup = it.of_setup;
+    in_phase = it.in_phase;
+    established = it.established;
+    few = it.few;
+    route = it.route;
+    high = it.high;
+    low = it.low;
+    low_limit = it.low_limit;
+    limit = it.limit;
+    unasked = it.unasked;
+    alone = same ∙ it.alone;
+    held_few = it.held_few;
+  }
+
   of_low_in : (source : Mac) (header : Header) (number : ℕ) (user : Option ℕ) (alarm : AlarmNotification) (own : Bool)
       → StaysIn (turned controller.setup controller.live (if own then Alarms source Low header (notice.Data number (of_low user alarm)) else Nothing))
   of_low_in source header number user alarm true =
-      alarm_in number user alarm (controller.live.stands && is_alarm controller.live.cyclic.route source header)
+      let turn = alarmed controller.live source Low header (notice.Data number (of_low user alarm)) in
+      followed_beside StaysWith controller.setup (can_begin controller.live) turn
+      (any_turn turn.live (alarm_in number user alarm (controller.live.stands && is_alarm controller.live.cyclic.route source header)))
   of_low_in source header number user alarm false = is
 
   -- That of a pull or a plug has no data, that of a diagnosis has some.

@@ -1,6 +1,6 @@
 -- A unit of time at a controller.
 use Rattle.std.proofs.Common.{◌≡◌, ◌⊎◌, inl, inr, ◌+◌, ◌-◌, ◌==◌, ◌&&◌, ◌++◌, ◌≤◌, ◌<◌, ℕ, suc, Bool, true, false, Some}
-use Rattle.std.proofs.Common.{List, [], ◌∷◌, map, Option, None, if◌then◌else◌, refl, sym, ap, subst, ◌∙◌, arith}
+use Rattle.std.proofs.Common.{List, [], ◌∷◌, map, Option, None, is_some, if◌then◌else◌, refl, sym, ap, subst, ◌∙◌, arith}
 use Rattle.std.specs.List.{AllByRecursion}
 use Rattle.std.proofs.lemmas.Bool.{ne_eqb}
 use Rattle.pn_values.specs.declared.mac.Mac.{Mac}
@@ -15,6 +15,7 @@ use Rattle.cyclic_data.specs.Timing.{is_due}
 use Rattle.cyclic_data.specs.declared.exchange.route.Route.{Route}
 use Rattle.cyclic_data.specs.exchange.Cyclic.{Cyclic}
 use Rattle.cyclic_data.specs.exchange.Units.{Brought, cyclic_later, ending_by, is_silent}
+use Rattle.controller_messages.specs.declared.plug_request.PlugRequest.{PlugRequest}
 use Rattle.controller_messages.specs.declared.record_request.RecordRequest.{RecordRequest}
 use Rattle.controller_messages.specs.declared.request.Request.{Request}
 use Rattle.controller_messages.specs.declared.setup.Setup.{Setup}
@@ -22,12 +23,14 @@ use Rattle.controller_messages.specs.Sent.{Cycles, Sent, bytes_of}
 use Rattle.controller_core.specs.declared.stored.event.Event.TheVariants.{Tick}
 use Rattle.controller_core.specs.declared.stored.state.Cause.TheVariants.{NoProgress}
 use Rattle.controller_core.specs.declared.stored.state.State.{State as Phases}
-use Rattle.controller_core.specs.Machine.{Stepped, Turn, accesses_by, brought, due_frames, exchange_later, flow_later, flowed, gone_on, is_again}
-use Rattle.controller_core.specs.Machine.{is_spent, later, outputs_of, pending_by, pending_of, quit, step_of, stepped, ticked, where_due}
+use Rattle.controller_core.specs.Machine.{Stepped, Turn, accesses_by, accesses_of, brought, due_frames, exchange_later, flow_later, flowed, gone_on}
+use Rattle.controller_core.specs.Machine.{is_again, is_spent, later, outputs_of, pending_by, pending_of, plugs_by, quit, step_of, stepped, ticked}
+use Rattle.controller_core.specs.Machine.{turn_due, where_due}
 use Rattle.controller_core.specs.stored.State.{Controlling, Live, is_limited, with_live}
-use Rattle.rounds_law.specs.Path.{Asks, Controls, IsOutputs, IsRoute, hold_of, route_to}
+use Rattle.rounds_law.specs.Path.{Asks, BeginsNoTurn, Controls, IsOutputs, IsRoute, hold_of, route_to}
 use Rattle.rounds_law.proofs.ControllerPassingParts.{brings, either_kept, held_later, kept_by, limit_later, unbegun_heard, unheld, waits_on}
 use Rattle.rounds_law.proofs.Choices.{and_false}
+use Rattle.rounds_law.proofs.PlaceTurns.{HoldsBeside, due_beside, early, none_due, with_turn}
 
 abbrev pub turn_with : Live → List Sent → Turn
 turn_with live sent = record { live = live; sent = sent }
@@ -42,8 +45,15 @@ by_turn controller turn is = ap (stepped controller) is
 pub unspent : (live : Live) → (live.left == 1) ≡ false → is_spent live ≡ false
 unspent live more = ap (λ (b : Bool). is_limited live.phase && b) more ∙ and_false (is_limited live.phase)
 
-pub goes_on : (setup : Setup) (live : Live) → is_spent live ≡ false → ticked setup live ≡ gone_on (later live) (is_again live)
-goes_on setup live more = ap (λ (b : Bool). if b then quit setup NoProgress (later live) live.phase else gone_on (later live) (is_again live)) more
+pub begins_or_not : (setup : Setup) (live : Live) → is_spent live ≡ false
+    → ticked setup live ≡ gone_on (turn_due setup (is_again live) (later live)) (is_again live)
+begins_or_not setup live more =
+    ap (λ (b : Bool). if b then quit setup NoProgress (later live) live.phase else gone_on (turn_due setup (is_again live) (later live)) (is_again live)) more
+
+-- No turn of a place begins with it.
+pub goes_on : (setup : Setup) (live : Live) → is_spent live ≡ false → turn_due setup (is_again live) (later live) ≡ later live
+    → ticked setup live ≡ gone_on (later live) (is_again live)
+goes_on setup live more none = begins_or_not setup live more ∙ ap (λ (l : Live). gone_on l (is_again live)) none
 
 gone_off : (live : Live) (is_request : Bool) → live.stands ≡ false → is_request ≡ false → gone_on live is_request ≡ turn_with live []
 gone_off live is_request stands none = rw (stands, none) refl
@@ -66,12 +76,13 @@ gone_there live is_request stands heard one other =
     (brings live.cyclic (either_due high low) heard (either_kept high low one other))
 
 -- If the relation is established, and nothing ends it.
-pub turn_there : (setup : Setup) (live : Live) → is_spent live ≡ false → live.stands ≡ true → is_silent live.cyclic ≡ false
+pub turn_there : (setup : Setup) (live : Live) → is_spent live ≡ false → turn_due setup (is_again live) (later live) ≡ later live
+    → live.stands ≡ true → is_silent live.cyclic ≡ false
     → ending_by (due live.alarms.sending) ≡ None
     → ending_by (due live.low_alarms.sending) ≡ None
     → ticked setup live ≡ turn_with (flow_later live) (sent_at live (due live.alarms.sending) (due live.low_alarms.sending))
-turn_there setup live more stands heard one other =
-    goes_on setup live more ∙ gone_there (later live) (is_again live) stands heard one other
+turn_there setup live more none stands heard one other =
+    goes_on setup live more none ∙ gone_there (later live) (is_again live) stands heard one other
 
 -- ---- frames
 
@@ -145,6 +156,7 @@ module _ (setup : Setup) (device : Mac) (phase : Phases) (request : Request) (sp
       let live = controller.live in
       by_turn controller (turn_with (later live) [])
       (goes_on controller.setup live (unspent live (lasts live.left spare is.patient))
+      (early controller.setup live (unrepeated live.waited spare is.unrepeated))
       ∙ gone_off (later live) (is_again live) is.established (unrepeated live.waited spare is.unrepeated))
 
   pub unsent : Asks setup device phase request None (suc spare) controller → (step_of controller Tick).frames ≡ []
@@ -162,7 +174,8 @@ module _ (setup : Setup) (device : Mac) (phase : Phases) (request : Request) (sp
       let live = controller.live in
       let none : due live.alarms.sending ≡ Nothing = ap (due_behind live.alarms.sending) is.high in
       let none_low : due live.low_alarms.sending ≡ Nothing = ap (due_behind live.low_alarms.sending) is.low in
-      let turn = turn_there controller.setup live (unspent live (lasts live.left spare is.patient)) is.established (unbegun_heard live.cyclic is.unbegun)
+      let turn = turn_there controller.setup live (unspent live (lasts live.left spare is.patient))
+      (early controller.setup live (unrepeated live.waited spare is.unrepeated)) is.established (unbegun_heard live.cyclic is.unbegun)
       (ap ending_by none) (ap ending_by none_low) in
       let sent : sent_at live (due live.alarms.sending) (due live.low_alarms.sending) ≡ where_due (is_due live.cyclic.sending) (outputs_of (flow_later live)) =
       ap (λ (d : Due). sent_at live d (due live.low_alarms.sending)) none ∙ ap (λ (d : Due). sent_at live Nothing d) none_low
@@ -187,22 +200,23 @@ idle : (is_due : Bool) → where_due is_due [] ≡ []
 idle true = refl
 idle false = refl
 
-none_pending : (live : Live) (asked : Option Request) → asked ≡ None → live.access.waiting ≡ None → pending_by live asked ≡ []
-none_pending live asked none alone = ap (pending_by live) none
+none_pending : (live : Live) (asked : Option Request) → asked ≡ None → live.access.waiting ≡ None → live.access.plug ≡ None → pending_by live asked ≡ []
+none_pending live asked none alone unplugged = ap (pending_by live) none
+    ∙ ap (λ (plug : Option PlugRequest). if is_some plug then plugs_by live.device plug else accesses_of live) unplugged
     ∙ ap (λ (waiting : Option RecordRequest). accesses_by live.device live.access.octets waiting) alone
 
 -- Without an alarm that waits and without a request, outputs at most.
 pub quiet : (serial : ℕ) (setup : Setup) (device : Mac) (controller : Controlling) → controller.setup ≡ setup → serial < 14336 → controller.live.cyclic.route ≡ route_to device serial
     → due controller.live.alarms.sending ≡ Nothing → due controller.live.low_alarms.sending ≡ Nothing
-    → controller.live.asked ≡ None → controller.live.access.waiting ≡ None
+    → controller.live.asked ≡ None → controller.live.access.waiting ≡ None → controller.live.access.plug ≡ None
     → AllByRecursion (IsOutputs setup (Some serial) device) (map (bytes_of controller.setup)
     (sent_at controller.live (due controller.live.alarms.sending) (due controller.live.low_alarms.sending)))
-quiet serial setup device controller of_setup few to none_high none_low unasked alone =
+quiet serial setup device controller of_setup few to none_high none_low unasked alone unplugged =
     let live = controller.live in
     let sent : sent_at live (due live.alarms.sending) (due live.low_alarms.sending) ≡ where_due (is_due live.cyclic.sending) (outputs_of (flow_later live)) =
     ap (λ (d : Due). sent_at live d (due live.low_alarms.sending)) none_high ∙ ap (λ (d : Due). sent_at live Nothing d) none_low
     ∙ ap (λ (sent : List Sent). where_due (is_again live) sent ++ where_due (is_due live.cyclic.sending) (outputs_of (flow_later live)))
-    (none_pending (flow_later live) live.asked unasked alone)
+    (none_pending (flow_later live) live.asked unasked alone unplugged)
     ∙ ap (λ (sent : List Sent). sent ++ where_due (is_due live.cyclic.sending) (outputs_of (flow_later live))) (idle (is_again live)) in
     subst (λ (messages : List Sent). AllByRecursion (IsOutputs setup (Some serial) device) (map (bytes_of controller.setup) messages)) (sym sent)
     (only_outputs serial setup controller.setup device live.cyclic.route live.cyclic.shown (later live).units (is_due live.cyclic.sending) of_setup few to)
@@ -212,10 +226,21 @@ module _ (setup : Setup) (serial : ℕ) (device : Mac) (age : ℕ) (controller :
   none_high : due controller.live.alarms.sending ≡ Nothing
   none_high = ap (due_behind controller.live.alarms.sending) is.high
 
-  controls_on : (sent : List Sent) → Controls setup serial device (suc age) (stepped controller (turn_with (flow_later controller.live) sent)).controller
-  controls_on sent =
+  -- Whatever the turn of a place is.
+  abbrev ControlsOn : Live → Type 0
+  ControlsOn live = Controls setup serial device (suc age) (stepped controller (gone_on live (is_again controller.live))).controller
+
+  unsilent : is_silent controller.live.cyclic ≡ false
+  unsilent = unheld controller.live.cyclic age (hold_of setup.plan) holds is.held_few is.limit
+
+  kept_low : ending_by (due controller.live.low_alarms.sending) ≡ None
+  kept_low = kept_by controller.live.low_alarms.sending controller.live.low_alarms.sending.waiting age is.low young is.low_limit
+
+  controls_on : HoldsBeside ControlsOn (later controller.live)
+  controls_on waited places access less same =
       let live = controller.live in
-      record {
+      subst (λ (turn : Turn). Controls setup serial device (suc age) (stepped controller turn).controller)
+      (sym (gone_there (with_turn (later live) waited places access) (is_again live) is.established unsilent (ap ending_by none_high) kept_low)) (record {
         of_setup = is.of_setup;
         in_phase = is.in_phase;
         established = is.established;
@@ -226,41 +251,44 @@ module _ (setup : Setup) (serial : ℕ) (device : Mac) (age : ℕ) (controller :
         low_limit = is.low_limit;
         limit = limit_later live.cyclic.begun live.cyclic.hearing ∙ is.limit;
         unasked = is.unasked;
-        alone = is.alone;
+        alone = same ∙ is.alone;
         held_few = held_later live.cyclic.begun live.cyclic.hearing age is.held_few;
-      }
+      })
 
   -- It is not limited.
   unlimited : is_spent controller.live ≡ false
   unlimited = ap (λ (p : Phases). is_limited p && controller.live.left == 1) is.in_phase
 
-  whole_step : step_of controller Tick ≡ stepped controller
+  quiet_step : BeginsNoTurn controller.live → step_of controller Tick ≡ stepped controller
       (turn_with (flow_later controller.live) (sent_at controller.live (due controller.live.alarms.sending) (due controller.live.low_alarms.sending)))
-  whole_step =
+  quiet_step none =
       let live = controller.live in
       by_turn controller (turn_with (flow_later live) (sent_at live (due live.alarms.sending) (due live.low_alarms.sending)))
-      (turn_there controller.setup live unlimited is.established (unheld live.cyclic age (hold_of setup.plan) holds is.held_few is.limit)
-      (ap ending_by none_high)
-      (kept_by live.low_alarms.sending live.low_alarms.sending.waiting age is.low young is.low_limit))
+      (turn_there controller.setup live unlimited (none_due controller.setup live none) is.established unsilent (ap ending_by none_high) kept_low)
 
-  -- Without an AlarmAck that waits for its ACK, outputs at most.
+  -- Without an AlarmAck that waits for its ACK and without a turn, outputs at most.
   abbrev IsQuiet : Stepped → Type 0
   IsQuiet step = AllByRecursion (IsOutputs setup (Some serial) device) step.frames × (step.controller.live.low_alarms.sending.waiting ≡ None)
 
-  quiet_on : controller.live.low_alarms.sending.waiting ≡ None
+  quiet_on : controller.live.low_alarms.sending.waiting ≡ None → controller.live.access.plug ≡ None
       → IsQuiet (stepped controller (turn_with (flow_later controller.live)
       (sent_at controller.live (due controller.live.alarms.sending) (due controller.live.low_alarms.sending))))
-  quiet_on rests =
+  quiet_on rests unplugged =
       let live = controller.live in (
-        quiet serial setup device controller is.of_setup is.few is.route none_high (ap (due_behind live.low_alarms.sending) rests) is.unasked is.alone,
+        quiet serial setup device controller is.of_setup is.few is.route none_high (ap (due_behind live.low_alarms.sending) rests) is.unasked is.alone
+            unplugged,
         ap (waiting_behind live.low_alarms.sending) rests,
       )
 
   pub later_unit : Controls setup serial device (suc age) (step_of controller Tick).controller
-      × (controller.live.low_alarms.sending.waiting ≡ None → AllByRecursion (IsOutputs setup (Some serial) device) (step_of controller Tick).frames
+      × (controller.live.low_alarms.sending.waiting ≡ None → BeginsNoTurn controller.live
+      → AllByRecursion (IsOutputs setup (Some serial) device) (step_of controller Tick).frames
       × ((step_of controller Tick).controller.live.low_alarms.sending.waiting ≡ None))
-  later_unit = (
-    subst (λ (step : Stepped). Controls setup serial device (suc age) step.controller) (sym whole_step)
-        (controls_on (sent_at controller.live (due controller.live.alarms.sending) (due controller.live.low_alarms.sending))),
-    λ rests. subst (λ (step : Stepped). IsQuiet step) (sym whole_step) (quiet_on rests),
-  )
+  later_unit =
+      let live = controller.live in
+      let turn = gone_on (turn_due controller.setup (is_again live) (later live)) (is_again live) in (
+        subst (λ (step : Stepped). Controls setup serial device (suc age) step.controller)
+            (sym (by_turn controller turn (begins_or_not controller.setup live unlimited)))
+            (due_beside ControlsOn controller.setup (is_again live) (later live) controls_on),
+        λ rests none. subst (λ (step : Stepped). IsQuiet step) (sym (quiet_step none)) (quiet_on rests none.0),
+      )

@@ -1,5 +1,6 @@
 pub mod Choices
 pub mod PlanKept
+pub mod PlaceTurns
 pub mod AnywherePlugs
 pub mod CompositionLaws
 pub mod CompositionLists
@@ -70,6 +71,7 @@ pub mod AnywhereDeviceReleased
 pub mod AnywhereControllerHeard
 pub mod AnywhereControllerKept
 pub mod AnywhereControllerLaws
+pub mod AnywhereTurnless
 pub mod AnywhereControllerReached
 pub mod AnywhereControllerAcks
 pub mod AnywhereControllerSent

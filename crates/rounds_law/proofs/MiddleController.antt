@@ -1,5 +1,5 @@
 -- A controller that waits for ApplicationReady: a unit, a frame of inputs, and ApplicationReady.
-use Rattle.std.proofs.Common.{◌≡◌, ℕ, suc, List, [], Option, None, refl, sym, ap, subst, ◌∙◌, arith, Some}
+use Rattle.std.proofs.Common.{◌≡◌, inl, ℕ, suc, List, [], Option, None, refl, sym, ap, subst, ◌∙◌, arith, Some}
 use Rattle.std.specs.List.{AllByRecursion}
 use Rattle.pn_values.specs.declared.identity.Identity.{Identity}
 use Rattle.pn_values.specs.declared.mac.Mac.{Mac}
@@ -15,16 +15,17 @@ use Rattle.controller_core.specs.declared.stored.event.Event.TheVariants.{Frame,
 use Rattle.controller_core.specs.declared.stored.state.State.{State as Phases}
 use Rattle.controller_core.specs.declared.stored.state.State.TheVariants.{Waiting}
 use Rattle.controller_core.specs.start_up.Answers.{is_ready}
-use Rattle.controller_core.specs.Machine.{Stepped, called, flow_later, readied, stays, step_of, turn_of, turned}
+use Rattle.controller_core.specs.Machine.{Stepped, called, flow_later, is_again, later, readied, stays, step_of, turn_of, turned}
 use Rattle.controller_core.specs.stored.State.{Controlling, Live}
 use Rattle.end_laws.specs.hearing.Stations.{IsDevice, IsSetup, ready_call}
 use Rattle.rounds_law.specs.Middle.{WaitsForReady}
-use Rattle.rounds_law.specs.Path.{Controls, IsInputs, IsOutputs, WaitsFew, controller_step, device_as_caller, readied_frame, ready_for}
+use Rattle.rounds_law.specs.Path.{BeginsNoTurn, Controls, IsInputs, IsOutputs, WaitsFew, controller_step, device_as_caller, readied_frame, ready_for}
 use Rattle.rounds_law.proofs.Choices.{where_so}
 use Rattle.rounds_law.proofs.ControllerCallingAsks.{step_by, step_is}
 use Rattle.rounds_law.proofs.ControllerCallingResponses.{HeardSo, IsReadied, begun, is_its_relation, ready_heard, ready_is}
 use Rattle.rounds_law.proofs.ControllerPassingFrames.{InputsAreHeard, inputs_on}
 use Rattle.rounds_law.proofs.ControllerPassingParts.{limit_later, unbegun_heard}
+use Rattle.rounds_law.proofs.PlaceTurns.{none_waits, undue}
 use Rattle.rounds_law.proofs.ControllerPassingUnits.{by_turn, lasts, lasts_on, quiet, sent_at, turn_there, turn_with, unspent}
 
 -- ---- a unit
@@ -45,9 +46,10 @@ module _ (setup : Setup) (serial : ℕ) (device : Mac) (spare : ℕ) (controller
       let turn = turn_with (flow_later live) (sent_at live (due live.alarms.sending) (due live.low_alarms.sending)) in
       subst (λ (step : Stepped). WaitsStill step)
       (sym (by_turn controller turn
-      (turn_there controller.setup live (unspent live (lasts live.left spare is.patient)) is.established (unbegun_heard live.cyclic is.unbegun)
+      (turn_there controller.setup live (unspent live (lasts live.left spare is.patient))
+      (undue controller.setup (is_again live) (later live) (none_waits (later live) is.turnless.1)) is.established (unbegun_heard live.cyclic is.unbegun)
       (ap ending_by none_high) (ap ending_by none_low)))) (
-        quiet serial setup device controller is.of_setup is.route.0 is.route.1 none_high none_low is.unasked is.alone,
+        quiet serial setup device controller is.of_setup is.route.0 is.route.1 none_high none_low is.unasked is.alone is.turnless.0,
         record {
           of_setup = is.of_setup;
           in_phase = is.in_phase;
@@ -59,6 +61,7 @@ module _ (setup : Setup) (serial : ℕ) (device : Mac) (spare : ℕ) (controller
           low = ap (waiting_behind live.low_alarms.sending) is.low;
           low_limit = is.low_limit;
           alone = is.alone;
+          turnless = is.turnless;
           unbegun = is.unbegun;
           limit = limit_later live.cyclic.begun live.cyclic.hearing ∙ is.limit;
         },
@@ -85,6 +88,7 @@ module _ (hears : InputsAreHeard) (sound : IsSound ethernet) (whole : IsSoundWho
           low = is.low;
           low_limit = is.low_limit;
           alone = is.alone;
+          turnless = is.turnless;
           unbegun = step.on.begun ∙ is.unbegun;
           limit = step.on.limit ∙ is.limit;
         },
@@ -93,9 +97,11 @@ module _ (hears : InputsAreHeard) (sound : IsSound ethernet) (whole : IsSoundWho
   pub quiet_inputs : (serial : ℕ) (age : ℕ) → Controls setup serial identity.mac age controller → controller.live.low_alarms.sending.waiting ≡ None
       → ((controller_step controller octets).frames ≡ []) × Controls setup serial identity.mac age (controller_step controller octets).controller
       × ((controller_step controller octets).controller.live.low_alarms.sending.waiting ≡ None)
+      × (BeginsNoTurn controller.live → BeginsNoTurn (controller_step controller octets).controller.live)
   quiet_inputs serial age is none =
       let step = inputs_on hears sound whole setup identity good real controller octets inputs is.of_setup in
-      subst (λ (s : Stepped). (s.frames ≡ []) × Controls setup serial identity.mac age s.controller × (s.controller.live.low_alarms.sending.waiting ≡ None))
+      subst (λ (s : Stepped). (s.frames ≡ []) × Controls setup serial identity.mac age s.controller × (s.controller.live.low_alarms.sending.waiting ≡ None)
+      × (BeginsNoTurn controller.live → BeginsNoTurn s.controller.live))
       (sym step.is) (
         refl,
         record {
@@ -113,6 +119,7 @@ module _ (hears : InputsAreHeard) (sound : IsSound ethernet) (whole : IsSoundWho
           held_few = omega (arith, step.on.held, is.held_few);
         },
         none,
+        λ turnless. turnless,
       )
 
 -- ---- ApplicationReady
@@ -150,4 +157,4 @@ module _ (so : HeardSo) (setup : Setup) (identity : Identity) (good : IsSetup se
       } in
       subst (λ (s : Stepped). IsReadied so setup identity good real serial s)
       (sym (step_is setup controller (readied_frame setup identity) turn is.of_setup (waiting_turns controller.live is.in_phase)))
-      (refl, controls, is.low)
+      (refl, controls, is.low, (is.turnless.0, inl is.turnless.1))

@@ -11,7 +11,7 @@ use Rattle.controller_core.specs.declared.stored.event.Event.TheVariants.{Tick}
 use Rattle.controller_core.specs.stored.State.{Controlling}
 use Rattle.controller_core.specs.Machine.{step_of}
 use Rattle.rounds_law.specs.Middle.{IsAwaiting, WaitsForReady, WaitsOn}
-use Rattle.rounds_law.specs.Path.{Controls, IsAddressed, IsInputs, IsOutputs, confirmed_frame, controller_step, device_step, readied_frame}
+use Rattle.rounds_law.specs.Path.{BeginsNoTurn, Controls, IsAddressed, IsInputs, IsOutputs, confirmed_frame, controller_step, device_step, readied_frame}
 
 pub record WaitLaws (setup : Setup) (identity : Identity) : Type 0 where
   pub device_unit : (serial : ℕ) (outcomes : List Outcome) (station : Station) (live : Live) (waited inactive : ℕ) → station.identity ≡ identity
@@ -31,7 +31,9 @@ pub record WaitLaws (setup : Setup) (identity : Identity) : Type 0 where
       → ((controller_step controller (readied_frame setup identity)).frames ≡ confirmed_frame setup identity ∷ [])
       × Controls setup serial identity.mac 0 (controller_step controller (readied_frame setup identity)).controller
       × ((controller_step controller (readied_frame setup identity)).controller.live.low_alarms.sending.waiting ≡ None)
+      × BeginsNoTurn (controller_step controller (readied_frame setup identity)).controller.live
   pub controller_quiet : (serial : ℕ) (controller : Controlling) (age : ℕ) (octets : List ℕ) → IsInputs setup identity octets
       → Controls setup serial identity.mac age controller → controller.live.low_alarms.sending.waiting ≡ None
       → ((controller_step controller octets).frames ≡ []) × Controls setup serial identity.mac age (controller_step controller octets).controller
       × ((controller_step controller octets).controller.live.low_alarms.sending.waiting ≡ None)
+      × (BeginsNoTurn controller.live → BeginsNoTurn (controller_step controller octets).controller.live)

@@ -17,7 +17,8 @@ use Rattle.controller_core.specs.stored.State.{Controlling, phase_for}
 use Rattle.controller_core.specs.Machine.{Stepped, step_of}
 use Rattle.rounds_law.specs.Middle.{IsAwaiting, IsConfirming, IsReadied, IsWaiting, IsWriting, WaitsForReady}
 use Rattle.rounds_law.specs.Middle.{until_ready, waiting_limit, writing_limit}
-use Rattle.rounds_law.specs.Path.{Asks, Controls, IsAddressed, IsInputs, IsOutputs, confirmed_frame, controller_step, device_step, readied_frame, request_to}
+use Rattle.rounds_law.specs.Path.{Asks, BeginsNoTurn, Controls, IsAddressed, IsInputs, IsOutputs, confirmed_frame, controller_step, device_step}
+use Rattle.rounds_law.specs.Path.{readied_frame, request_to}
 use Rattle.rounds_law.specs.Repeating.{completes, counts_on}
 use Rattle.rounds_law.specs.Rounds.{Net, Round, hears_all}
 use Rattle.rounds_law.specs.Stages.{Leads}
@@ -43,9 +44,10 @@ pub record WaitedOn {F : Type 0} (setup : Setup) (serial : ℕ) (identity : Iden
   pub frames : after.to_controller ≡ (if completes waited then readied_frame setup identity ∷ [] else []) ++ inputs
   pub is : IsThere setup serial (counts_on waited) (inactive + 1) after.device.live
 
--- What a controller is after a frame by which it exchanges data, with no AlarmAck that waits for its ACK.
+-- What a controller is after a frame by which it exchanges data, with no AlarmAck that waits for its ACK, and no turn that begins.
 abbrev IsQuiet : Setup → ℕ → Identity → ℕ → Controlling → Type 0
-IsQuiet setup serial identity age controller = Controls setup serial identity.mac age controller × (controller.live.low_alarms.sending.waiting ≡ None)
+IsQuiet setup serial identity age controller =
+    Controls setup serial identity.mac age controller × (controller.live.low_alarms.sending.waiting ≡ None) × BeginsNoTurn controller.live
 
 module _ {F : Type 0} {S : ℕ} (as_flash : Flash F S) (setup : Setup) (identity : Identity) (laws : Laws setup identity) (waits : WaitLaws setup identity)
     (can : CanStart setup identity) where
@@ -93,8 +95,8 @@ module _ {F : Type 0} {S : ℕ} (as_flash : Flash F S) (setup : Setup) (identity
       let step = controller_step first.between ready in
       let law = waits.controller_readied serial first.between at.spare first.is in
       let later = keep (IsQuiet setup serial identity 0) (IsInputs setup identity)
-      (λ c octets inputs is. let on = waits.controller_quiet serial c 0 octets inputs is.0 is.1 in (on.0, (on.1, on.2)))
-      step.controller at.after [] at.inputs_after (law.1, law.2) in
+      (λ c octets inputs is. let on = waits.controller_quiet serial c 0 octets inputs is.0 is.1 in (on.0, (on.1, on.2, on.3 is.2)))
+      step.controller at.after [] at.inputs_after (law.1, law.2, law.3) in
       let heard : Stepped = record { controller = later.between; frames = confirmed_frame setup identity ∷ [] } in
       let all : net.to_controller ++ [] ≡ at.before ++ (ready ∷ (at.after ++ [])) =
       append-nil net.to_controller ∙ (at.under_way ∙ ap (λ (fs : List (List ℕ)). at.before ++ (ready ∷ fs)) (sym (append-nil at.after))) in
@@ -120,7 +122,7 @@ module _ {F : Type 0} {S : ℕ} (as_flash : Flash F S) (setup : Setup) (identity
         controls = subst (λ (c : Controlling). Controls setup serial identity.mac 1 c) (sym u.controller) unit.0;
         in_time = omega (arith, can.holds);
         few = omega arith;
-        under_way = record { outputs = (step_of later.between Tick).frames; frames = u.to_device; are_outputs = (unit.1 later.is.1).0 };
+        under_way = record { outputs = (step_of later.between Tick).frames; frames = u.to_device; are_outputs = (unit.1 later.is.1 later.is.2).0 };
         inputs = subst (λ (fs : List (List ℕ)). AllByRecursion (IsInputs setup identity) fs)
             (sym (early_inputs at.waited next.to_controller device.inputs at.early device.frames)) device.are_inputs;
       }

@@ -29,7 +29,7 @@ use Rattle.controller_core.specs.start_up.Answers.{ident_bytes, is_addressed, is
 use Rattle.controller_core.specs.Machine.{answered, asking, over, stays, step_of, stepped, turned}
 use Rattle.controller_core.specs.declared.stored.state.Cause.TheVariants as cause
 use Rattle.end_laws.specs.hearing.Hearing.{mine_hears}
-use Rattle.rounds_law.specs.Path.{Asks, AsksNext, FindsIt, IsSearching, IsSized, controller_step, hold_of}
+use Rattle.rounds_law.specs.Path.{AllAnswered, Asks, AsksNext, FindsIt, IsSearching, IsSized, controller_step, hold_of}
 use Rattle.rounds_law.specs.Start.{IsPatient}
 use Rattle.rounds_law.proofs.SearchingSizes.{suites_same}
 
@@ -42,7 +42,7 @@ record IsQuiet (setup : Setup) (device : Mac) (live : Live) : Type 0 where
   high : live.alarms.sending.waiting ≡ None
   low : live.low_alarms.sending.waiting ≡ None
   low_limit : 3200 ≤ live.low_alarms.sending.limit
-  alone : live.access.waiting ≡ None
+  alone : AllAnswered live.access
   unbegun : live.cyclic.begun ≡ false
   limit : live.cyclic.hearing.limit ≡ hold_of setup.plan
   unwritten : is_writing live.phase ≡ false

@@ -17,7 +17,7 @@ use Rattle.controller_core.specs.declared.stored.state.State.TheVariants.{Ended,
 use Rattle.controller_core.specs.declared.stored.state.Cause.{Cause}
 use Rattle.controller_core.specs.stored.State.{Controlling, phase_for}
 use Rattle.controller_core.specs.Machine.{Stepped}
-use Rattle.rounds_law.specs.Path.{IsAddressed, IsNamed, IsOutputs, IsSized, request_to, route_to}
+use Rattle.rounds_law.specs.Path.{AllAnswered, IsAddressed, IsNamed, IsOutputs, IsSized, request_to, route_to}
 use Rattle.rounds_law.specs.Start.{CanBeAddressed, IsOfPlan}
 use Rattle.rounds_law.specs.Repeating.{completes, counts_on}
 use Rattle.rounds_law.specs.Again.{HasEnded, IsDenial, Plant}
@@ -94,7 +94,7 @@ pub record Expects (setup : Setup) (serial : ℕ) (device : Mac) (awaited : Awai
   pub route : controller.live.cyclic.route ≡ route_to device serial
   pub high : controller.live.alarms.sending.waiting ≡ None
   pub low : controller.live.low_alarms.sending.waiting ≡ None
-  pub alone : controller.live.access.waiting ≡ None
+  pub alone : AllAnswered controller.live.access
   pub uncalled : controller.live.access.calls ≡ 0
   pub unbegun : controller.live.cyclic.begun ≡ false
 
@@ -105,7 +105,7 @@ pub record IsReleasing (setup : Setup) (device : Mac) (cause : Cause) (sequence 
   pub asked : controller.live.asked ≡ Some (asks.Release sequence)
   pub of_device : controller.live.device ≡ device
   pub unestablished : controller.live.stands ≡ false
-  pub alone : controller.live.access.waiting ≡ None
+  pub alone : AllAnswered controller.live.access
   pub waits : controller.live.waited ≡ waited
 
 -- It ends for this cause, and sends a Release, whose number follows the number of its last call. It sends nothing else.

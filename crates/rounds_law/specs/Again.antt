@@ -31,7 +31,7 @@ use Rattle.network_world.specs.World.{is_ended}
 use Rattle.end_laws.specs.device.Orderly.{AreNumbered}
 use Rattle.both_ends.specs.startup.request.Request.{request_for}
 use Rattle.both_ends.specs.startup.answer.Answer.{caller_of}
-use Rattle.rounds_law.specs.Path.{IsAddressed, IsIgnored, IsNamed, IsOutputs, IsSized, route_to}
+use Rattle.rounds_law.specs.Path.{AllAnswered, HasNoTurn, IsAddressed, IsIgnored, IsNamed, IsOutputs, IsSized, route_to}
 use Rattle.rounds_law.specs.Rounds.{BothExchange, Net, Round}
 use Rattle.rounds_law.specs.Start.{CanBeAddressed, IsOfPlan}
 
@@ -86,10 +86,10 @@ pub record HasEnded (setup : Setup) (cause : Cause) (controller : Controlling) :
   pub in_phase : controller.live.phase ≡ Ended cause
   pub unasked : controller.live.asked ≡ None
   pub unestablished : controller.live.stands ≡ false
-  pub alone : controller.live.access.waiting ≡ None
+  pub alone : AllAnswered controller.live.access
 
 -- It exchanges data, in a relation of this number at the device, and no frame of its device comes: its data hold time, which runs, lasts this many units at most. No AlarmAck waits for
--- its ACK, and no request of the application is open.
+-- its ACK, no request of the application is open, and none after a plug, and no place waits for its turn.
 pub record IsAlone (setup : Setup) (serial : ℕ) (device : Mac) (left : ℕ) (controller : Controlling) : Type 0 where
   pub of_setup : controller.setup ≡ setup
   pub in_phase : controller.live.phase ≡ Exchanging
@@ -100,6 +100,7 @@ pub record IsAlone (setup : Setup) (serial : ℕ) (device : Mac) (left : ℕ) (c
   pub low : controller.live.low_alarms.sending.waiting ≡ None
   pub unasked : controller.live.asked ≡ None
   pub alone : controller.live.access.waiting ≡ None
+  pub turnless : HasNoTurn controller.live
   pub begun : controller.live.cyclic.begun ≡ true
   pub time : controller.live.cyclic.hearing.limit - controller.live.cyclic.hearing.held ≤ left
 

@@ -92,12 +92,13 @@ pub record IsAnyDevice (setup next : Setup) (identity : Identity) (silence : ℕ
 
 -- ---- the controller
 
--- Any events have led to this state of the controller. No request of its application is open.
+-- Any events have led to this state of the controller. No request of its application is open, and its plan writes no parameters after a plug.
 pub record IsAnyController (setup : Setup) (controller : Controlling) : Type 0 where
   pub of_setup : controller.setup ≡ setup
   pub reached : IsReached controller
   pub routed : HasRoute controller
   pub alone : controller.live.access.waiting ≡ None
+  pub turnless : setup.plan.parameters_after_plug ≡ false
 
 -- Each state but the search, the exchange and the end has a patience.
 pub record HasPatience (options : ControllerOptions) : Type 0 where

@@ -3,14 +3,15 @@ use Rattle.std.specs.Prelude.{◌≡◌, ℕ, List}
 use Rattle.std.specs.List.{AllByRecursion}
 use Rattle.controller_messages.specs.declared.request.Request.TheVariants as asks
 use Rattle.controller_messages.specs.declared.setup.Setup.{Setup}
-use Rattle.controller_messages.specs.Sent.{Sent, Requests, Accesses, Agrees, Cycles, Confirms, Replies, Ends, bytes_of as controller_bytes}
+use Rattle.controller_messages.specs.Sent.{Sent, Requests, Accesses, Parametrizes, Agrees, Cycles, Confirms, Replies, Ends, bytes_of as controller_bytes}
 use Rattle.end_laws.specs.hearing.Stations.{IsRoute}
 use Rattle.end_laws.specs.sending.Messages.{CanBeSent}
 
--- The message is heard as what it is: its FrameID is one of cyclic data. No request of an application is among them.
+-- The message is heard as what it is: its FrameID is one of cyclic data. No request of an application is among them, and none after a plug.
 abbrev pub HasWay : Sent → Type 0
 HasWay (Requests device request) = Unit {0}
 HasWay (Accesses device request octets) = ⊥
+HasWay (Parametrizes device request) = ⊥
 HasWay (Agrees caller answer) = Unit {0}
 HasWay (Cycles route shown counter) = IsRoute route
 HasWay (Confirms route priority header ack) = IsRoute route

@@ -7,7 +7,7 @@ use Rattle.controller_messages.specs.declared.request.Request.TheVariants.{Conne
 use Rattle.controller_messages.specs.declared.setup.Setup.{Setup}
 use Rattle.controller_messages.specs.Requests.{writing_from}
 use Rattle.controller_core.specs.declared.stored.event.Event.TheVariants.{Frame}
-use Rattle.controller_core.specs.Machine.{standing, turn_of, writing}
+use Rattle.controller_core.specs.Machine.{placed, standing, turn_of, writing}
 use Rattle.controller_core.specs.stored.State.{Live}
 use Rattle.relations.specs.Numbers.{endpoint_of}
 use Rattle.both_ends.specs.startup.answer.Answer.{AcceptsInterval, IsAllThere, answer_blocks, answer_frame, chosen_with}
@@ -18,7 +18,7 @@ abbrev pub GoOn : Setup → Identity → List ℕ → ℕ → Type 0
 GoOn setup identity address count = (serial : ℕ) → serial < count → is_some_uuid setup.ar ≡ true
     → (options : DeviceOptions) → AcceptsInterval options setup.plan → (live : Live) → live.asked ≡ Some Connect
     → turn_of setup live (Frame (record { items = answer_frame setup identity options serial address }))
-    ≡ writing setup (writing_from setup.plan 0) (standing setup live (chosen_with serial))
+    ≡ writing setup (writing_from setup.plan 0) (standing setup (placed setup (answer_blocks setup identity serial) live) (chosen_with serial))
 
 -- The blocks of the response to the Connect, with any number below this count, have everything that a relation needs.
 abbrev pub AreWhole : Setup → Identity → ℕ → Type 0

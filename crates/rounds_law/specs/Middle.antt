@@ -15,7 +15,8 @@ use Rattle.controller_messages.specs.Requests.{first_of, write_count}
 use Rattle.controller_core.specs.declared.stored.state.State.TheVariants.{Ending, Waiting, Writing}
 use Rattle.controller_core.specs.stored.State.{Controlling}
 use Rattle.both_ends.specs.startup.View.{taken_for}
-use Rattle.rounds_law.specs.Path.{Asks, Controls, HasRelation, IsAddressed, IsInputs, IsOutputs, IsRoute, confirmed_frame, hold_of, readied_frame, request_to}
+use Rattle.rounds_law.specs.Path.{Asks, Controls, HasNoTurn, HasRelation, IsAddressed, IsInputs, IsOutputs, IsRoute, confirmed_frame, hold_of, readied_frame}
+use Rattle.rounds_law.specs.Path.{request_to}
 use Rattle.rounds_law.specs.Repeating.{completes, counts_on}
 use Rattle.rounds_law.specs.Rounds.{Net}
 use Rattle.rounds_law.specs.Start.{IsOfPlan}
@@ -73,7 +74,7 @@ pub record WaitsOn (setup : Setup) (serial : ℕ) (identity : Identity) (waited 
   pub values : step.live.values ≡ live.values
   pub awaits : IsAwaiting setup serial (counts_on waited) (inactive + 1) step.live
 
--- The controller waits for ApplicationReady. For this many units it does not give up.
+-- The controller waits for ApplicationReady. For this many units it does not give up. No place was plugged since the Connect.
 pub record WaitsForReady (setup : Setup) (serial : ℕ) (device : Mac) (spare : ℕ) (controller : Controlling) : Type 0 where
   pub of_setup : controller.setup ≡ setup
   pub in_phase : controller.live.phase ≡ Waiting
@@ -85,6 +86,7 @@ pub record WaitsForReady (setup : Setup) (serial : ℕ) (device : Mac) (spare : 
   pub low : controller.live.low_alarms.sending.waiting ≡ None
   pub low_limit : 3200 ≤ controller.live.low_alarms.sending.limit
   pub alone : controller.live.access.waiting ≡ None
+  pub turnless : HasNoTurn controller.live
   pub unbegun : controller.live.cyclic.begun ≡ false
   pub limit : controller.live.cyclic.hearing.limit ≡ hold_of setup.plan
 

@@ -49,6 +49,7 @@ use Rattle.end_laws.specs.hearing.Hearing.{comes}
 use Rattle.controller_messages.specs.declared.request.Request.{Request}
 use Rattle.controller_messages.specs.declared.request.Request.TheVariants as asks
 use Rattle.controller_messages.specs.declared.setup.Setup.{Setup}
+use Rattle.controller_messages.specs.Access.{Accessing}
 use Rattle.controller_messages.specs.Requests.{address_asked, call_for}
 use Rattle.controller_messages.specs.Sent.{Agrees, Requests, Cycles, bytes_of as controller_bytes, calls_at, ready_answer}
 use Rattle.controller_core.specs.declared.start_up.outcomes.Outcomes.TheVariants.{AllWritten}
@@ -58,7 +59,8 @@ use Rattle.controller_core.specs.declared.stored.event.Event.TheVariants.{Frame}
 use Rattle.controller_core.specs.Machine.{Stepped, step_of}
 use Rattle.controller_core.specs.start_up.Outcomes.{outcomes_of}
 use Rattle.controller_core.specs.stored.Opening.{route_of as outputs_route}
-use Rattle.controller_core.specs.stored.State.{Controlling}
+use Rattle.controller_core.specs.stored.State.{Controlling, Live as ControllerLive}
+use Rattle.plan_places.specs.Places.{next_waiting}
 use Rattle.end_laws.specs.hearing.Stations.{ready_call}
 use Rattle.both_ends.specs.startup.request.Request.{request_for}
 use Rattle.both_ends.specs.startup.answer.Answer.{caller_of}
@@ -225,6 +227,18 @@ abbrev pub IsRoute : Option ℕ → Mac → Cyclic → Type 0
 IsRoute None device cyclic = Unit {0}
 IsRoute (Some serial) device cyclic = (serial < 14336) × (cyclic.route ≡ route_to device serial)
 
+-- No request beside the start-up waits for its answer: none of the application, and none after a plug.
+abbrev pub AllAnswered : Accessing → Type 0
+AllAnswered access = (access.waiting ≡ None) × (access.plug ≡ None)
+
+-- No request after a plug waits for its answer, and no place waits for its turn.
+abbrev pub HasNoTurn : ControllerLive → Type 0
+HasNoTurn live = (live.access.plug ≡ None) × (next_waiting live.places ≡ None)
+
+-- No request after a plug waits for its answer, and no turn begins with the next unit: no place waits for one, or the unit completes no second.
+abbrev pub BeginsNoTurn : ControllerLive → Type 0
+BeginsNoTurn live = (live.access.plug ≡ None) × ((next_waiting live.places ≡ None) ⊎ (live.waited < 31999))
+
 -- The controller waits for the response to this request. For this many units it does not send the request again and does not give up. Its
 -- relation is established, with this number at the device, or not.
 pub record Asks (setup : Setup) (device : Mac) (phase : Phases) (request : Request) (stands : Option ℕ) (spare : ℕ) (controller : Controlling) : Type 0 where
@@ -239,7 +253,7 @@ pub record Asks (setup : Setup) (device : Mac) (phase : Phases) (request : Reque
   pub high : controller.live.alarms.sending.waiting ≡ None
   pub low : controller.live.low_alarms.sending.waiting ≡ None
   pub low_limit : 3200 ≤ controller.live.low_alarms.sending.limit
-  pub alone : controller.live.access.waiting ≡ None
+  pub alone : AllAnswered controller.live.access
   pub unbegun : controller.live.cyclic.begun ≡ false
   pub limit : controller.live.cyclic.hearing.limit ≡ hold_of setup.plan
 
@@ -253,7 +267,7 @@ pub record HasAsked (setup : Setup) (device : Mac) (phase : Phases) (request : R
   pub high : controller.live.alarms.sending.waiting ≡ None
   pub low : controller.live.low_alarms.sending.waiting ≡ None
   pub low_limit : 3200 ≤ controller.live.low_alarms.sending.limit
-  pub alone : controller.live.access.waiting ≡ None
+  pub alone : AllAnswered controller.live.access
   pub unbegun : controller.live.cyclic.begun ≡ false
   pub limit : controller.live.cyclic.hearing.limit ≡ hold_of setup.plan
 

@@ -1,7 +1,7 @@
 pub mod Ascii
 mod Cut
 mod Identifiers
-mod Places
+mod FirstPlace
 mod Sorting
 pub mod Hex
 pub mod Decimals

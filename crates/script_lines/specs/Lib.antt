@@ -5,3 +5,4 @@ pub mod Text
 pub mod Show
 pub mod Expected
 pub mod Reports
+pub mod Places

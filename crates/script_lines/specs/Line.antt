@@ -48,6 +48,7 @@ pub data Command : Type 0 where
   Stop : Command
   Stands : Command
   Told : Command
+  Places : Command
   Read : (slot : ℕ) → (subslot : ℕ) → (index : ℕ) → Command
   Write : (slot : ℕ) → (subslot : ℕ) → (index : ℕ) → (octets : List ℕ) → Command
   Reply : Command
@@ -107,7 +108,8 @@ bare_of_both word =
     if is_text word (codes "deliver") then Some Deliver
     else (if is_text word (codes "stop") then Some Stop
     else (if is_text word (codes "stands") then Some Stands
-    else (if is_text word (codes "told") then Some Told else (if is_text word (codes "reply") then Some Reply else None))))
+    else (if is_text word (codes "told") then Some Told
+    else (if is_text word (codes "reply") then Some Reply else (if is_text word (codes "places") then Some Places else None)))))
 
 -- The command of a line that is one word.
 abbrev pub bare : List ℕ → Option Command

@@ -3,7 +3,7 @@ use Rattle.script_lines.specs.declared.command.Command.{Command as Code}
 use Rattle.script_lines.specs.declared.command.Command.TheVariants as code
 use Rattle.script_lines.specs.declared.command.Line.{Line as CodeLine}
 use Rattle.script_lines.specs.declared.command.Line.TheVariants as line
-use Rattle.script_lines.specs.Line.{Command, Frame, Restart, Tick, Elapse, Show, Due, Choose, Ready, Arm, Input, Alarm, Status, Diagnosis, Provider, Config, Start, Give, OutputStatus, Stop, Stands, Told, Read, Write, Reply, Deliver, Serve, ReadyAt, Pull, PullModule, Plug, Expected, Line, Unfit, Skipped, Asks, Unknown}
+use Rattle.script_lines.specs.Line.{Command, Frame, Restart, Tick, Elapse, Show, Due, Choose, Ready, Arm, Input, Alarm, Status, Diagnosis, Provider, Config, Start, Give, OutputStatus, Stop, Stands, Told, Read, Write, Reply, Places, Deliver, Serve, ReadyAt, Pull, PullModule, Plug, Expected, Line, Unfit, Skipped, Asks, Unknown}
 
 -- What the functions return is this command.
 abbrev pub command_read : Code → Command
@@ -31,6 +31,7 @@ command_read code.Told = Told
 command_read (code.Read slot subslot index) = Read slot subslot index
 command_read (code.Write slot subslot index octets) = Write slot subslot index octets.now
 command_read code.Reply = Reply
+command_read code.Places = Places
 command_read code.Deliver = Deliver
 command_read code.Serve = Serve
 command_read (code.ReadyAt slot subslot) = ReadyAt slot subslot

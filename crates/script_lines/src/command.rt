@@ -90,6 +90,8 @@ pub enum Command<'a> {
     Write(u16, u16, u16, &'a [u8]),
     /// Shows what the last request of the controller's application was answered with.
     Reply,
+    /// Shows what the controller knows of each place of its plan.
+    Places,
     /// Hands over the frames that wait: those for the device, then those for the controller.
     Deliver,
     /// Starts the services beside the device.
@@ -323,6 +325,8 @@ fn bare_of_both(word: &[u8]) -> Option<Command<'static>>
         Some(Command::Told)
     } else if word == b"reply".as_slice() {
         Some(Command::Reply)
+    } else if word == b"places".as_slice() {
+        Some(Command::Places)
     } else {
         None
     }

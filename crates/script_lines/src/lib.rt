@@ -5,6 +5,7 @@ mod command;
 mod digits;
 pub mod expected;
 mod numbers;
+pub mod places;
 pub mod render;
 pub mod reports;
 pub mod show;

@@ -4,7 +4,7 @@ use Rattle.flash_model.specs.declared.flash.Order.{Order}
 use Rattle.plans.specs.declared.parts.Parts.{Parts}
 use Rattle.configurator.specs.declared.fault.PlanFault.{PlanFault}
 use Rattle.configurator.specs.declared.fault.PlanFault.TheVariants.{OutOfMemory}
-use Rattle.script_lines.specs.Line.{Command, Frame, Restart, Tick, Elapse, Show, Due, Choose, Ready, Arm, Input, Alarm, Status, Diagnosis, Provider, Config, Start, Give, OutputStatus, Stop, Stands, Told, Read, Write, Reply, Deliver, Serve, ReadyAt, Pull, PullModule, Plug, Expected, Line, Skipped, Asks, meaning_of}
+use Rattle.script_lines.specs.Line.{Command, Frame, Restart, Tick, Elapse, Show, Due, Choose, Ready, Arm, Input, Alarm, Status, Diagnosis, Provider, Config, Start, Give, OutputStatus, Stop, Stands, Told, Read, Write, Reply, Places, Deliver, Serve, ReadyAt, Pull, PullModule, Plug, Expected, Line, Skipped, Asks, meaning_of}
 use Rattle.script_lines.specs.declared.command.Choice.{Choice}
 use Rattle.script_session.specs.declared.power.Power.{Power}
 use Rattle.script_session.specs.declared.power.Power.TheVariants.{On, Off, Away}
@@ -118,6 +118,7 @@ order_taken Told old new before now result orders = tt
 order_taken (Read slot subslot index) old new before now result orders = tt
 order_taken (Write slot subslot index octets) old new before now result orders = tt
 order_taken Reply old new before now result orders = tt
+order_taken Places old new before now result orders = tt
 order_taken Deliver old new before now result orders = tt
 order_taken Serve old new before now result orders = tt
 order_taken (ReadyAt slot subslot) old new before now result orders = tt

@@ -26,7 +26,8 @@ use Rattle.pn_values.specs.demo.Demo.{demo_real}
 use Rattle.script_session.specs.Demo.{demo_device}
 use Rattle.script_session.specs.Ends.{Station, Turned, due_of, serving, services_at, station_step, Other, Network, DeviceRun, with_ends, arrived_at, chosen, cleared, device_run, frames_for_device, may_request, nobody, printed_for, ticked_by, with_fresh, with_plan, with_run, with_sent}
 use Rattle.station.specs.Serving.{Serving}
-use Rattle.script_lines.specs.Line.{Command, Frame, Restart, Tick, Elapse, Show, Due, Choose, Ready, Arm, Input, Alarm, Status, Diagnosis, Provider, Config, Start, Give, OutputStatus, Stop, Stands, Told, Read, Write, Reply, Deliver, Serve, ReadyAt, Pull, PullModule, Plug, Expected, Line, Unfit, Skipped, Asks, Unknown}
+use Rattle.script_lines.specs.Places.{places_shown}
+use Rattle.script_lines.specs.Line.{Command, Frame, Restart, Tick, Elapse, Show, Due, Choose, Ready, Arm, Input, Alarm, Status, Diagnosis, Provider, Config, Start, Give, OutputStatus, Stop, Stands, Told, Read, Write, Reply, Places, Deliver, Serve, ReadyAt, Pull, PullModule, Plug, Expected, Line, Unfit, Skipped, Asks, Unknown}
 use Rattle.script_lines.specs.declared.command.Choice.{Choice}
 use Rattle.script_lines.specs.Expected.{expected_shown}
 use Rattle.script_lines.specs.Show.{shown, outputs_shown, controller_shown, diagnoses_shown, due_line, provider_line}
@@ -150,6 +151,11 @@ abbrev pub stands_outcome : Network → Option Controlling → Outcome
 stands_outcome network (Some controller) = Answers (record { network = network; text = diagnoses_shown controller.live.diagnosis.existing })
 stands_outcome network None = Refuses
 
+-- What the controller knows of each place of its plan is shown.
+abbrev pub places_outcome : Network → Option Controlling → Outcome
+places_outcome network (Some controller) = Answers (record { network = network; text = places_shown controller })
+places_outcome network None = Refuses
+
 -- The alarms that the controller accepted since its start are shown.
 abbrev pub told_outcome : Network → Option Controlling → Outcome
 told_outcome network (Some controller) = Answers (record { network = network; text = told_shown network.other.told })
@@ -229,6 +235,7 @@ said plans network (Read slot subslot index) = record_outcome network (heard.Rea
 said plans network (Write slot subslot index octets) =
     record_outcome network (heard.Write slot subslot index (handed octets)) (fits_record octets) network.other.controller
 said plans network Reply = reply_outcome network network.other.controller
+said plans network Places = places_outcome network network.other.controller
 said plans network Stop = heard_outcome network heard.Stop network.other.controller
 said plans network Deliver = deliver_outcome network network.other.controller
 said plans network Serve = Answers (serve_answer network)
@@ -271,6 +278,7 @@ arms Told = false
 arms (Read slot subslot index) = false
 arms (Write slot subslot index octets) = false
 arms Reply = false
+arms Places = false
 arms Deliver = false
 arms Serve = false
 arms (ReadyAt slot subslot) = false

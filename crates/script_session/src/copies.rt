@@ -30,6 +30,7 @@ pub(crate) fn plan_copy(plan: &Plan) -> Plan
         continue_on_refused_record: plan.continues_on_refused_record(),
         release_on_refused_record: plan.release_on_refused_record(),
         multiple_write: plan.has_multiple_write(),
+        parameters_after_plug: plan.has_parameters_after_plug(),
     };
     match Plan::new(parts) {
         Ok(copy) => copy,

@@ -21,7 +21,7 @@ use controller_core::{Controller, Event, Priority};
 use frame_codec::{Frame, Outbox};
 use plans::Plan;
 use relations::DeviceOptions;
-use script_lines::{Choice, render, reports, show};
+use script_lines::{Choice, places, render, reports, show};
 use station::StationOutbox;
 use std::alloc::{AllocError, Global};
 use std::marker::Model;
@@ -62,6 +62,7 @@ impl Model for OtherEnd {
 impl OtherEnd {
     ghost use Rattle.std.specs.Prelude.{is_some, length, option_map};
     ghost use Rattle.script_lines.specs.Reports.{told_shown};
+    ghost use Rattle.script_lines.specs.Places.{known_places};
     ghost use Rattle.script_lines.specs.Show.{controller_shown, known_shown};
     ghost use Rattle.station.specs.State.{in_order};
     ghost use Rattle.script_session.specs.Ends.{Hears, Plans, Starts, arrived_at, chosen, cleared, may_request, nobody, printed_for, serving};
@@ -149,6 +150,16 @@ impl OtherEnd {
     {
         match &self.controller {
             Some(controller) => show::diagnoses(controller.diagnoses(), text),
+            None => Ok(()),
+        }
+    }
+
+    /// Appends what the controller knows of each place of its plan, if there is a controller.
+    pub(crate) fn show_places(&self, text: &mut Vec<u8>) -> Result<(), AllocError>
+        ensures { OnOk result (text.new.items ≡ text.old.items ++ known_places self.now.controller) }
+    {
+        match &self.controller {
+            Some(controller) => places::places(controller, text),
             None => Ok(()),
         }
     }

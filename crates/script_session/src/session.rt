@@ -56,7 +56,7 @@ impl<'a> Session<'a> {
     ghost use Rattle.script_session.specs.Ends.{IsRightFor, cleared, nobody};
     ghost use Rattle.script_session.specs.Said.{arms, config_outcome, deliver_answer, deliver_outcome, factory_device};
     ghost use Rattle.script_session.specs.Said.{heard_outcome, is_order, outcome_of, restart_answer, said, serve_answer, show_answer, stands_outcome, start_outcome};
-    ghost use Rattle.script_session.specs.Said.{due_answer, expected_answer, fits_record, provider_answer, record_outcome, reply_outcome, tick_answer, told_outcome};
+    ghost use Rattle.script_session.specs.Said.{due_answer, expected_answer, fits_record, places_outcome, provider_answer, record_outcome, reply_outcome, tick_answer, told_outcome};
     ghost use Rattle.script_session.specs.Power.{IsArmed, IsBack, is_off, refusal_of};
     ghost use Rattle.script_session.specs.Session.{Are, AreRightFor, Comes, Obeys};
     ghost use Rattle.script_session.specs.Off.{Delivers, GivesBack, Leaves, LeavesBy, Orders, TakesOff, TakesOrder, hands, is_handed};
@@ -198,6 +198,7 @@ impl<'a> Session<'a> {
                 if_there(self.write(slot, subslot, index, octets, text))
             }
             Command::Reply => if_there(self.reply(text)),
+            Command::Places => if_there(self.places(text)),
             Command::Deliver => if_there(self.deliver(text)),
             Command::Serve => {
                 self.power.serve();
@@ -431,6 +432,20 @@ impl<'a> Session<'a> {
             return Ok(false);
         }
         self.other.show_diagnoses(text)?;
+        Ok(true)
+    }
+
+    /// Shows what the controller knows of each place of its plan. Returns whether there is a controller.
+    #[inline(never)]
+    fn places(&mut self, text: &mut Vec<u8>) -> Result<bool, AllocError>
+        ensures obeys { (network : Network) → Are network self.old →
+            IfOk result (Comes (places_outcome network network.other.controller) self.new text.old.items text.new.items) }
+        ensures same { self.new ≡ self.old }
+    {
+        if !self.other.is_started() {
+            return Ok(false);
+        }
+        self.other.show_places(text)?;
         Ok(true)
     }
 

@@ -30,7 +30,7 @@ use Rattle.controller_messages.specs.declared.request.Request.{Request}
 use Rattle.controller_messages.specs.declared.request.Request.TheVariants as asks
 use Rattle.controller_messages.specs.declared.setup.Setup.{Setup}
 use Rattle.controller_messages.specs.Requests.{address_asked, identify_asked}
-use Rattle.controller_messages.specs.Sent.{Sent, Requests, Accesses, Agrees, Cycles, Confirms, Replies, Ends, bytes_of, identify_multicast, tag_of}
+use Rattle.controller_messages.specs.Sent.{Sent, Requests, Accesses, Parametrizes, Agrees, Cycles, Confirms, Replies, Ends, bytes_of, identify_multicast, tag_of}
 use Rattle.end_laws.specs.hearing.Stations.{IsSetup}
 use Rattle.end_laws.specs.sending.Messages.{CanBeSent}
 use Rattle.octets_law.specs.Octets.{number, untagged}
@@ -171,6 +171,7 @@ reply_carries setup route High h s d e =
 abbrev pub IsDull : Sent → Type 0
 IsDull (Requests device request) = Unit {0}
 IsDull (Accesses device request octets) = Unit {0}
+IsDull (Parametrizes device request) = Unit {0}
 IsDull (Agrees caller answer) = Unit {0}
 IsDull message = ⊥
 
@@ -189,6 +190,7 @@ request_carries setup device (asks.Release sequence) s d = datagram_carries 0x80
 dull_carries : (setup : Setup) (message : Sent) → IsSetup setup → CanBeSent setup message → IsDull message → carries 0x8001 (untagged (bytes_of setup message)) ≡ false
 dull_carries setup (Requests device request) good can dull = request_carries setup device request good.mac can.0
 dull_carries setup (Accesses device request octets) good can dull = datagram_carries 0x8001 setup.plan.controller.mac device _ _ _ good.mac can.0
+dull_carries setup (Parametrizes device request) good can dull = datagram_carries 0x8001 setup.plan.controller.mac device _ _ _ good.mac can.0
 dull_carries setup (Agrees caller answer) good can dull = datagram_carries 0x8001 setup.plan.controller.mac caller.mac _ _ _ good.mac can.0.mac
 dull_carries setup (Cycles route shown counter) good can dull = absurd dull
 dull_carries setup (Confirms route priority h ack) good can dull = absurd dull

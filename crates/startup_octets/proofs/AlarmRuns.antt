@@ -38,7 +38,7 @@ use Rattle.both_ends.specs.exchange.Sized.{AreSizedModules}
 use Rattle.both_ends.specs.exchange.Told.{AreSizedMoves}
 use Rattle.both_ends.proofs.ExchangeLaw.{DeviceSo, FollowsAt, first_follows, in_at, one_follows}
 use Rattle.both_ends.proofs.ExchangeMessages.{HearsSo}
-use Rattle.both_ends.proofs.ExchangeRelated.{IsRight, responded_right}
+use Rattle.both_ends.proofs.ExchangeRelated.{IsRight, response_right}
 use Rattle.both_ends.proofs.ExchangeReported.{IsGood, IsWell}
 use Rattle.startup_octets.specs.Alarms.{AreAlarmsTaken, acceptances_in, accepted_by, any_carries, last_in, raise_of, raised_by, raises_in}
 use Rattle.startup_octets.specs.Log.{Entry}
@@ -57,7 +57,7 @@ module _ (so : DeviceSo) (setup : Setup) (live : ControllerLive) (mac : Mac) (go
 
   heard_right : (octets : List ℕ) (heard : controller.Heard) → heard_of setup.plan.controller octets ≡ heard → IsGood mac heard → IsWell setup heard → IsRight setup (turned setup live heard)
   heard_right octets (controller.Answers source answer) e is fit = right_by octets (controller.Answers source answer) e is.1
-  heard_right octets (controller.Responds response) e is fit = responded_right setup good live response live.asked lives fit
+  heard_right octets (controller.Responds response) e is fit = response_right setup good live response lives fit
   heard_right octets (controller.Refuses refusal) e is fit = right_by octets (controller.Refuses refusal) e tt
   heard_right octets (controller.Calls caller call) e is fit = right_by octets (controller.Calls caller call) e (is.1, is.2, is.3)
   heard_right octets (controller.Alarms source under header reported) e is fit = right_by octets (controller.Alarms source under header reported) e is.0

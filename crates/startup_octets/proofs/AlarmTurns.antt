@@ -1,5 +1,5 @@
 -- With a turn of the controller or of the device, the alarms that are accepted and raised are those at fixed places.
-use Rattle.std.proofs.Common.{◌≡◌, ◌≤◌, ◌==◌, ◌&&◌, ◌||◌, ℕ, Bool, true, false, cond, List, [], ◌∷◌, length, map, Option, Some, None, option_map, Result, Ok, Err, if◌then◌else◌, inl, inr, refl, sym, ap, subst, ◌∙◌}
+use Rattle.std.proofs.Common.{◌≡◌, ◌≤◌, ◌==◌, ◌&&◌, ◌||◌, ℕ, Bool, true, false, not, cond, List, [], ◌∷◌, ◌++◌, length, map, Option, Some, None, option_map, Result, Ok, Err, if◌then◌else◌, inl, inr, refl, sym, ap, subst, ◌∙◌}
 use Rattle.std.specs.List.{AllByRecursion}
 use Rattle.std.specs.Prelude.{nat_eq}
 use Rattle.std.specs.Cmp.Lexicographic.{pointwise}
@@ -54,21 +54,23 @@ use Rattle.device_frames.specs.Relation.{alarms_of, frames_in}
 use Rattle.device_frames.specs.Sendable.{AreSendable}
 use Rattle.device_frames.specs.Sent.{Sent as DeviceSent, Exchanges, bytes_of as device_bytes}
 use Rattle.plans.specs.declared.parts.Controller.{Controller}
+use Rattle.controller_messages.specs.declared.plug_request.PlugRequest.{PlugRequest}
 use Rattle.controller_messages.specs.declared.refusal.Refusal.{Refusal}
 use Rattle.controller_messages.specs.Refusal.{refusal_of}
 use Rattle.controller_messages.specs.declared.setup.Setup.{Setup}
 use Rattle.controller_messages.specs.Heard.{Heard, Nothing, Answers, Responds, Refuses, Calls, Cyclic, Alarms, heard_alarm, heard_answer, heard_body, heard_call, heard_content, heard_first, heard_of, heard_read, heard_real_time, heard_refusal, heard_response, is_to}
-use Rattle.controller_messages.specs.Sent.{Sent, bytes_of}
+use Rattle.controller_messages.specs.PlugRequests.{plug_answer}
+use Rattle.controller_messages.specs.Sent.{Agrees, Sent, bytes_of}
 use Rattle.controller_core.specs.declared.stored.event.Event.TheVariants as event
 use Rattle.controller_core.specs.stored.Alarms.{ack_of, header_of as header_of_controller, is_alarm, kept_alarm}
 use Rattle.controller_core.specs.stored.State.{Live}
-use Rattle.controller_core.specs.Machine.{Turn, ack_now, behind_data, confirming, end_of, reply_of, stays, taken, turned}
+use Rattle.controller_core.specs.Machine.{Turn, ack_now, after_turn, alarmed, asks_next, begun_turn, behind_data, can_begin, confirming, end_of, plug_readied, plugs_by, plugs_of, reply_of, stays, taken, turned}
 use Rattle.network_world.specs.declared.moves.Move.TheVariants as move
 use Rattle.end_laws.specs.device.Turn.{IsRaise, alarm_heard}
 use Rattle.end_laws.specs.hearing.Stations.{IsSetup}
 use Rattle.end_laws.specs.sending.Messages.{CanBeSent}
 use Rattle.end_laws.specs.turns.Alarms.{is_priority}
-use Rattle.end_laws.specs.turns.Turns.{Begins, Breaks, Connects, Addresses, Ends as Over, Releases, Relates, Writes, Skips, Waits, Forgets, Repeats, Rests, Follows, Takes, IsAcked, Gives, GivesStatus, Asks, IsReplied, Flows, Idles, Hears, Passes, IsKind, IsTurn, Kind, turn_by}
+use Rattle.end_laws.specs.turns.Turns.{Begins, Breaks, Connects, Addresses, Ends as Over, Releases, Relates, Writes, Skips, Waits, Forgets, Repeats, Rests, Follows, Takes, IsAcked, Gives, GivesStatus, Asks, IsReplied, IsPlugAnswered, IsPlugReadied, Flows, Idles, Hears, Passes, IsKind, IsTurn, Kind, turn_by}
 use Rattle.both_ends.specs.exchange.Over.{one_in, raised_in, taken_by}
 use Rattle.both_ends.proofs.ExchangeOutputsTurns.{KindsSo}
 use Rattle.both_ends.proofs.ExchangeTied.{may_be}
@@ -309,13 +311,32 @@ module _ (setup : Setup) (good : IsSetup setup) (live : Live) (octets : List ℕ
   same_heard : (one other : Heard) → Hears one ≡ Hears other → one ≡ other
   same_heard one other e = cc
 
+  -- the turn of a place may begin
+  dull_plugs : (device : Mac) (plug : Option PlugRequest) → AllByRecursion IsDull (plugs_by device plug)
+  dull_plugs device (Some request) = (tt, tt)
+  dull_plugs device None = tt
+
+  dull_more : (some more : List Sent) → AllByRecursion IsDull some → AllByRecursion IsDull more → AllByRecursion IsDull (some ++ more)
+  dull_more [] more all others = others
+  dull_more (one ∷ some) more all others = (all.0, dull_more some more all.1 others)
+
+  abbrev begun_after : Turn → Turn
+  begun_after turn = record { live = begun_turn setup turn.live; sent = turn.sent ++ plugs_of (begun_turn setup turn.live) }
+
+  dull_after : (could : Bool) (turn : Turn) → AllByRecursion IsDull turn.sent → AllByRecursion IsDull (after_turn setup could turn).sent
+  dull_after could turn all = by_test (could || not (can_begin turn.live))
+    where
+      by_test : (b : Bool) → AllByRecursion IsDull (cond b turn (begun_after turn)).sent
+      by_test true = all
+      by_test false = dull_more turn.sent (plugs_of (begun_turn setup turn.live)) all (dull_plugs (begun_turn setup turn.live).device (begun_turn setup turn.live).access.plug)
+
   dull_kind : (heard : Heard) (kind : Kind) → IsNoAlarm heard → IsKind setup live (Hears heard) kind → AllByRecursion IsDull (turn_by setup live kind).sent
   dull_kind heard Rests other holds = tt
   dull_kind heard (Connects source) other holds = (tt, tt)
   dull_kind heard (Addresses source) other holds = (tt, tt)
   dull_kind heard (Over cause refusal refused units) other holds = tt
   dull_kind heard (Releases cause refusal refused units) other holds = (tt, tt)
-  dull_kind heard (Relates chosen) other holds = (tt, tt)
+  dull_kind heard (Relates places chosen) other holds = (tt, tt)
   dull_kind heard (Writes number) other holds = (tt, tt)
   dull_kind heard (Skips number refused status) other holds = (tt, tt)
   dull_kind heard Waits other holds = tt
@@ -328,10 +349,48 @@ module _ (setup : Setup) (good : IsSetup setup) (live : Live) (octets : List ℕ
   dull_kind heard (Gives slot subslot value) other holds = tt
   dull_kind heard (GivesStatus slot subslot is_good) other holds = tt
   dull_kind heard (Asks request record_octets) other holds = (tt, tt)
-  dull_kind heard (IsReplied refusal access) other holds = tt
+  dull_kind heard (IsReplied refusal access) other holds = dull_after (can_begin live) (stays (record live { refusal = refusal; access = access })) tt
+  dull_kind heard (IsPlugAnswered refusal refused waited places access) other holds =
+      let next : Live = record live { refusal = refusal; refused_record = refused; waited = waited; places = places; access = access } in
+      dull_after (can_begin live) (asks_next next) (dull_plugs next.device next.access.plug)
+  dull_kind heard (IsPlugReadied caller call block) other holds =
+      dull_after (can_begin live) (record { live = plug_readied live block.alarm_sequence_number; sent = Agrees caller (plug_answer call block) ∷ [] }) (tt, tt)
   dull_kind heard Flows other holds = absurd (no_passes heard holds.0)
   dull_kind heard (Breaks reason) other holds = absurd (no_passes heard holds.0)
   dull_kind heard Idles other holds = absurd (no_passes heard holds.0)
+
+  -- what the turn of a place sends is no AlarmAck
+  any_more : (some more : List Sent) → any_carries 0x8001 (map (bytes_of setup) more) ≡ false
+      → any_carries 0x8001 (map (bytes_of setup) (some ++ more)) ≡ any_carries 0x8001 (map (bytes_of setup) some)
+  any_more [] more none = none
+  any_more (one ∷ some) more none = ap (λ b. is_ack one || b) (any_more some more none)
+
+  front_can : (some more : List Sent) → AllByRecursion (CanBeSent setup) (some ++ more) → AllByRecursion (CanBeSent setup) some
+  front_can [] more all = tt
+  front_can (one ∷ some) more all = (all.0, front_can some more all.1)
+
+  behind_can : (some more : List Sent) → AllByRecursion (CanBeSent setup) (some ++ more) → AllByRecursion (CanBeSent setup) more
+  behind_can [] more all = all
+  behind_can (one ∷ some) more all = behind_can some more all.1
+
+  turn_can : (turn : Turn) (b : Bool) → AllByRecursion (CanBeSent setup) (cond b turn (begun_after turn)).sent → AllByRecursion (CanBeSent setup) turn.sent
+  turn_can turn true all = all
+  turn_can turn false all = front_can turn.sent (plugs_of (begun_turn setup turn.live)) all
+
+  same_after : (accepted : List AlarmNotification) (turn : Turn) (b : Bool) → AreSame accepted turn.sent → AllByRecursion (CanBeSent setup) (cond b turn (begun_after turn)).sent
+      → AreSame accepted (cond b turn (begun_after turn)).sent
+  same_after accepted turn true same can = same
+  same_after accepted turn false same can =
+      let begun = begun_turn setup turn.live in
+      same ∙ sym (ap (λ b. accepted_if b octets) (any_more turn.sent (plugs_of begun)
+      (dull_none setup (plugs_of begun) good (behind_can turn.sent (plugs_of begun) can) (dull_plugs begun.device begun.access.plug))))
+
+  -- after a turn, that of a place may begin
+  after_same : (accepted : List AlarmNotification) (turn : Turn) → (AllByRecursion (CanBeSent setup) turn.sent → AreSame accepted turn.sent)
+      → AllByRecursion (CanBeSent setup) (after_turn setup (can_begin live) turn).sent → AreSame accepted (after_turn setup (can_begin live) turn).sent
+  after_same accepted turn same can =
+      let is : Bool = can_begin live || not (can_begin turn.live) in
+      same_after accepted turn is (same (turn_can turn is can)) can
 
   module _ (sound : IsSoundWhole layers) (kinds : KindsSo) where
     dull_turn : (heard : Heard) → heard_of setup.plan.controller octets ≡ heard → IsNoAlarm heard → AllByRecursion (CanBeSent setup) (turned setup live heard).sent → AreSame [] (turned setup live heard).sent
@@ -347,10 +406,15 @@ module _ (setup : Setup) (good : IsSetup setup) (live : Live) (octets : List ℕ
     by_heard : (heard : Heard) → heard_of setup.plan.controller octets ≡ heard → AllByRecursion (CanBeSent setup) (turned setup live heard).sent
         → AreSame (taken_by High live heard) (turned setup live heard).sent
     by_heard (Alarms source under header (notice.Data number report)) e can =
-        data_same (live.stands && is_alarm live.cyclic.route source header) number report report.priority refl (placed sound setup.plan.controller octets source under header number report e).is can
-    by_heard (Alarms source under header (notice.Ack number)) e can = quiet_alarm (live.stands && is_alarm live.cyclic.route source header) _ refl
-    by_heard (Alarms source under header notice.Nack) e can = quiet_alarm (live.stands && is_alarm live.cyclic.route source header) _ refl
-    by_heard (Alarms source under header (notice.Abort status)) e can = quiet_alarm (live.stands && is_alarm live.cyclic.route source header) _ refl
+        let own = live.stands && is_alarm live.cyclic.route source header in
+        after_same (data_taken own number report) (alarmed live source under header (notice.Data number report))
+        (data_same own number report report.priority refl (placed sound setup.plan.controller octets source under header number report e).is) can
+    by_heard (Alarms source under header (notice.Ack number)) e can =
+        after_same [] (alarmed live source under header (notice.Ack number)) (λ _. quiet_alarm (live.stands && is_alarm live.cyclic.route source header) _ refl) can
+    by_heard (Alarms source under header notice.Nack) e can =
+        after_same [] (alarmed live source under header notice.Nack) (λ _. quiet_alarm (live.stands && is_alarm live.cyclic.route source header) _ refl) can
+    by_heard (Alarms source under header (notice.Abort status)) e can =
+        after_same [] (alarmed live source under header (notice.Abort status)) (λ _. quiet_alarm (live.stands && is_alarm live.cyclic.route source header) _ refl) can
     by_heard Nothing e can = dull_turn Nothing e tt can
     by_heard (Answers source answer) e can = dull_turn (Answers source answer) e tt can
     by_heard (Responds response) e can = dull_turn (Responds response) e tt can

@@ -1,5 +1,5 @@
 -- A run from its start, turn by turn.
-use Rattle.std.proofs.Common.{◌≡◌, inl, inr, ◌≤◌, ℕ, true, false, List, [], ◌∷◌, ◌++◌, length, drop, map, Option, Some, option_map, refl, sym, ap, subst, ◌∙◌, append_assoc}
+use Rattle.std.proofs.Common.{◌≡◌, ◌⊎◌, inl, inr, ◌≤◌, ℕ, true, false, List, [], ◌∷◌, ◌++◌, length, drop, map, Option, Some, option_map, refl, sym, ap, subst, ◌∙◌, append_assoc}
 use Rattle.std.proofs.lemmas.List.{append-nil}
 use Rattle.std.specs.Prelude.{slice_get, unwrap_or}
 use Rattle.std.specs.List.{AllByRecursion}
@@ -24,6 +24,8 @@ use Rattle.controller_messages.specs.Heard.{heard_of as controller_hears}
 use Rattle.controller_messages.specs.Sent as said
 use Rattle.controller_core.specs.declared.stored.event.Event.{Event}
 use Rattle.controller_core.specs.declared.stored.event.Event.TheVariants as controller
+use Rattle.controller_core.specs.declared.stored.state.State.{State}
+use Rattle.controller_core.specs.declared.stored.state.State.TheVariants.{Exchanging}
 use Rattle.controller_core.specs.stored.State.{Controlling, Live as ControllerLive}
 use Rattle.controller_core.specs.Machine.{step_of, turn_of}
 use Rattle.network_world.specs.declared.moves.End.TheVariants.{Device, Controller}
@@ -35,7 +37,7 @@ use Rattle.end_laws.specs.turns.Turns.{IsTurn, came_by as controller_came}
 use Rattle.end_laws.specs.both.Small as small
 use Rattle.end_laws.specs.both.StartUp.{Begins as BeginsSmall, IsRun, last_of}
 use Rattle.end_laws.specs.both.Steps.{DeviceSteps, Steps, records_of}
-use Rattle.end_laws.specs.controller.Small.{said_in, said_to, small_of}
+use Rattle.end_laws.specs.controller.Small.{said_in, said_to, small_of, state_of}
 use Rattle.end_laws.specs.device.Small.{IsPlanned, heard_as, link_of}
 use Rattle.end_laws.specs.device.Small as device
 use Rattle.end_laws.specs.device.Turn.{Turn as DeviceTurn}
@@ -48,15 +50,17 @@ use Rattle.both_ends.proofs.StartupHeard.{IsKnown, IsKnownHeard, IsPlans, all_me
 use Rattle.both_ends.proofs.StartupKnown.{CanStart, HoldsAt, all_meant, holds_behind, meant_at_controller, meant_at_device}
 use Rattle.both_ends.proofs.StartupRuns.{InStep, controller_is, delivered, happens_steps, last_viewed, rules_at}
 use Rattle.plans.specs.Plan.{AreShort}
-use Rattle.startup_octets.specs.StartUp.{Answers, AreStartUps, IsIn, IsStartUp, Turn, Written, is_granted, sent_by}
+use Rattle.startup_octets.specs.StartUp.{Answers, AreStartUps, IsIn, IsPlugReady, IsReadyCall, IsStartUp, Turn, Written, is_granted, sent_by}
 use Rattle.startup_octets.specs.Played.{came_by, is_device, seen_of, turn_by, turns_of}
 use Rattle.startup_octets.proofs.CallsIn.{IsCallIn, call_in}
 use Rattle.startup_octets.proofs.ControllerPoint.{controller_point}
-use Rattle.startup_octets.proofs.ControllerTurn.{IsReadiedBy, answered_ready}
+use Rattle.startup_octets.proofs.ControllerTurn.{IsPluggedBy, IsReadiedBy, answered_ready}
 use Rattle.startup_octets.proofs.DevicePoint.{device_point}
 use Rattle.startup_octets.proofs.Exact.{written_of}
 use Rattle.startup_octets.proofs.Frames.{AreCallsRead}
-use Rattle.startup_octets.proofs.Hands.{IsHandedBy}
+use Rattle.startup_octets.proofs.Hands.{IsHandedBy, handed_there}
+use Rattle.startup_octets.proofs.PlugEnds.{IsNoPlugEnd, IsPlugEnd}
+use Rattle.startup_octets.proofs.PlugReadies.{call_to, plug_ready_is}
 use Rattle.startup_octets.proofs.Points.{IsPoint, IsTraced, SmallWorld, call_heard, dropped, same_point, started_up}
 use Rattle.startup_octets.proofs.ReadyFrames.{messages_ready}
 use Rattle.startup_octets.proofs.SmallSteps.{IsNoAccess}
@@ -112,13 +116,13 @@ pub record Laws : Type 0 where
 -- Each turn that answers a call follows a start-up.
 abbrev pub AreGood : Mac → List ℕ → List Written → List Turn → List Turn → Type 0
 AreGood mac relation records earlier [] = Unit {0}
-AreGood mac relation records earlier (turn ∷ turns) = (Answers turn → IsStartUp mac relation records earlier turn.came) × AreGood mac relation records (earlier ++ turn ∷ []) turns
+AreGood mac relation records earlier (turn ∷ turns) = (Answers turn → IsReadyCall mac relation records earlier turn.came) × AreGood mac relation records (earlier ++ turn ∷ []) turns
 
 all_good : (mac : Mac) (relation : List ℕ) (records : List Written) (earlier front : List Turn) (turn : Turn) (behind : List Turn) → AreGood mac relation records earlier (front ++ turn ∷ behind)
-    → Answers turn → IsStartUp mac relation records (earlier ++ front) turn.came
-all_good mac relation records earlier [] turn behind good answers = subst (λ l. IsStartUp mac relation records l turn.came) (sym (append-nil earlier)) (good.0 answers)
+    → Answers turn → IsReadyCall mac relation records (earlier ++ front) turn.came
+all_good mac relation records earlier [] turn behind good answers = subst (λ l. IsReadyCall mac relation records l turn.came) (sym (append-nil earlier)) (good.0 answers)
 all_good mac relation records earlier (one ∷ front) turn behind good answers =
-    subst (λ l. IsStartUp mac relation records l turn.came) (append_assoc earlier (one ∷ []) front) (all_good mac relation records (earlier ++ one ∷ []) front turn behind good.1 answers)
+    subst (λ l. IsReadyCall mac relation records l turn.came) (append_assoc earlier (one ∷ []) front) (all_good mac relation records (earlier ++ one ∷ []) front turn behind good.1 answers)
 
 pub good_start_ups : (mac : Mac) (relation : List ℕ) (records : List Written) (turns : List Turn) → AreGood mac relation records [] turns → AreStartUps mac relation records turns
 good_start_ups mac relation records turns good front turn behind parts answers =
@@ -140,10 +144,14 @@ module _ (laws : Laws) {F : Type 0} (first : World F) where
   abbrev goes : GoesSo
   goes = laws.goes
 
+  -- The device hears no PrmEnd after a plug in a frame.
+  abbrev unended_at : World F → List ℕ → Type 0
+  unended_at w = IsNoPlugEnd w.controller.setup w.device.station.identity
+
   -- The point of a world, after a run and these turns.
   abbrev pub PointAt : List (small.Move × SmallWorld) → List Turn → World F → Type 0
   PointAt run turns w =
-      IsPoint (rules_at w) w.device.station.identity.mac w.controller.setup.ar w.controller.setup.activity run turns (view_of w) w.device.live.rest.link
+      IsPoint (rules_at w) (unended_at w) w.device.station.identity.mac w.controller.setup.ar w.controller.setup.activity run turns (view_of w) w.device.live.rest.link
 
   module _ (now : World F) (can : CanStart now.controller.setup now.device.station) (holds : HoldsAt now) (in_step : InStep now)
       (plans : IsPlans so now.controller.setup now.device.station can.setup_is can.device_is can.apart now.device.live.rest.link)
@@ -168,6 +176,7 @@ module _ (laws : Laws) {F : Type 0} (first : World F) where
         (flat : (caller : Caller) (address : List ℕ) (call : Called) → heard ≡ Reported caller address (Calls call) → IsCallIn mac turn.came call)
         (came : (sequence : ℕ) (ask : small.Ask) → heard_as (is_planned setup) heard ≡ small.Call sequence ask → IsIn turn.came (sent_by false turns))
         (access : AllByRecursion (IsNoAccess (rules_at now)) now.sent → (sequence : ℕ) → heard_as (is_planned setup) heard ≡ small.Call sequence small.Accesses → ⊥)
+        (ending : AllByRecursion (unended_at now) now.sent → (caller : Caller) (address : List ℕ) (call : Called) → heard ≡ Reported caller address (Calls call) → IsPlugEnd setup call → ⊥)
         (runs : IsRun (rules_at now) (view_of first) (run ++ (way, view_of after) ∷ [])) where
       abbrev outcomes : List Outcome
       outcomes = made.hears.steps.outcomes
@@ -207,14 +216,14 @@ module _ (laws : Laws) {F : Type 0} (first : World F) where
           let point = device_point laws.undone so.block_read so.block_long setup station fit can.device_is strict (laws.handed (rules_at now)) (view_of first) begins run turns
           (small_of setup.plan now.controller.live) now.sent live heard later.rest later refl (heard_step outcomes station live heard).sent way turn at messages_are sendable it known holds.orderly meant.planned does
           (subst (λ (l : List (List ℕ)). DeviceSteps (rules_at now) (heard_as (is_planned setup) heard) (device.small_of setup.activity live) (device.small_of setup.activity later) l) (sym frames_are) steps)
-          flat came access (subst (AllByRecursion _) (sym messages_are) ready)
+          flat came access ending (subst (AllByRecursion _) (sym messages_are) ready)
           (subst (λ (w : SmallWorld). IsRun (rules_at now) (view_of first) (run ++ (way, w) ∷ [])) next_is runs) in
-          subst (λ (s : Setup). IsPoint (rules_of s after.device.station) after.device.station.identity.mac s.ar s.activity (run ++ (way, view_of after) ∷ []) (turns ++ turn ∷ []) (view_of after)
+          subst (λ (s : Setup). IsPoint (rules_of s after.device.station) (IsNoPlugEnd s after.device.station.identity) after.device.station.identity.mac s.ar s.activity (run ++ (way, view_of after) ∷ []) (turns ++ turn ∷ []) (view_of after)
           after.device.live.rest.link) (ap (λ (c : Controlling). c.setup) (sym made.controller))
-          (subst (λ (s : Station). IsPoint (rules_of setup s) s.identity.mac setup.ar setup.activity (run ++ (way, view_of after) ∷ []) (turns ++ turn ∷ []) (view_of after) after.device.live.rest.link)
+          (subst (λ (s : Station). IsPoint (rules_of setup s) (IsNoPlugEnd setup s.identity) s.identity.mac setup.ar setup.activity (run ++ (way, view_of after) ∷ []) (turns ++ turn ∷ []) (view_of after) after.device.live.rest.link)
           (sym made.hears.steps.same)
-          (subst (λ (l : Live). IsPoint (rules_at now) mac setup.ar setup.activity (run ++ (way, view_of after) ∷ []) (turns ++ turn ∷ []) (view_of after) l.rest.link) (sym made.hears.steps.live)
-          (subst (λ (w : SmallWorld). IsPoint (rules_at now) mac setup.ar setup.activity (run ++ (way, w) ∷ []) (turns ++ turn ∷ []) w later.rest.link) (sym next_is) point)))
+          (subst (λ (l : Live). IsPoint (rules_at now) (unended_at now) mac setup.ar setup.activity (run ++ (way, view_of after) ∷ []) (turns ++ turn ∷ []) (view_of after) l.rest.link) (sym made.hears.steps.live)
+          (subst (λ (w : SmallWorld). IsPoint (rules_at now) (unended_at now) mac setup.ar setup.activity (run ++ (way, w) ∷ []) (turns ++ turn ∷ []) w later.rest.link) (sym next_is) point)))
 
     -- ---- the controller
 
@@ -244,16 +253,18 @@ module _ (laws : Laws) {F : Type 0} (first : World F) where
       at_the_controller =
           let meant = meant_at_controller so goes now can holds in_step event from in
           let on = goes.controller_on setup now.controller.live event in_step in
-          let point = controller_point setup station mac run turns (view_of now).device now.device.live.rest.link now.sent now.controller.live event way turn at sent_frames it meant on unready in
+          let aimed = (goes.aimed mac setup now.controller.live event can.setup_is holds.aimed from).1 in
+          let point = controller_point setup station mac run turns (view_of now).device now.device.live.rest.link now.sent now.controller.live event way turn at sent_frames it meant
+          so can.setup_is aimed on unready in
           let kept : after.controller.setup ≡ setup = ap (λ (w : World F). w.controller.setup) made ∙ ap (λ (c : Controlling). c.setup) (controller_is now.controller event) in
-          subst (λ (s : Setup). IsPoint (rules_of s after.device.station) after.device.station.identity.mac s.ar s.activity (run ++ (way, view_of after) ∷ []) (turns ++ turn ∷ []) (view_of after)
+          subst (λ (s : Setup). IsPoint (rules_of s after.device.station) (IsNoPlugEnd s after.device.station.identity) after.device.station.identity.mac s.ar s.activity (run ++ (way, view_of after) ∷ []) (turns ++ turn ∷ []) (view_of after)
           after.device.live.rest.link) (sym kept)
-          (subst (λ (w : World F). IsPoint (rules_of setup w.device.station) w.device.station.identity.mac setup.ar setup.activity (run ++ (way, view_of after) ∷ []) (turns ++ turn ∷ []) (view_of after)
+          (subst (λ (w : World F). IsPoint (rules_of setup w.device.station) (IsNoPlugEnd setup w.device.station.identity) w.device.station.identity.mac setup.ar setup.activity (run ++ (way, view_of after) ∷ []) (turns ++ turn ∷ []) (view_of after)
           w.device.live.rest.link) (sym made)
-          (subst (λ (w : SmallWorld). IsPoint (rules_at now) mac setup.ar setup.activity (run ++ (way, w) ∷ []) (turns ++ turn ∷ []) w now.device.live.rest.link) (sym passed_is) point))
+          (subst (λ (w : SmallWorld). IsPoint (rules_at now) (unended_at now) mac setup.ar setup.activity (run ++ (way, w) ∷ []) (turns ++ turn ∷ []) w now.device.live.rest.link) (sym passed_is) point))
 
-      -- It answers an ApplicationReady alone.
-      answers_so : Answers turn → IsReadiedBy setup event
+      -- It answers an ApplicationReady alone, of its relation or of a plug.
+      answers_so : Answers turn → IsReadiedBy setup event ⊎ IsPluggedBy setup now.controller.live event
       answers_so answers =
           answered_ready setup now.controller.live event can.setup_is mac (drop 42 turn.came) (laws.kinds setup now.controller.live event)
           (goes.aimed mac setup now.controller.live event can.setup_is holds.aimed from).1
@@ -275,7 +286,7 @@ module _ (laws : Laws) {F : Type 0} (first : World F) where
       stays : (one : Move) → after ≡ now → IsNext one after
       stays one same =
           subst (IsNext one) (sym same)
-          (same_point (rules_at now) mac setup.ar setup.activity run turns (view_of now) now.device.live.rest.link (move_of one) (turn_by now.sent one now.sent) (all_dropped now.sent) it)
+          (same_point (rules_at now) (unended_at now) mac setup.ar setup.activity run turns (view_of now) now.device.live.rest.link (move_of one) (turn_by now.sent one now.sent) (all_dropped now.sent) it)
 
       sent_dropped : (heard : Heard) (made : AtDevice as_flash now heard after) → drop (length now.sent) after.sent ≡ made.hears.frames
       sent_dropped heard made = ap (drop (length now.sent)) made.hears.behind ∙ dropped now.sent made.hears.frames
@@ -288,12 +299,13 @@ module _ (laws : Laws) {F : Type 0} (first : World F) where
           (λ caller address call is. absurd (none caller address call is))
           (λ sequence ask is. let h = call_heard (is_planned setup) heard sequence ask is in absurd (none h.caller h.address h.call h.is))
           (λ _ sequence is. let h = call_heard (is_planned setup) heard sequence small.Accesses is in none h.caller h.address h.call h.is)
+          (λ _ caller address call is ends. none caller address call is)
           runs
 
       known_at : (number : ℕ) (frame : List ℕ) → slice_get now.sent number ≡ Some frame → IsKnown setup station.identity frame
       known_at number frame there = each_at (IsKnown setup station.identity) now.sent number frame holds.known there
 
-      came_in : (turn_came frame : List ℕ) → turn_came ≡ frame → IsTraced (rules_at now) mac setup.ar setup.activity turns frame → (sequence : ℕ) (ask : small.Ask)
+      came_in : (turn_came frame : List ℕ) → turn_came ≡ frame → IsTraced (rules_at now) (unended_at now) mac setup.ar setup.activity turns frame → (sequence : ℕ) (ask : small.Ask)
           → (rules_at now).to_device frame ≡ small.Call sequence ask → IsIn turn_came (sent_by false turns)
       came_in turn_came frame is (inl idle) sequence ask call = absurd (idle_call _ sequence ask idle call)
       came_in turn_came frame is (inr traced) sequence ask call = subst (λ f. IsIn f (sent_by false turns)) (sym is) traced.1
@@ -306,8 +318,9 @@ module _ (laws : Laws) {F : Type 0} (first : World F) where
           let came_is : came_by now.sent (move.Deliver Device number) ≡ frame = ap (λ (o : Option (List ℕ)). unwrap_or o []) there in
           at_device as_flash after heard (known_at number frame there).at_device made (small.ComesToDevice number) (turn_by now.sent (move.Deliver Device number) after.sent) refl (sent_dropped heard made)
           (λ caller address call is. subst (λ f. IsCallIn mac f call) (sym came_is) (call_in station.identity frame caller address call is))
-          (came_in _ frame came_is (each_at (IsTraced (rules_at now) mac setup.ar setup.activity turns) now.sent number frame it.traced there))
+          (came_in _ frame came_is (each_at (IsTraced (rules_at now) (unended_at now) mac setup.ar setup.activity turns) now.sent number frame it.traced there))
           (λ none sequence is. each_at (IsNoAccess (rules_at now)) now.sent number frame none there sequence is)
+          (λ none caller address call is ends. each_at (unended_at now) now.sent number frame none there caller address call is ends)
           runs
 
       -- Something happens at the controller that is no frame.
@@ -339,9 +352,21 @@ module _ (laws : Laws) {F : Type 0} (first : World F) where
 
       -- ---- a turn that answers
 
-      module _ (records : List Written) (same : map written_of (records_of (rules_at now)) ≡ records) where
+      module _ (records : List Written) (same : map written_of (records_of (rules_at now)) ≡ records) (steps : IsRun (rules_at now) (view_of first) run)
+          (last : last_of (view_of first) run ≡ view_of now) where
         abbrev IsFine : Move → Type 0
-        IsFine one = Answers (turn_by now.sent one after.sent) → IsStartUp mac setup.ar records turns (came_by now.sent one)
+        IsFine one = Answers (turn_by now.sent one after.sent) → IsReadyCall mac setup.ar records turns (came_by now.sent one)
+
+        -- While data is exchanged, there was a start-up.
+        started_before : now.controller.live.phase ≡ Exchanging → (ready : List ℕ) × IsStartUp mac setup.ar records turns ready
+        started_before exchanges =
+            let handed = laws.handed (rules_at now) (view_of first) run begins steps
+            (ap (λ (w : SmallWorld). w.controller) last ∙ ap (λ (phase : State). state_of setup.plan phase now.controller.live.asked) exchanges) in
+            let there : slice_get now.sent handed.number ≡ Some handed.frame =
+            ap (λ (w : SmallWorld). slice_get w.sent handed.number) (sym last) ∙ handed_there (rules_at now) (view_of first) run steps handed in (
+              handed.frame,
+              started_up (rules_at now) (unended_at now) mac setup.ar setup.activity run turns (view_of now) now.device.live.rest.link records handed.frame handed.number it same there handed.heard,
+            )
 
         silent_turn : (one : Move) → after ≡ now → Answers (turn_by now.sent one after.sent) → ⊥
         silent_turn one is answers =
@@ -350,20 +375,38 @@ module _ (laws : Laws) {F : Type 0} (first : World F) where
 
         answers_frame : (number : ℕ) (frame : List ℕ) → slice_get now.sent number ≡ Some frame → after ≡ at_controller now (controller.Frame (record { items = frame })) → IsFine (move.Deliver Controller number)
         answers_frame number frame there made answers =
-            let by = answers_so after (controller.Frame (record { items = frame })) (known_at number frame there).at_controller made (small.ComesToController number)
+            by_call (answers_so after (controller.Frame (record { items = frame })) (known_at number frame there).at_controller made (small.ComesToController number)
             (turn_by now.sent (move.Deliver Controller number) after.sent) refl refl
-            (λ none readies. each_at (λ f. (rules_at now).to_controller f ≡ small.Readies → ⊥) now.sent number frame none there readies) answers in
-            let readies : (rules_at now).to_controller frame ≡ small.Readies =
-            ap (λ f. said_to setup (controller_hears setup.plan.controller f)) (same_frame frame by.octets by.is) ∙ by.says in
-            subst (IsStartUp mac setup.ar records turns) (sym (ap (λ (o : Option (List ℕ)). unwrap_or o []) there))
-            (started_up (rules_at now) mac setup.ar setup.activity run turns (view_of now) now.device.live.rest.link records frame number it same there readies)
+            (λ none readies. each_at (λ f. (rules_at now).to_controller f ≡ small.Readies → ⊥) now.sent number frame none there readies) answers)
+          where
+            came_is : came_by now.sent (move.Deliver Controller number) ≡ frame
+            came_is = ap (λ (o : Option (List ℕ)). unwrap_or o []) there
+
+            by_call : IsReadiedBy setup (controller.Frame (record { items = frame })) ⊎ IsPluggedBy setup now.controller.live (controller.Frame (record { items = frame }))
+                → IsReadyCall mac setup.ar records turns (came_by now.sent (move.Deliver Controller number))
+            by_call (inl by) =
+                let readies : (rules_at now).to_controller frame ≡ small.Readies =
+                ap (λ f. said_to setup (controller_hears setup.plan.controller f)) (same_frame frame by.octets by.is) ∙ by.says in
+                inl (subst (IsStartUp mac setup.ar records turns) (sym came_is)
+                (started_up (rules_at now) (unended_at now) mac setup.ar setup.activity run turns (view_of now) now.device.live.rest.link records frame number it same there readies))
+            by_call (inr by) =
+                let before = started_before by.exchanges in
+                let heard = ap (λ f. controller_hears setup.plan.controller f) (same_frame frame by.octets by.is) ∙ by.heard in
+                inr (subst (IsPlugReady mac setup.ar records turns) (sym came_is) (record {
+                  ready = before.0;
+                  started = before.1;
+                  is = plug_ready_is setup frame by.call by.block (call_to setup.plan.controller frame by.caller by.call heard) by.read by.right;
+                }))
 
         -- What is no frame is not answered.
         answers_none : (event : Event) → IsEventFrom mac setup event → (said_in setup (controller_hears setup.plan.controller) event ≡ small.Readies → ⊥) → after ≡ at_controller now event → (one : Move)
             → is_device (end_at one) ≡ false → IsNoFrame event → IsFine one
         answers_none event from unready made one at none answers =
-            let by = answers_so after event from made (move_of one) (turn_by now.sent one after.sent) at refl (λ _. unready) answers in
-            absurd (no_frame event none by.octets by.is)
+            by_call (answers_so after event from made (move_of one) (turn_by now.sent one after.sent) at refl (λ _. unready) answers)
+          where
+            by_call : IsReadiedBy setup event ⊎ IsPluggedBy setup now.controller.live event → IsReadyCall mac setup.ar records turns (came_by now.sent one)
+            by_call (inl by) = absurd (no_frame event none by.octets by.is)
+            by_call (inr by) = absurd (no_frame event none by.octets by.is)
 
         fine : (one : Move) → Happens as_flash now one after → IsFine one
         fine (move.Deliver Controller number) happens answers =
@@ -425,11 +468,13 @@ module _ (laws : Laws) {F : Type 0} (first : World F) where
         let next = moved now can holds in_step plans loose begun (viewed run) turns point as_flash one.1 one.0 made.0
         (subst (λ (r : small.Rules TakenRecord Request). IsRun r (view_of first) (viewed run ++ (move_of one.0, view_of one.1) ∷ [])) (sym rules_are) runs) in
         let good = fine now can holds in_step plans loose begun (viewed run) turns point as_flash one.1 records
-        (ap (λ (r : small.Rules TakenRecord Request). map written_of (records_of r)) rules_are ∙ same) one.0 made.0 in
+        (ap (λ (r : small.Rules TakenRecord Request). map written_of (records_of r)) rules_are ∙ same)
+        (subst (λ (r : small.Rules TakenRecord Request). IsRun r (view_of first) (viewed run)) (sym rules_are) steps)
+        (last_viewed first run ∙ ap (λ (w : World F). view_of w) last) one.0 made.0 in
         let starts : CanStart one.1.controller.setup one.1.device.station =
         subst (λ (s : Setup). CanStart s one.1.device.station) (sym step.setup) (subst (λ (s : Station). CanStart now.controller.setup s) (sym step.station) can) in (
-          λ answers. subst (λ (s : Setup). IsStartUp first.device.station.identity.mac s.ar records turns (came_by now.sent one.0)) setup_is
-              (subst (λ (s : Station). IsStartUp s.identity.mac now.controller.setup.ar records turns (came_by now.sent one.0)) station_is (good answers)),
+          λ answers. subst (λ (s : Setup). IsReadyCall first.device.station.identity.mac s.ar records turns (came_by now.sent one.0)) setup_is
+              (subst (λ (s : Station). IsReadyCall s.identity.mac now.controller.setup.ar records turns (came_by now.sent one.0)) station_is (good answers)),
           along (run ++ one ∷ []) (turns ++ turn_by now.sent one.0 one.1.sent ∷ []) one.1 (last_more first run one) (step.setup ∙ setup_is) (step.station ∙ station_is)
               (subst (IsRun Own (view_of first)) (sym (viewed_more run (one ∷ []))) runs) starts (holds_behind so goes now can holds in_step plans as_flash one.1 one.0 made.0) step.in_step
               (subst (λ (xs : List (small.Move × SmallWorld)). PointAt xs (turns ++ turn_by now.sent one.0 one.1.sent ∷ []) one.1) (sym (viewed_more run (one ∷ []))) next) others made.1,

@@ -30,7 +30,7 @@ pub record IsBlockOf (type : ℕ) (relation octets : List ℕ) : Type 0 where
   pub type_is : number 0 2 octets ≡ type
   pub relation_is : part 8 16 octets ≡ relation
 
-sixteen : (octets rest : List ℕ) → length octets ≡ 16 → take 16 (octets ++ rest) ≡ octets
+pub sixteen : (octets rest : List ℕ) → length octets ≡ 16 → take 16 (octets ++ rest) ≡ octets
 sixteen octets rest is = subst (λ n. take n (octets ++ rest) ≡ octets) is (take_front octets rest)
 
 prm_end_for : (value : ControlBlock) (rest : List ℕ) → length value.ar_uuid ≡ 16 → IsBlockOf 0x0110 value.ar_uuid (octets_for (is.PrmEnd value) ++ rest)

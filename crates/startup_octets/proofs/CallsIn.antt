@@ -88,7 +88,7 @@ frame_type bytes meaning bare =
     ap (number 12 2) bare.is ∙ ap (big_number 2) (skip 6 6 meaning.destination.octets _ bare.to ∙ skip 0 6 bare.source _ bare.from)
     ∙ two_octets (λ l. big_number 2 (l ++ bare.rest) ≡ big_number 2 l) bare.type bare.two (λ a b. refl)
 
-frame_behind : (bytes : List ℕ) (meaning : Meaning) → (bare : IsBare bytes meaning) → (n : ℕ) → drop (6 + (6 + (2 + n))) (untagged bytes) ≡ drop n bare.rest
+pub frame_behind : (bytes : List ℕ) (meaning : Meaning) → (bare : IsBare bytes meaning) → (n : ℕ) → drop (6 + (6 + (2 + n))) (untagged bytes) ≡ drop n bare.rest
 frame_behind bytes meaning bare n =
     ap (drop (6 + (6 + (2 + n)))) bare.is ∙ skip (6 + (2 + n)) 6 meaning.destination.octets _ bare.to ∙ skip (2 + n) 6 bare.source _ bare.from ∙ skip n 2 bare.type _ bare.two
 
@@ -97,7 +97,7 @@ frame_to bytes meaning bare =
     ap (take 6) bare.is ∙ subst (λ n. take n (meaning.destination.octets ++ (bare.source ++ (bare.type ++ bare.rest))) ≡ meaning.destination.octets) bare.to
     (take_front meaning.destination.octets _)
 
-datagram_type : (n : ℕ) (bytes : List ℕ) (content : Content) (from to : Endpoint) (body : List ℕ) → content ≡ UdpDatagram from to body → Kind n bytes content
+pub datagram_type : (n : ℕ) (bytes : List ℕ) (content : Content) (from to : Endpoint) (body : List ℕ) → content ≡ UdpDatagram from to body → Kind n bytes content
     → (n ≡ 0x0800) × datagram.Spells bytes content
 unfolding real_time arp
 datagram_type n bytes content from to body is (IsRealTime type spells) = absurd (let e = spells.1 ∙ is in cc)

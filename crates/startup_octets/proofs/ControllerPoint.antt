@@ -11,7 +11,7 @@ use Rattle.controller_messages.specs.declared.request.Request.TheVariants as ask
 use Rattle.controller_messages.specs.declared.setup.Setup.{Setup}
 use Rattle.controller_messages.specs.Requests.{write_count}
 use Rattle.controller_messages.specs.Heard.{heard_of}
-use Rattle.controller_messages.specs.Sent.{Sent, Requests, Accesses, Agrees, Cycles, Confirms, Replies, Ends, bytes_of}
+use Rattle.controller_messages.specs.Sent.{Sent, Requests, Accesses, Parametrizes, Agrees, Cycles, Confirms, Replies, Ends, bytes_of}
 use Rattle.controller_core.specs.declared.stored.event.Event.{Event}
 use Rattle.controller_core.specs.stored.State.{Live}
 use Rattle.controller_core.specs.Machine.{turn_of}
@@ -19,12 +19,16 @@ use Rattle.end_laws.specs.both.Small as small
 use Rattle.end_laws.specs.both.Small.{Move}
 use Rattle.end_laws.specs.both.Steps.{SaysToDevice}
 use Rattle.end_laws.specs.controller.Small.{GoesOn, said_by, said_in, small_of}
+use Rattle.end_laws.specs.hearing.Stations.{IsSetup}
+use Rattle.end_laws.specs.sending.Addressed.{IsAimedAt}
 use Rattle.both_ends.specs.startup.View.{IsSaidAs, rules_of, says_to_device}
+use Rattle.both_ends.proofs.StartupGiven.{HeardSo}
 use Rattle.octets_law.specs.Octets.{statuses}
 use Rattle.startup_octets.specs.StartUp.{IsIn, Turn}
 use Rattle.startup_octets.proofs.DeviceTurn.{early_same}
 use Rattle.startup_octets.proofs.Exact.{written_of}
 use Rattle.startup_octets.proofs.Lists.{parameterized_more, ready_more, sent_at, sent_behind}
+use Rattle.startup_octets.proofs.PlugEnds.{IsNoPlugEnd, all_no_end}
 use Rattle.startup_octets.proofs.Points.{IsAfter, IsBefore, IsPoint, SmallRules, SmallWorld, each_both, each_so, early_waits, named_more, silent_taken, traced_more}
 use Rattle.startup_octets.proofs.SmallSteps.{IsNoAccess, calls_no_access, not_exchanging}
 use Rattle.startup_octets.proofs.DevicePoint.{each_in}
@@ -50,6 +54,7 @@ module _ (setup : Setup) (station : Station) where
       → says_to_device setup message ≡ small.Call sequence small.Accesses → ⊥
   says_no_access now not (Requests device request) says sequence e = other_ask device request sequence e
   says_no_access now not (Accesses device request octets) says sequence e = calls_no_access rules now not request.sequence says
+  says_no_access now not (Parametrizes device request) says sequence e = calls_no_access rules now not request.sequence says
   says_no_access now not (Agrees caller answer) says sequence e = cc
   says_no_access now not (Cycles route shown counter) says sequence e = cc
   says_no_access now not (Confirms route priority header ack) says sequence e = cc
@@ -80,13 +85,18 @@ module _ (setup : Setup) (station : Station) where
     abbrev relation : List ℕ
     relation = setup.ar
 
+    -- The device hears no PrmEnd after a plug in a frame.
+    abbrev unended : List ℕ → Type 0
+    unended = IsNoPlugEnd setup station.identity
+
     abbrev point : SmallWorld
     point = record { device = device; controller = small_of setup.plan live; sent = before_sent }
 
     abbrev next : SmallWorld
     next = record { device = device; controller = small_of setup.plan (turn_of setup live event).live; sent = before_sent ++ turn.sent }
 
-    module _ (it : IsPoint rules mac relation setup.activity run turns point link) (said : AllByRecursion (IsSaidAs setup station) (turn_of setup live event).sent)
+    module _ (it : IsPoint rules unended mac relation setup.activity run turns point link) (said : AllByRecursion (IsSaidAs setup station) (turn_of setup live event).sent)
+        (so : HeardSo) (good : IsSetup setup) (aimed : AllByRecursion (IsAimedAt station.identity.mac) (turn_of setup live event).sent)
         (on : GoesOn setup.plan (said_in setup (heard_of setup.plan.controller) event) live (turn_of setup live event))
         (unready : AllByRecursion (λ frame. rules.to_controller frame ≡ small.Readies → ⊥) before_sent → said_in setup (heard_of setup.plan.controller) event ≡ small.Readies → ⊥) where
       nothing_sent : AllByRecursion (λ frame. rules.to_controller frame ≡ small.Nothing) turn.sent
@@ -104,22 +114,24 @@ module _ (setup : Setup) (station : Station) where
       silent asked = ap (λ b. flat_map (statuses asked) (if b then turn.sent else [])) at
 
       abbrev NextHistory : Type 0
-      NextHistory = IsBefore rules mac relation setup.activity (run ++ (move, next) ∷ []) (turns ++ turn ∷ []) next link ⊎ IsAfter rules mac relation setup.activity (turns ++ turn ∷ []) next
+      NextHistory = IsBefore rules unended mac relation setup.activity (run ++ (move, next) ∷ []) (turns ++ turn ∷ []) next link ⊎ IsAfter rules unended mac relation setup.activity (turns ++ turn ∷ []) next
 
-      still_before : IsBefore rules mac relation setup.activity run turns point link → NextHistory
+      still_before : IsBefore rules unended mac relation setup.activity run turns point link → NextHistory
       still_before before =
           let idle : next.controller ≡ small.Exchanges → ⊥ =
           not_exchanging rules setup.plan.continue_on_refused_record (write_count setup.plan) _ point.controller next.controller on.moves before.idle (unready before.unready) in
           inl (record {
             unready = each_both _ before_sent turn.sent before.unready (each_so _ _ turn.sent no_ready nothing_sent);
             idle = idle;
-            unawaited = each_both _ run ((move, next) ∷ []) before.unawaited (early_waits rules mac relation setup.activity turns device link before.early it.seen, tt);
+            unawaited = each_both _ run ((move, next) ∷ []) before.unawaited (early_waits rules unended mac relation setup.activity turns device link before.early it.seen, tt);
             no_access = each_both _ before_sent turn.sent before.no_access
                 (subst (AllByRecursion (IsNoAccess rules)) (sym frames) (all_no_access next.controller idle (turn_of setup live event).sent said on.says));
-            early = early_same mac relation turns turn link before.early (silent_taken rules mac relation setup.activity turns turn silent);
+            unended = each_both _ before_sent turn.sent before.unended
+                (subst (AllByRecursion unended) (sym frames) (all_no_end so setup station good next.controller idle (turn_of setup live event).sent aimed said on.says));
+            early = early_same mac relation turns turn link before.early (silent_taken rules unended mac relation setup.activity turns turn silent);
           })
 
-      still_after : IsAfter rules mac relation setup.activity turns point → NextHistory
+      still_after : IsAfter rules unended mac relation setup.activity turns point → NextHistory
       still_after after = inr (record {
         taken = after.taken;
         since = parameterized_more mac relation turns turn (map written_of after.taken) after.since;
@@ -129,16 +141,16 @@ module _ (setup : Setup) (station : Station) where
             (each_so _ _ turn.sent (λ frame nothing ready. absurd (no_ready frame nothing ready)) nothing_sent);
       })
 
-      by_history : IsBefore rules mac relation setup.activity run turns point link ⊎ IsAfter rules mac relation setup.activity turns point → NextHistory
+      by_history : IsBefore rules unended mac relation setup.activity run turns point link ⊎ IsAfter rules unended mac relation setup.activity turns point → NextHistory
       by_history (inl before) = still_before before
       by_history (inr after) = still_after after
 
-      pub controller_point : IsPoint rules mac relation setup.activity (run ++ (move, next) ∷ []) (turns ++ turn ∷ []) next link
+      pub controller_point : IsPoint rules unended mac relation setup.activity (run ++ (move, next) ∷ []) (turns ++ turn ∷ []) next link
       controller_point = record {
         seen = it.seen;
-        traced = each_both _ before_sent turn.sent (each_so _ _ before_sent (traced_more rules mac relation setup.activity turns turn) it.traced)
+        traced = each_both _ before_sent turn.sent (each_so _ _ before_sent (traced_more rules unended mac relation setup.activity turns turn) it.traced)
             (each_in _ turn.sent (λ frame there. inr (in_nothing turn.sent frame nothing_sent there, sent_behind false frame turns (turn ∷ []) (sent_at false frame turn at there))));
         fine = it.fine;
-        named = λ answer is. named_more rules mac relation setup.activity turns turn _ (it.named answer is);
+        named = λ answer is. named_more rules unended mac relation setup.activity turns turn _ (it.named answer is);
         history = by_history it.history;
       }

@@ -35,6 +35,7 @@ use Rattle.startup_octets.proofs.DeviceTurn.{IsEarly, IsEnding, device_turn, sam
 use Rattle.startup_octets.proofs.Exact.{written_of}
 use Rattle.startup_octets.proofs.Hands.{IsHandedBy, taken_whole}
 use Rattle.startup_octets.proofs.Lists.{named_at, names_more, parameterized_more, parameterized_now, ready_first, ready_more, ready_now}
+use Rattle.startup_octets.proofs.PlugEnds.{IsNoPlugEnd, IsPlugEnd, idle_no_end}
 use Rattle.startup_octets.proofs.Points.{IsAfter, IsBefore, IsPoint, IsTraced, SmallRules, SmallWorld, any_behind, call_heard, each_both, each_so, early_waits, named_more, traced_more}
 use Rattle.startup_octets.proofs.SmallSteps.{Awaits, IsKeptFine, IsNoAccess, IsOfDevice, IsStored, device_frames, stored_of}
 use Rattle.startup_octets.proofs.Taking.{AreNotDone}
@@ -61,6 +62,10 @@ module _ (undone : AreNotDone) (blocks_read : AreBlocksRead) (long : (block : Bl
   abbrev relation : List ℕ
   relation = setup.ar
 
+  -- The device hears no PrmEnd after a plug in a frame.
+  abbrev unended : List ℕ → Type 0
+  unended = IsNoPlugEnd setup station.identity
+
   -- A point before a step of the device, and the step.
   module _ (first : SmallWorld) (begins : Begins rules first) (run : List (Move × SmallWorld)) (turns : List Turn) (controller : small.Controller) (before_sent : List (List ℕ)) (live : Live)
       (heard : Heard) (rest : Rest) (later : Live) (rest_is : later.rest ≡ rest) (sent : List Sent) (move : Move) (turn : Turn) (at : turn.at_device ≡ true)
@@ -71,13 +76,14 @@ module _ (undone : AreNotDone) (blocks_read : AreBlocksRead) (long : (block : Bl
     abbrev next : SmallWorld
     next = record { device = device.small_of setup.activity later; controller = controller; sent = before_sent ++ turn.sent }
 
-    module _ (it : IsPoint rules mac relation setup.activity run turns point live.rest.link) (known : IsKnownHeard setup heard) (orderly : IsOrderlyIn live.rest.link)
+    module _ (it : IsPoint rules unended mac relation setup.activity run turns point live.rest.link) (known : IsKnownHeard setup heard) (orderly : IsOrderlyIn live.rest.link)
         (planned : IsPlanned rules setup.activity live.rest.real heard)
         (does : Does station live heard rest sent)
         (steps : DeviceSteps rules (heard_as (is_planned setup) heard) (device.small_of setup.activity live) (device.small_of setup.activity later) turn.sent)
         (flat : (caller : Caller) (address : List ℕ) (call : Called) → heard ≡ Reported caller address (Calls call) → IsCallIn mac turn.came call)
         (came : (sequence : ℕ) (ask : small.Ask) → heard_as (is_planned setup) heard ≡ small.Call sequence ask → IsIn turn.came (sent_by false turns))
         (access : AllByRecursion (IsNoAccess rules) before_sent → (sequence : ℕ) → heard_as (is_planned setup) heard ≡ small.Call sequence small.Accesses → ⊥)
+        (ending : AllByRecursion unended before_sent → (caller : Caller) (address : List ℕ) (call : Called) → heard ≡ Reported caller address (Calls call) → IsPlugEnd setup call → ⊥)
         (readies : AllByRecursion (λ frame. said_to setup (controller_hears setup.plan.controller frame) ≡ small.Readies → is_of 4 0x0112 setup.ar (drop 42 frame) ≡ true) turn.sent)
         (runs : IsRun rules first (run ++ (move, next) ∷ [])) where
       sent_fine : AllByRecursion (IsOfDevice rules next.device) turn.sent × IsKeptFine rules next.device.kept
@@ -107,32 +113,34 @@ module _ (undone : AreNotDone) (blocks_read : AreBlocksRead) (long : (block : Bl
         where
           by_stored : (point.device.kept ≡ Some answer) ⊎ IsStored rules (heard_as (is_planned setup) heard) answer
               → list_any (pointwise nat_eq (name_for setup.activity answer.sequence)) (names_at mac (turns ++ turn ∷ [])) ≡ true
-          by_stored (inl was) = named_more rules mac relation setup.activity turns turn _ (it.named answer was)
+          by_stored (inl was) = named_more rules unended mac relation setup.activity turns turn _ (it.named answer was)
           by_stored (inr stored) = heard_named answer stored
 
-      traced_next : AllByRecursion (IsTraced rules mac relation setup.activity (turns ++ turn ∷ [])) next.sent
-      traced_next = each_both _ before_sent turn.sent (each_so _ _ before_sent (traced_more rules mac relation setup.activity turns turn) it.traced)
+      traced_next : AllByRecursion (IsTraced rules unended mac relation setup.activity (turns ++ turn ∷ [])) next.sent
+      traced_next = each_both _ before_sent turn.sent (each_so _ _ before_sent (traced_more rules unended mac relation setup.activity turns turn) it.traced)
           (each_so _ _ turn.sent (λ frame of. inl of.idle) sent_fine.0)
 
       abbrev NextHistory : Type 0
-      NextHistory = IsBefore rules mac relation setup.activity (run ++ (move, next) ∷ []) (turns ++ turn ∷ []) next later.rest.link
-          ⊎ IsAfter rules mac relation setup.activity (turns ++ turn ∷ []) next
+      NextHistory = IsBefore rules unended mac relation setup.activity (run ++ (move, next) ∷ []) (turns ++ turn ∷ []) next later.rest.link
+          ⊎ IsAfter rules unended mac relation setup.activity (turns ++ turn ∷ []) next
 
       -- It goes on writing parameters, or has no relation.
-      still_before : IsBefore rules mac relation setup.activity run turns point live.rest.link → IsEarly mac relation (turns ++ turn ∷ []) later.rest.link → NextHistory
+      still_before : IsBefore rules unended mac relation setup.activity run turns point live.rest.link → IsEarly mac relation (turns ++ turn ∷ []) later.rest.link → NextHistory
       still_before before early =
-          let no_wait = early_waits rules mac relation setup.activity (turns ++ turn ∷ []) next.device later.rest.link early refl in
+          let no_wait = early_waits rules unended mac relation setup.activity (turns ++ turn ∷ []) next.device later.rest.link early refl in
           inl (record {
             unready = each_both _ before_sent turn.sent before.unready (each_so _ _ turn.sent (λ frame of ready. no_wait (of.ready ready)) sent_fine.0);
             idle = before.idle;
             unawaited = each_both _ run ((move, next) ∷ []) before.unawaited (no_wait, tt);
             no_access = each_both _ before_sent turn.sent before.no_access
                 (each_so _ _ turn.sent (λ frame of sequence is. let e = sym of.idle ∙ is in absurd cc) sent_fine.0);
+            unended = each_both _ before_sent turn.sent before.unended
+                (each_so _ _ turn.sent (λ frame of. idle_no_end setup station.identity (is_planned setup) frame of.idle) sent_fine.0);
             early = early;
           })
 
       -- The parameters end.
-      ends_now : IsBefore rules mac relation setup.activity run turns point live.rest.link → IsEnding mac relation turns turn later.rest.link → NextHistory
+      ends_now : IsBefore rules unended mac relation setup.activity run turns point live.rest.link → IsEnding mac relation turns turn later.rest.link → NextHistory
       ends_now before ending =
           let waits : Awaits rules next.device = record { link = link_of ending.link; has = ap (option_map link_of) ending.is; awaits = ending.waits } in
           inr (record {
@@ -144,7 +152,7 @@ module _ (undone : AreNotDone) (blocks_read : AreBlocksRead) (long : (block : Bl
                 ready_first mac relation turns turn (map written_of ending.link.taken) ending.begun ending.grants frame at there (in_each _ turn.sent frame readies there ready)));
           })
 
-      still_after : IsAfter rules mac relation setup.activity turns point → NextHistory
+      still_after : IsAfter rules unended mac relation setup.activity turns point → NextHistory
       still_after after = inr (record {
         taken = after.taken;
         since = parameterized_more mac relation turns turn (map written_of after.taken) after.since;
@@ -154,15 +162,15 @@ module _ (undone : AreNotDone) (blocks_read : AreBlocksRead) (long : (block : Bl
             (each_in _ turn.sent (λ frame there ready. ready_now mac relation turns turn (map written_of after.taken) after.since frame at there (in_each _ turn.sent frame readies there ready)));
       })
 
-      by_history : IsBefore rules mac relation setup.activity run turns point live.rest.link ⊎ IsAfter rules mac relation setup.activity turns point → NextHistory
+      by_history : IsBefore rules unended mac relation setup.activity run turns point live.rest.link ⊎ IsAfter rules unended mac relation setup.activity turns point → NextHistory
       by_history (inr after) = still_after after
       by_history (inl before) =
           by_turn (device_turn undone blocks_read long setup station fit own live heard rest sent turns turn at frames sendable before.early orderly known planned flat came
-          (access before.no_access) some_kept does)
+          (access before.no_access) (ending before.unended) some_kept does)
         where
           by_turn : IsEarly mac relation (turns ++ turn ∷ []) rest.link ⊎ IsEnding mac relation turns turn rest.link → NextHistory
           by_turn (inl early) = still_before before (subst (λ (r : Rest). IsEarly mac relation (turns ++ turn ∷ []) r.link) (sym rest_is) early)
           by_turn (inr ending) = ends_now before (subst (λ (r : Rest). IsEnding mac relation turns turn r.link) (sym rest_is) ending)
 
-      pub device_point : IsPoint rules mac relation setup.activity (run ++ (move, next) ∷ []) (turns ++ turn ∷ []) next later.rest.link
+      pub device_point : IsPoint rules unended mac relation setup.activity (run ++ (move, next) ∷ []) (turns ++ turn ∷ []) next later.rest.link
       device_point = record { seen = refl; traced = traced_next; fine = sent_fine.1; named = named_next; history = by_history it.history }

@@ -48,6 +48,7 @@ use Rattle.startup_octets.specs.StartUp.{Grants, IsIn, Turn, Written, asking_at,
 use Rattle.startup_octets.proofs.Blocks.{IsBlockOf, connect_read, prm_end_read}
 use Rattle.startup_octets.proofs.CallsIn.{IsCallIn, holds}
 use Rattle.startup_octets.proofs.Exact.{IsExact, IsOfPlan, exact_of, planned_exact, written_of}
+use Rattle.startup_octets.proofs.PlugEnds.{IsPlugEnd}
 use Rattle.startup_octets.proofs.Frames.{IsNoAnswer, message_silent, messages_silent}
 use Rattle.startup_octets.proofs.Lists.{IsBegun, IsTakenAt, begun_more, begun_now}
 use Rattle.startup_octets.proofs.Taking.{AreNotDone, IsGrown, IsStarted, granted_in, granted_no, no_zero, same_grown}
@@ -418,17 +419,18 @@ module _ (undone : AreNotDone) (blocks_read : AreBlocksRead) (long : (block : Bl
       → ((caller : Caller) (address : List ℕ) (call : Called) → heard ≡ Reported caller address (Calls call) → IsCallIn mac turn.came call)
       → ((sequence : ℕ) (ask : small.Ask) → heard_as (is_planned setup) heard ≡ small.Call sequence ask → IsIn turn.came (sent_by false turns))
       → ((sequence : ℕ) → heard_as (is_planned setup) heard ≡ small.Call sequence small.Accesses → ⊥)
+      → ((caller : Caller) (address : List ℕ) (call : Called) → heard ≡ Reported caller address (Calls call) → IsPlugEnd setup call → ⊥)
       → ((kept : Kept) → kept_of setup.activity live.rest.calls ≡ Some kept → list_any (pointwise nat_eq (name_for setup.activity kept.sequence)) (names_at mac turns) ≡ true)
       → Does station live heard rest sent → IsNext
-  device_turn early orderly known planned flat came no_access named (inl it) =
+  device_turn early orderly known planned flat came no_access no_end named (inl it) =
       inl (subst (λ (r : Rest). IsEarly mac relation (turns ++ turn ∷ []) r.link) (sym it.same)
       (early_same mac relation turns turn live.rest.link early (taken_none (subst (AllByRecursion IsNoAnswer) (sym it.silent) tt))))
-  device_turn early orderly known planned flat came no_access named (inr (inl it)) =
+  device_turn early orderly known planned flat came no_access no_end named (inr (inl it)) =
       inl (early_kept mac relation turns turn live.rest.link rest.link early orderly it.link (taken_none (no_answers live rest.link sent it.others)))
-  device_turn early orderly known planned flat came no_access named (inr (inr (inl it))) =
+  device_turn early orderly known planned flat came no_access no_end named (inr (inr (inl it))) =
       let begun = subst (IsEarly mac relation turns) it.was early in
       absurd (let e = sym begun.0 ∙ it.awaits in cc)
-  device_turn early orderly known planned flat came no_access named (inr (inr (inr (inl it)))) =
+  device_turn early orderly known planned flat came no_access no_end named (inr (inr (inr (inl it)))) =
       let call = flat it.caller it.address it.call it.is in
       let activity : it.call.header.activity ≡ setup.activity = known_activity setup it.caller it.call (subst (λ (h : Heard). IsKnownHeard setup h) it.is known) in
       let name : name_of call.octets ≡ name_for setup.activity it.kept.sequence =
@@ -441,7 +443,7 @@ module _ (undone : AreNotDone) (blocks_read : AreBlocksRead) (long : (block : Bl
             ∙ or_first (list_any (pointwise nat_eq (name_of call.octets)) (names_at mac turns)) false (ap (λ n. list_any (pointwise nat_eq n) (names_at mac turns)) name ∙ there),
         refl,
       ))))
-  device_turn early orderly known planned flat came no_access named (inr (inr (inr (inr it)))) =
+  device_turn early orderly known planned flat came no_access no_end named (inr (inr (inr (inr it)))) =
       let call = flat it.caller it.address it.call it.is in
       let plan = subst (λ (h : Heard). IsPlanned (rules_of setup station) setup.activity live.rest.real h) it.is planned in
       let same : plan.blocks ≡ it.blocks = some_blocks plan.blocks it.blocks (sym plan.counted ∙ it.counted) in
@@ -449,7 +451,7 @@ module _ (undone : AreNotDone) (blocks_read : AreBlocksRead) (long : (block : Bl
       (λ asks is. subst (IsPlannedAs (rules_of setup station) live.rest.real it.call.header.sequence it.blocks) asks
       (subst (λ (l : List ℕ). IsPlannedAs (rules_of setup station) live.rest.real it.call.header.sequence l (operation_of it.call.header.operation)) same plan.asks) is)
       it.outcome it.which it.asks
-      (exact_of setup it.caller it.call (subst (λ (h : Heard). IsKnownHeard setup h) it.is known) it.which it.asks it.blocks it.counted)
+      (exact_of setup it.caller it.call (subst (λ (h : Heard). IsKnownHeard setup h) it.is known) (no_end it.caller it.address it.call it.is) it.which it.asks it.blocks it.counted)
       (answered_so it call) it.effect
     where
       some_blocks : (one other : List ℕ) → Some one ≡ Some other → one ≡ other

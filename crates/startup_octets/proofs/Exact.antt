@@ -15,11 +15,14 @@ use Rattle.records.specs.status.Operation.{operation_of}
 use Rattle.records.specs.declared.writes.taken.TakenRecord.{TakenRecord}
 use Rattle.plans.specs.declared.parts.PlanRecord.{PlanRecord}
 use Rattle.plans.specs.Connect.{connect_of}
+use Rattle.controller_messages.specs.declared.plug_request.PlugStep.{PlugStep}
+use Rattle.controller_messages.specs.declared.plug_request.PlugStep.TheVariants as plug_step
 use Rattle.controller_messages.specs.declared.record_request.RecordService.{RecordService}
 use Rattle.controller_messages.specs.declared.record_request.RecordService.TheVariants as service
 use Rattle.controller_messages.specs.declared.request.Request.{Request}
 use Rattle.controller_messages.specs.declared.request.Request.TheVariants as asks
 use Rattle.controller_messages.specs.declared.setup.Setup.{Setup}
+use Rattle.controller_messages.specs.PlugRequests.{plug_blocks, plug_operation}
 use Rattle.controller_messages.specs.RecordRequests.{record_blocks, service_operation}
 use Rattle.controller_messages.specs.Requests.{blocks_of, call_for, control_of, entries_bytes, list_blocks, list_of, operation_of as number_for, padding_of, write_count, write_of, writing_blocks}
 use Rattle.end_laws.specs.hearing.Stations.{IsCalled}
@@ -29,6 +32,7 @@ use Rattle.both_ends.proofs.StartupHeard.{IsKnownCall, IsListed}
 use Rattle.octets_law.specs.Octets.{number as number_in}
 use Rattle.startup_octets.specs.StartUp.{Written, parameter_in, parameters_by, parameters_in}
 use Rattle.startup_octets.proofs.Blocks.{IsBlockOf, IsWriteHeader, parameter_read, parameters_step, write_read}
+use Rattle.startup_octets.proofs.PlugEnds.{IsPlugEnd}
 
 -- A record that a relation accepted.
 abbrev pub written_of : TakenRecord → Written
@@ -84,19 +88,31 @@ module _ (setup : Setup) where
   access_exact service.Write sequence blocks which is =
       subst (λ w. IsExact sequence w blocks) (some_operation operation.Write which is) tt
 
-  pub exact_of : (caller : Caller) (call : Called) → IsKnownCall setup caller call → (which : Operation) → operation_of call.header.operation ≡ Some which
+  -- A Write after a plug; PrmEnd after a plug is left out.
+  plug_exact : (step : PlugStep) (sequence : ℕ) (blocks : List ℕ) (which : Operation) → (step ≡ plug_step.PrmEnd → ⊥) → operation_of (plug_operation step) ≡ Some which → IsExact sequence which blocks
+  unfolding operation_of
+  plug_exact (plug_step.Record number) sequence blocks which no_end is = subst (λ w. IsExact sequence w blocks) (some_operation operation.Write which is) tt
+  plug_exact plug_step.PrmEnd sequence blocks which no_end is = absurd (no_end refl)
+
+  pub exact_of : (caller : Caller) (call : Called) → IsKnownCall setup caller call → (IsPlugEnd setup call → ⊥) → (which : Operation) → operation_of call.header.operation ≡ Some which
       → (blocks : List ℕ) → call.blocks ≡ Some blocks → IsExact call.header.sequence which blocks
-  exact_of caller call (inl own) which asks blocks counted =
+  exact_of caller call (inl own) no_end which asks blocks counted =
       let same : blocks_of setup own.request ≡ blocks = some_blocks _ _ (sym (ap (λ (c : Called). c.blocks) own.is) ∙ counted) in
       subst (λ (n : ℕ). IsExact n which blocks) (sym (ap (λ (c : Called). c.header.sequence) own.is))
       (subst (λ (l : List ℕ). IsExact (call_for setup own.request).header.sequence which l) same
       (own_exact own.request own.called own.listed which (sym (ap (λ (c : Called). operation_of c.header.operation) own.is) ∙ asks)))
-  exact_of caller call (inr access) which asks blocks counted =
+  exact_of caller call (inr (inl access)) no_end which asks blocks counted =
       let same : record_blocks setup access.request access.octets access.request.service ≡ blocks =
       some_blocks _ _ (sym (ap (λ (c : Called). c.blocks) access.is) ∙ counted) in
       subst (λ (n : ℕ). IsExact n which blocks) (sym (ap (λ (c : Called). c.header.sequence) access.is))
       (subst (λ (l : List ℕ). IsExact access.request.sequence which l) same
       (access_exact access.request.service access.request.sequence _ which (sym (ap (λ (c : Called). operation_of c.header.operation) access.is) ∙ asks)))
+  exact_of caller call (inr (inr plugged)) no_end which asks blocks counted =
+      let same : plug_blocks setup plugged.request plugged.request.step ≡ blocks = some_blocks _ _ (sym (ap (λ (c : Called). c.blocks) plugged.is) ∙ counted) in
+      subst (λ (n : ℕ). IsExact n which blocks) (sym (ap (λ (c : Called). c.header.sequence) plugged.is))
+      (subst (λ (l : List ℕ). IsExact plugged.request.sequence which l) same
+      (plug_exact plugged.request.step plugged.request.sequence _ which (λ ends. no_end (record { request = plugged.request; ends = ends; is = plugged.is }))
+      (sym (ap (λ (c : Called). operation_of c.header.operation) plugged.is) ∙ asks)))
 
   -- ---- the records of a Write
 

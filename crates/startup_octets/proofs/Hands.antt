@@ -1,10 +1,10 @@
 -- When the parameters end for the first time, the plan's records were accepted, in order, each once. It follows from the law of
 -- a start-up: the run could go on with an ApplicationReady that the controller answers.
-use Rattle.std.proofs.Common.{◌≡◌, inl, inr, ℕ, false, List, [], ◌∷◌, ◌++◌, length, Some, refl, sym, ap, subst, ◌∙◌, append_assoc}
+use Rattle.std.proofs.Common.{◌≡◌, inl, inr, ℕ, zero, suc, false, List, [], ◌∷◌, ◌++◌, length, Some, refl, sym, ap, subst, ◌∙◌, append_assoc}
 use Rattle.std.proofs.lemmas.List.{append-nil}
 use Rattle.std.specs.Prelude.{slice_get}
 use Rattle.std.specs.List.{AllByRecursion}
-use Rattle.end_laws.specs.both.Small.{AtDevice, ComesToController, Exchanges, Idle, Move, Readies, RelationState, Rules, World}
+use Rattle.end_laws.specs.both.Small.{AtController, AtDevice, ComesToController, ComesToDevice, Exchanges, Idle, Move, Readies, RelationState, Rules, World}
 use Rattle.end_laws.specs.both.Runs.{AreSteps, end_of}
 use Rattle.end_laws.specs.both.StartUp.{Begins, IsRun, WasHanded, last_of}
 use Rattle.end_laws.specs.both.Steps.{Steps, records_of}
@@ -42,6 +42,49 @@ module _ {T Q : Type 0} (rules : Rules T Q) where
   -- The law of a start-up.
   abbrev pub IsHandedBy : Type 0
   IsHandedBy = (first : World T Q) (run : List (Move × World T Q)) → Begins rules first → IsRun rules first run → (last_of first run).controller ≡ Exchanges → WasHanded rules first run
+
+  -- ---- a frame stays in the list of what was sent
+
+  slice_front : (some more : List (List ℕ)) (number : ℕ) (frame : List ℕ) → slice_get some number ≡ Some frame → slice_get (some ++ more) number ≡ Some frame
+  slice_front [] more number frame there = absurd cc
+  slice_front (one ∷ some) more zero frame there = there
+  slice_front (one ∷ some) more (suc number) frame there = slice_front some more number frame there
+
+  abbrev IsThere : World T Q → ℕ → List ℕ → Type 0
+  IsThere w number frame = slice_get w.sent number ≡ Some frame
+
+  same_there : (before after : World T Q) (number : ℕ) (frame : List ℕ) → after ≡ before → IsThere before number frame → IsThere after number frame
+  same_there before after number frame same there = subst (λ (w : World T Q). IsThere w number frame) (sym same) there
+
+  more_there : (before after : World T Q) (frames : List (List ℕ)) (number : ℕ) (frame : List ℕ) → after.sent ≡ before.sent ++ frames → IsThere before number frame → IsThere after number frame
+  more_there before after frames number frame behind there = ap (λ (l : List (List ℕ)). slice_get l number) behind ∙ slice_front before.sent frames number frame there
+
+  step_there : (before after : World T Q) (move : Move) (number : ℕ) (frame : List ℕ) → Steps rules before move after → IsThere before number frame → IsThere after number frame
+  step_there before after (ComesToDevice which) number frame (inl same) there = same_there before after number frame same there
+  step_there before after (ComesToDevice which) number frame (inr comes) there = more_there before after comes.steps.frames number frame comes.steps.behind there
+  step_there before after (ComesToController which) number frame (inl same) there = same_there before after number frame same there
+  step_there before after (ComesToController which) number frame (inr comes) there = more_there before after comes.steps.frames number frame comes.steps.behind there
+  step_there before after AtDevice number frame (inl same) there = same_there before after number frame same there
+  step_there before after AtDevice number frame (inr steps) there = more_there before after steps.frames number frame steps.behind there
+  step_there before after AtController number frame (inl same) there = same_there before after number frame same there
+  step_there before after AtController number frame (inr steps) there = more_there before after steps.frames number frame steps.behind there
+
+  run_there : (from : World T Q) (run : List (Move × World T Q)) (number : ℕ) (frame : List ℕ) → AreSteps (Steps rules) from run → IsThere from number frame → IsThere (end_of from run) number frame
+  run_there from [] number frame steps there = there
+  run_there from (one ∷ run) number frame steps there = run_there one.1 run number frame steps.1 (step_there from one.1 one.0 number frame steps.0 there)
+
+  front_there : (from : World T Q) (front behind : List (Move × World T Q)) (number : ℕ) (frame : List ℕ) → AreSteps (Steps rules) from (front ++ behind) → IsThere (end_of from front) number frame
+      → IsThere (end_of from (front ++ behind)) number frame
+  front_there from [] behind number frame steps there = run_there from behind number frame steps there
+  front_there from (one ∷ front) behind number frame steps there = front_there one.1 front behind number frame steps.1 there
+
+  -- the ApplicationReady that the controller received
+  pub handed_there : (first : World T Q) (run : List (Move × World T Q)) → IsRun rules first run → (handed : WasHanded rules first run)
+      → slice_get (last_of first run).sent handed.number ≡ Some handed.frame
+  handed_there first run steps handed =
+      let behind : List (Move × World T Q) = (ComesToController handed.number, handed.point) ∷ handed.later in
+      subst (λ (l : List (Move × World T Q)). IsThere (end_of first l) handed.number handed.frame) (sym handed.all)
+      (front_there first handed.before behind handed.number handed.frame (subst (λ (l : List (Move × World T Q)). AreSteps (Steps rules) first l) handed.all steps) handed.there)
 
   some_link : (one other : RelationState T Q) → Some one ≡ Some other → one ≡ other
   some_link one other e = cc

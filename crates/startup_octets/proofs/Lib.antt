@@ -4,6 +4,8 @@ pub mod Hands
 pub mod CallsIn
 pub mod Frames
 pub mod Blocks
+pub mod PlugEnds
+pub mod PlugReadies
 pub mod Exact
 pub mod Taking
 pub mod Writes

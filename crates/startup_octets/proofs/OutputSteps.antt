@@ -26,6 +26,7 @@ use Rattle.both_ends.specs.startup.Played.{AreMeant, Begins}
 use Rattle.both_ends.specs.startup.View.{move_of}
 use Rattle.both_ends.specs.exchange.Given.{places_for, zeros_at}
 use Rattle.both_ends.specs.exchange.Shown.{image_in, outputs_of, shown_of, shown_run, zeros_for}
+use Rattle.both_ends.proofs.ExchangeKeys.{StandingSo}
 use Rattle.both_ends.proofs.ExchangeOutputsMoves.{ArePlaced}
 use Rattle.both_ends.proofs.ExchangeOutputsTurns.{KindsSo}
 use Rattle.both_ends.proofs.ExchangeOutputsValues.{zeros_are_shown}
@@ -301,15 +302,15 @@ module _ (options : DeviceOptions) (setup : Setup) (identity : Identity) (there 
         chain next step.1 run (record { outputs = refl; places = refl }) at_next (turn_kept before step.1 at at_next are step.0 shown.0).1 made.1 shown.1
         front one other behind (same_tail entry x (next ∷ entries_of step.1 run) (front ++ one ∷ other ∷ behind) e)
 
-pub all_kept : (setup : Setup) (identity : Identity) (there : ArePlaced setup) (turns : TurnsSo) (numbers : NumbersSo) (kinds : KindsSo) (sound : IsSound ethernet) (whole : IsSoundWhole layers)
+pub all_kept : (setup : Setup) (identity : Identity) (there : ArePlaced setup) (turns : TurnsSo) (numbers : NumbersSo) (standing : StandingSo) (kinds : KindsSo) (sound : IsSound ethernet) (whole : IsSoundWhole layers)
     (apart : pointwise nat_eq identity.mac.octets setup.plan.controller.mac.octets ≡ false) (six : IsMac setup.plan.controller.mac) {F : Type 0} {S : ℕ} (as_flash : Flash F S) (first : World F)
     → Begins setup identity first → (run : List (Move × World F)) → AreMade as_flash first run → AreMeant first run
     → AreKept first.device.station.options (outputs_in setup.plan.real.modules.items) (opening_entry first ∷ entries_of first run)
-all_kept setup identity there turns numbers kinds sound whole apart six as_flash first begins run made meant =
+all_kept setup identity there turns numbers standing kinds sound whole apart six as_flash first begins run made meant =
     chain first.device.station.options setup identity there as_flash (opening_entry first) first run (record { outputs = refl; places = refl }) begins.of_setup
     (subst (λ (l : Option RelationState). AreIn first.device.station.options setup identity there (image_in setup l)) (sym begins.unrelated)
     (zeros_in first.device.station.options setup identity there)) made
-    (shown_runs turns numbers kinds sound whole setup identity apart six first begins as_flash run made meant)
+    (shown_runs turns numbers standing kinds sound whole setup identity apart six first begins as_flash run made meant)
 
 pub none_kept : (options : DeviceOptions) (outputs : List Output) → AreKept options outputs []
 none_kept options outputs [] one other behind e = absurd cc

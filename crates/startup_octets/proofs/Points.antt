@@ -105,17 +105,18 @@ SmallWorld = World TakenRecord Request
 abbrev pub SmallRules : Type 0
 SmallRules = Rules TakenRecord Request
 
-module _ (rules : SmallRules) (mac : Mac) (relation activity : List ℕ) where
+module _ (rules : SmallRules) (IsUnended : List ℕ → Type 0) (mac : Mac) (relation activity : List ℕ) where
   -- A frame says nothing to the device; or nothing to the controller, which sent it.
   abbrev pub IsTraced : List Turn → List ℕ → Type 0
   IsTraced turns frame = (rules.to_device frame ≡ small.Idle) ⊎ ((rules.to_controller frame ≡ small.Nothing) × IsIn frame (sent_by false turns))
 
-  -- No ApplicationReady was sent yet.
+  -- No ApplicationReady was sent yet, and no call after a plug.
   pub record IsBefore (run : List (Move × SmallWorld)) (turns : List Turn) (point : SmallWorld) (link : Option RelationState) : Type 0 where
     pub unready : AllByRecursion (λ frame. rules.to_controller frame ≡ small.Readies → ⊥) point.sent
     pub idle : point.controller ≡ small.Exchanges → ⊥
     pub unawaited : AllByRecursion (λ (one : Move × SmallWorld). Awaits rules one.1.device → ⊥) run
     pub no_access : AllByRecursion (IsNoAccess rules) point.sent
+    pub unended : AllByRecursion IsUnended point.sent
     pub early : IsEarly mac relation turns link
 
   -- The parameters ended, and what the controller hears as ApplicationReady was sent since.
@@ -175,6 +176,7 @@ module _ (rules : SmallRules) (mac : Mac) (relation activity : List ℕ) where
         idle = before.idle;
         unawaited = each_both _ run ((move, point) ∷ []) before.unawaited (early_waits turns point.device link before.early it.seen, tt);
         no_access = before.no_access;
+        unended = before.unended;
         early = early_same mac relation turns turn link before.early (silent_taken turns turn (nothing turn.at_device));
       })
       by_history (inr after) = inr (record {

@@ -23,7 +23,7 @@ use Rattle.end_laws.specs.both.StartUp.{Begins as BeginsSmall}
 use Rattle.end_laws.specs.both.Steps.{records_of}
 use Rattle.both_ends.specs.startup.request.Request.{request_for}
 use Rattle.both_ends.specs.startup.Played.{ArePlaced, Begins, CanMeet}
-use Rattle.both_ends.specs.startup.View.{AreThePlans, rules_of, taken_for, view_of}
+use Rattle.both_ends.specs.startup.View.{AreThePlans, is_planned, rules_of, taken_for, view_of}
 use Rattle.both_ends.proofs.StartupKnown.{CanStart, first_in_step, holds_first, starts_small}
 use Rattle.both_ends.proofs.StartupPlanned.{count_few}
 use Rattle.both_ends.proofs.StartupRuns.{delivered, rules_at}
@@ -31,6 +31,7 @@ use Rattle.startup_octets.specs.StartUp.{AreDelivered, AreStartUps, IsIn}
 use Rattle.startup_octets.specs.Played.{came_by, records_for, seen_of, turns_of}
 use Rattle.startup_octets.proofs.Along.{AreGood, Laws, PointAt, along, good_start_ups}
 use Rattle.startup_octets.proofs.Exact.{written_of}
+use Rattle.startup_octets.proofs.PlugEnds.{idle_no_end}
 use Rattle.startup_octets.proofs.Points.{dropped, each_so}
 use Rattle.startup_octets.proofs.DeviceTurn.{IsEarly}
 
@@ -130,6 +131,7 @@ module _ (laws : Laws) {F : Type 0} (setup : Setup) (identity : Identity) (good 
       idle = no_seeking (view_of first).controller begun.seeking;
       unawaited = tt;
       no_access = each_so _ _ first.sent (λ frame dull sequence call. let e = sym dull.0 ∙ call in absurd cc) begun.dull;
+      unended = each_so _ _ first.sent (λ frame dull. idle_no_end first.controller.setup first.device.station.identity (is_planned first.controller.setup) frame dull.0) begun.dull;
       early = subst (IsEarly first.device.station.identity.mac first.controller.setup.ar []) (sym begins.unrelated) tt;
     });
   }

@@ -134,13 +134,23 @@ pub record IsStartUp (mac : Mac) (relation : List ℕ) (records : List Written) 
   pub sent : IsIn ready (sent_by true (prm_end ∷ behind))
   pub is : is_of 4 0x0112 relation (drop 42 ready) ≡ true
 
+-- The call is the ApplicationReady of a plug in this relation (operation 4), after such a start-up.
+pub record IsPlugReady (mac : Mac) (relation : List ℕ) (records : List Written) (turns : List Turn) (call : List ℕ) : Type 0 where
+  pub ready : List ℕ
+  pub started : IsStartUp mac relation records turns ready
+  pub is : is_of 4 0x0113 relation (drop 42 (untagged call)) ≡ true
+
+-- The call is an ApplicationReady: of the relation, or of a plug in it.
+abbrev pub IsReadyCall : Mac → List ℕ → List Written → List Turn → List ℕ → Type 0
+IsReadyCall mac relation records turns call = IsStartUp mac relation records turns call ⊎ IsPlugReady mac relation records turns call
+
 -- Each frame that came was sent before.
 abbrev pub AreDelivered : List (List ℕ) → List Turn → Type 0
 AreDelivered sent [] = Unit {0}
 AreDelivered sent (turn ∷ turns) = ((turn.came ≡ []) ⊎ IsIn turn.came sent) × AreDelivered (sent ++ turn.sent) turns
 
--- Each call that the controller answers positively follows such a start-up.
+-- Each call that the controller answers positively is an ApplicationReady after such a start-up.
 abbrev pub AreStartUps : Mac → List ℕ → List Written → List Turn → Type 0
 AreStartUps mac relation records turns =
     (front : List Turn) (turn : Turn) (behind : List Turn) → turns ≡ front ++ turn ∷ behind → Answers turn
-    → IsStartUp mac relation records front turn.came
+    → IsReadyCall mac relation records front turn.came

@@ -106,8 +106,9 @@ pub fn play<F: Flash<S>, const S: usize, W: Witness>(
     // Each frame that comes to an end was sent before, by either end.
     ensures delivered { (entries : List Entry) → W.log witness.new ≡ W.log witness.old ++ entries → AreDelivered [] (turns_in entries) }
     // If the plan does not say that the start-up goes on after a refused record: each call that the controller answers with
-    // PNIOStatus 0 is an ApplicationReady of its relation. Before, the device had granted the Connect that the controller
-    // had sent, had accepted the plan's records in order, each once, and had granted PrmEnd; then it sent that call.
+    // PNIOStatus 0 is an ApplicationReady of its relation, or of a plug in it. Before, the device had granted the Connect that the
+    // controller had sent, had accepted the plan's records in order, each once, and had granted PrmEnd; then it sent the
+    // ApplicationReady of the relation.
     ensures start_ups { (entries : List Entry) → W.log witness.new ≡ W.log witness.old ++ entries
         → setup.plan.continue_on_refused_record ≡ false
         → AreStartUps station.identity.mac setup.ar (records_for setup.plan.records.items) (drop 1 (turns_in entries)) }

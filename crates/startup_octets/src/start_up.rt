@@ -56,8 +56,9 @@ pub fn start_ups_are_read<F: Flash<S>, const S: usize>(setup: &Setup, identity: 
     ensures delivered { (first : World F) (run : List (Move × World F)) → AreMade F.Flash first run
         → AreDelivered first.sent (turns_of first.sent (seen_of run)) }
     // If the plan does not say that the start-up goes on after a refused record: each call that the controller answers with
-    // PNIOStatus 0 is an ApplicationReady of its relation. Before, the device had granted the Connect that the controller
-    // had sent, had accepted the plan's records in order, each once, and had granted PrmEnd; then it sent that call.
+    // PNIOStatus 0 is an ApplicationReady of its relation, or of a plug in it. Before, the device had granted the Connect that the
+    // controller had sent, had accepted the plan's records in order, each once, and had granted PrmEnd; then it sent the
+    // ApplicationReady of the relation.
     ensures start_up { CanMeet setup.now identity.now → setup.now.plan.continue_on_refused_record ≡ false →
         (first : World F) (run : List (Move × World F)) → Begins setup.now identity.now first → AreMade F.Flash first run
         → AreStartUps identity.now.mac setup.now.ar (records_for setup.now.plan.records.items) (turns_of first.sent (seen_of run)) }

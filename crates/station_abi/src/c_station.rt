@@ -17,7 +17,7 @@ use pn_values::{Identity, Mac, Real};
 use relations::DeviceOptions;
 
 /// The version of the header.
-const ABI: u32 = 7;
+const ABI: u32 = 8;
 
 /// The number of octets of the memory for a port.
 const ROOM: usize = 75776;

@@ -3,13 +3,15 @@ use Rattle.std.proofs.Common.{◌≡◌, ◌==◌, ◌+◌, ℕ, Bool, true, fal
 use Rattle.std.proofs.lemmas.Bool.{cond_both}
 use Rattle.byteorder.specs.Endian.{big_number}
 use Rattle.wire.specs.Checks.{or_fault}
+use Rattle.wire.specs.Codec.{IsSound}
+use Rattle.wire.proofs.BlocksSound.{blank_sound, fixed_one_sound, fixed_sound, numeral_sound, octets_sound}
+use Rattle.wire.proofs.Joined.{seen_sound, then_by_sound}
 use Rattle.wire.specs.blocks.Fields.{body, version}
 use Rattle.wire.specs.declared.blocks.fault.BlockFault.{BlockFault}
 use Rattle.connect_blocks.specs.Control.{control}
 use Rattle.connect_blocks.specs.declared.control.ControlBlock.{ControlBlock}
 use Rattle.connect_blocks.specs.declared.plug_control.PlugControlBlock.{PlugControlBlock}
 use Rattle.connect_blocks.specs.PlugControl.{plug_control}
-use Rattle.connect_blocks.proofs.Sound.{plug_control_sound}
 use Rattle.record_blocks.specs.RecordHeader.{record_header}
 use Rattle.record_blocks.specs.ReadRecord.{iod_read_req}
 use Rattle.record_blocks.specs.WriteRecord.{iod_write_req}
@@ -153,10 +155,17 @@ release_named blocks value e =
     let same : fields.0 ≡ value = let e : Ok fields.0 ≡ Ok value = ap (λ v. or_fault fault.BlockForm (in_control v)) fields.1 ∙ one.2 in cc in
     ap (take 16) (at.after 4) ∙ control_named None at.inside fields.0 one.0.1 fields.2 ∙ ap (λ c. c.ar_uuid) same
 
--- PrmEnd after a plug, which is read as a whole block.
-plug_at : (bytes : List ℕ) (value : PlugControlBlock) (rest : List ℕ) → (plug_control 0x0111).Spells bytes value rest → part 8 16 bytes ≡ value.ar_uuid
+-- PrmEnd and ApplicationReady after a plug, which are read as whole blocks.
+plug_control_sound : (kind : ℕ) → IsSound (plug_control kind)
 unfolding plug_control
-plug_at bytes value rest spells =
+plug_control_sound kind = seen_sound _ _ _ (λ _. refl) (then_by_sound _ _ (fixed_sound 0 kind) (λ _. then_by_sound _ _ (fixed_sound 1 28)
+    (λ _. then_by_sound _ _ (fixed_one_sound 2 1) (λ _. then_by_sound _ _ (fixed_one_sound 3 0) (λ _. then_by_sound _ _ (blank_sound 2)
+    (λ _. then_by_sound _ _ (octets_sound 16) (λ _. then_by_sound _ _ (numeral_sound 2) (λ _. then_by_sound _ _ (numeral_sound 2)
+    (λ _. then_by_sound _ _ (numeral_sound 2) (λ _. numeral_sound 2))))))))))
+
+plug_at : (kind : ℕ) (bytes : List ℕ) (value : PlugControlBlock) (rest : List ℕ) → (plug_control kind).Spells bytes value rest → part 8 16 bytes ≡ value.ar_uuid
+unfolding plug_control
+plug_at kind bytes value rest spells =
     let type = spells.2 in
     let size = type.2 in
     let high = size.2 in
@@ -174,13 +183,16 @@ plug_at bytes value rest spells =
     sixteen_of : (octets uuid more : List ℕ) → octets ≡ uuid ++ more → length uuid ≡ 16 → take 16 octets ≡ uuid
     sixteen_of octets uuid more is wide = ap (take 16) is ∙ subst (λ n. take n (uuid ++ more) ≡ uuid) wide (take_front uuid more)
 
+pub plug_read_named : (kind : ℕ) (blocks : List ℕ) (x : PlugControlBlock × List ℕ) → (plug_control kind).read blocks ≡ Ok x → part 8 16 blocks ≡ x.0.ar_uuid
+plug_read_named kind blocks x is = plug_at kind blocks x.0 x.1 ((plug_control_sound kind).takes blocks x.0 x.1 is)
+
 pub plug_end_named : (blocks : List ℕ) (value : PlugControlBlock) → block_in ((plug_control 0x0111).read blocks) ≡ Ok value → part 8 16 blocks ≡ value.ar_uuid
 plug_end_named blocks value = by_read ((plug_control 0x0111).read blocks) refl
   where
     by_read : (r : Result (PlugControlBlock × List ℕ) BlockFault) → (plug_control 0x0111).read blocks ≡ r → block_in r ≡ Ok value → part 8 16 blocks ≡ value.ar_uuid
     by_read (Ok x) is e =
         let same : x.0 ≡ value = cc in
-        plug_at blocks x.0 x.1 ((plug_control_sound 0x0111).takes blocks x.0 x.1 is) ∙ ap (λ b. b.ar_uuid) same
+        plug_read_named 0x0111 blocks x is ∙ ap (λ b. b.ar_uuid) same
     by_read (Err why) is e = absurd cc
 
 -- A Read.

@@ -1,5 +1,6 @@
 -- A controller and the frames of strangers.
-use Rattle.std.proofs.Common.{◌≡◌, inl, inr, ◌==◌, ◌&&◌, ◌||◌, ℕ, Bool, true, false, not, nat_eq, List, [], ◌∷◌, ◌++◌, take, drop, Option, Some, None, unwrap_or, Result, Ok, Err, refl, sym, ap, subst, ◌∙◌, if◌then◌else◌}
+use Rattle.std.proofs.Common.{◌≡◌, inl, inr, ◌==◌, ◌&&◌, ◌||◌, ℕ, Bool, true, false, not, nat_eq, List, [], ◌∷◌, ◌++◌, take, drop, Option, Some, None}
+use Rattle.std.proofs.Common.{unwrap_or, Result, Ok, Err, refl, sym, ap, subst, ◌∙◌, if◌then◌else◌}
 use Rattle.std.proofs.lemmas.Bool.{and_parts, cond_both, cond-false, false_from_ne_true}
 use Rattle.std.specs.Cmp.Lexicographic.{pointwise}
 use Rattle.byteorder.specs.Endian.{big_number}
@@ -29,23 +30,31 @@ use Rattle.diagnosis.specs.reports.Message.{ToController, alarm_of}
 use Rattle.diagnosis.specs.reports.Priority.{priority_of}
 use Rattle.diagnosis.specs.reports.Report.{report_of}
 use Rattle.connect_blocks.specs.declared.control.ControlBlock.{ControlBlock}
+use Rattle.connect_blocks.specs.declared.plug_control.PlugControlBlock.{PlugControlBlock}
+use Rattle.connect_blocks.specs.PlugControl.{plug_control}
 use Rattle.wire.specs.declared.blocks.fault.BlockFault.{BlockFault}
 use Rattle.block_codec.specs.declared.block.Block.{Block}
 use Rattle.block_codec.specs.Block.{block_of}
 use Rattle.cyclic_data.specs.exchange.Received.{behind_frame, is_of_partner}
+use Rattle.controller_messages.specs.declared.plug_request.PlugRequest.{PlugRequest}
 use Rattle.controller_messages.specs.declared.record_request.RecordRequest.{RecordRequest}
 use Rattle.controller_messages.specs.declared.refusal.Refusal.{Refusal}
 use Rattle.controller_messages.specs.declared.request.Request.{Request}
 use Rattle.controller_messages.specs.Access.{is_rejected, is_reply}
-use Rattle.controller_messages.specs.Heard.{Heard, Answers, Responds, Refuses, Calls, Cyclic, Alarms, heard_alarm, heard_answer, heard_body, heard_call, heard_content, heard_first, heard_of, heard_read, heard_real_time, heard_refusal, heard_response, is_to}
+use Rattle.controller_messages.specs.Heard.{Heard, Answers, Responds, Refuses, Calls, Cyclic, Alarms, heard_alarm, heard_answer, heard_body, heard_call}
+use Rattle.controller_messages.specs.Heard.{heard_content, heard_first, heard_of, heard_read, heard_real_time, heard_refusal, heard_response, is_to}
+use Rattle.controller_messages.specs.PlugRequests.{is_plug_answer, is_plug_ready, plug_ready_block, plug_ready_in}
 use Rattle.controller_messages.specs.Refusal.{refusal_of}
 use Rattle.controller_core.specs.declared.stored.event.Event.TheVariants.{Frame}
 use Rattle.controller_core.specs.declared.stored.state.State.{State}
 use Rattle.controller_core.specs.declared.stored.state.State.TheVariants.{Looking, Addressing, Connecting, Writing, Ending, Waiting, Exchanging, Ended}
 use Rattle.controller_core.specs.stored.Alarms.{is_alarm as is_alarm_in}
-use Rattle.controller_core.specs.stored.State.{Controlling}
+use Rattle.controller_core.specs.stored.State.{Controlling, Live}
+use Rattle.controller_messages.specs.declared.setup.Setup.{Setup}
 use Rattle.controller_core.specs.start_up.Answers.{is_answer, is_found, is_identify, is_ready, is_refused, is_set, is_set_answer, ready_block, ready_in}
-use Rattle.controller_core.specs.Machine.{answered, called, refused, rejected, replied, responded, stays, step_of, stepped, turned}
+use Rattle.controller_core.specs.Machine.{Turn, after_turn, alarmed, answered, begun_turn, beside, called, can_begin, is_plug_awaited, plug_called, plugs_of}
+use Rattle.controller_core.specs.Machine.{refused, refused_beside}
+use Rattle.controller_core.specs.Machine.{rejected, replied, responded, stays, step_of, stepped, turned}
 use Rattle.octets_law.specs.Octets.{activity_of, number, part, untagged}
 use Rattle.octets_law.proofs.Bare.{IsBare, bare_of}
 use Rattle.octets_law.proofs.CallPlaces.{IsCallRead, call_placed, skip}
@@ -55,7 +64,7 @@ use Rattle.octets_law.proofs.Repeats.{same_octets}
 use Rattle.octets_law.proofs.SetHeard.{IsTimely, four_ahead, one_front}
 use Rattle.strangers_law.specs.Controller.{AreAsWithout, LeavesControllers, after_events, belongs_to, is_awaited, is_said_to, marks_at, sent_at}
 use Rattle.strangers_law.specs.Strange.{is_alarm_of, is_call_of, is_cyclic_of, is_datagram, same}
-use Rattle.strangers_law.proofs.Blocks.{ready_named}
+use Rattle.strangers_law.proofs.Blocks.{plug_read_named, ready_named}
 use Rattle.strangers_law.proofs.Hearing.{holds, neither, second}
 use Rattle.strangers_law.proofs.Marked.{AreEndpoints, endpoints_of, no_alarm, no_cyclic, sender_of}
 use Rattle.strangers_law.proofs.Ports.{datagram_is}
@@ -157,6 +166,18 @@ second_not true false is = refl
 second_not false false is = refl
 second_not a true is = absurd cc
 
+-- ---- no turn of a place begins after an event that changes nothing
+
+same_of_two : (can : Bool) (one other : Turn) → (if can || not can then one else other) ≡ one
+same_of_two true one other = refl
+same_of_two false one other = refl
+
+unchanged : (setup : Setup) (live : Live) → after_turn setup (can_begin live) (stays live) ≡ stays live
+unchanged setup live = same_of_two (can_begin live) (stays live) (record { live = begun_turn setup live; sent = plugs_of (begun_turn setup live) })
+
+followed : (setup : Setup) (live : Live) (turn : Turn) → turn ≡ stays live → after_turn setup (can_begin live) turn ≡ stays live
+followed setup live turn same = ap (after_turn setup (can_begin live)) same ∙ unchanged setup live
+
 -- ---- what a stranger says changes nothing
 
 module _ (controlling : Controlling) where
@@ -192,26 +213,38 @@ module _ (controlling : Controlling) where
   -- ---- datagrams
 
   response_rests : (response : Response) → pointwise nat_eq response.header.activity controlling.setup.activity ≡ false → Rests (Responds response)
-  response_rests response other = by_asked controlling.live.asked
+  response_rests response other =
+      followed controlling.setup controlling.live (responded controlling.setup controlling.live response controlling.live.asked)
+      (by_asked controlling.live.asked)
     where
       by_waiting : (waiting : Option RecordRequest) → stays (replied controlling.setup controlling.live response waiting) ≡ stays controlling.live
       by_waiting (Some request) = ap stays (cond-false (is_reply controlling.setup request response.header) _ _ (first_not _ _ other))
       by_waiting None = refl
 
+      by_plug : (plug : Option PlugRequest) → beside controlling.setup controlling.live response plug ≡ stays controlling.live
+      by_plug (Some request) =
+          cond-false (is_plug_answer controlling.setup request response.header.activity response.header.sequence) _ _ (first_not _ _ other)
+      by_plug None = by_waiting controlling.live.access.waiting
+
       by_asked : (asked : Option Request) → responded controlling.setup controlling.live response asked ≡ stays controlling.live
       by_asked (Some request) = cond-false (is_answer controlling.setup request response.header) _ _ (not_first _ _ _ other)
-      by_asked None = by_waiting controlling.live.access.waiting
+      by_asked None = by_plug controlling.live.access.plug
 
   refusal_rests : (refusal : Refusal) → pointwise nat_eq refusal.activity controlling.setup.activity ≡ false → Rests (Refuses refusal)
-  refusal_rests refusal other = by_asked controlling.live.asked
+  refusal_rests refusal other =
+      followed controlling.setup controlling.live (refused controlling.setup controlling.live refusal controlling.live.asked) (by_asked controlling.live.asked)
     where
       by_waiting : (waiting : Option RecordRequest) → stays (rejected controlling.setup controlling.live refusal waiting) ≡ stays controlling.live
       by_waiting (Some request) = ap stays (cond-false (is_rejected controlling.setup request refusal) _ _ (first_not _ _ other))
       by_waiting None = refl
 
+      by_plug : (plug : Option PlugRequest) → stays (refused_beside controlling.setup controlling.live refusal plug) ≡ stays controlling.live
+      by_plug (Some request) = ap stays (cond-false (is_plug_answer controlling.setup request refusal.activity refusal.sequence) _ _ (first_not _ _ other))
+      by_plug None = by_waiting controlling.live.access.waiting
+
       by_asked : (asked : Option Request) → refused controlling.setup controlling.live refusal asked ≡ stays controlling.live
       by_asked (Some request) = cond-false (is_refused controlling.setup request refusal) _ _ (not_first _ _ _ other)
-      by_asked None = by_waiting controlling.live.access.waiting
+      by_asked None = by_plug controlling.live.access.plug
 
   call_rests : (caller : Caller) (call : Call) (blocks : List ℕ) → call.blocks ≡ Some blocks → pointwise nat_eq controlling.setup.ar (part 8 16 blocks) ≡ false → Rests (Calls caller call)
   call_rests caller call blocks is other = by_block (ready_in call) refl
@@ -223,8 +256,31 @@ module _ (controlling : Controlling) where
           by_read (Ok x) read e = ready_named blocks x block read e
           by_read (Err why) read e = absurd cc
 
+      named_plug : (block : PlugControlBlock) → plug_ready_in call ≡ Some block → part 8 16 blocks ≡ block.ar_uuid
+      named_plug block e = by_read ((plug_control 0x0113).read blocks) refl
+          (subst (λ (b : Option (List ℕ)). plug_ready_block ((plug_control 0x0113).read (unwrap_or b [])) ≡ Some block) is (ready_is e))
+        where
+          ready_is : plug_ready_in call ≡ Some block → plug_ready_block ((plug_control 0x0113).read (unwrap_or call.blocks [])) ≡ Some block
+          ready_is = cond_both (call.header.operation == 4) _ _
+              (λ (r : Option PlugControlBlock). r ≡ Some block → plug_ready_block ((plug_control 0x0113).read (unwrap_or call.blocks [])) ≡ Some block)
+              (λ _ e. e) (λ _ e. absurd cc)
+
+          by_read : (read : Result (PlugControlBlock × List ℕ) BlockFault) → (plug_control 0x0113).read blocks ≡ read → plug_ready_block read ≡ Some block
+              → part 8 16 blocks ≡ block.ar_uuid
+          by_read (Ok x) read e = let same : x.0 ≡ block = cc in plug_read_named 0x0113 blocks x read ∙ ap (λ b. b.ar_uuid) same
+          by_read (Err why) read e = absurd cc
+
+      by_plug : (block : Option PlugControlBlock) → plug_ready_in call ≡ block
+          → plug_called controlling.setup controlling.live caller call block ≡ stays controlling.live
+      by_plug None e = refl
+      by_plug (Some block) e =
+          cond-false (is_plug_ready controlling.setup block && is_plug_awaited controlling.live block.alarm_sequence_number) _ _
+          (first_not (is_plug_ready controlling.setup block) _ (first_not _ _
+          (subst (λ l. pointwise nat_eq l controlling.setup.ar ≡ false) (named_plug block e) (turned_round controlling.setup.ar (part 8 16 blocks) other))))
+
       by_block : (block : Option ControlBlock) → ready_in call ≡ block → called controlling.setup controlling.live caller call block ≡ stays controlling.live
-      by_block None e = refl
+      by_block None e =
+          followed controlling.setup controlling.live (plug_called controlling.setup controlling.live caller call (plug_ready_in call)) (by_plug (plug_ready_in call) refl)
       by_block (Some block) e = cond-false (is_ready controlling.setup block) _ _ (first_not _ _
           (subst (λ l. pointwise nat_eq l controlling.setup.ar ≡ false) (named block (ready_is e)) (turned_round controlling.setup.ar (part 8 16 blocks) other)))
         where
@@ -242,7 +298,9 @@ module _ (controlling : Controlling) where
       by_stands false = refl
 
   alarm_rests : (source : Mac) (under : Priority) (header : Header) (notice : ToController) → is_alarm_in controlling.live.cyclic.route source header ≡ false → Rests (Alarms source under header notice)
-  alarm_rests source under header notice other = cond-false (controlling.live.stands && is_alarm_in controlling.live.cyclic.route source header) _ _ (second_not _ _ other)
+  alarm_rests source under header notice other =
+      followed controlling.setup controlling.live (alarmed controlling.live source under header notice)
+      (cond-false (controlling.live.stands && is_alarm_in controlling.live.cyclic.route source header) _ _ (second_not _ _ other))
 
   -- ---- a datagram that is heard
 

@@ -8,7 +8,8 @@ ghost use Rattle.end_laws.specs.turns.Alarms.{last_of};
 ghost use Rattle.both_ends.specs.exchange.Given.{AreOfOneFrame, zero_for};
 ghost use Rattle.both_ends.specs.exchange.Over.{IsOneOfTheLastTwo, raised_over, reported_over, taken_over};
 ghost use Rattle.both_ends.specs.exchange.Shown.{has_accepted};
-ghost use Rattle.both_ends.specs.exchange.Told.{AreKnown, AreNoPulls, IsTold, known_at};
+ghost use Rattle.both_ends.specs.exchange.Sized.{NoneIsAtZero};
+ghost use Rattle.both_ends.specs.exchange.Told.{AreKnown, IsTold, known_at};
 ghost use Rattle.strangers_law.specs.CallingRuns.{RelatesWithCallers, TakesWithCallers};
 
 use crate::callers::callers_leave_both_ends;
@@ -51,10 +52,10 @@ pub fn callers_leave_exchanges<F: Flash<S>, const S: usize>(setup: &Setup, ident
     ensures told { TakesWithCallers F.Flash setup.now identity.now (λ first moves last. AreKnown first.device.live.rest.diagnoses
         → (link : RelationState) → last.device.live.rest.link ≡ Some link → is_exchanging link.phase ≡ true
         → IsTold link.flow.low last.device.live.rest.diagnoses (reported_over first moves)) }
-    // When all of them were confirmed, and none was a pull, a controller whose relation is established has in its list what exists at the
-    // submodules of the relation. A controller ends no diagnosis with a pull.
+    // When all of them were confirmed, and nothing was plugged in a subslot 0 at the start, a controller whose relation is established has in
+    // its list what exists at the submodules of the relation.
     ensures list { TakesWithCallers F.Flash setup.now identity.now (λ first moves last. AreKnown first.device.live.rest.diagnoses
-        → length (reported_over first moves) ≤ 32768 → AreNoPulls (reported_over first moves)
+        → NoneIsAtZero first.device.live.rest.real.modules.items → length (reported_over first moves) ≤ 32768
         → (link : RelationState) → last.device.live.rest.link ≡ Some link → is_exchanging link.phase ≡ true
         → link.flow.low.alarms.sender.standing ≡ None → link.flow.low.waiting ≡ [] → last.controller.live.stands ≡ true
         → last.controller.live.diagnosis ≡ known_at link.flow.low last.device.live.rest.diagnoses) }

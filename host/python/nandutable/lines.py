@@ -15,6 +15,9 @@ from typing import Callable, Dict, List, Optional, Tuple
 
 STATES = ("looking", "addressing", "connecting", "writing", "ending", "waiting", "exchanging", "ended")
 
+# What is known of a submodule of the plan.
+PLACES = ("there", "differs", "gone", "wrong", "plugged", "ending", "refused")
+
 # The causes of the line `ended`. The exit status of the controller is one of these too.
 CAUSES = {
     1: "the station is of another VendorID or DeviceID than the plan says",
@@ -169,6 +172,15 @@ class Provider(Line):
     subslot: int
     iops: int
     runs: bool
+
+
+@dataclass(frozen=True)
+class Submodule(Line):
+    """`submodule SLOT SUBSLOT WORD`. `known` is one of `PLACES`."""
+
+    slot: int
+    subslot: int
+    known: str
 
 
 @dataclass(frozen=True)
@@ -484,6 +496,7 @@ _FORMS: Tuple[Tuple[str, str, Maker], ...] = (
     ("give", r"(give) (\d+) (\d+) ((?:[0-9a-f]{2})*)", lambda found, text, station: Octets(text, station, found[1], int(found[2]), int(found[3]), _octets(found[4]))),
     ("provider", r"provider (\d+) (\d+) ([0-9a-f]{2}) (run|stop)",
      lambda found, text, station: Provider(text, station, int(found[1]), int(found[2]), int(found[3], 16), found[4] == "run")),
+    ("submodule", rf"submodule (\d+) (\d+) ({'|'.join(PLACES)})", _words(Submodule, 2)),
     ("alarm", rf"alarm (\d+) (\d+) (\d+) (\d+) {_HEX} \((low|high) priority, (.*)\)", _alarm),
     ("diagnosis", r"diagnosis -", _numbers(NoDiagnosis)),
     ("diagnosis", r"diagnosis (\d+) (\d+) (\d+) (\d+) \((.*)\)", _words(Diagnosis, 4)),

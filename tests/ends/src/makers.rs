@@ -15,11 +15,14 @@ use rattle_std::alloc::Global;
 use test_stations::octets;
 use uuid::Uuid;
 
+/// The header of the library for C.
+const HEADER: &str = include_str!("../../../include/nandutable_controller.h");
+
 /// The scenarios.
 const SCENARIOS: &str = include_str!("makers.txt");
 
 /// How many scenarios there are, so that a file that was cut off is found.
-const COUNT: usize = 41;
+const COUNT: usize = 51;
 
 /// The ARUUID and the activity of the controller, as Scapy's station expects them.
 const AR: &str = "11111111-2222-3333-4444-555555555555";
@@ -76,6 +79,17 @@ fn status_of(status: Status) -> std::string::String {
 }
 
 /// A controller in a scenario, and what it has sent since the last line that something came by.
+/// The name of this number of `enum pn_known` in the header, in small letters.
+fn known_name(number: u32) -> std::string::String {
+    HEADER
+        .lines()
+        .filter_map(|line| line.trim().strip_prefix("PN_KNOWN_")?.split_once(" = "))
+        .find(|(_, rest)| rest.starts_with(&number.to_string()))
+        .expect("has a name")
+        .0
+        .to_lowercase()
+}
+
 struct Scene {
     name: std::string::String,
     controller: Controller,
@@ -347,6 +361,18 @@ impl Scene {
         )
     }
 
+    /// What is known of a place of the plan, by its name in the header. The library for C says the same.
+    fn place(&mut self, slot: u16, subslot: u16) -> std::string::String {
+        let known = self.controller.place(slot, subslot);
+        let mut op = placed(38, slot, subslot, 0);
+        let answer = serve(&mut self.port, &mut op, &[]);
+        match known {
+            Some(state) => assert_eq!((answer, op.phase), (0, state.number()), "{}", self.name),
+            None => assert_eq!((answer, op.phase), (9, 0), "{}", self.name),
+        }
+        known.map_or("-".into(), |state| known_name(state.number()))
+    }
+
     /// So many units, of which cyclic frames are not looked at.
     fn pass(&mut self, units: u32) {
         for _ in 0..units {
@@ -401,6 +427,11 @@ impl Scene {
             "diagnoses" => {
                 assert_eq!(self.diagnoses(), rest, "{name}");
                 assert_eq!(self.told_diagnoses(), rest, "{name}");
+            }
+            "place" => {
+                let words: std::vec::Vec<&str> = rest.split(' ').collect();
+                let number = |place: usize| words[place].parse::<u16>().expect("a number");
+                assert_eq!(self.place(number(0), number(1)), words[2], "{name}: {rest}");
             }
             "answer" => {
                 assert_eq!(self.answer(), rest, "{name}");

@@ -12,6 +12,7 @@ use script_runner::run;
 
 mod alarms;
 mod answers;
+mod both;
 mod changes;
 mod places;
 mod records;

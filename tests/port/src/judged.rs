@@ -54,7 +54,7 @@ fn station() -> Station {
 fn fault(change: fn(&mut Station)) -> u32 {
     let mut station = station();
     change(&mut station);
-    judge(75776, 7, 1672, &station)
+    judge(75776, 8, 1672, &station)
 }
 
 #[test]
@@ -106,7 +106,7 @@ fn each_fault_has_its_number() {
 #[test]
 fn another_header_or_a_small_room() {
     let station = station();
-    for (size, abi, op_size, wanted) in [(75776, 6, 1672, 2), (75776, 8, 1672, 2), (75776, 7, 1668, 2), (75775, 7, 1672, 3)] {
+    for (size, abi, op_size, wanted) in [(75776, 7, 1672, 2), (75776, 9, 1672, 2), (75776, 8, 1668, 2), (75775, 8, 1672, 3)] {
         assert_eq!(judge(size, abi, op_size, &station), wanted);
     }
 }

@@ -28,7 +28,7 @@ use uuid::Uuid;
 const AR: Uuid = Uuid::from_u128(0x11111111_2222_3333_4444_555555555555);
 
 /// The Connect of a plan, its records, whether it goes on after a refused one, whether it releases the relation when it ends after a refused
-/// one, and whether it writes them in lists.
+/// one, whether it writes them in lists, and whether it writes them again after a plug.
 fn plan_lines(plan: &Plan) -> String {
     let connect = format!("connect {}\n", hex(plan.connect(&AR).as_slice()));
     let records = plan.records().iter().map(|record| {
@@ -50,7 +50,11 @@ fn plan_lines(plan: &Plan) -> String {
         true => "lists\n",
         false => "",
     };
-    connect + &records.collect::<String>() + goes_on + releases + lists
+    let parameters = match plan.has_parameters_after_plug() {
+        true => "parameters\n",
+        false => "",
+    };
+    connect + &records.collect::<String>() + goes_on + releases + lists + parameters
 }
 
 /// What a catalogue comes to.

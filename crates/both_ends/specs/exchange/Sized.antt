@@ -22,6 +22,18 @@ IsSizedModule entry = (entry.slot < 65536) × (entry.ident < 4294967296) × AllB
 abbrev pub AreSizedModules : List RealModule → Type 0
 AreSizedModules modules = AllByRecursion IsSizedModule modules
 
+-- A submodule is in another subslot than 0.
+abbrev pub IsPastZero : RealSubmodule → Type 0
+IsPastZero part = 0 < part.subslot
+
+-- All submodules of a module are.
+abbrev pub HasNoneAtZero : RealModule → Type 0
+HasNoneAtZero entry = AllByRecursion IsPastZero entry.submodules.items
+
+-- Nothing is plugged in a subslot 0: with this SubslotNumber an alarm reports the pull of a whole module.
+abbrev pub NoneIsAtZero : List RealModule → Type 0
+NoneIsAtZero modules = AllByRecursion HasNoneAtZero modules
+
 -- ---- the response of a device
 
 -- If the blocks of a response have everything that a relation needs and no module differs, the FrameID that the device

@@ -20,8 +20,9 @@ use Rattle.both_ends.specs.startup.Played.{Begins, moves_of, viewed}
 use Rattle.both_ends.specs.startup.View.{rules_of, view_of}
 use Rattle.both_ends.specs.exchange.Given.{AreOfOneFrame, zero_for}
 use Rattle.both_ends.specs.exchange.Shown.{has_accepted}
+use Rattle.both_ends.specs.exchange.Sized.{NoneIsAtZero}
 use Rattle.both_ends.specs.exchange.Over.{IsOneOfTheLastTwo, raised_over, reported_over, taken_over}
-use Rattle.both_ends.specs.exchange.Told.{AreKnown, AreNoPulls, IsTold, known_at}
+use Rattle.both_ends.specs.exchange.Told.{AreKnown, IsTold, known_at}
 
 -- A world that was begun with this set-up and this device, and in which these moves were made, one after the other.
 pub record IsBegunAndPlayed {F : Type 0} {S : ℕ} (as_flash : Flash F S) (setup : Setup) (device : State F) (moves : List Move) (last : World F) : Type 0 where
@@ -61,9 +62,9 @@ pub record IsBegunAndPlayed {F : Type 0} {S : ℕ} (as_flash : Flash F S) (setup
   -- those that exist at the submodules of the relation.
   pub told : AreKnown device.live.rest.diagnoses → (link : RelationState) → last.device.live.rest.link ≡ Some link → is_exchanging link.phase ≡ true
       → IsTold link.flow.low last.device.live.rest.diagnoses (reported_over first run)
-  -- If at most 32,768 changes are reported and none of them is a pull, no alarm of a change is unconfirmed and none waits, then a
-  -- controller whose relation is established has in its list what exists at the submodules of the relation.
-  pub list : AreKnown device.live.rest.diagnoses → length (reported_over first run) ≤ 32768 → AreNoPulls (reported_over first run)
+  -- If nothing was plugged in a subslot 0 at the start, at most 32,768 changes are reported, no alarm of a change is unconfirmed and
+  -- none waits, then a controller whose relation is established has in its list what exists at the submodules of the relation.
+  pub list : AreKnown device.live.rest.diagnoses → NoneIsAtZero device.live.rest.real.modules.items → length (reported_over first run) ≤ 32768
       → (link : RelationState) → last.device.live.rest.link ≡ Some link → is_exchanging link.phase ≡ true → link.flow.low.alarms.sender.standing ≡ None
       → link.flow.low.waiting ≡ [] → last.controller.live.stands ≡ true
       → last.controller.live.diagnosis ≡ known_at link.flow.low last.device.live.rest.diagnoses
@@ -73,6 +74,7 @@ pub record IsBegunAndPlayed {F : Type 0} {S : ℕ} (as_flash : Flash F S) (setup
   pub others : (activity : List ℕ) → (setup.activity ≡ activity → ⊥) → kept_of activity device.live.rest.calls ≡ None
       → kept_of activity last.device.live.rest.calls ≡ None
   pub known : AreKnown device.live.rest.diagnoses → AreKnown last.device.live.rest.diagnoses
+  pub plugged : AreKnown device.live.rest.diagnoses → NoneIsAtZero device.live.rest.real.modules.items → NoneIsAtZero last.device.live.rest.real.modules.items
 
 -- If memory ran out, all of this holds of the moves before the one for which it did.
 pub record IsBegunAndCut {F : Type 0} {S : ℕ} (as_flash : Flash F S) (setup : Setup) (device : State F) (moves : List Move) (last : World F) : Type 0 where

@@ -1,5 +1,5 @@
 -- What a device reports in a relation by alarms of low priority, and what it leads to: changes of diagnosis, pulls and plugs.
-use Rattle.std.specs.Prelude.{◌≡◌, ◌⊎◌, ◌<◌, ◌==◌, ◌||◌, ◌++◌, ℕ, Bool, true, false, List, [], ◌∷◌, length, map, Some, None}
+use Rattle.std.specs.Prelude.{◌≡◌, ◌⊎◌, ◌<◌, ◌++◌, ℕ, Bool, true, false, List, [], ◌∷◌, length, map, Some, None}
 use Rattle.std.specs.List.{AllByRecursion, list_any}
 use Rattle.module_diff.specs.declared.changes.Affected.{Affected}
 use Rattle.module_diff.specs.Changes.{covers}
@@ -72,9 +72,10 @@ Leads (change ∷ changes) from last = (next : List Diagnosis) × IsStep change 
 abbrev pub change_in : QueuedAlarm → LowChange
 change_in alarm = alarm.change
 
--- An alarm reports a pull or a plug: its AlarmType and its place are those of the change, and it has no data.
+-- An alarm reports a pull or a plug: its AlarmType and its place, in API 0, are those of the change, and it has no data.
 pub record ReportsModule (made : ModuleChange) (alarm : AlarmNotification) : Type 0 where
   pub type_is : alarm.alarm_type ≡ module_type made
+  pub api : alarm.api ≡ 0
   pub slot : alarm.slot_number ≡ made.slot
   pub subslot : alarm.subslot_number ≡ made.subslot
   pub octets : alarm.alarm_data ≡ []
@@ -118,15 +119,7 @@ pub record IsTold (low : Low) (diagnoses : List Diagnosis) (reported : List Alar
   pub leads : Leads (changes ++ map change_in low.waiting) [] (at_places (is_own low.places) diagnoses)
   pub own : AreOwn (is_own low.places) (changes ++ map change_in low.waiting)
 
--- An alarm that reports a pull: of a submodule (AlarmType 0x0003), or of a module (0x001F).
-abbrev pub is_pull : AlarmNotification → Bool
-is_pull alarm = alarm.alarm_type == 0x0003 || alarm.alarm_type == 0x001F
-
--- None of these alarms reports a pull.
-abbrev pub AreNoPulls : List AlarmNotification → Type 0
-AreNoPulls alarms = list_any is_pull alarms ≡ false
-
--- What a controller knows when all changes were reported, and none was a pull: the diagnoses at the submodules of the relation.
+-- What a controller knows when all changes were reported: the diagnoses at the submodules of the relation.
 abbrev pub known_at : Low → List Diagnosis → Reported
 known_at low diagnoses = record { existing = at_places (is_own low.places) diagnoses; left_out = 0 }
 

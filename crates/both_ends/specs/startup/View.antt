@@ -16,9 +16,10 @@ use Rattle.device_core.specs.State.{Station}
 use Rattle.device_core.specs.Machine.{heard_step}
 use Rattle.controller_messages.specs.declared.setup.Setup.{Setup}
 use Rattle.controller_messages.specs.Heard.{heard_of as heard_by}
+use Rattle.controller_messages.specs.PlugRequests.{plug_call}
 use Rattle.controller_messages.specs.RecordRequests.{record_call}
 use Rattle.controller_messages.specs.Requests.{group_of, write_count, writing_blocks}
-use Rattle.controller_messages.specs.Sent.{Sent, Accesses, bytes_of}
+use Rattle.controller_messages.specs.Sent.{Sent, Accesses, Parametrizes, bytes_of}
 use Rattle.controller_core.specs.declared.stored.event.Event.{Event}
 use Rattle.controller_core.specs.declared.stored.event.Event.TheVariants as controller
 use Rattle.controller_core.specs.Machine.{turn_of}
@@ -95,9 +96,10 @@ pub record IsMeantAtDevice {F : Type 0} (world : World F) (heard : Heard) : Type
       → AllByRecursion (IsHeardAs (rules_of world.controller.setup world.device.station) world.device.station.identity)
       (heard_step outcomes world.device.station world.device.live heard).sent
 
--- what a message of the controller says to the device: a request of the application, the call that it is
+-- what a message of the controller says to the device: a request of the application, or one after a plug, the call that it is
 abbrev pub says_to_device : Setup → Sent → ToDevice
 says_to_device setup (Accesses device request octets) = device_said (is_planned setup) (Calls (record_call setup request octets))
+says_to_device setup (Parametrizes device request) = device_said (is_planned setup) (Calls (plug_call setup request))
 says_to_device setup message = said_by setup.plan message
 
 -- a message of the controller: the controller hears nothing of a start-up in it, and the device hears what it says, or

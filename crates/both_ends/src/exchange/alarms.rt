@@ -7,9 +7,9 @@ ghost use Rattle.relations.specs.RelationState.{RelationState, is_exchanging};
 ghost use Rattle.network_world.specs.declared.moves.Move.{Move};
 ghost use Rattle.network_world.specs.World.{AreMade, last_world, World};
 ghost use Rattle.both_ends.specs.startup.Played.{Begins, CanMeet};
-ghost use Rattle.both_ends.specs.exchange.Sized.{AreSizedModules};
+ghost use Rattle.both_ends.specs.exchange.Sized.{AreSizedModules, NoneIsAtZero};
 ghost use Rattle.both_ends.specs.exchange.Over.{IsOneOfTheLastTwo, raised_over, reported_over, taken_over};
-ghost use Rattle.both_ends.specs.exchange.Told.{AreKnown, AreNoPulls, AreSizedMoves, IsTold, known_at};
+ghost use Rattle.both_ends.specs.exchange.Told.{AreKnown, AreSizedMoves, IsTold, known_at};
 
 use crate::exchange::chosen::answers_choose_well;
 use crate::startup::worlds_start_up;
@@ -73,24 +73,30 @@ pub fn worlds_take_alarms<F: Flash<S>, const S: usize>(setup: &Setup, identity: 
         → AreKnown first.device.live.rest.diagnoses → (link : RelationState)
         → (last_world first run).device.live.rest.link ≡ Some link → is_exchanging link.phase ≡ true
         → IsTold link.flow.low (last_world first run).device.live.rest.diagnoses (reported_over first run) }
-    // If at most 32,768 changes are reported and none of them is a pull, no alarm of a change is unconfirmed and none waits, then a
-    // controller whose relation is established has in its list what exists at the submodules of the relation, in this order. A
-    // controller ends no diagnosis with a pull.
+    // If nothing was plugged in a subslot 0 at the start, at most 32,768 changes are reported, no alarm of a change is unconfirmed and
+    // none waits, then a controller whose relation is established has in its list what exists at the submodules of the relation, in
+    // this order.
     ensures list { CanMeet setup.now identity.now →
         (first : World F) (run : List (Move × World F)) → Begins setup.now identity.now first
         → AreMade F.Flash first run → AreSizedModules first.device.live.rest.real.modules.items → AreSizedMoves run
-        → AreKnown first.device.live.rest.diagnoses → length (reported_over first run) ≤ 32768
-        → AreNoPulls (reported_over first run) → (link : RelationState) → (last_world first run).device.live.rest.link ≡ Some link
+        → AreKnown first.device.live.rest.diagnoses → NoneIsAtZero first.device.live.rest.real.modules.items
+        → length (reported_over first run) ≤ 32768 → (link : RelationState) → (last_world first run).device.live.rest.link ≡ Some link
         → is_exchanging link.phase ≡ true → link.flow.low.alarms.sender.standing ≡ None → link.flow.low.waiting ≡ []
         → (last_world first run).controller.live.stands ≡ true
         → (last_world first run).controller.live.diagnosis
         ≡ known_at link.flow.low (last_world first run).device.live.rest.diagnoses }
-    // The diagnoses of a device appeared one after the other after any moves, if they did at the beginning: so `told` and `list`
-    // hold of its next relation too.
+    // The diagnoses of a device appeared one after the other after any moves, if they did at the beginning: so `told` holds of its
+    // next relation too.
     ensures known { CanMeet setup.now identity.now →
         (first : World F) (run : List (Move × World F)) → Begins setup.now identity.now first
         → AreMade F.Flash first run → AreSizedModules first.device.live.rest.real.modules.items → AreSizedMoves run
         → AreKnown first.device.live.rest.diagnoses → AreKnown (last_world first run).device.live.rest.diagnoses }
+    // Nothing is plugged in a subslot 0 after any moves, if nothing was at the beginning: so `list` holds of its next relation too.
+    ensures plugged { CanMeet setup.now identity.now →
+        (first : World F) (run : List (Move × World F)) → Begins setup.now identity.now first
+        → AreMade F.Flash first run → AreSizedModules first.device.live.rest.real.modules.items → AreSizedMoves run
+        → AreKnown first.device.live.rest.diagnoses → NoneIsAtZero first.device.live.rest.real.modules.items
+        → NoneIsAtZero (last_world first run).device.live.rest.real.modules.items }
 {
     stations_are_real(setup, identity);
     frames_are_read();

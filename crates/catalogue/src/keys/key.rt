@@ -46,6 +46,7 @@ pub enum Key {
     Data,
     ContinueOnRefusedRecord,
     ReleaseOnRefusedRecord,
+    ParametersAfterPlug,
 }
 
 impl Key {
@@ -96,6 +97,7 @@ impl Key {
             Key::Data => "Data",
             Key::ContinueOnRefusedRecord => "ContinueOnRefusedRecord",
             Key::ReleaseOnRefusedRecord => "ReleaseOnRefusedRecord",
+            Key::ParametersAfterPlug => "ParametersAfterPlug",
         }
     }
 }

@@ -13,6 +13,7 @@ use Rattle.controller_core.specs.declared.stored.state.RefusedRecord.{RefusedRec
 use Rattle.controller_core.specs.declared.stored.state.State.{State}
 use Rattle.controller_messages.specs.Access.{Accessing}
 use Rattle.diagnosis.specs.reported.Reported.{Reported}
+use Rattle.plan_places.specs.Places.{Told}
 use Rattle.controller_messages.specs.declared.request.Request.TheVariants as asks
 use Rattle.controller_core.specs.declared.stored.state.State.TheVariants.{Looking, Addressing, Connecting, Writing, Ending, Waiting, Exchanging, Ended}
 
@@ -22,7 +23,7 @@ use Rattle.controller_core.specs.declared.stored.state.State.TheVariants.{Lookin
 -- deviate from the plan's; the last status with which a call was refused; the last record that was refused; its ends of
 -- cyclic data, of the alarms of high priority, and of those of low priority; why the IOPS of its outputs are not good, for
 -- each place; the last alarm of each priority that was accepted, with its UserStructureIdentifier; the requests of the
--- application; and the diagnoses that the device reported in this relation.
+-- application; the diagnoses that the device reported in this relation; and the places of the plan in it.
 pub record Live : Type 0 where
   pub phase : State
   pub device : Mac
@@ -44,6 +45,7 @@ pub record Live : Type 0 where
   pub low_alarm : Option AlarmNotification
   pub low_user_structure : Option ℕ
   pub diagnosis : Reported
+  pub places : Told
 
 -- A controller: its configuration, and its state.
 pub record Controlling : Type 0 where

@@ -15,10 +15,12 @@ ghost use Rattle.device_abi.specs.port.State.{past_start as too_late};
 ghost use Rattle.device_abi.specs.port.Steps.{KnowsOrNot, Passes, PassesOrNot, StartsOrNot, Takes, Ticks};
 ghost use Rattle.device_core.specs.Leaps.{live_due_in};
 ghost use Rattle.frame_codec.specs.Outbox.{boxed};
+ghost use Rattle.relations.specs.RelationState.{phase_of};
 ghost use Rattle.station.specs.Beside.{beside, is_dropped, joined_beside};
 ghost use Rattle.station.specs.Leaps.{services_due};
 ghost use Rattle.station.specs.Serving.{disputes};
 ghost use Rattle.station.specs.Views.{joined_in, note_in};
+ghost use Rattle.device_abi.specs.port.Exact.{RestsAt, fewer};
 ghost use Rattle.device_abi.specs.port.Pace.{TicksBeside};
 
 use crate::port::own::OwnFrames;
@@ -29,6 +31,7 @@ use flash_model::Sector;
 use frame_codec::{Frame, Outbox};
 use pn_values::{Identity, Real};
 use relations::DeviceOptions;
+use services::NEVER;
 use settings_journal::Fill;
 use station::{Attended, DeviceServices};
 use std::marker::Model;
@@ -50,6 +53,8 @@ pub(crate) struct DevicePort {
     /// Nothing is due before this many units passed, if that is known: after units of time it is. An input and a cyclic frame leave
     /// it known, any other event makes it unknown.
     due: Option<u32>,
+    /// Whether something is due with the last of these units, or never. A cyclic frame may put it off.
+    is_exact: bool,
 }
 
 impl Model for DevicePort {
@@ -57,6 +62,7 @@ impl Model for DevicePort {
     ghost use Rattle.frame_codec.specs.Outbox.{boxed};
     ghost use Rattle.device_abi.specs.recorded.Record.{recalled};
     ghost use Rattle.device_abi.specs.port.State.{State, IsCounted, IsSteady};
+    ghost use Rattle.device_abi.specs.port.Exact.{IsExact};
 
     ghost Value = { State };
 
@@ -71,7 +77,8 @@ impl Model for DevicePort {
         × (port.frames_past ≤ length port.outbox.items)
         × IsSteady port.stage port.device.live.values.has_failed (drop port.calls_past (recalled port.device.flash))
         (drop port.frames_past (boxed port.outbox))
-        × IsCounted port.due port.device.live port.stage (drop port.calls_past (recalled port.device.flash)) };
+        × IsCounted port.due port.device.live port.stage (drop port.calls_past (recalled port.device.flash))
+        × IsExact port.is_exact port.due port.device.live };
 }
 
 /// What units of time left to do.
@@ -132,6 +139,7 @@ impl DevicePort {
             calls_past: 0,
             frames_past: 0,
             due: None,
+            is_exact: false,
         }
     }
 
@@ -254,6 +262,7 @@ impl DevicePort {
         self.frames_past = self.outbox.len();
         self.stage = Stage::Lost;
         self.due = None;
+        self.is_exact = false;
         Ok(())
     }
 
@@ -374,6 +383,7 @@ impl DevicePort {
         self.calls_past = older(before, self.device.flash());
         self.frames_past = 0;
         self.due = None; // the event may change it
+        self.is_exact = false;
         note
     }
 
@@ -386,6 +396,7 @@ impl DevicePort {
         ensures free { barred self.new ≡ None }
         ensures due { live_due_in self.old.device.live ≤ live_due_in self.new.device.live }
     {
+        self.is_exact = false; // the frame may put it off
         step_cyclic(&mut self.device, octets)
     }
 
@@ -397,6 +408,7 @@ impl DevicePort {
         ensures free { barred self.new ≡ None }
         ensures due { live_due_in self.new.device.live ≡ live_due_in self.old.device.live }
     {
+        self.is_exact = false; // the next units count it again
         step_input(&mut self.device, slot, subslot, octets)
     }
 
@@ -448,6 +460,15 @@ impl DevicePort {
         }
     }
 
+    // The same, and it is known what is due after them.
+    #[inline(always)]
+    pub(crate) fn is_counted_down(&self, units: u32) -> bool
+        ensures open { result ≡ true → barred self.now ≡ None }
+        ensures few { result ≡ true → units < live_due_in self.now.device.live }
+    {
+        self.is_exact && self.is_quiet(units)
+    }
+
     // How many units nothing is due for, if the port is open and no flash call remains; else why no event is accepted.
     #[inline(always)]
     fn counted(&mut self) -> Result<u32, Refusal>
@@ -473,6 +494,7 @@ impl DevicePort {
         }
         let due = self.device.due();
         self.due = Some(due);
+        self.is_exact = is_exact(&self.device, due);
         Ok(due)
     }
 
@@ -488,6 +510,7 @@ impl DevicePort {
         self.frames_past = 0;
         let due = self.device.due();
         self.due = Some(due);
+        self.is_exact = is_exact(&self.device, due);
         due
     }
 
@@ -531,6 +554,7 @@ impl DevicePort {
         self.frames_past = 0;
         let due = self.device.due();
         self.due = Some(due);
+        self.is_exact = is_exact(&self.device, due);
         due
     }
 
@@ -547,8 +571,9 @@ impl DevicePort {
         ensures quiet { self.new.calls ≡ [] }
     {
         skip(&mut self.device, units);
-        let due = self.device.due();
+        let due = due_after(&self.device, self.due, self.is_exact, units);
         self.due = Some(due);
+        self.is_exact = stays_exact(&self.device, due, self.is_exact);
         due
     }
 
@@ -563,6 +588,7 @@ impl DevicePort {
     {
         skip(&mut self.device, units);
         self.due = nearer(self.due, units);
+        self.is_exact = false; // mostly a cyclic frame comes next
     }
 }
 
@@ -574,6 +600,62 @@ fn nearer(due: Option<u32>, units: u32) -> Option<u32>
         Some(due) => Some(due.saturating_sub(units).max(1)),
         None => None,
     }
+}
+
+// What is due of a device after units with which nothing was, if this was known before them.
+#[inline(always)]
+fn due_after(
+    device: &Device<RecordedFlash<4096>, 4096>,
+    due: Option<u32>,
+    is_exact: bool,
+    units: u32,
+) -> u32
+    requires { (before : ℕ) → due ≡ Some before → is_exact ≡ true → units < before }
+    ensures exact { (before : ℕ) → due ≡ Some before → is_exact ≡ true → result ≡ fewer units before }
+    ensures counted { is_exact ≡ false → result ≡ live_due_in device.now.live }
+    ensures some { 0 < result }
+{
+    match due {
+        Some(due) if is_exact => fewer(due, units),
+        _ => device.due(),
+    }
+}
+
+// What is due after units with which nothing is, if so much was due before them.
+#[inline(always)]
+fn fewer(due: u32, units: u32) -> u32
+    requires { units < due }
+    ensures value { result ≡ fewer units due }
+    ensures some { 0 < result }
+{
+    if due == NEVER { NEVER } else { due - units }
+}
+
+// Whether it is known that this comes nearer by each unit that passes, or that nothing is ever due.
+#[inline(always)]
+fn is_exact(device: &Device<RecordedFlash<4096>, 4096>, due: u32) -> bool
+    requires { due ≡ live_due_in device.now.live }
+    ensures { result ≡ true → RestsAt device.now.live }
+{
+    due != NEVER || is_idle(device)
+}
+
+// The same after units with which nothing was due, if it was known before them.
+#[inline(always)]
+fn stays_exact(device: &Device<RecordedFlash<4096>, 4096>, due: u32, was_exact: bool) -> bool
+    requires due { due ≡ live_due_in device.now.live }
+    requires before { was_exact ≡ true → RestsAt device.now.live }
+    ensures { result ≡ true → RestsAt device.now.live }
+{
+    was_exact || is_exact(device, due)
+}
+
+// Whether no unit ever brings anything: the lamp is off, and there is no relation.
+#[inline(never)]
+fn is_idle(device: &Device<RecordedFlash<4096>, 4096>) -> bool
+    ensures { result ≡ true → (device.now.live.rest.lamp ≡ 0) × (phase_of device.now.live.rest.link ≡ None) }
+{
+    device.lamp() == 0 && device.phase().is_none()
 }
 
 // Why a port reports nothing at this stage.

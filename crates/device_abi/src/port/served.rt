@@ -413,7 +413,7 @@ impl Port {
         if units >= self.rest {
             return None;
         }
-        if !self.port.is_quiet(units) {
+        if !self.port.is_counted_down(units) {
             return None;
         }
         quiet_units_are_ticks();

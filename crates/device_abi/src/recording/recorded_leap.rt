@@ -1,6 +1,7 @@
 // Several units of time at once.
 ghost use Rattle.std.specs.Prelude.{◌≡◌, ◌+◌, ◌<◌, ◌≤◌, [], false};
 ghost use Rattle.device_core.specs.Leaps.{live_due_in};
+ghost use Rattle.device_abi.specs.port.Exact.{LaterAt, RestsAt};
 ghost use Rattle.device_abi.specs.recording.Leaps.{PassesAll};
 ghost use Rattle.frame_codec.specs.Outbox.{boxed};
 
@@ -35,6 +36,8 @@ pub fn skip<const S: usize>(device: &mut Device<RecordedFlash<S>, S>, units: u32
     ensures going { device.new.live.values.has_failed ≡ false }
     // What is due comes nearer by these units, and by no more.
     ensures due { live_due_in device.old.live ≤ live_due_in device.new.live + units }
+    // Exactly by these, unless nothing is ever due.
+    ensures exact { RestsAt device.old.live → LaterAt units device.old.live device.new.live }
 {
     // The stored settings are what a restart finds.
     let _ = device.stored();

@@ -1,10 +1,12 @@
 -- The diagnoses that exist at a device, as a controller knows them from its alarms (IEC 61158-6-10, 5.2.6).
 use Rattle.std.specs.Prelude.{◌==◌, ◌&&◌, ◌+◌, ◌++◌, ℕ, Bool, not, nat_lt, min, List, [], ◌∷◌, length, Option, Some, None, if◌then◌else◌}
 use Rattle.std.specs.List.{filter}
-use Rattle.diagnosis.specs.Existing.{exists, is_at, is_same, others}
+use Rattle.module_diff.specs.declared.changes.Affected.{Affected}
+use Rattle.diagnosis.specs.Existing.{exists, is_at, is_same, others, remaining}
 use Rattle.diagnosis.specs.declared.diagnosis.Diagnosis.{Diagnosis}
 use Rattle.diagnosis.specs.declared.reports.report.Report.{Report}
 use Rattle.diagnosis.specs.reported.Channel.{channel_report}
+use Rattle.diagnosis.specs.reported.Pulled.{pulled_by}
 use Rattle.diagnosis.specs.declared.reported.channel.ChannelReport.{ChannelReport}
 use Rattle.diagnosis.specs.declared.reported.channel.Specifier.{Specifier}
 use Rattle.diagnosis.specs.declared.reported.channel.Specifier.TheVariants.{AllDisappear, Appears, Disappears, OthersRemain}
@@ -62,6 +64,11 @@ abbrev pub after_found : Option ChannelReport → Reported → Reported
 after_found (Some report) reported = after_channel report reported
 after_found None reported = reported
 
+-- The diagnoses of what was pulled disappear with it, as they do at the device.
+abbrev pub after_pull : Option Affected → Reported → Reported
+after_pull (Some gone) reported = record reported { existing = remaining gone reported.existing }
+after_pull None reported = reported
+
 -- The list of a controller after an alarm that it accepted.
 abbrev pub after_report : Report → Reported → Reported
-after_report report reported = after_found (channel_report report) reported
+after_report report reported = after_pull (pulled_by report) (after_found (channel_report report) reported)

@@ -1,13 +1,16 @@
 //! The diagnoses that a device reported.
 ghost use Rattle.std.specs.Prelude.{◌≡◌, ◌≤◌, length, not};
 ghost use Rattle.std.specs.List.{filter};
-ghost use Rattle.diagnosis.specs.Existing.{exists};
-ghost use Rattle.diagnosis.specs.reported.Reported.{after_channel, after_report, is_gone, nothing_reported, with_diagnosis, without_channel, without_diagnosis};
+ghost use Rattle.diagnosis.specs.Existing.{exists, remaining};
+ghost use Rattle.diagnosis.specs.reported.Channel.{channel_report as channel_in};
+ghost use Rattle.diagnosis.specs.reported.Reported.{after_channel, after_found, after_report, is_gone, nothing_reported, with_diagnosis, without_channel, without_diagnosis};
 
 use crate::diagnosis::Diagnosis;
 use crate::reported::channel::{ChannelReport, Specifier, channel_report};
+use crate::reported::pulled::pulled_by;
 use crate::reports::Report;
 use arrayvec::ArrayVec;
+use module_diff::Affected;
 use std::marker::Model;
 
 /// The maximum number of diagnoses that a controller lists.
@@ -64,9 +67,20 @@ impl ReportedDiagnoses {
         self.left_out
     }
 
-    /// The device reports this by an alarm. Only what an alarm of diagnosis says of one channel changes the list.
+    /// The device reports this by an alarm. The list is changed by what an alarm of diagnosis says of one channel, and by the
+    /// pull of a submodule or a module: the diagnoses of what was pulled disappear with it.
     pub fn take(&mut self, report: &Report<'_>)
         ensures { self.new ≡ after_report report.now self.old }
+    {
+        self.take_channel(report);
+        if let Some(gone) = pulled_by(report) {
+            keep_remaining(&mut self.entries, gone);
+        }
+    }
+
+    /// The device reports this by an alarm: what it says of one channel.
+    fn take_channel(&mut self, report: &Report<'_>)
+        ensures { self.new ≡ after_found (channel_in report.now) self.old }
     {
         if let Some(channel) = channel_report(report) {
             self.follow(&channel);
@@ -139,6 +153,19 @@ fn keep_others(entries: &mut ArrayVec<Diagnosis, 256>, whole_channel: bool, diag
     let mut next = ArrayVec::new();
     for other in entries.as_slice() {
         if !is_gone(whole_channel, diagnosis, other) {
+            next.push(*other);
+        }
+    }
+    *entries = next;
+}
+
+/// Keeps all diagnoses but those of what was pulled.
+fn keep_remaining(entries: &mut ArrayVec<Diagnosis, 256>, gone: Affected)
+    ensures { entries.new.items ≡ remaining gone entries.old.items }
+{
+    let mut next = ArrayVec::new();
+    for other in entries.as_slice() {
+        if !gone.covers(other.slot, other.subslot) {
             next.push(*other);
         }
     }

@@ -3,7 +3,8 @@
 use Rattle.std.specs.Prelude.{ℕ, Bool, List, Option}
 
 -- the request of a call: a relation, that the records of the Write with this number are accepted, the end of the
--- parameters, the end of the relation, or another record, which the application reads or writes
+-- parameters, the end of the relation, or something else while data is exchanged: a record that the application reads or
+-- writes, or the parameters after a plug
 pub data Ask : Type 0 where
   Connects : Ask
   Writes : (number : ℕ) → Ask

@@ -22,7 +22,7 @@ IsAsked count sequence Releases = Unit {0}
 IsAsked count sequence Accesses = ⊥
 
 -- a Release is sent at an end, another call of the start-up as long as the controller makes it, and the calls of the
--- application while data is exchanged
+-- application and those after a plug while data is exchanged
 abbrev pub CallsWhile : ℕ → Controller → ℕ → Ask → Type 0
 CallsWhile count now sequence ask = (ask ≡ Releases) ⊎ (((now ≡ Asking sequence) × IsAsked count sequence ask) ⊎ ((ask ≡ Accesses) × (now ≡ Exchanges)))
 

@@ -5,13 +5,12 @@ use Rattle.std.specs.Cmp.Lexicographic.{pointwise}
 use Rattle.connect_blocks.specs.declared.control.ControlBlock.{ControlBlock}
 use Rattle.rpc_core.specs.Response.{Answered as Response, is_done}
 use Rattle.plans.specs.declared.parts.Parts.{Parts}
-use Rattle.controller_messages.specs.declared.record_request.RecordRequest.{RecordRequest}
 use Rattle.controller_messages.specs.declared.setup.Setup.{Setup}
 use Rattle.controller_messages.specs.declared.request.Request.{Request}
 use Rattle.controller_messages.specs.declared.request.Request.TheVariants as asks
 use Rattle.controller_messages.specs.Heard.{Heard, Nothing, Answers, Responds, Refuses, Calls, Cyclic, Alarms}
 use Rattle.controller_messages.specs.Requests.{sequence_of, write_count}
-use Rattle.controller_messages.specs.Sent.{Sent, Requests, Accesses, Agrees, Cycles, Confirms, Replies, Ends}
+use Rattle.controller_messages.specs.Sent.{Sent, Requests, Accesses, Parametrizes, Agrees, Cycles, Confirms, Replies, Ends}
 use Rattle.controller_core.specs.declared.stored.state.State.{State}
 use Rattle.controller_core.specs.declared.stored.state.State.TheVariants.{Looking, Addressing, Connecting, Writing, Ending, Waiting, Exchanging, Ended}
 use Rattle.controller_core.specs.declared.stored.event.Event.{Event}
@@ -58,8 +57,8 @@ IsInStep plan Waiting asked = asked ≡ None
 IsInStep plan Exchanging asked = asked ≡ None
 IsInStep plan (Ended cause) asked = (asked ≡ None) ⊎ ((sequence : ℕ) × (asked ≡ Some (asks.Release sequence)))
 
--- a request of the application waits only while data is exchanged
-abbrev pub MayWait : State → Option RecordRequest → Type 0
+-- a request of the application, or after a plug, waits only while data is exchanged
+abbrev pub MayWait : {A : Type 0} → State → Option A → Type 0
 MayWait Exchanging waiting = Unit {0}
 MayWait phase waiting = waiting ≡ None
 
@@ -67,6 +66,7 @@ MayWait phase waiting = waiting ≡ None
 pub record IsSteady (plan : Parts) (live : Live) : Type 0 where
   pub asked : IsInStep plan live.phase live.asked
   pub waiting : MayWait live.phase live.access.waiting
+  pub plug : MayWait live.phase live.access.plug
 
 -- ---- what it hears
 
@@ -107,10 +107,11 @@ asked_by plan (asks.Write number) = small.Call (sequence_of plan (asks.Write num
 asked_by plan asks.PrmEnd = small.Call (sequence_of plan asks.PrmEnd) small.Parameterized
 asked_by plan (asks.Release sequence) = small.Call (sequence_of plan (asks.Release sequence)) small.Releases
 
--- a request as the call that it is, and the response to ApplicationReady
+-- a request as the call that it is, and the response to ApplicationReady; the calls after a plug are no calls of the start-up
 abbrev pub said_by : Parts → Sent → ToDevice
 said_by plan (Requests device request) = asked_by plan request
 said_by plan (Accesses device request octets) = small.Call request.sequence small.Accesses
+said_by plan (Parametrizes device request) = small.Call request.sequence small.Accesses
 said_by plan (Agrees caller answer) = small.Confirms
 said_by plan (Cycles route shown counter) = small.Idle
 said_by plan (Confirms route priority header ack) = small.Idle

@@ -12,6 +12,7 @@ use Rattle.cyclic_data.specs.declared.exchange.route.Route.{Route}
 use Rattle.plans.specs.Plan.{IsPlan}
 use Rattle.relations.specs.declared.plugging.PlugReady.{PlugReady}
 use Rattle.relations.specs.declared.ready.Ready.{Ready}
+use Rattle.controller_messages.specs.declared.plug_request.PlugRequest.{PlugRequest}
 use Rattle.controller_messages.specs.declared.record_request.RecordRequest.{RecordRequest}
 use Rattle.controller_messages.specs.declared.request.Request.{Request}
 use Rattle.controller_messages.specs.declared.request.Request.TheVariants as asks
@@ -55,6 +56,10 @@ IsNumbered (asks.Release sequence) = sequence < 4294967296
 -- a request of the application whose call can be written: its number has four octets, and a call has room for its record
 abbrev pub IsRecordCall : RecordRequest → List ℕ → Type 0
 IsRecordCall request octets = (request.sequence < 4294967296) × (length octets ≤ 1308)
+
+-- a request after a plug whose call can be written: its number has four octets, and its block fits
+abbrev pub IsPlugCall : PlugRequest → Type 0
+IsPlugCall request = request.sequence < 4294967296
 
 -- a request that is made by a call
 abbrev pub IsCalled : Request → Type 0

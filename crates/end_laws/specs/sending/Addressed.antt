@@ -4,13 +4,13 @@ use Rattle.pn_values.specs.declared.mac.Mac.{Mac}
 use Rattle.cyclic_data.specs.declared.exchange.route.Route.{Route}
 use Rattle.controller_messages.specs.declared.setup.Setup.{Setup}
 use Rattle.controller_messages.specs.Heard.{Heard, Nothing, Answers, Responds, Refuses, Calls, Cyclic, Alarms, heard_of}
-use Rattle.controller_messages.specs.Sent.{Sent, Requests, Accesses, Agrees, Cycles, Confirms, Replies, Ends}
+use Rattle.controller_messages.specs.Sent.{Sent, Requests, Accesses, Parametrizes, Agrees, Cycles, Confirms, Replies, Ends}
 use Rattle.controller_core.specs.declared.stored.event.Event.{Event}
 use Rattle.controller_core.specs.declared.stored.event.Event.TheVariants.{Frame, Tick, Give, Status, Read, Write, Stop}
 use Rattle.controller_core.specs.stored.State.{Live}
 use Rattle.frame_codec.specs.Sendable.{IsMac}
 use Rattle.rpc_core.specs.Sendable.{CanBeAnswered, IsHeader}
-use Rattle.end_laws.specs.hearing.Stations.{IsCaller, IsNumbered, IsRecordCall}
+use Rattle.end_laws.specs.hearing.Stations.{IsCaller, IsNumbered, IsPlugCall, IsRecordCall}
 use Rattle.end_laws.specs.sending.Sized.{AreFew, IsAccess}
 
 -- a route whose partner address and tags have their sizes, whatever its FrameID
@@ -50,6 +50,7 @@ IsEventFrom mac setup Stop = ⊤
 abbrev pub IsAimedAt : Mac → Sent → Type 0
 IsAimedAt mac (Requests device request) = IsMac device × IsNumbered request
 IsAimedAt mac (Accesses device request octets) = IsMac device × IsRecordCall request octets
+IsAimedAt mac (Parametrizes device request) = IsMac device × IsPlugCall request
 IsAimedAt mac (Agrees caller answer) = (caller.mac ≡ mac) × IsCaller caller × CanBeAnswered answer
 IsAimedAt mac (Cycles route shown counter) = IsDirection route
 IsAimedAt mac (Confirms route priority header ack) = IsDirection route

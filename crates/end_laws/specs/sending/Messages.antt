@@ -4,12 +4,12 @@ use Rattle.pn_alarms.specs.declared.pdu.PduType.TheVariants.{Ack, Data, Nack}
 use Rattle.cyclic_data.specs.declared.exchange.route.Route.{Route}
 use Rattle.cyclic_data.specs.exchange.Frames.{cyclic_body}
 use Rattle.controller_messages.specs.declared.setup.Setup.{Setup}
-use Rattle.controller_messages.specs.Sent.{Sent, Requests, Accesses, Agrees, Cycles, Confirms, Replies, Ends}
+use Rattle.controller_messages.specs.Sent.{Sent, Requests, Accesses, Parametrizes, Agrees, Cycles, Confirms, Replies, Ends}
 use Rattle.frame_codec.specs.Sendable.{IsMac}
 use Rattle.rpc_core.specs.Sendable.{CanBeAnswered}
 use Rattle.block_codec.specs.Writable.{IsAck}
 use Rattle.diagnosis.specs.Sendable.{IsHeader}
-use Rattle.end_laws.specs.hearing.Stations.{IsCaller, IsNumbered, IsRecordCall}
+use Rattle.end_laws.specs.hearing.Stations.{IsCaller, IsNumbered, IsPlugCall, IsRecordCall}
 
 -- A route whose fields have their sizes. The device chooses the FrameID, so whether it is a cyclic one depends on the
 -- device.
@@ -24,6 +24,7 @@ pub record IsWay (route : Route) : Type 0 where
 abbrev pub CanBeSent : Setup → Sent → Type 0
 CanBeSent setup (Requests device request) = IsMac device × IsNumbered request
 CanBeSent setup (Accesses device request octets) = IsMac device × IsRecordCall request octets
+CanBeSent setup (Parametrizes device request) = IsMac device × IsPlugCall request
 CanBeSent setup (Agrees caller answer) = IsCaller caller × CanBeAnswered answer
 CanBeSent setup (Cycles route shown counter) = IsWay route × (length (cyclic_body shown counter) ≤ 1498)
 CanBeSent setup (Confirms route priority header ack) = IsWay route × (header.kind ≡ Data) × IsHeader header × IsAck ack

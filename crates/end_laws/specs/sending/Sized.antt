@@ -5,6 +5,7 @@ use Rattle.record_blocks.specs.declared.alarm_notification.AlarmNotification.{Al
 use Rattle.pn_alarms.specs.declared.message.Notice.TheVariants as notice
 use Rattle.pn_alarms.specs.Ends.{ControllerEnd}
 use Rattle.diagnosis.specs.reports.Message.{ToController}
+use Rattle.controller_messages.specs.declared.plug_request.PlugRequest.{PlugRequest}
 use Rattle.controller_messages.specs.declared.record_request.RecordRequest.{RecordRequest}
 use Rattle.controller_messages.specs.declared.request.Request.{Request}
 use Rattle.controller_messages.specs.declared.request.Request.TheVariants as asks
@@ -18,7 +19,7 @@ use Rattle.controller_core.specs.stored.State.{Live}
 use Rattle.frame_codec.specs.Sendable.{IsMac}
 use Rattle.rpc_core.specs.Sendable.{IsHeader}
 use Rattle.block_codec.specs.Writable.{IsAck}
-use Rattle.end_laws.specs.hearing.Stations.{IsCaller, IsRecordCall}
+use Rattle.end_laws.specs.hearing.Stations.{IsCaller, IsPlugCall, IsRecordCall}
 use Rattle.end_laws.specs.sending.Messages.{IsWay}
 
 -- ---- the state of a controller
@@ -58,9 +59,14 @@ abbrev pub IsWaiting : Option RecordRequest → List ℕ → Type 0
 IsWaiting None octets = ⊤
 IsWaiting (Some request) octets = IsRecordCall request octets
 
--- The request of the application that waits, and its octets, have the sizes that a call can carry.
+-- the request after a plug that waits, if there is one, can be written
+abbrev pub IsPlugging : Option PlugRequest → Type 0
+IsPlugging None = ⊤
+IsPlugging (Some request) = IsPlugCall request
+
+-- The requests beside the exchange that wait, and the octets of that of the application, have the sizes that a call can carry.
 abbrev pub IsAccess : Accessing → Type 0
-IsAccess access = IsWaiting access.waiting access.octets
+IsAccess access = IsWaiting access.waiting access.octets × IsPlugging access.plug
 
 -- a controller whose station, requests, route, image and alarms have their sizes
 pub record IsLive (live : Live) : Type 0 where

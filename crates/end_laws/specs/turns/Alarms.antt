@@ -16,13 +16,14 @@ use Rattle.diagnosis.specs.declared.reports.report.Report.{Report}
 use Rattle.diagnosis.specs.Line.{Line, empty, with_come, with_sent}
 use Rattle.diagnosis.specs.World.{IsPrefixOf, line_after}
 use Rattle.diagnosis.specs.reported.Channel.{channel_report}
+use Rattle.diagnosis.specs.reported.Pulled.{pulled_by}
 use Rattle.diagnosis.specs.reported.Reported.{Reported, after_report, nothing_reported}
 use Rattle.controller_messages.specs.declared.record_request.RecordService.TheVariants as service
 use Rattle.controller_messages.specs.declared.setup.Setup.{Setup}
 use Rattle.controller_messages.specs.Heard.{Heard, Alarms}
 use Rattle.controller_messages.specs.Sent.{Sent, Confirms}
 use Rattle.controller_core.specs.stored.Alarms.{is_alarm, kept_alarm}
-use Rattle.controller_core.specs.Machine.{Turn, alarmed, end_of, first, given, rated, requested, stays, stopped, ticked, turned, written}
+use Rattle.controller_core.specs.Machine.{Turn, end_of, first, given, rated, requested, stays, stopped, ticked, turned, written}
 use Rattle.controller_core.specs.stored.State.{Live}
 
 -- ---- priorities
@@ -118,17 +119,17 @@ abbrev pub is_looked_at : Relation → Mac → Header → Bool
 is_looked_at r source header = r.live.stands && is_alarm r.live.cyclic.route source header
 
 -- An alarm of the device arrives, which is accepted if its number is the expected one of its priority.
-abbrev pub alarm_comes : Priority → Relation → Mac → Priority → Header → Option (ℕ × AlarmNotification) → Relation
-alarm_comes priority r source under header (Some came) =
-    record (turns r (alarmed r.live source under header (notice.Data came.0 (report_as priority came.1)))) {
+abbrev pub alarm_comes : Priority → Setup → Relation → Mac → Priority → Header → Option (ℕ × AlarmNotification) → Relation
+alarm_comes priority setup r source under header (Some came) =
+    record (turns r (turned setup r.live (Alarms source under header (notice.Data came.0 (report_as priority came.1))))) {
       alarms = if is_looked_at r source header then with_come r.alarms (end_of r.live priority).seen came else r.alarms;
     }
-alarm_comes priority r source under header None = r
+alarm_comes priority setup r source under header None = r
 
 -- Anything else is received: no data of this priority.
 abbrev pub hears : Priority → Setup → Relation → Heard → Relation
 hears priority setup r (Alarms source under header (notice.Data number report)) =
-    if is_priority priority report.priority then r else turns r (alarmed r.live source under header (notice.Data number report))
+    if is_priority priority report.priority then r else turns r (turned setup r.live (Alarms source under header (notice.Data number report)))
 hears priority setup r heard = turns r (turned setup r.live heard)
 
 -- ----
@@ -139,7 +140,7 @@ behind_one priority setup r (Raises alarm) = raised_by r alarm r.device.sender.s
 behind_one priority setup r PassesAtDevice = passed_at_device r
 behind_one priority setup r (ComesToDevice place) = comes_to_device priority r (slice_get r.reported place)
 behind_one priority setup r (AckComesToDevice number) = acked_at_device r number
-behind_one priority setup r (AlarmComes source under header place) = alarm_comes priority r source under header (slice_get r.alarms.pdus place)
+behind_one priority setup r (AlarmComes source under header place) = alarm_comes priority setup r source under header (slice_get r.alarms.pdus place)
 behind_one priority setup r (Hears heard) = hears priority setup r heard
 behind_one priority setup r PassesAtController = turns r (ticked setup r.live)
 behind_one priority setup r (Gives slot subslot value) = turns r (stays (given r.live slot subslot value))
@@ -164,14 +165,19 @@ last_of [] = None
 last_of (alarm ∷ []) = Some (kept_alarm alarm)
 last_of (alarm ∷ next ∷ alarms) = last_of (next ∷ alarms)
 
--- What these alarms of low priority report of diagnoses, one after the other; a pull or a plug reports none.
+-- What these alarms of low priority report of diagnoses, one after the other: what appears and disappears, and with a pull the end of
+-- those of what was pulled. A plug reports none.
 abbrev pub after_reports : List AlarmNotification → Reported → Reported
 after_reports [] reported = reported
 after_reports (alarm ∷ alarms) reported = after_reports alarms (after_report (report_as Low alarm) reported)
 
--- No data of high priority reports a diagnosis.
+-- An alarm reports no diagnosis and no pull.
+abbrev pub ReportsNone : Report → Type 0
+ReportsNone report = (channel_report report ≡ None) × (pulled_by report ≡ None)
+
+-- No data of high priority reports a diagnosis or a pull.
 abbrev pub IsQuiet : Priority → Move → Type 0
-IsQuiet Low (Hears (Alarms source under header (notice.Data number report))) = channel_report report ≡ None
+IsQuiet Low (Hears (Alarms source under header (notice.Data number report))) = ReportsNone report
 IsQuiet _ _ = Unit {0}
 
 -- ---- the law: of either priority, over any moves, from the start
@@ -199,7 +205,7 @@ ShowsTheLast = (priority : Priority) (setup : Setup) (moves : List Move)
     → shown_of priority (behind priority setup moves (start setup)).live ≡ last_of (behind priority setup moves (start setup)).alarms.taken
 
 -- While its relation is established, its list of diagnoses is what the changes that it accepted report, if no data of high
--- priority reports a diagnosis.
+-- priority reports a diagnosis or a pull.
 abbrev pub ListsWhatIsReported : Type 0
 ListsWhatIsReported = (setup : Setup) (moves : List Move) → AllByRecursion (IsQuiet Low) moves
     → (behind Low setup moves (start setup)).live.stands ≡ true

@@ -5,15 +5,17 @@ use Rattle.dcp_core.specs.Request.{Asked}
 use Rattle.dcp_core.specs.Response.{Answered}
 use Rattle.rpc_core.specs.declared.header.CallHeader.{CallHeader}
 use Rattle.plans.specs.declared.parts.Parts.{Parts}
+use Rattle.controller_messages.specs.declared.plug_request.PlugRequest.{PlugRequest}
 use Rattle.controller_messages.specs.declared.record_request.RecordRequest.{RecordRequest}
 use Rattle.controller_messages.specs.declared.setup.Setup.{Setup}
 use Rattle.controller_messages.specs.declared.request.Request.{Request}
 use Rattle.controller_messages.specs.declared.request.Request.TheVariants as asks
 use Rattle.controller_messages.specs.Access.{call_number}
 use Rattle.controller_messages.specs.Heard.{Heard, Answers, Responds, Refuses, heard_of}
+use Rattle.controller_messages.specs.PlugRequests.{plug_header}
 use Rattle.controller_messages.specs.RecordRequests.{record_header}
 use Rattle.controller_messages.specs.Requests.{address_asked, header_of, identify_asked, write_count}
-use Rattle.controller_messages.specs.Sent.{Sent, Requests, Accesses}
+use Rattle.controller_messages.specs.Sent.{Sent, Requests, Accesses, Parametrizes}
 use Rattle.controller_core.specs.declared.stored.event.Event.{Event}
 use Rattle.controller_core.specs.declared.stored.event.Event.TheVariants.{Frame}
 use Rattle.controller_core.specs.declared.stored.state.State.{State}
@@ -31,15 +33,20 @@ call_by setup asks.Identify = None
 call_by setup asks.Address = None
 call_by setup request = Some (header_of setup request)
 
--- The call that waits for its answer: of the start-up or the Release, or else the one with which the application reads or
--- writes a record.
-abbrev pub waiting_by : Setup → Option Request → Option RecordRequest → Option CallHeader
-waiting_by setup (Some request) waiting = call_by setup request
-waiting_by setup None waiting = option_map (λ request. record_header setup request) waiting
+-- The call beside the exchange that waits for its answer: after a plug, or else the one with which the application reads or writes a
+-- record.
+abbrev pub waiting_beside : Setup → Option PlugRequest → Option RecordRequest → Option CallHeader
+waiting_beside setup (Some request) waiting = Some (plug_header setup request)
+waiting_beside setup None waiting = option_map (λ request. record_header setup request) waiting
 
--- The header of the call of the application that waits for its response, if one waits.
+-- The call that waits for its answer: of the start-up or the Release, or else the one beside the exchange.
+abbrev pub waiting_by : Setup → Option Request → Option PlugRequest → Option RecordRequest → Option CallHeader
+waiting_by setup (Some request) plug waiting = call_by setup request
+waiting_by setup None plug waiting = waiting_beside setup plug waiting
+
+-- The header of the call of a controller that waits for its response, if one waits.
 abbrev pub waiting_in : Setup → Live → Option CallHeader
-waiting_in setup live = waiting_by setup live.asked live.access.waiting
+waiting_in setup live = waiting_by setup live.asked live.access.plug live.access.waiting
 
 -- The request by DCP that waits for its answer: the Identify while it looks for its station, and then the Set of the address.
 abbrev pub waiting_dcp : Parts → State → Option Asked
@@ -72,6 +79,7 @@ BelongsToAnother setup live heard = ⊥
 abbrev pub IsTheWaiting : Setup → Live → Sent → Type 0
 IsTheWaiting setup after (Requests device request) = waiting_in setup after ≡ call_by setup request
 IsTheWaiting setup after (Accesses device request octets) = waiting_in setup after ≡ Some (record_header setup request)
+IsTheWaiting setup after (Parametrizes device request) = waiting_in setup after ≡ Some (plug_header setup request)
 IsTheWaiting setup after message = Unit {0}
 
 -- ---- numbers
@@ -101,8 +109,8 @@ abbrev pub AreNumberedApart : Type 0
 AreNumberedApart = (setup : Setup) (one other : Request) → IsOfStartUp setup.plan one → IsOfStartUp setup.plan other
     → (header_of setup one).sequence ≡ (header_of setup other).sequence → one ≡ other
 
--- The calls of the application have greater numbers than those of the start-up, each a greater one than those before it, and
--- the Release has a greater one than the call that was active, as long as the number of calls is below 2^32.
+-- The calls of the application and those after a plug have greater numbers than those of the start-up, each a greater one than those
+-- before it, and the Release has a greater one than the call that was active, as long as the number of calls is below 2^32.
 abbrev pub AreNumberedLater : Type 0
 AreNumberedLater = (setup : Setup) (request : Request) (fewer calls : ℕ) → IsOfStartUp setup.plan request → write_count setup.plan + 2 + calls < 4294967296
     → ((header_of setup request).sequence < call_number setup.plan calls)

@@ -7,6 +7,7 @@ use Rattle.rpc_core.specs.declared.response.Status.{Status}
 use Rattle.rpc_core.specs.Call.{Asked as Call}
 use Rattle.rpc_core.specs.Response.{Answered as Response, is_done}
 use Rattle.connect_blocks.specs.declared.control.ControlBlock.{ControlBlock}
+use Rattle.connect_blocks.specs.declared.plug_control.PlugControlBlock.{PlugControlBlock}
 use Rattle.pn_alarms.specs.declared.abort.Abort.{Abort}
 use Rattle.pn_alarms.specs.declared.message.Notice.TheVariants as notice
 use Rattle.pn_alarms.specs.declared.pdu.Header.{Header}
@@ -18,12 +19,15 @@ use Rattle.pn_alarms.specs.Sending.{is_again as is_repeated}
 use Rattle.cyclic_data.specs.exchange.Opening.{begun_of}
 use Rattle.cyclic_data.specs.exchange.Received.{behind_frame}
 use Rattle.plans.specs.declared.parts.Parts.{Parts}
+use Rattle.plan_places.specs.Places.{Told, opened}
+use Rattle.controller_messages.specs.declared.plug_request.PlugRequest.{PlugRequest}
 use Rattle.controller_messages.specs.declared.record_request.RecordRequest.{RecordRequest}
 use Rattle.controller_messages.specs.declared.record_request.RecordService.TheVariants as service
 use Rattle.controller_messages.specs.declared.setup.Setup.{Setup}
 use Rattle.controller_messages.specs.declared.request.Request.{Request}
 use Rattle.controller_messages.specs.declared.request.Request.TheVariants as asks
 use Rattle.controller_messages.specs.Heard.{Heard, Answers, Responds, Calls, Alarms, heard_of}
+use Rattle.controller_messages.specs.PlugRequests.{is_plug_ready, plug_answer, plug_ready_in}
 use Rattle.controller_messages.specs.RecordRequests.{most_record_octets}
 use Rattle.controller_messages.specs.Requests.{writing_from}
 use Rattle.controller_messages.specs.Sent.{Agrees, ready_answer}
@@ -33,12 +37,13 @@ use Rattle.controller_core.specs.declared.stored.state.Cause.{Cause}
 use Rattle.controller_core.specs.declared.stored.state.State.TheVariants.{Looking, Addressing, Connecting, Ending, Waiting, Exchanging, Ended}
 use Rattle.controller_core.specs.declared.stored.state.RefusedRecord.{RefusedRecord}
 use Rattle.controller_core.specs.stored.State.{Live}
-use Rattle.controller_messages.specs.Access.{Accessing, call_number}
+use Rattle.controller_messages.specs.Access.{Accessing, call_number, plugged, unplugged}
 use Rattle.controller_core.specs.start_up.Answers.{is_answer, is_ready}
 use Rattle.controller_core.specs.start_up.Outcomes.{are_written}
 use Rattle.connects.specs.answers.Connect.{Chosen, chosen_of, found_in, nothing}
-use Rattle.controller_core.specs.Machine.{Turn, accessing, acked_under, asking, behind_ack, behind_data, brought, due_frames, end_of, ended_by, flow_later, given, is_again, later, noted, over, rated, released, requested, requests_of, standing, stays, stopped, taken, ticked, turned, where_due, writing, written}
+use Rattle.controller_core.specs.Machine.{Turn, accessing, acked_under, after_turn, asking, asks_next, behind_ack, behind_data, brought, can_begin, due_frames, end_of, ended_by, given, is_again, later, noted, over, plug_readied, rated, released, requested, requests_of, standing, stays, stopped, taken, ticked, turned, where_due, writing, written}
 use Rattle.controller_core.specs.start_up.Answers.{ready_in}
+use Rattle.end_laws.specs.turns.Beside.{flow_begun}
 use Rattle.end_laws.specs.turns.Ended.{IsReleased, may_release}
 
 -- ---- what comes
@@ -83,12 +88,13 @@ IsReported plan cause None = Unit {0}
 IsReported plan cause (Some (asks.Release sequence)) = may_release plan cause ≡ true
 IsReported plan cause (Some _) = ⊥
 
--- It ended, its relation is over, and no request is active except its Release, also none of the application.
+-- It ended, its relation is over, and no request is active except its Release, also none of the application and none after a plug.
 pub record IsEnd (plan : Parts) (cause : Cause) (live : Live) : Type 0 where
   pub phase : live.phase ≡ Ended cause
   pub down : live.stands ≡ false
   pub asked : IsReported plan cause live.asked
   pub idle : live.access.waiting ≡ None
+  pub plug : live.access.plug ≡ None
 
 -- It did not reach such an end.
 abbrev pub IsGoing : Parts → Live → Type 0
@@ -103,19 +109,20 @@ units_behind live came = live.units
 
 -- Nothing changes, and nothing is sent; a station is asked for the relation, or its address is set; the controller
 -- ends, and these are the last status of a refusal, the last refused record and the units then, or ends and informs the device;
--- the relation is established with what the device chose, and the first Write is sent; the Write after this one is sent,
+-- the relation is established with what the device chose, the places are known, and the first Write is sent; the Write after this one is sent,
 -- because all its records were accepted, or although one was refused; the controller waits for ApplicationReady; a Release
 -- is no longer active; ApplicationReady is answered, and data is exchanged from then on, or was before; a cyclic frame is
 -- received; an alarm is received, or the ACK of an AlarmAck of a priority; an output is set, or its status; the application
--- reads or writes a record, or its request is answered; a unit of the relation passes, or ends it, or a unit passes without
--- a relation.
+-- reads or writes a record, or its request is answered; the request after a plug is answered or refused, and the next one is sent if
+-- there is one; the ApplicationReady of a plug is answered; a unit of the relation passes, or ends it, or a unit passes without a
+-- relation. After an alarm and after each of these answers the turn of a place may begin.
 pub data Kind : Type 0 where
   Rests : Kind
   Connects : (source : Mac) → Kind
   Addresses : (source : Mac) → Kind
   Ends : (cause : Cause) → (refusal : Option Status) → (refused : Option RefusedRecord) → (units : ℕ) → Kind
   Releases : (cause : Cause) → (refusal : Option Status) → (refused : Option RefusedRecord) → (units : ℕ) → Kind
-  Relates : (chosen : Chosen) → Kind
+  Relates : (places : Told) → (chosen : Chosen) → Kind
   Writes : (number : ℕ) → Kind
   Skips : (number refused : ℕ) → (status : Status) → Kind
   Waits : Kind
@@ -129,6 +136,8 @@ pub data Kind : Type 0 where
   GivesStatus : (slot subslot : ℕ) → (is_good : Bool) → Kind
   Asks : (request : RecordRequest) → (octets : List ℕ) → Kind
   IsReplied : (refusal : Option Status) → (access : Accessing) → Kind
+  IsPlugAnswered : (refusal : Option Status) → (refused : Option RefusedRecord) → (waited : ℕ) → (places : Told) → (access : Accessing) → Kind
+  IsPlugReadied : (caller : Caller) → (call : Call) → (block : PlugControlBlock) → Kind
   Flows : Kind
   Breaks : (reason : Abort) → Kind
   Idles : Kind
@@ -140,7 +149,7 @@ turn_by setup live (Connects source) = asking setup Connecting asks.Connect (rec
 turn_by setup live (Addresses source) = asking setup Addressing asks.Address (record live { device = source })
 turn_by setup live (Ends cause refusal refused units) = stays (over cause (record live { refusal = refusal; refused_record = refused; units = units }))
 turn_by setup live (Releases cause refusal refused units) = released setup cause (record live { refusal = refusal; refused_record = refused; units = units })
-turn_by setup live (Relates chosen) = writing setup (writing_from setup.plan 0) (standing setup live chosen)
+turn_by setup live (Relates places chosen) = writing setup (writing_from setup.plan 0) (standing setup (record live { places = places }) chosen)
 turn_by setup live (Writes number) = writing setup (writing_from setup.plan (number + 1)) live
 turn_by setup live (Skips number refused status) = writing setup (writing_from setup.plan (number + 1)) (noted status refused live)
 turn_by setup live Waits = stays (record live { phase = Waiting; asked = None; left = setup.options.waiting_patience })
@@ -152,17 +161,24 @@ turn_by setup live (Begins caller call block) = record {
 turn_by setup live (Repeats caller call block) = record { live = live; sent = Agrees caller (ready_answer call block) ∷ [] }
 turn_by setup live (Follows source frame_id body) = stays (record live { cyclic = behind_frame live.cyclic source frame_id body })
 turn_by setup live (Takes number report) =
-    taken (behind_data live report.priority number) report (taken_as (end_of live report.priority).seen number)
+    after_turn setup (can_begin live) (taken (behind_data live report.priority number) report (taken_as (end_of live report.priority).seen number))
 turn_by setup live (IsAcked priority number) = stays (behind_ack live priority number)
 turn_by setup live (Gives slot subslot value) = stays (given live slot subslot value)
 turn_by setup live (GivesStatus slot subslot is_good) = stays (rated live slot subslot is_good)
 turn_by setup live (Asks request octets) = accessing request octets live
-turn_by setup live (IsReplied refusal access) = stays (record live { refusal = refusal; access = access })
+turn_by setup live (IsReplied refusal access) = after_turn setup (can_begin live) (stays (record live { refusal = refusal; access = access }))
+turn_by setup live (IsPlugAnswered refusal refused waited places access) =
+    after_turn setup (can_begin live)
+    (asks_next (record live { refusal = refusal; refused_record = refused; waited = waited; places = places; access = access }))
+turn_by setup live (IsPlugReadied caller call block) = after_turn setup (can_begin live) (record {
+  live = plug_readied live block.alarm_sequence_number;
+  sent = Agrees caller (plug_answer call block) ∷ [];
+})
 turn_by setup live Flows = record {
-  live = flow_later live;
-  sent = due_frames (flow_later live) (is_repeated (due live.alarms.sending)) (is_repeated (due live.low_alarms.sending)) (is_again live) (brought live).is_cyclic;
+  live = flow_begun setup live;
+  sent = due_frames (flow_begun setup live) (is_repeated (due live.alarms.sending)) (is_repeated (due live.low_alarms.sending)) (is_again live) (brought live).is_cyclic;
 }
-turn_by setup live (Breaks reason) = ended_by (flow_later live) reason
+turn_by setup live (Breaks reason) = ended_by (flow_begun setup live) reason
 turn_by setup live Idles = record { live = later live; sent = where_due (is_again live) (requests_of live.device live.asked) }
 
 -- ---- when each kind occurs
@@ -207,6 +223,12 @@ pub record IsReadied (setup : Setup) (came : Came) (caller : Caller) (call : Cal
   pub is : ready_in call ≡ Some block
   pub right : is_ready setup block ≡ true
 
+-- The answer to the request after a plug is there, and the next one of the same place is made with the next sequence number, or none.
+abbrev pub IsStepped : Setup → Live → Accessing → Type 0
+IsStepped setup live access =
+    (access ≡ unplugged live.access)
+    ⊎ ((request : PlugRequest) × (request.sequence ≡ call_number setup.plan live.access.calls) × (access ≡ plugged request (unplugged live.access)))
+
 -- When a controller makes a turn of a kind.
 abbrev pub IsKind : Setup → Live → Came → Kind → Type 0
 IsKind setup live came Rests = Unit {0}
@@ -214,7 +236,9 @@ IsKind setup live came (Connects source) = IsSought live came source
 IsKind setup live came (Addresses source) = IsSought live came source × (live.phase ≡ Looking)
 IsKind setup live came (Ends cause refusal refused units) = IsGoing setup.plan live × (units ≡ units_behind live came)
 IsKind setup live came (Releases cause refusal refused units) = IsGoing setup.plan live × (may_release setup.plan cause ≡ true) × (units ≡ units_behind live came)
-IsKind setup live came (Relates chosen) = (granted : IsGranted setup live came asks.Connect) × (chosen_in granted.response.blocks ≡ Some chosen)
+IsKind setup live came (Relates places chosen) =
+    (granted : IsGranted setup live came asks.Connect) × (chosen_in granted.response.blocks ≡ Some chosen)
+    × (places ≡ opened setup.plan 400 granted.response.blocks)
 IsKind setup live came (Writes number) =
     (granted : IsGranted setup live came (asks.Write number)) × (are_written setup.plan number granted.response.blocks ≡ true)
 IsKind setup live came (Skips number refused status) = IsSkipped setup live came number
@@ -232,8 +256,16 @@ IsKind setup live came (Gives slot subslot value) = came ≡ Gets slot subslot v
 IsKind setup live came (GivesStatus slot subslot is_good) = came ≡ GetsStatus slot subslot is_good
 IsKind setup live came (Asks request octets) =
     (live.phase ≡ Exchanging) × (live.access.waiting ≡ None) × (request.sequence ≡ call_number setup.plan live.access.calls) × (length octets ≤ most_record_octets)
+    × (live.access.plug ≡ None)
 IsKind setup live came (IsReplied refusal access) =
     (live.asked ≡ None) × (access.waiting ≡ None) × (access.calls ≡ live.access.calls) × (request : RecordRequest) × (live.access.waiting ≡ Some request)
+    × (live.access.plug ≡ None) × (access.plug ≡ None)
+IsKind setup live came (IsPlugAnswered refusal refused waited places access) =
+    (live.asked ≡ None) × (access.waiting ≡ live.access.waiting) × (access.octets ≡ live.access.octets) × IsStepped setup live access
+    × (request : PlugRequest) × (live.access.plug ≡ Some request)
+IsKind setup live came (IsPlugReadied caller call block) =
+    (live.phase ≡ Exchanging) × (came ≡ Hears (Calls caller call)) × (ready_in call ≡ None) × (plug_ready_in call ≡ Some block)
+    × (is_plug_ready setup block ≡ true)
 IsKind setup live came Flows = (came ≡ Passes) × (live.stands ≡ true) × ((brought live).ending ≡ None)
 IsKind setup live came (Breaks reason) = (came ≡ Passes) × (live.stands ≡ true) × ((brought live).ending ≡ Some reason)
 IsKind setup live came Idles = (came ≡ Passes) × (live.stands ≡ false)

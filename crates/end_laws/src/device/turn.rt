@@ -1,16 +1,28 @@
 //! One turn of a device.
-ghost use Rattle.std.specs.Prelude.{List, ℕ};
+ghost use Rattle.std.specs.Prelude.{◌≡◌, List, Option, ℕ};
+ghost use Rattle.wire.specs.blocks.modules.Lists.{Listed};
+ghost use Rattle.connect_blocks.specs.declared.module_diff.DiffModule.{DiffModule};
+ghost use Rattle.connect_blocks.specs.declared.module_diff.DiffSubmodule.{DiffSubmodule};
+ghost use Rattle.module_diff.specs.declared.changes.RealChange.{RealChange};
+ghost use Rattle.module_diff.specs.Changes.{affected_by};
+ghost use Rattle.diagnosis.specs.declared.alarms.alarms.SentAlarm.{SentAlarm};
+ghost use Rattle.diagnosis.specs.declared.diagnosis.Diagnosis.{Diagnosis};
+ghost use Rattle.diagnosis.specs.declared.queue.QueuedAlarm.{QueuedAlarm};
+ghost use Rattle.expected_places.specs.Machine.{PlugState, is_hit};
 ghost use Rattle.settings_journal.specs.settings_store.Machine.{Outcome};
 ghost use Rattle.connects.specs.requests.Request.{Request};
 ghost use Rattle.records.specs.declared.writes.taken.TakenRecord.{TakenRecord};
 ghost use Rattle.device_frames.specs.Heard.{Heard};
 ghost use Rattle.relations.specs.Numbers.{IsNumber};
+ghost use Rattle.relations.specs.Plugging.{changed_by, flow_reported, places_then, plugs_after, plugs_changed};
+ghost use Rattle.relations.specs.RelationState.{RelationState};
 ghost use Rattle.device_core.specs.State.{Station, Live};
 ghost use Rattle.device_core.specs.Handled.{number_now};
 ghost use Rattle.device_core.specs.Machine.{heard_step};
 ghost use Rattle.end_laws.specs.both.Small.{Rules};
+ghost use Rattle.end_laws.specs.device.Orderly.{keys_of};
 ghost use Rattle.end_laws.specs.device.Small.{IsPlanned};
-ghost use Rattle.end_laws.specs.device.Turn.{BeginsNumbered, IsRaise, Turn, alarm_heard};
+ghost use Rattle.end_laws.specs.device.Turn.{BeginsNumbered, IsRaise, Turn, alarm_heard, standing_of};
 
 /// Each turn of a device: the operation and the outcome of each response, what is sent, and the relation afterwards. This
 /// is a law of the machine by which each step of a device is specified. The laws of start-up, of outputs and of alarms use
@@ -37,4 +49,15 @@ pub fn device_turns()
         → IsRaise live.rest.real.modules.items live.rest.link slot subslot octets
         (heard_step outcomes station live (alarm_heard slot subslot octets)).live.rest.link
         (heard_step outcomes station live (alarm_heard slot subslot octets)).sent }
+    // The places of a relation keep their slots and subslots with an alarm of low priority that is sent, whatever it reports.
+    ensures sent_keys { (sent : Option SentAlarm) (waiting : List QueuedAlarm) (plugs : PlugState)
+        → keys_of (plugs_after sent waiting plugs).places ≡ keys_of plugs.places }
+    // They keep them with a pull and with a plug.
+    ensures changed_keys { (rows : Listed DiffModule DiffSubmodule) (made : RealChange) (plugs : PlugState)
+        → keys_of (plugs_changed rows made plugs).places ≡ keys_of plugs.places }
+    // A pull or a plug changes the alarms of low priority, and nothing else of what outputs and alarms depend on.
+    ensures changed_standing { (rows : Listed DiffModule DiffSubmodule) (made : RealChange) (later : List Diagnosis) (link : RelationState)
+        → standing_of (changed_by rows made later link) ≡ record (standing_of link) {
+          low = (flow_reported (is_hit (affected_by made) (places_then rows made link)) link.request rows made later link.flow).low;
+        } }
 {}

@@ -10,23 +10,26 @@ ghost use Rattle.rpc_core.specs.declared.interface.Interface.TheVariants.{Contro
 ghost use Rattle.rpc_core.specs.Interface.{interface_uuid};
 ghost use Rattle.rpc_core.specs.Response.{Answered};
 ghost use Rattle.connect_blocks.specs.declared.control.ControlBlock.{ControlBlock};
+ghost use Rattle.connect_blocks.specs.declared.plug_control.PlugControlBlock.{PlugControlBlock};
 ghost use Rattle.plans.specs.declared.parts.Controller.{Controller};
 ghost use Rattle.relations.specs.declared.plugging.PlugReady.{PlugReady};
 ghost use Rattle.relations.specs.declared.ready.Ready.{Ready};
 ghost use Rattle.device_frames.specs.Heard.{Calls, Garbled, Responds, Unreadable, heard_of as device_hears};
 ghost use Rattle.device_frames.specs.Sent.{plug_ready_frame, ready_frame, response_frame};
 ghost use Rattle.controller_core.specs.start_up.Answers.{ready_in};
+ghost use Rattle.controller_messages.specs.declared.plug_request.PlugRequest.{PlugRequest};
 ghost use Rattle.controller_messages.specs.declared.record_request.RecordRequest.{RecordRequest};
 ghost use Rattle.controller_messages.specs.declared.request.Request.{Request};
 ghost use Rattle.controller_messages.specs.declared.setup.Setup.{Setup};
 ghost use Rattle.controller_messages.specs.Heard.{Calls as Called, Nothing, Responds as Responded, heard_of as controller_hears};
+ghost use Rattle.controller_messages.specs.PlugRequests.{plug_answer, plug_call};
 ghost use Rattle.controller_messages.specs.RecordRequests.{record_call};
 ghost use Rattle.controller_messages.specs.Requests.{call_for};
 ghost use Rattle.controller_messages.specs.Sent.{answer_frame, call_frame, calls_at, ready_answer};
 ghost use Rattle.frame_codec.specs.Sendable.{IsMac, IsTag, carrying};
 ghost use Rattle.rpc_core.specs.Sendable.{CanBeAnswered, CanBeCalled, IsHeader, IsUuid};
 ghost use Rattle.end_laws.specs.hearing.Hearing.{IsUncalled, IsUnreported, comes, mine_reported, own_reported};
-ghost use Rattle.end_laws.specs.hearing.Stations.{IsAddress, IsCalled, IsCaller, IsDevice, IsNumbered, IsRecordCall, IsSetup, plug_ready_call, ready_call};
+ghost use Rattle.end_laws.specs.hearing.Stations.{IsAddress, IsCalled, IsCaller, IsDevice, IsNumbered, IsPlugCall, IsRecordCall, IsSetup, plug_ready_call, ready_call};
 
 use block_codec::blocks_are_read;
 use controller_messages::calls_are_no_refusals;
@@ -43,6 +46,9 @@ pub fn calls_can_be_sent()
     // Each call for a request of the application can be sent.
     ensures record_call { (setup : Setup) (request : RecordRequest) (octets : List ℕ) → IsSetup setup → IsRecordCall request octets →
         CanBeCalled devices (record_call setup request octets) }
+    // Each call after a plug can be sent: a Write of a record of the plan, or PrmEnd.
+    ensures plug_call { (setup : Setup) (request : PlugRequest) → IsSetup setup → IsPlugCall request →
+        CanBeCalled devices (plug_call setup request) }
     // ApplicationReady can be sent: it has one block, which fits.
     ensures ready { (ready : Ready) → IsHeader ready.header → ready.header.interface ≡ interface_uuid controllers →
         IsUuid ready.block.ar_uuid
@@ -50,6 +56,10 @@ pub fn calls_can_be_sent()
     // The response to ApplicationReady can be sent: it has one block, which fits.
     ensures answer { (call : Call) (block : ControlBlock) → IsHeader call.header → call.args_maximum < 4294967296 → IsUuid block.ar_uuid
         → CanBeAnswered (ready_answer call block) }
+    // So can the response to the ApplicationReady of a plug.
+    ensures plug_answer { (call : Call) (block : PlugControlBlock) → IsHeader call.header → call.args_maximum < 4294967296 →
+        IsUuid block.ar_uuid
+        → CanBeAnswered (plug_answer call block) }
 {
     blocks_are_read();
 }

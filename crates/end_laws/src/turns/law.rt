@@ -61,16 +61,16 @@ pub fn alarms_are_taken_in_order()
 /// specifies `Controller::step`; the function has no code.
 pub fn answers_belong_to_their_requests()
     // In any state, a frame changes nothing, and nothing is sent, if it is a response, a reject or a fault of another activity or
-    // with another number than the call that waits, or if no call waits: for Connect, each Write, PrmEnd, the Release, and the
-    // Reads and Writes of the application. The same holds for an answer by DCP with another service or another Xid than the
+    // with another number than the call that waits, or if no call waits: for Connect, each Write, PrmEnd, the Release, the
+    // Reads and Writes of the application, and the Writes and PrmEnd after a plug. The same holds for an answer by DCP with another service or another Xid than the
     // request that waits.
     ensures dropped { DropsAnswersToOthers }
     // Each call that a controller sends, with any event after any others, is the call that waits from then on.
     ensures waiting { WaitsForWhatIsSent }
     // Two calls of a start-up with the same number are the same call.
     ensures apart { AreNumberedApart }
-    // Below 2^32 calls, each call of the application has a greater number than those before it, also those of the start-up, and
-    // a Release has a greater number than the call that was active before it.
+    // Below 2^32 calls, each call of the application and each after a plug has a greater number than those before it, also those of
+    // the start-up, and a Release has a greater number than the call that was active before it.
     ensures later { AreNumberedLater }
 {}
 

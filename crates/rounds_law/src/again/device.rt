@@ -15,6 +15,7 @@ ghost use Rattle.rounds_law.specs.Again.{HasEarlier, IsEnd, IsRefusal, unset_fra
 
 use crate::device::suite_is_valid;
 use block_codec::blocks_are_read;
+use connect_blocks::plug_controls_are_read_back;
 use controller_messages::Setup;
 use end_laws::{
     calls_are_heard, calls_can_be_sent, plug_calls_are_heard, ready_calls_are_heard,
@@ -72,6 +73,7 @@ pub fn device_keeps_an_earlier_relation(setup: &Setup, identity: &Identity)
     calls_are_heard();
     ready_calls_are_heard();
     plug_calls_are_heard();
+    plug_controls_are_read_back();
     frames_are_read();
     formats_are_sound();
     blocks_are_read();

@@ -10,7 +10,7 @@ ghost use Rattle.both_ends.specs.startup.Played.{CanMeet};
 ghost use Rattle.both_ends.specs.startup.answer.Answer.{AcceptsInterval, answer_frame};
 ghost use Rattle.rounds_law.specs.Connects.{GoOn};
 ghost use Rattle.rounds_law.specs.Rounds.{hears_all};
-ghost use Rattle.rounds_law.specs.Path.{Asks, AsksNext, Controls, IsWritten, confirmed_frame, controller_step, ended_frame, readied_frame};
+ghost use Rattle.rounds_law.specs.Path.{Asks, AsksNext, BeginsNoTurn, Controls, IsWritten, confirmed_frame, controller_step, ended_frame, readied_frame};
 ghost use Rattle.rounds_law.specs.Start.{IsPatient};
 
 use block_codec::blocks_are_read;
@@ -51,7 +51,8 @@ pub fn controller_takes_responses(setup: &Setup, identity: &Identity)
         × Controls setup.now serial identity.now.mac 0
         (hears_all controller (ended_frame setup.now identity.now ∷ readied_frame setup.now identity.now ∷ [])).controller
         × ((hears_all controller (ended_frame setup.now identity.now ∷ readied_frame setup.now identity.now ∷ [])).controller.live.low_alarms.sending.waiting
-        ≡ None) }
+        ≡ None)
+        × BeginsNoTurn (hears_all controller (ended_frame setup.now identity.now ∷ readied_frame setup.now identity.now ∷ [])).controller.live }
 {
     stations_are_real(setup, identity);
     let station = setup.plan.station();

@@ -6,7 +6,7 @@ ghost use Rattle.controller_core.specs.declared.stored.event.Event.TheVariants.{
 ghost use Rattle.controller_core.specs.stored.State.{Controlling, is_limited};
 ghost use Rattle.controller_core.specs.Machine.{step_of};
 ghost use Rattle.controller_messages.specs.declared.request.Request.{Request};
-ghost use Rattle.rounds_law.specs.Path.{Asks, Controls, IsInputs, IsOutputs, IsReport, controller_step, hold_of};
+ghost use Rattle.rounds_law.specs.Path.{Asks, BeginsNoTurn, Controls, IsInputs, IsOutputs, IsReport, controller_step, hold_of};
 
 use controller_messages::Setup;
 use end_laws::{alarms_are_heard, inputs_are_heard, stations_are_real};
@@ -29,11 +29,13 @@ pub fn controller_goes_on_in_time(setup: &Setup, identity: &Identity)
         → IsInputs setup.now identity.now octets → Asks setup.now identity.now.mac phase request stands spare controller
         → ((controller_step controller octets).frames ≡ [])
         × Asks setup.now identity.now.mac phase request stands spare (controller_step controller octets).controller }
-    // While data is exchanged, it still exchanges data after a unit. If no AlarmAck waits for its ACK, only outputs are sent.
+    // While data is exchanged, it still exchanges data after a unit. If no AlarmAck waits for its ACK, and no request after a plug for its
+    // answer, and no turn of a place begins with the unit, only outputs are sent.
     ensures later_unit { (serial : ℕ) (controller : Controlling) (age : ℕ) → age + 2 ≤ hold_of setup.now.plan
         → age < 3000 → Controls setup.now serial identity.now.mac age controller
         → Controls setup.now serial identity.now.mac (suc age) (step_of controller Tick).controller
-        × (controller.live.low_alarms.sending.waiting ≡ None → AllByRecursion (IsOutputs setup.now (Some serial) identity.now.mac) (step_of controller Tick).frames
+        × (controller.live.low_alarms.sending.waiting ≡ None → BeginsNoTurn controller.live
+        → AllByRecursion (IsOutputs setup.now (Some serial) identity.now.mac) (step_of controller Tick).frames
         × ((step_of controller Tick).controller.live.low_alarms.sending.waiting ≡ None)) }
     ensures later_inputs { (serial : ℕ) (controller : Controlling) (age : ℕ) (octets : List ℕ) → IsInputs setup.now identity.now octets
         → Controls setup.now serial identity.now.mac age controller

@@ -5,7 +5,7 @@ ghost use Rattle.controller_core.specs.declared.stored.event.Event.TheVariants.{
 ghost use Rattle.controller_core.specs.stored.State.{Controlling};
 ghost use Rattle.controller_core.specs.Machine.{step_of};
 ghost use Rattle.rounds_law.specs.Middle.{WaitsForReady};
-ghost use Rattle.rounds_law.specs.Path.{Controls, IsInputs, IsOutputs, confirmed_frame, controller_step, readied_frame};
+ghost use Rattle.rounds_law.specs.Path.{BeginsNoTurn, Controls, IsInputs, IsOutputs, confirmed_frame, controller_step, readied_frame};
 
 use block_codec::blocks_are_read;
 use controller_messages::Setup;
@@ -31,12 +31,14 @@ pub fn controller_waits_for_ready(setup: &Setup, identity: &Identity)
     ensures readied { (serial : ℕ) (controller : Controlling) (spare : ℕ) → WaitsForReady setup.now serial identity.now.mac spare controller
         → ((controller_step controller (readied_frame setup.now identity.now)).frames ≡ confirmed_frame setup.now identity.now ∷ [])
         × Controls setup.now serial identity.now.mac 0 (controller_step controller (readied_frame setup.now identity.now)).controller
-        × ((controller_step controller (readied_frame setup.now identity.now)).controller.live.low_alarms.sending.waiting ≡ None) }
-    // While data is exchanged, a frame of inputs makes no AlarmAck wait for its ACK.
+        × ((controller_step controller (readied_frame setup.now identity.now)).controller.live.low_alarms.sending.waiting ≡ None)
+        × BeginsNoTurn (controller_step controller (readied_frame setup.now identity.now)).controller.live }
+    // While data is exchanged, a frame of inputs makes no AlarmAck wait for its ACK, and no place wait for its turn.
     ensures quiet { (serial : ℕ) (controller : Controlling) (age : ℕ) (octets : List ℕ) → IsInputs setup.now identity.now octets
         → Controls setup.now serial identity.now.mac age controller → controller.live.low_alarms.sending.waiting ≡ None
         → ((controller_step controller octets).frames ≡ []) × Controls setup.now serial identity.now.mac age (controller_step controller octets).controller
-        × ((controller_step controller octets).controller.live.low_alarms.sending.waiting ≡ None) }
+        × ((controller_step controller octets).controller.live.low_alarms.sending.waiting ≡ None)
+        × (BeginsNoTurn controller.live → BeginsNoTurn (controller_step controller octets).controller.live) }
 {
     stations_are_real(setup, identity);
     formats_are_sound();

@@ -11,7 +11,7 @@ ghost use Rattle.relations.specs.declared.options.DeviceOptions.{DeviceOptions};
 ghost use Rattle.controller_messages.specs.Heard.{Responds, heard_of};
 ghost use Rattle.controller_messages.specs.Requests.{call_for, writing_from};
 ghost use Rattle.controller_core.specs.declared.stored.event.Event.TheVariants.{Frame};
-ghost use Rattle.controller_core.specs.Machine.{standing, turn_of, writing};
+ghost use Rattle.controller_core.specs.Machine.{placed, standing, turn_of, writing};
 ghost use Rattle.controller_core.specs.stored.State.{Live};
 ghost use Rattle.both_ends.specs.startup.answer.Answer.{AcceptsInterval, AnswersSo, IsAllThere, answer_blocks, answer_frame, chosen_with};
 
@@ -67,12 +67,13 @@ pub fn connect_answer_is_read(setup: &Setup, identity: &Identity, address: [u8; 
     // The blocks have everything that a relation needs, with the FrameID that the device chose for outputs, its endpoint, and no
     // module that differs.
     ensures found { IsAllThere (answer_blocks setup.now identity.now number) (0xC000 + number) (endpoint_of number) }
-    // If so, a controller that is waiting for this response goes on: the relation exists, and the first record is written, or
-    // PrmEnd is sent.
+    // If so, a controller that is waiting for this response goes on: the relation exists with the places that the response tells of,
+    // and the first record is written, or PrmEnd is sent.
     ensures goes_on { is_some_uuid setup.now.ar ≡ true → (options : DeviceOptions) → AcceptsInterval options setup.now.plan
         → (live : Live) → live.asked ≡ Some Request.Connect
         → turn_of setup.now live (Frame (record { items = answer_frame setup.now identity.now options number address }))
-        ≡ writing setup.now (writing_from setup.now.plan 0) (standing setup.now live (chosen_with number)) }
+        ≡ writing setup.now (writing_from setup.now.plan 0) (standing setup.now
+        (placed setup.now (answer_blocks setup.now identity.now number) live) (chosen_with number)) }
 {
     connect_is_taken(&setup.plan, &setup.ar);
     let relation = ArBlockRes {

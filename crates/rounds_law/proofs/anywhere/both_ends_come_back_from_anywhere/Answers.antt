@@ -27,6 +27,7 @@ controller_laws g c = record {
   begins = c.controller_goes_on.ensures.begins;
   goes_on = c.controller_goes_on.ensures.goes_on;
   can_answer = c.calls_can_be_sent.ensures.answer;
+  can_answer_plug = c.calls_can_be_sent.ensures.plug_answer;
   left = c.no_state_outlasts_its_patience.ensures.left;
   cause = c.ended_is_kept.ensures.cause;
   dropped = c.ended_is_kept.ensures.dropped;

@@ -1,4 +1,4 @@
-use Rattle.script_lines.proofs.Places.{first_place}
+use Rattle.script_lines.proofs.FirstPlace.{first_place}
 use Rattle.script_lines.proofs.command.place_of.Goals as goal
 
 pub returns-clause-place : goal.returns-clause-place

@@ -6,7 +6,19 @@ use Rattle.startup_octets.proofs.alarms.alarms_are_read.Goals.{After-worlds_take
 
 -- The laws of the crates below.
 device_so : (g : _) → After-worlds_take_alarms g → DeviceSo
-device_so g c = record { begins_sized = c.messages_can_be_sent.ensures.first; goes_sized = c.messages_can_be_sent.ensures.next; goes_on = c.device_goes_on.ensures; kinds = c.turns_are_of_a_kind.ensures.event; turns = c.device_turns.ensures.turn; raises = c.device_turns.ensures.raises }
+device_so g c = record {
+  begins_sized = c.messages_can_be_sent.ensures.first;
+  goes_sized = c.messages_can_be_sent.ensures.next;
+  goes_on = c.device_goes_on.ensures;
+  kinds = c.turns_are_of_a_kind.ensures.event;
+  turns = c.device_turns.ensures.turn;
+  keys = record {
+    sent = c.device_turns.ensures.sent_keys;
+    changed = c.device_turns.ensures.changed_keys;
+    standing = c.device_turns.ensures.changed_standing;
+  };
+  raises = c.device_turns.ensures.raises;
+}
 
 hears_so : (g : _) → After-worlds_take_alarms g → HearsSo
 hears_so g c = record {
@@ -30,6 +42,7 @@ hears_so g c = record {
   address = c.requests_are_heard.ensures.address;
   call_can = c.calls_can_be_sent.ensures.call;
   record_can = c.calls_can_be_sent.ensures.record_call;
+  plug_call_can = c.calls_can_be_sent.ensures.plug_call;
   call_at_device = c.calls_are_heard.ensures.device;
   call_at_controller = c.calls_are_heard.ensures.controller;
   agreed_at_device = c.ready_answers_are_heard.ensures.device;

@@ -20,6 +20,6 @@ pub returns-clause-kept : goal.returns-clause-kept
 returns-clause-kept g c = λ can first run begins made.
     let setup = c.args.setup.now in
     let identity = c.args.identity.now in
-    all_kept setup identity (there g c) c.device_turns.ensures.turn c.device_turns.ensures.numbers c.turns_are_of_a_kind.ensures.event c.formats_are_sound.ensures.ethernet c.formats_are_sound.ensures.layers
+    all_kept setup identity (there g c) c.device_turns.ensures.turn c.device_turns.ensures.numbers c.device_turns.ensures.changed_standing c.turns_are_of_a_kind.ensures.event c.formats_are_sound.ensures.ethernet c.formats_are_sound.ensures.layers
     (other_mac identity.mac setup.plan.controller.mac can.apart) c.stations_are_real.ensures.setup.mac g.F.Flash first begins run made
     (c.worlds_start_up.ensures.meant can first run begins made)

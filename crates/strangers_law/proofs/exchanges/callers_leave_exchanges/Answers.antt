@@ -11,7 +11,7 @@ use Rattle.network_world.specs.declared.moves.Move.{Move}
 use Rattle.network_world.specs.World.{World, last_world}
 use Rattle.end_laws.specs.turns.Alarms.{last_of}
 use Rattle.both_ends.specs.exchange.Over.{IsOneOfTheLastTwo, raised_over, reported_over, taken_over}
-use Rattle.both_ends.specs.exchange.Told.{AreNoPulls, AreSizedMoves, IsTold, known_at}
+use Rattle.both_ends.specs.exchange.Told.{AreSizedMoves, IsTold, known_at}
 use Rattle.strangers_law.specs.CallingRuns.{IsRunBeside, Occurrence, last_with_callers, moves_in}
 use Rattle.strangers_law.proofs.CallingCarried.{all_raised, all_reported, all_sized, all_taken, one_frame, same_diagnoses, same_link}
 use Rattle.strangers_law.proofs.exchanges.callers_leave_exchanges.Goals as goal
@@ -46,10 +46,6 @@ module _ {F : Type 0} {S : ℕ} (as_flash : Flash F S) (others : List (List ℕ)
   few_alone : length (reported_over first moves) ≤ 32768 → length (reported_over first beside.alone) ≤ 32768
   few_alone few =
       subst (λ (reported : Taken). length reported ≤ 32768) (all_reported others first first moves beside.alone beside.begins beside.moves) few
-
-  no_pulls_alone : AreNoPulls (reported_over first moves) → AreNoPulls (reported_over first beside.alone)
-  no_pulls_alone none =
-      subst (λ (reported : Taken). AreNoPulls reported) (all_reported others first first moves beside.alone beside.begins beside.moves) none
 
   sized_alone : AreSizedMoves moves → AreSizedMoves beside.alone
   sized_alone sized = all_sized others moves beside.alone beside.moves sized
@@ -130,14 +126,13 @@ returns-clause-told g c = λ can others first run few begins are sized few_bits 
     (sized_alone g.F.Flash others first run beside few_bits) known link (link_alone g.F.Flash others first run beside link is) exchanges))
 
 pub returns-clause-list : goal.returns-clause-list
-returns-clause-list g c = λ can others first run few begins are sized few_bits known few_reports no_pulls link is exchanges confirmed none stands.
+returns-clause-list g c = λ can others first run few begins are sized few_bits known apart few_reports link is exchanges confirmed none stands.
     let beside = c.callers_leave_both_ends.ensures.runs can others first run few begins are in
     of_diagnoses g.F.Flash others first run beside (λ diagnoses. (last_with_callers first run).controller.live.diagnosis ≡ known_at link.flow.low diagnoses)
     (of_last g.F.Flash others first run beside
     (λ control. control.live.diagnosis ≡ known_at link.flow.low (last_world first beside.alone).device.live.rest.diagnoses)
     (c.worlds_take_alarms.ensures.list can first beside.alone begins beside.made sized
-    (sized_alone g.F.Flash others first run beside few_bits) known
+    (sized_alone g.F.Flash others first run beside few_bits) known apart
     (few_alone g.F.Flash others first run beside few_reports)
-    (no_pulls_alone g.F.Flash others first run beside no_pulls)
     link (link_alone g.F.Flash others first run beside link is) exchanges confirmed none
     (subst (λ (control : Controlling). control.live.stands ≡ true) beside.last.controller stands)))

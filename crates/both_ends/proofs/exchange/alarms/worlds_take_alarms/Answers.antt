@@ -1,13 +1,25 @@
 use Rattle.both_ends.proofs.ExchangeLaw.{DeviceSo, high_so, in_order, lacks_one, last_shown, shows}
 use Rattle.both_ends.proofs.ExchangeMessages.{HearsSo}
-use Rattle.both_ends.proofs.ExchangeReporting.{known_so, list_so, low_so, told_so}
+use Rattle.both_ends.proofs.ExchangeReporting.{known_so, list_so, low_so, plugged_so, told_so}
 use Rattle.both_ends.specs.exchange.Over.{raised_over, reported_over, taken_over}
 use Rattle.diagnosis.specs.declared.reports.priority.Priority.TheVariants.{High, Low}
 use Rattle.network_world.specs.World.{last_world}
 use Rattle.both_ends.proofs.exchange.alarms.worlds_take_alarms.Goals as goal
 
 device_so : (g : _) → goal.After-alarms_are_taken_in_order g → DeviceSo
-device_so g c = record { begins_sized = c.messages_can_be_sent.ensures.first; goes_sized = c.messages_can_be_sent.ensures.next; goes_on = c.device_goes_on.ensures; kinds = c.turns_are_of_a_kind.ensures.event; turns = c.device_turns.ensures.turn; raises = c.device_turns.ensures.raises }
+device_so g c = record {
+  begins_sized = c.messages_can_be_sent.ensures.first;
+  goes_sized = c.messages_can_be_sent.ensures.next;
+  goes_on = c.device_goes_on.ensures;
+  kinds = c.turns_are_of_a_kind.ensures.event;
+  turns = c.device_turns.ensures.turn;
+  keys = record {
+    sent = c.device_turns.ensures.sent_keys;
+    changed = c.device_turns.ensures.changed_keys;
+    standing = c.device_turns.ensures.changed_standing;
+  };
+  raises = c.device_turns.ensures.raises;
+}
 
 hears_so : (g : _) → goal.After-alarms_are_taken_in_order g → HearsSo
 hears_so g c = record {
@@ -31,6 +43,7 @@ hears_so g c = record {
   address = c.requests_are_heard.ensures.address;
   call_can = c.calls_can_be_sent.ensures.call;
   record_can = c.calls_can_be_sent.ensures.record_call;
+  plug_call_can = c.calls_can_be_sent.ensures.plug_call;
   call_at_device = c.calls_are_heard.ensures.device;
   call_at_controller = c.calls_are_heard.ensures.controller;
   agreed_at_device = c.ready_answers_are_heard.ensures.device;
@@ -90,12 +103,17 @@ returns-clause-told g c = λ can first run begins made real sized known link is 
     (c.worlds_start_up.ensures.meant can first run begins made) c.reports_are_followed.ensures.elsewhere known link is on
 
 pub returns-clause-list : goal.returns-clause-list
-returns-clause-list g c = λ can first run begins made real sized known few pulls link is on none empty up.
+returns-clause-list g c = λ can first run begins made real sized known apart few link is on none empty up.
     list_so (device_so g c) (hears_so g c) c.args.setup.now c.args.identity.now c.stations_are_real.ensures.setup can g.F.Flash first run begins real made sized
     (c.worlds_start_up.ensures.meant can first run begins made) c.reports_are_followed.ensures.elsewhere c.reports_are_followed.ensures.follows
-    c.alarms_are_taken_in_order.ensures.all c.alarms_are_taken_in_order.ensures.listed known few pulls link is on none empty up
+    c.alarms_are_taken_in_order.ensures.all c.alarms_are_taken_in_order.ensures.listed known apart few link is on none empty up
 
 pub returns-clause-known : goal.returns-clause-known
 returns-clause-known g c = λ can first run begins made real sized known.
     known_so (device_so g c) (hears_so g c) c.args.setup.now c.args.identity.now c.stations_are_real.ensures.setup can g.F.Flash first run begins real made sized
     (c.worlds_start_up.ensures.meant can first run begins made) c.reports_are_followed.ensures.elsewhere known
+
+pub returns-clause-plugged : goal.returns-clause-plugged
+returns-clause-plugged g c = λ can first run begins made real sized known apart.
+    plugged_so (device_so g c) (hears_so g c) c.args.setup.now c.args.identity.now c.stations_are_real.ensures.setup can g.F.Flash first run begins real made sized
+    (c.worlds_start_up.ensures.meant can first run begins made) c.reports_are_followed.ensures.elsewhere known apart

@@ -17,8 +17,8 @@ returns-clause-zeros g c = λ can first run begins made link is none.
     let differ = other_mac identity.mac setup.plan.controller.mac can.apart in
     let six = c.stations_are_real.ensures.setup.mac in
     let meant = c.worlds_start_up.ensures.meant can first run begins made in
-    shows_zeros c.device_turns.ensures.turn c.device_turns.ensures.numbers c.turns_are_of_a_kind.ensures.event sound whole setup identity differ six (there g c) first begins g.F.Flash run made meant
-    (as_given c.device_turns.ensures.turn c.device_turns.ensures.numbers c.turns_are_of_a_kind.ensures.event sound whole setup identity differ six (there g c) first begins g.F.Flash run made meant c.outputs_are_given.ensures)
+    shows_zeros c.device_turns.ensures.turn c.device_turns.ensures.numbers c.device_turns.ensures.changed_standing c.turns_are_of_a_kind.ensures.event sound whole setup identity differ six (there g c) first begins g.F.Flash run made meant
+    (as_given c.device_turns.ensures.turn c.device_turns.ensures.numbers c.device_turns.ensures.changed_standing c.turns_are_of_a_kind.ensures.event sound whole setup identity differ six (there g c) first begins g.F.Flash run made meant c.outputs_are_given.ensures)
     link is none
 
 pub returns-clause-values : goal.returns-clause-values
@@ -30,6 +30,6 @@ returns-clause-values g c = λ can first run begins made link is some.
     let differ = other_mac identity.mac setup.plan.controller.mac can.apart in
     let six = c.stations_are_real.ensures.setup.mac in
     let meant = c.worlds_start_up.ensures.meant can first run begins made in
-    shows_one_frame c.device_turns.ensures.turn c.device_turns.ensures.numbers c.turns_are_of_a_kind.ensures.event sound whole setup identity differ six (there g c) first begins g.F.Flash run made meant
-    (as_given c.device_turns.ensures.turn c.device_turns.ensures.numbers c.turns_are_of_a_kind.ensures.event sound whole setup identity differ six (there g c) first begins g.F.Flash run made meant c.outputs_are_given.ensures)
+    shows_one_frame c.device_turns.ensures.turn c.device_turns.ensures.numbers c.device_turns.ensures.changed_standing c.turns_are_of_a_kind.ensures.event sound whole setup identity differ six (there g c) first begins g.F.Flash run made meant
+    (as_given c.device_turns.ensures.turn c.device_turns.ensures.numbers c.device_turns.ensures.changed_standing c.turns_are_of_a_kind.ensures.event sound whole setup identity differ six (there g c) first begins g.F.Flash run made meant c.outputs_are_given.ensures)
     link is some

@@ -22,6 +22,7 @@ laws g c = record {
   told = c.worlds_take_alarms.ensures.told;
   list = c.worlds_take_alarms.ensures.list;
   known = c.worlds_take_alarms.ensures.known;
+  plugged = c.worlds_take_alarms.ensures.plugged;
   station = c.later_worlds_begin.ensures.station;
   others = c.later_worlds_begin.ensures.others;
 }

@@ -25,6 +25,7 @@ heard_so g c = record {
   packet_at_device = c.packets_are_heard.ensures.device;
   call_can = c.calls_can_be_sent.ensures.call;
   record_can = c.calls_can_be_sent.ensures.record_call;
+  plug_call_can = c.calls_can_be_sent.ensures.plug_call;
   ready_can = c.calls_can_be_sent.ensures.ready;
   call_at_device = c.calls_are_heard.ensures.device;
   call_at_controller = c.calls_are_heard.ensures.controller;

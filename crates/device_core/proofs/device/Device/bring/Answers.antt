@@ -14,7 +14,7 @@ idle false = refl
 
 pub returns-in-Some-clause-frames : goal.returns-in-Some-clause-frames
 returns-in-Some-clause-frames g c =
-    let elapsed = c.args.elapsed.now in
+    let elapsed = c.args.elapsed in
     let link = c.args.self.now.live.rest.link in
     rw (c.end.ensures.frames, ← c.ending.ensures, c.in-Some.is)
     (rw (idle (elapsed.tick.is_alarm && (repeated_by link).high), idle (elapsed.tick.is_alarm && (repeated_by link).low), idle elapsed.is_ready, idle elapsed.is_plug_ready, idle elapsed.tick.is_cyclic, append-nil (farewells_in (option_map (farewell_of c.in-Some.reason) c.args.self.now.live.rest.link))) refl)
@@ -34,7 +34,7 @@ returns-in-None-clause-state g c =
 
 pub returns-in-Some-clause-sendable : goal.returns-in-Some-clause-sendable
 returns-in-Some-clause-sendable g c =
-    let elapsed = c.args.elapsed.now in
+    let elapsed = c.args.elapsed in
     let link = c.args.self.now.live.rest.link in
     rw (← c.ending.ensures, c.in-Some.is)
     (rw (idle (elapsed.tick.is_alarm && (repeated_by link).high), idle (elapsed.tick.is_alarm && (repeated_by link).low), idle elapsed.is_ready, idle elapsed.is_plug_ready, idle elapsed.tick.is_cyclic, append-nil (farewells_in (option_map (farewell_of c.in-Some.reason) c.args.self.now.live.rest.link))) c.end.ensures.sendable)

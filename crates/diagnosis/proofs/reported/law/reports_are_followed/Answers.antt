@@ -1,5 +1,5 @@
 -- Each follows from its lemma.
-use Rattle.diagnosis.proofs.ReportedFollowing.{elsewhere, follows}
+use Rattle.diagnosis.proofs.ReportedFollowing.{elsewhere, follows, pulls}
 use Rattle.diagnosis.proofs.reported.law.reports_are_followed.Goals as goal
 
 pub returns-clause-follows : goal.returns-clause-follows
@@ -7,3 +7,6 @@ returns-clause-follows c = follows
 
 pub returns-clause-elsewhere : goal.returns-clause-elsewhere
 returns-clause-elsewhere c = elsewhere
+
+pub returns-clause-pulls : goal.returns-clause-pulls
+returns-clause-pulls c = pulls

@@ -1,4 +1,5 @@
 use Rattle.end_laws.proofs.DeviceNumbers.{number_now_is}
+use Rattle.end_laws.proofs.DeviceOrderly.{after_keys, changed_keys, changed_standing}
 use Rattle.end_laws.proofs.DeviceWalk.{step_numbers, step_raises, step_turns}
 use Rattle.end_laws.proofs.device.turn.device_turns.Goals as goal
 
@@ -13,3 +14,12 @@ returns-clause-numbers c = λ rules activity outcomes station live heard plan. s
 
 pub returns-clause-numbered : goal.returns-clause-numbered
 returns-clause-numbered c = λ station live. number_now_is station live
+
+pub returns-clause-sent_keys : goal.returns-clause-sent_keys
+returns-clause-sent_keys c = after_keys
+
+pub returns-clause-changed_keys : goal.returns-clause-changed_keys
+returns-clause-changed_keys c = changed_keys
+
+pub returns-clause-changed_standing : goal.returns-clause-changed_standing
+returns-clause-changed_standing c = changed_standing

@@ -54,6 +54,7 @@ laws_of c = record {
   plug = c.plug_calls_are_heard.ensures.controller;
   plug_can = c.plug_calls_are_heard.ensures.sent;
   plug_other = c.plug_calls_are_heard.ensures.other;
+  plug_back = c.plug_controls_are_read_back.ensures;
   block_read = c.blocks_are_read.ensures.alone;
 }
 

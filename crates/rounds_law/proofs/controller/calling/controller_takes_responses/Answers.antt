@@ -2,8 +2,8 @@ use Rattle.std.proofs.Common.{◌≡◌, List, ℕ, ap, subst, ◌∙◌}
 use Rattle.plans.specs.declared.parts.Station.{Station}
 use Rattle.controller_messages.specs.Requests.{writing_from}
 use Rattle.controller_core.specs.declared.stored.event.Event.TheVariants.{Frame}
-use Rattle.controller_core.specs.Machine.{standing, turn_of, writing}
-use Rattle.both_ends.specs.startup.answer.Answer.{answer_frame, chosen_with}
+use Rattle.controller_core.specs.Machine.{placed, standing, turn_of, writing}
+use Rattle.both_ends.specs.startup.answer.Answer.{answer_blocks, answer_frame, chosen_with}
 use Rattle.rounds_law.proofs.ControllerCallingResponses.{HeardSo, connected_next, readied_next, written_next}
 use Rattle.rounds_law.proofs.controller.calling.controller_takes_responses.Goals as goal
 
@@ -26,9 +26,9 @@ returns-clause-connected c = λ can patient options accepts serial small control
     let address : c.address-address.result ≡ setup.plan.station.suite.address =
     c.address-address.ensures.value ∙ ap (λ (s : Station). s.suite.address) c.station-station.ensures.value in
     connected_next (heard_so c) setup identity c.stations_are_real.ensures.setup c.stations_are_real.ensures.device serial small controller spare
-    (answer_frame setup identity options serial setup.plan.station.suite.address) patient it
+    (answer_frame setup identity options serial setup.plan.station.suite.address) (answer_blocks setup identity serial) patient it
     (subst (λ (a : List ℕ). turn_of setup live (Frame (record { items = answer_frame setup identity options serial a }))
-    ≡ writing setup (writing_from setup.plan 0) (standing setup live (chosen_with serial))) address
+    ≡ writing setup (writing_from setup.plan 0) (standing setup (placed setup (answer_blocks setup identity serial) live) (chosen_with serial))) address
     (c.connect_answers_are_read.ensures serial small can.named options accepts live it.asked))
 
 pub returns-clause-written : goal.returns-clause-written

@@ -25,6 +25,7 @@ invariant_of-self c =
       c.self.invariant.1,
       steady_call port.stage port.device.live.values.has_failed port.calls_past (recalled port.device.flash) _ some c.self.invariant.2,
       counted_call port.due port.device.live port.stage port.calls_past (recalled port.device.flash) some c.self.invariant.3,
+      c.self.invariant.4,
     )
 
 pub call-requires : goal.call-requires

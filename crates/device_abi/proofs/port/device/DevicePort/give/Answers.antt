@@ -30,6 +30,7 @@ invariant_of-self c =
       c.self.invariant.1,
       steady_of port.stage _ _ _ free.booted c.step_input.ensures.going,
       counted_later port.due port.device.live c.step_input.new.device.live port.stage _ _ (omega (arith, c.step_input.ensures.due)) same c.self.invariant.3,
+      λ e. cc e,
     )
 
 pub returns-clause-due : goal.returns-clause-due

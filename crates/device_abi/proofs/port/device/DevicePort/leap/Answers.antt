@@ -1,5 +1,5 @@
 -- Units that pass at once: the work after them is the frames of the last one.
-use Rattle.std.proofs.Common.{drop, length, refl, ap, ◌∙◌, arith}
+use Rattle.std.proofs.Common.{ℕ, Option, Some, drop, length, refl, ap, ◌∙◌, arith}
 use Rattle.device_abi.specs.recorded.Record.{recalled}
 use Rattle.device_abi.specs.contracts.port.device.DevicePort.{the_view}
 use Rattle.device_abi.proofs.PortLeaps.{passed_at}
@@ -32,6 +32,7 @@ invariant_of-self c =
         free.booted,
         ap (λ f. drop port.calls_past (recalled f)) c.leap.ensures.flash ∙ free.calls,
       ),
+      λ exact. (ap (λ (n : ℕ). let o : Option ℕ = Some n in o) c.due-due.ensures.value, c.is_exact-self-inside.ensures exact),
     )
 
 pub returns-clause-quiet : goal.returns-clause-quiet

@@ -24,6 +24,7 @@ invariant_of-self c =
       counted_nearer port.due _ c.args.units port.device.live c.skip.new.device.live port.stage _ _ c.nearer-self-inside.ensures (rw (← c.self.view_is) at c.requires.few) c.skip.ensures.due
           (ap (λ f. drop port.calls_past (recalled f)) c.skip.ensures.flash ∙ free.calls)
           c.self.invariant.3,
+      λ e. cc e,
     )
 
 pub returns-clause-quiet : goal.returns-clause-quiet

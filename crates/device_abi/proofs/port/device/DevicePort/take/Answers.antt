@@ -34,4 +34,5 @@ invariant_of-self c =
       omega arith,
       steady_of port.stage _ _ _ free.booted c.step-note.ensures.going,
       tt,
+      λ e. cc e,
     )

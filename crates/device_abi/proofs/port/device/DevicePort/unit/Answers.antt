@@ -1,5 +1,5 @@
 -- One unit: the work after it is its frames.
-use Rattle.std.proofs.Common.{drop, length, refl, ap, ◌∙◌, arith}
+use Rattle.std.proofs.Common.{ℕ, Option, Some, drop, length, refl, ap, ◌∙◌, arith}
 use Rattle.device_abi.specs.recorded.Record.{recalled}
 use Rattle.device_abi.specs.contracts.port.device.DevicePort.{the_view}
 use Rattle.device_abi.proofs.PortLeaps.{passed_at}
@@ -26,6 +26,7 @@ invariant_of-self c =
         free.booted,
         ap (λ f. drop port.calls_past (recalled f)) c.unit.ensures.flash ∙ free.calls,
       ),
+      λ exact. (ap (λ (n : ℕ). let o : Option ℕ = Some n in o) c.due-due.ensures.value, c.is_exact-self-inside.ensures exact),
     )
 
 pub returns-clause-quiet : goal.returns-clause-quiet

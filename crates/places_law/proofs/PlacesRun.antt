@@ -1,0 +1,380 @@
+-- Over any run of worlds, what the device reported of its places, and what the controller accepted, lead to what both know of them.
+use Rattle.std.proofs.Common.{◌≡◌, ◌++◌, ◌<◌, ◌≤◌, ℕ, Bool, true, false, List, [], ◌∷◌, length, map, Option, Some, None, option_map, refl, sym, ap, subst, ◌∙◌, append-nil, append_assoc}
+use Rattle.std.specs.Prelude.{is_some, slice_get}
+use Rattle.lldp.specs.Views.{peer_as}
+use Rattle.flash_model.specs.declared.flash.Flash.{Ghosts as Flash}
+use Rattle.pn_values.specs.declared.identity.Identity.{Identity}
+use Rattle.frame_codec.specs.declared.udp.Caller.{Caller}
+use Rattle.rpc_core.specs.Call.{Asked as Call}
+use Rattle.record_blocks.specs.declared.alarm_notification.AlarmNotification.{AlarmNotification}
+use Rattle.diagnosis.specs.declared.diagnosis.Change.{Change}
+use Rattle.relations.specs.RelationState.{RelationState}
+use Rattle.diagnosis.specs.declared.reports.priority.Priority.TheVariants.{Low as low_priority}
+use Rattle.device_frames.specs.declared.event.Event.TheVariants.{Frame}
+use Rattle.device_frames.specs.declared.local.Local.TheVariants as local
+use Rattle.device_frames.specs.Heard.{Heard, Ticks, Reported, Calls, Applied, Met, heard_of}
+use Rattle.device_core.specs.State.{State, Live}
+use Rattle.device_core.specs.Machine.{heard_step}
+use Rattle.controller_messages.specs.declared.setup.Setup.{Setup}
+use Rattle.network_world.specs.declared.moves.End.TheVariants.{Device, Controller}
+use Rattle.network_world.specs.declared.moves.Move.{Move}
+use Rattle.network_world.specs.declared.moves.Move.TheVariants as move
+use Rattle.network_world.specs.World.{AreMade, at_controller, AtDevice, Comes, Delivers, Happens, is_skipped, last_world, World}
+use Rattle.end_laws.specs.both.Small as small
+use Rattle.end_laws.specs.device.Small.{heard_as}
+use Rattle.end_laws.specs.device.Turn.{change_heard}
+use Rattle.end_laws.specs.hearing.Stations.{IsSetup}
+use Rattle.end_laws.specs.turns.Alarms.{AreAllTaken}
+use Rattle.both_ends.specs.startup.Played.{AreMeant, Begins, CanMeet}
+use Rattle.both_ends.specs.startup.View.{IsMeant, IsMeantAtDevice, is_planned, rules_of}
+use Rattle.both_ends.specs.exchange.Sized.{AreSizedModules, NoneIsAtZero}
+use Rattle.both_ends.proofs.ExchangeEarly.{IsEarlyFrame}
+use Rattle.both_ends.proofs.ExchangeFollows.{IsIn, kept_at}
+use Rattle.both_ends.proofs.ExchangeKnown.{ElsewhereSo}
+use Rattle.both_ends.proofs.ExchangeKnows.{Knows, knows_on}
+use Rattle.both_ends.proofs.ExchangeLaw.{DeviceSo, FollowsAt, IsOfFrame, alone_so, delivered_device, early_at, first_follows, in_at, lacks_none, makes_so, modules_in, of_frame, one_follows, turn_at}
+use Rattle.connects.specs.requests.Request.{Request}
+use Rattle.plan_places.specs.declared.place.PlaceState.{PlaceState}
+use Rattle.both_ends.proofs.ExchangeOwn.{is_expected}
+use Rattle.both_ends.proofs.ExchangeLists.{none_some}
+use Rattle.both_ends.proofs.ExchangeLowTied.{reported_same}
+use Rattle.both_ends.proofs.ExchangeMade.{stated_made}
+use Rattle.both_ends.proofs.ExchangeMessages.{HearsSo}
+use Rattle.both_ends.proofs.ExchangeReported.{IsCallIn}
+use Rattle.both_ends.specs.exchange.Over.{reported_by, reported_over, reported_with, taken_over, taken_with}
+use Rattle.both_ends.specs.exchange.Told.{AreKnown, AreSizedMoves, IsSizedMove, change_in}
+use Rattle.controller_core.specs.declared.stored.event.Event.{Event}
+use Rattle.controller_core.specs.declared.stored.event.Event.TheVariants as event
+use Rattle.controller_core.specs.stored.State.{Controlling, Live as ControllerLive, with_live}
+use Rattle.controller_core.specs.Machine.{step_of, turn_of}
+use Rattle.controller_messages.specs.Heard.{heard_of as heard_by}
+use Rattle.diagnosis.specs.declared.queue.QueuedAlarm.{QueuedAlarm}
+use Rattle.diagnosis.specs.declared.queue.LowChange.{LowChange}
+use Rattle.both_ends.specs.exchange.Over.{taken_from, taken_in}
+use Rattle.places_law.specs.Agreed.{AreAgreed, ArePluggedApart, AreThePlaces, is_in_plan}
+use Rattle.places_law.proofs.PlacesChanged.{all_seen, changes_after, seen_same}
+use Rattle.places_law.proofs.PlacesPlugged.{ArePlaced, placed_on}
+use Rattle.places_law.proofs.PlacesSeen.{planned_expected, seen_by, state_as, there_of}
+use Rattle.places_law.proofs.PlacesShown.{IsShown, event_shown, first_shown, heard_shown}
+
+-- ---- a move
+
+-- the error of a change is that of the event
+error_is : (slot subslot channel error : ℕ) (appears : Bool) (change : Change) → Applied (local.Diagnosis slot subslot channel error appears) ≡ change_heard change → change.diagnosis.error ≡ error
+error_is slot subslot channel error appears change e = cc
+
+abbrev IsSmall : Heard → Type 0
+IsSmall heard = (change : Change) → heard ≡ change_heard change → change.diagnosis.error < 65536
+
+framed_small : (heard : Heard) → IsOfFrame heard → IsSmall heard
+framed_small heard is change e = absurd (subst (λ (h : Heard). IsOfFrame h) e is)
+
+-- a step of the controller
+controller_is : (old : Controlling) (one : Event) → (step_of old one).controller ≡ with_live old (turn_of old.setup old.live one).live
+unfolding step_of
+controller_is old one = refl
+
+module _ {F : Type 0} where
+  abbrev pub KnowsAt : Type 0 → World F → List AlarmNotification → Type 0
+  KnowsAt Apart w raised = Knows Apart w.device.live.rest.real.modules.items w.device.live.rest.link w.device.live.rest.diagnoses raised
+
+  -- the alarms and the diagnoses of a relation, and its places
+  record Held (Apart : Type 0) (w : World F) (raised : List AlarmNotification) : Type 0 where
+    knows : KnowsAt Apart w raised
+    placed : ArePlaced w.device.live.rest.real.modules.items w.device.live.rest.link raised
+
+  module _ (so : DeviceSo) (hears : HearsSo) (elsewhere : ElsewhereSo) (Apart : Type 0) (alone : Apart) {S : ℕ} (as_flash : Flash F S) (before after : World F) (raised taken : List AlarmNotification)
+      (follows : FollowsAt low_priority before raised taken) (held : Held Apart before raised) where
+    -- nothing happens at the device
+    rests_held : after.device ≡ before.device → Held Apart after (raised ++ reported_with before after)
+    rests_held same = record {
+      knows = subst (λ (d : State F). Knows Apart d.live.rest.real.modules.items d.live.rest.link d.live.rest.diagnoses (raised ++ reported_by before.device.live.rest.link d.live.rest.link)) (sym same)
+          (subst (λ (xs : List AlarmNotification). KnowsAt Apart before xs) (sym silent) held.knows);
+      placed = subst (λ (d : State F). ArePlaced d.live.rest.real.modules.items d.live.rest.link (raised ++ reported_by before.device.live.rest.link d.live.rest.link)) (sym same)
+          (subst (λ (xs : List AlarmNotification). ArePlaced before.device.live.rest.real.modules.items before.device.live.rest.link xs) (sym silent) held.placed);
+    }
+      where
+        silent : raised ++ reported_by before.device.live.rest.link before.device.live.rest.link ≡ raised
+        silent = ap (λ (xs : List AlarmNotification). raised ++ xs) (reported_same before.device.live.rest.link before.device.live.rest.link refl) ∙ append-nil raised
+
+    -- the device hears something
+    hears_held : (heard : Heard) → IsSmall heard → ((sequence : ℕ) → heard_as (is_planned before.controller.setup) heard ≡ small.Call sequence small.Connects → sequence ≡ 0)
+        → ((sequence : ℕ) → heard_as (is_planned before.controller.setup) heard ≡ small.Call sequence small.Accesses → kept_at before.controller.setup before.device.live ≡ None → ⊥)
+        → IsCallIn before.controller.setup heard → AtDevice as_flash before heard after → IsMeantAtDevice before heard → Held Apart after (raised ++ reported_with before after)
+    hears_held heard is_small first late called made meant =
+        let live = before.device.live in
+        let station = before.device.station in
+        let outcomes = made.hears.steps.outcomes in
+        let step = heard_step outcomes station live heard in
+        let link = step.live.rest.link in
+        let turn = turn_at low_priority so hears as_flash before after raised taken follows heard outcomes meant in
+        let acts = so.turns (rules_of before.controller.setup station) before.controller.setup.activity outcomes station live heard meant.planned in
+        record {
+          knows = subst (λ (l : Live). Knows Apart l.rest.real.modules.items l.rest.link l.rest.diagnoses (raised ++ reported_by live.rest.link l.rest.link)) (sym made.hears.steps.live)
+              (knows_on so.keys elsewhere Apart live.rest.real.modules.items live.rest.link live.rest.diagnoses raised held.knows live.rest.calls heard link step.live.rest.real.modules.items step.live.rest.diagnoses step.sent is_small
+              (λ makes. (
+                alone_so low_priority so hears as_flash before after raised taken follows heard first late called made meant link step.sent makes,
+                follows.unraised (makes_so low_priority so hears as_flash before after raised taken follows heard first late called made meant link step.sent makes).0,
+                stated_made station live heard step.live.rest step.sent (alone_so low_priority so hears as_flash before after raised taken follows heard first late called made meant link step.sent makes) acts.does,
+              )) turn (modules_in station live heard step.live.rest step.sent acts) acts.diagnoses);
+          placed = subst (λ (l : Live). ArePlaced l.rest.real.modules.items l.rest.link (raised ++ reported_by live.rest.link l.rest.link)) (sym made.hears.steps.live)
+              (placed_on Apart alone live.rest.real.modules.items live.rest.link live.rest.diagnoses raised held.knows held.placed live.rest.calls heard link step.live.rest.real.modules.items step.live.rest.diagnoses step.sent
+              (λ makes. (
+                alone_so low_priority so hears as_flash before after raised taken follows heard first late called made meant link step.sent makes,
+                follows.unraised (makes_so low_priority so hears as_flash before after raised taken follows heard first late called made meant link step.sent makes).0,
+              )) turn (modules_in station live heard step.live.rest step.sent acts));
+        }
+
+    idle_held : (heard : Heard) → IsSmall heard → heard_as (is_planned before.controller.setup) heard ≡ small.Idle → ((caller : Caller) (address : List ℕ) (call : Call) → heard ≡ Reported caller address (Calls call) → ⊥)
+        → AtDevice as_flash before heard after → IsMeantAtDevice before heard → Held Apart after (raised ++ reported_with before after)
+    idle_held heard is_small idle no_call made meant =
+        hears_held heard is_small (λ sequence e. absurd (idle_connect sequence (sym idle ∙ e))) (λ sequence e none. absurd (idle_access sequence (sym idle ∙ e)))
+        (λ caller address call e other. absurd (no_call caller address call e)) made meant
+      where
+        idle_connect : (sequence : ℕ) → small.Idle ≡ small.Call sequence small.Connects → ⊥
+        idle_connect sequence e = absurd cc
+
+        idle_access : (sequence : ℕ) → small.Idle ≡ small.Call sequence small.Accesses → ⊥
+        idle_access sequence e = absurd cc
+
+    comes_held : (octets : List ℕ) (skipped : Bool) → IsIn low_priority before.controller.setup before.device.station.identity follows.relation octets
+        → (kept_at before.controller.setup before.device.live ≡ None → IsEarlyFrame before.controller.setup before.device.station octets)
+        → IsMeantAtDevice before (heard_of before.device.station.identity (Frame (record { items = octets }))) → Comes as_flash skipped before Device octets after
+        → Held Apart after (raised ++ reported_with before after)
+    comes_held octets true is early meant comes = rests_held (ap (λ (w : World F). w.device) comes)
+    comes_held octets false is early meant comes =
+        let heard = heard_of before.device.station.identity (Frame (record { items = octets })) in
+        hears_held heard (framed_small heard (of_frame before.device.station.identity octets)) is.first (λ sequence e unkept. (early unkept).0 sequence e) is.called comes meant
+
+    delivered_held : (octets : Option (List ℕ))
+        → ((frame : List ℕ) → octets ≡ Some frame → IsIn low_priority before.controller.setup before.device.station.identity follows.relation frame)
+        → ((frame : List ℕ) → octets ≡ Some frame → kept_at before.controller.setup before.device.live ≡ None → IsEarlyFrame before.controller.setup before.device.station frame)
+        → ((frame : List ℕ) → octets ≡ Some frame → IsMeantAtDevice before (heard_of before.device.station.identity (Frame (record { items = frame }))))
+        → Delivers as_flash octets before Device after → Held Apart after (raised ++ reported_with before after)
+    delivered_held None is early meant comes = rests_held (ap (λ (w : World F). w.device) comes)
+    delivered_held (Some octets) is early meant comes = comes_held octets (is_skipped before.device before.controller Device octets) (is octets refl) (early octets refl) (meant octets refl) comes
+
+    away_held : (octets : Option (List ℕ)) → Delivers as_flash octets before Controller after → Held Apart after (raised ++ reported_with before after)
+    away_held octets comes = rests_held (delivered_device low_priority so hears as_flash before after raised taken follows octets comes)
+
+    one_held : (one : Move) → Happens as_flash before one after → IsMeant before one → IsSizedMove one → Held Apart after (raised ++ reported_with before after)
+    one_held (move.Deliver Device number) happens meant sized =
+        delivered_held (slice_get before.sent number) (λ frame there. in_at low_priority so hears as_flash before after raised taken follows number frame there)
+        (λ frame there. early_at low_priority so hears as_flash before after raised taken follows number frame there) meant happens
+    one_held (move.Deliver Controller number) happens meant sized = away_held (slice_get before.sent number) happens
+    one_held (move.Tick Device) happens meant sized = idle_held Ticks (λ change e. absurd cc) refl (λ caller address call e. absurd cc) happens meant
+    one_held (move.Application (local.Diagnosis slot subslot channel error appears)) happens meant sized =
+        idle_held (Applied (local.Diagnosis slot subslot channel error appears))
+        (λ change e. subst (λ (n : ℕ). n < 65536) (sym (error_is slot subslot channel error appears change e)) sized) refl (λ caller address call e. absurd cc) happens meant
+    one_held (move.Application other) happens meant sized = idle_held (Applied other) (λ change e. absurd cc) refl (λ caller address call e. absurd cc) happens meant
+    one_held (move.Neighbour neighbour) happens meant sized = idle_held (Met (option_map peer_as neighbour)) (λ change e. absurd cc) refl (λ caller address call e. absurd cc) happens meant
+    one_held other happens meant sized = rests_held (ap (λ (w : World F). w.device) happens)
+
+  -- ---- the controller
+
+  module _ (so : DeviceSo) (hears : HearsSo) {S : ℕ} (as_flash : Flash F S) (before after : World F) (raised taken : List AlarmNotification)
+      (follows : FollowsAt low_priority before raised taken) (shown : IsShown before.controller.setup taken before.controller.live) where
+    -- nothing happens at the controller
+    rests_shown : after.controller ≡ before.controller → IsShown after.controller.setup (taken ++ []) after.controller.live
+    rests_shown same =
+        subst (λ (c : Controlling). IsShown c.setup (taken ++ []) c.live) (sym same) (subst (λ (xs : List AlarmNotification). IsShown before.controller.setup xs before.controller.live) (sym (append-nil taken)) shown)
+
+    same_world : after ≡ before → after.controller ≡ before.controller
+    same_world same = ap (λ (w : World F). w.controller) same
+
+    -- the controller goes on with this event
+    goes_shown : (one : Event) (now : List AlarmNotification) → IsShown before.controller.setup now (turn_of before.controller.setup before.controller.live one).live
+        → after.controller ≡ (step_of before.controller one).controller → IsShown after.controller.setup now after.controller.live
+    goes_shown one now is made = subst (λ (c : Controlling). IsShown c.setup now c.live) (sym (made ∙ controller_is before.controller one)) is
+
+    comes_shown : (octets : List ℕ) (skipped : Bool) → IsIn low_priority before.controller.setup before.device.station.identity follows.relation octets
+        → Comes as_flash skipped before Controller octets after → IsShown after.controller.setup (taken ++ taken_in low_priority skipped before.controller octets) after.controller.live
+    comes_shown octets true is comes = rests_shown (same_world comes)
+    comes_shown octets false is comes =
+        goes_shown (event.Frame (record { items = octets })) (taken ++ taken_in low_priority false before.controller octets)
+        (heard_shown before.controller.setup taken before.device.station.identity.mac before.controller.live (heard_by before.controller.setup.plan.controller octets) is.good shown)
+        (ap (λ (w : World F). w.controller) comes)
+
+    delivered_shown : (octets : Option (List ℕ))
+        → ((frame : List ℕ) → octets ≡ Some frame → IsIn low_priority before.controller.setup before.device.station.identity follows.relation frame)
+        → Delivers as_flash octets before Controller after → IsShown after.controller.setup (taken ++ taken_from low_priority before octets) after.controller.live
+    delivered_shown None is comes = rests_shown (same_world comes)
+    delivered_shown (Some octets) is comes = comes_shown octets (is_skipped before.device before.controller Controller octets) (is octets refl) comes
+
+    device_came : (octets : List ℕ) (skipped : Bool) → Comes as_flash skipped before Device octets after → after.controller ≡ before.controller
+    device_came octets true comes = same_world comes
+    device_came octets false comes = comes.controller
+
+    device_delivered : (octets : Option (List ℕ)) → Delivers as_flash octets before Device after → after.controller ≡ before.controller
+    device_delivered None comes = same_world comes
+    device_delivered (Some octets) comes = device_came octets (is_skipped before.device before.controller Device octets) comes
+
+    event_goes : (one : Event) → IsShown before.controller.setup taken (turn_of before.controller.setup before.controller.live one).live → after.controller ≡ (step_of before.controller one).controller
+        → IsShown after.controller.setup (taken ++ []) after.controller.live
+    event_goes one is made = goes_shown one (taken ++ []) (subst (λ (xs : List AlarmNotification). IsShown before.controller.setup xs (turn_of before.controller.setup before.controller.live one).live) (sym (append-nil taken)) is) made
+
+    one_shown : (one : Move) → Happens as_flash before one after → IsShown after.controller.setup (taken ++ taken_with low_priority before one) after.controller.live
+    one_shown (move.Deliver Device number) happens = rests_shown (device_delivered (slice_get before.sent number) happens)
+    one_shown (move.Deliver Controller number) happens =
+        delivered_shown (slice_get before.sent number) (λ frame there. in_at low_priority so hears as_flash before after raised taken follows number frame there) happens
+    one_shown (move.Tick Device) happens = rests_shown happens.controller
+    one_shown (move.Tick Controller) happens =
+        event_goes event.Tick (event_shown before.controller.setup taken before.controller.live event.Tick tt shown) (ap (λ (w : World F). w.controller) happens)
+    one_shown (move.Application local) happens = rests_shown happens.controller
+    one_shown (move.Neighbour neighbour) happens = rests_shown happens.controller
+    one_shown (move.Give slot subslot value) happens =
+        event_goes (event.Give slot subslot value) (event_shown before.controller.setup taken before.controller.live (event.Give slot subslot value) tt shown) (ap (λ (w : World F). w.controller) happens)
+    one_shown (move.OutputStatus slot subslot is_good) happens =
+        event_goes (event.Status slot subslot is_good) (event_shown before.controller.setup taken before.controller.live (event.Status slot subslot is_good) tt shown)
+        (ap (λ (w : World F). w.controller) happens)
+    one_shown (move.Read slot subslot index) happens =
+        event_goes (event.Read slot subslot index) (event_shown before.controller.setup taken before.controller.live (event.Read slot subslot index) tt shown) (ap (λ (w : World F). w.controller) happens)
+    one_shown (move.Write slot subslot index octets) happens =
+        event_goes (event.Write slot subslot index octets) (event_shown before.controller.setup taken before.controller.live (event.Write slot subslot index octets) tt shown)
+        (ap (λ (w : World F). w.controller) happens)
+    one_shown move.Stop happens =
+        event_goes event.Stop (event_shown before.controller.setup taken before.controller.live event.Stop tt shown) (ap (λ (w : World F). w.controller) happens)
+
+    -- the set-up stays
+    steps_setup : (one : Event) → after ≡ at_controller before one → after.controller.setup ≡ before.controller.setup
+    steps_setup one happens = ap (λ (c : Controlling). c.setup) (ap (λ (w : World F). w.controller) happens ∙ controller_is before.controller one)
+
+    comes_setup : (octets : List ℕ) (skipped : Bool) → Comes as_flash skipped before Controller octets after → after.controller.setup ≡ before.controller.setup
+    comes_setup octets true comes = ap (λ (w : World F). w.controller.setup) comes
+    comes_setup octets false comes = steps_setup (event.Frame (record { items = octets })) comes
+
+    delivered_setup : (octets : Option (List ℕ)) → Delivers as_flash octets before Controller after → after.controller.setup ≡ before.controller.setup
+    delivered_setup None comes = ap (λ (w : World F). w.controller.setup) comes
+    delivered_setup (Some octets) comes = comes_setup octets (is_skipped before.device before.controller Controller octets) comes
+
+    one_setup : (one : Move) → Happens as_flash before one after → after.controller.setup ≡ before.controller.setup
+    one_setup (move.Deliver Device number) happens = ap (λ (c : Controlling). c.setup) (device_delivered (slice_get before.sent number) happens)
+    one_setup (move.Deliver Controller number) happens = delivered_setup (slice_get before.sent number) happens
+    one_setup (move.Tick Device) happens = ap (λ (c : Controlling). c.setup) happens.controller
+    one_setup (move.Tick Controller) happens = steps_setup event.Tick happens
+    one_setup (move.Application local) happens = ap (λ (c : Controlling). c.setup) happens.controller
+    one_setup (move.Neighbour neighbour) happens = ap (λ (c : Controlling). c.setup) happens.controller
+    one_setup (move.Give slot subslot value) happens = steps_setup (event.Give slot subslot value) happens
+    one_setup (move.OutputStatus slot subslot is_good) happens = steps_setup (event.Status slot subslot is_good) happens
+    one_setup (move.Read slot subslot index) happens = steps_setup (event.Read slot subslot index) happens
+    one_setup (move.Write slot subslot index octets) happens = steps_setup (event.Write slot subslot index octets) happens
+    one_setup move.Stop happens = steps_setup event.Stop happens
+
+  -- ---- any run
+
+  -- the alarms of a relation, and what its controller says of the places
+  record Showing (w : World F) (raised taken : List AlarmNotification) : Type 0 where
+    follows : FollowsAt low_priority w raised taken
+    shown : IsShown w.controller.setup taken w.controller.live
+
+  -- the set-up is that of the first world
+  run_shows : DeviceSo → HearsSo → {S : ℕ} (as_flash : Flash F S) (w : World F) (raised taken : List AlarmNotification) → Showing w raised taken
+      → (run : List (Move × World F)) → AreMade as_flash w run → AreMeant w run → AreSizedMoves run
+      → Showing (last_world w run) (raised ++ reported_over w run) (taken ++ taken_over low_priority w run) × ((last_world w run).controller.setup ≡ w.controller.setup)
+  run_shows so hears as_flash w raised taken is [] made meant sized = (
+    subst (λ (xs : List AlarmNotification). Showing w xs (taken ++ [])) (sym (append-nil raised))
+        (subst (λ (xs : List AlarmNotification). Showing w raised xs) (sym (append-nil taken)) is),
+    refl,
+  )
+  run_shows so hears as_flash w raised taken is (one ∷ run) made meant sized =
+      let now = reported_with w one.1 in
+      let next : Showing one.1 (raised ++ now) (taken ++ taken_with low_priority w one.0) = record {
+        follows = one_follows low_priority so hears as_flash w one.1 raised taken is.follows one.0 made.0 meant.0 sized.0;
+        shown = one_shown so hears as_flash w one.1 raised taken is.follows is.shown one.0 made.0;
+      } in
+      let all = run_shows so hears as_flash one.1 (raised ++ now) (taken ++ taken_with low_priority w one.0) next run made.1 meant.1 sized.1 in (
+        subst (λ (xs : List AlarmNotification). Showing (last_world one.1 run) xs (taken ++ (taken_with low_priority w one.0 ++ taken_over low_priority one.1 run))) (append_assoc raised now (reported_over one.1 run))
+            (subst (λ (xs : List AlarmNotification). Showing (last_world one.1 run) ((raised ++ now) ++ reported_over one.1 run) xs)
+            (append_assoc taken (taken_with low_priority w one.0) (taken_over low_priority one.1 run)) all.0),
+        all.1 ∙ one_setup so hears as_flash w one.1 raised taken is.follows is.shown one.0 made.0,
+      )
+
+  record Agreeing (Apart : Type 0) (w : World F) (raised taken : List AlarmNotification) : Type 0 where
+    follows : FollowsAt low_priority w raised taken
+    held : Held Apart w raised
+
+  run_agrees : DeviceSo → HearsSo → ElsewhereSo → (Apart : Type 0) → Apart → {S : ℕ} (as_flash : Flash F S) (w : World F) (raised taken : List AlarmNotification) → Agreeing Apart w raised taken
+      → (run : List (Move × World F)) → AreMade as_flash w run → AreMeant w run → AreSizedMoves run → Agreeing Apart (last_world w run) (raised ++ reported_over w run) (taken ++ taken_over low_priority w run)
+  run_agrees so hears elsewhere Apart alone as_flash w raised taken is [] made meant sized =
+      subst (λ (xs : List AlarmNotification). Agreeing Apart w xs (taken ++ [])) (sym (append-nil raised))
+      (subst (λ (xs : List AlarmNotification). Agreeing Apart w raised xs) (sym (append-nil taken)) is)
+  run_agrees so hears elsewhere Apart alone as_flash w raised taken is (one ∷ run) made meant sized =
+      let now = reported_with w one.1 in
+      let next : Agreeing Apart one.1 (raised ++ now) (taken ++ taken_with low_priority w one.0) = record {
+        follows = one_follows low_priority so hears as_flash w one.1 raised taken is.follows one.0 made.0 meant.0 sized.0;
+        held = one_held so hears elsewhere Apart alone as_flash w one.1 raised taken is.follows is.held one.0 made.0 meant.0 sized.0;
+      } in
+      let all = run_agrees so hears elsewhere Apart alone as_flash one.1 (raised ++ now) (taken ++ taken_with low_priority w one.0) next run made.1 meant.1 sized.1 in
+      subst (λ (xs : List AlarmNotification). Agreeing Apart (last_world one.1 run) xs (taken ++ (taken_with low_priority w one.0 ++ taken_over low_priority one.1 run))) (append_assoc raised now (reported_over one.1 run))
+      (subst (λ (xs : List AlarmNotification). Agreeing Apart (last_world one.1 run) ((raised ++ now) ++ reported_over one.1 run) xs) (append_assoc taken (taken_with low_priority w one.0) (taken_over low_priority one.1 run)) all)
+
+  -- ---- from the start
+
+  first_knows : (setup : Setup) (identity : Identity) (first : World F) → Begins setup identity first → AreKnown first.device.live.rest.diagnoses
+      → KnowsAt (NoneIsAtZero first.device.live.rest.real.modules.items) first []
+  first_knows setup identity first begins known = record {
+    known = known;
+    none = λ none. none;
+    begins = λ l is. absurd (none_some l first.device.live.rest.link begins.unrelated is);
+    stated = λ l is. absurd (none_some l first.device.live.rest.link begins.unrelated is);
+    before = λ l is off. absurd (none_some l first.device.live.rest.link begins.unrelated is);
+    told = λ l is on. absurd (none_some l first.device.live.rest.link begins.unrelated is);
+  }
+
+  module _ (so : DeviceSo) (hears : HearsSo) (setup : Setup) (identity : Identity) (good : IsSetup setup) (can : CanMeet setup identity) {S : ℕ} (as_flash : Flash F S)
+      (first : World F) (run : List (Move × World F)) (begins : Begins setup identity first) (real : AreSizedModules first.device.live.rest.real.modules.items)
+      (made : AreMade as_flash first run) (sized : AreSizedMoves run) (meant : AreMeant first run) where
+    showing_so : Showing (last_world first run) (reported_over first run) (taken_over low_priority first run) × ((last_world first run).controller.setup ≡ first.controller.setup)
+    showing_so =
+        run_shows so hears as_flash first [] [] (record {
+          follows = first_follows low_priority so hears setup identity good can first begins real;
+          shown = subst (λ (l : ControllerLive). IsShown first.controller.setup [] l) (sym begins.made) (first_shown first.controller.setup setup.plan);
+        }) run made meant sized
+
+    -- the set-up of the controller
+    setup_is : (last_world first run).controller.setup ≡ setup
+    setup_is = showing_so.1 ∙ begins.of_setup
+
+    -- its places are those of the plan
+    pub places_so : (last_world first run).controller.live.stands ≡ true → AreThePlaces setup.plan.real.modules.items (last_world first run).controller.live.places
+    places_so up slot subslot =
+        there_of (is_in_plan (last_world first run).controller.setup.plan.real.modules.items) (last_world first run).controller.live.places (showing_so.0.shown.sees up).own slot subslot
+        ∙ ap (λ (s : Setup). is_in_plan s.plan.real.modules.items slot subslot) setup_is
+
+    module _ (elsewhere : ElsewhereSo) (known : AreKnown first.device.live.rest.diagnoses) (none : NoneIsAtZero first.device.live.rest.real.modules.items)
+        (apart : ArePluggedApart first.device.live.rest.real.modules.items) where
+      agreeing_so : Agreeing (NoneIsAtZero first.device.live.rest.real.modules.items) (last_world first run) (reported_over first run) (taken_over low_priority first run)
+      agreeing_so =
+          run_agrees so hears elsewhere (NoneIsAtZero first.device.live.rest.real.modules.items) none as_flash first [] [] (record {
+            follows = first_follows low_priority so hears setup identity good can first begins real;
+            held = record {
+              knows = first_knows setup identity first begins known;
+              placed = record { apart = apart; placed = λ l is. absurd (none_some l first.device.live.rest.link begins.unrelated is) };
+            };
+          }) run made meant sized
+
+      -- each is plugged once
+      pub apart_so : ArePluggedApart (last_world first run).device.live.rest.real.modules.items
+      apart_so = agreeing_so.held.placed.apart
+
+      -- where none is unacknowledged and none waits, both ends agree of each place of which something was reported
+      pub agreed_so : AreAllTaken → length (reported_over first run) ≤ 32768 → (link : RelationState) → (last_world first run).device.live.rest.link ≡ Some link
+          → link.flow.low.alarms.sender.standing ≡ None → link.flow.low.waiting ≡ [] → (last_world first run).controller.live.stands ≡ true
+          → AreAgreed (last_world first run).device.live.rest.real.modules.items link (reported_over first run) (last_world first run).controller.live.places
+      agreed_so all_law few link is unsent empty up slot subslot state reported found =
+          let last = last_world first run in
+          let alarms = reported_over first run in
+          let taken = taken_over low_priority first run in
+          let all = agreeing_so in
+          let placed = all.held.placed.placed link is in
+          let seen = showing_so.0.shown.sees up in
+          let there : is_expected link.request.expected slot subslot ≡ true =
+          ap (λ (r : Request). is_expected r.expected slot subslot) (all.follows.sized link is).same
+          ∙ (planned_expected last.controller.setup.plan.real.modules.items slot subslot
+          ∙ (sym (there_of (is_in_plan last.controller.setup.plan.real.modules.items) last.controller.live.places seen.own slot subslot) ∙ ap (λ (o : Option PlaceState). is_some o) found)) in
+          state_as (λ s ss. seen_by taken s ss (seen.first s ss)) last.controller.live.places slot subslot state seen.are found
+          ∙ (ap (λ (xs : List AlarmNotification). seen_by xs slot subslot (seen.first slot subslot)) (lacks_none low_priority last alarms taken all.follows all_law few link is unsent)
+          ∙ (seen_same alarms slot subslot (seen.first slot subslot) (placed.first slot subslot) reported
+          ∙ (all_seen placed.changes alarms placed.reports slot subslot (placed.first slot subslot)
+          ∙ (ap (λ (xs : List LowChange). changes_after xs slot subslot (placed.first slot subslot)) (sym (append-nil placed.changes))
+          ∙ (ap (λ (ws : List QueuedAlarm). changes_after (placed.changes ++ map change_in ws) slot subslot (placed.first slot subslot)) (sym empty) ∙ placed.are slot subslot there)))))

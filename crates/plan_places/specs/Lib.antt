@@ -1,0 +1,4 @@
+pub mod Listed
+pub mod Reports
+pub mod Places
+pub mod Records
