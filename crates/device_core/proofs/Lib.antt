@@ -14,6 +14,7 @@ pub mod Runs
 pub mod Restarts
 pub mod Exchanged
 mod Rated
+mod Counting
 mod Changing
 pub mod Leaping
 mod Logged

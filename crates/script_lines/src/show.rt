@@ -5,6 +5,7 @@ ghost use Rattle.script_lines.specs.Show.{name_line, suite_line, dotted, text_li
 ghost use Rattle.script_lines.specs.Show.{diagnoses_shown, provider_line, provider_word, stands_line, state_line, state_word};
 
 use crate::render::hex_digits;
+use asked_records::{AskedRecord, Wanted};
 use bitflags::Flags;
 use controller_core::{Cause, Diagnosis, State};
 use cyclic_data::DataStatus;
@@ -133,6 +134,35 @@ pub fn due(units: u32, text: &mut Vec<u8>) -> Result<(), AllocError>
     text.extend_from_slice(b"due ")?;
     number(units, text)?;
     text.extend_from_slice(b"\n")
+}
+
+/// What is asked of the device's application: the number, slot, subslot and index, and what is wanted of the record; or `-`.
+pub fn asked(asked: Option<AskedRecord<'_>>, text: &mut Vec<u8>) -> Result<(), AllocError> {
+    let Some(asked) = asked else {
+        return text.extend_from_slice(b"asked -\n");
+    };
+    text.extend_from_slice(b"asked ")?;
+    number(asked.number, text)?;
+    for value in [asked.slot, asked.subslot, asked.index] {
+        text.extend_from_slice(b" ")?;
+        number(u32::from(value), text)?;
+    }
+    wanted(asked.wanted, text)?;
+    text.extend_from_slice(b"\n")
+}
+
+/// `read` with the number of octets, or `write` with the octets in hex. This is not a line of its own.
+fn wanted(wanted: Wanted<'_>, text: &mut Vec<u8>) -> Result<(), AllocError> {
+    match wanted {
+        Wanted::Read(length) => {
+            text.extend_from_slice(b" read ")?;
+            number(length, text)
+        }
+        Wanted::Write(octets) => {
+            text.extend_from_slice(b" write ")?;
+            hex_digits(octets, text)
+        }
+    }
 }
 
 /// The output of a submodule, in hex.

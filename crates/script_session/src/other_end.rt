@@ -34,6 +34,7 @@ use uuid::Uuid;
 pub(crate) struct OtherEnd {
     alloc: Global,
     options: DeviceOptions,
+    answers_records: bool,
     serves: bool,
     plan: Option<Plan>,
     controller: Option<Controller>,
@@ -77,6 +78,7 @@ impl OtherEnd {
         OtherEnd {
             alloc,
             options: DeviceOptions::default(),
+            answers_records: false,
             serves: false,
             plan: None,
             controller: None,
@@ -102,7 +104,13 @@ impl OtherEnd {
             Choice::InputsBad(is_on) => self.options.inputs_begin_bad = is_on,
             Choice::ReadyLater(is_on) => self.options.ready_by_application = is_on,
             Choice::Interval(units) => self.options.smallest_interval = units,
+            Choice::AnswersRecords(is_on) => self.answers_records = is_on,
         }
+    }
+
+    /// Whether the application of the device answers records from its next start on.
+    pub(crate) fn answers_records(&self) -> bool {
+        self.answers_records
     }
 
     /// Whether services begin with the device's next start.

@@ -7,6 +7,7 @@ ghost use Rattle.flash_model.specs.Memory.{image_of, IsReliable};
 ghost use Rattle.settings_journal.specs.Image.{StartsWith, LeftByDevice, capacity};
 ghost use Rattle.station.specs.Serving.{serving_at};
 
+use asked_records::{NamedRecords, RecordName};
 use device_core::{Device, Event, Note};
 use flash_model::{Flash, Lent, MemoryFlash, Order};
 use relations::DeviceOptions;
@@ -158,7 +159,12 @@ impl<'a> Power<'a> {
     ghost use Rattle.script_session.specs.Power.{IsDemo, IsRunning, IsBack, IsOver, is_off, refusal_of};
 
     /// Starts the device with these options from the content of a flash, with services that begin with it or without any.
-    pub(crate) fn start(options: DeviceOptions, serves: bool, flash: DemoFlash<'a>) -> Power<'a>
+    pub(crate) fn start(
+        options: DeviceOptions,
+        answers: bool,
+        serves: bool,
+        flash: DemoFlash<'a>,
+    ) -> Power<'a>
         ensures stored { (settings : Settings) (room : ℕ) → IsReliable flash.entry → LeftByDevice (image_of flash.entry) →
             StartsWith (image_of flash.entry) settings room →
             IsRunning (demo_started options serves settings room) result }
@@ -168,6 +174,7 @@ impl<'a> Power<'a> {
     {
         let (identity, modules) = (pn_values::demo_identity(), pn_values::demo_modules());
         let mut device = Device::unstarted(identity, modules, options, flash);
+        device.name_records(demo_records(answers));
         match device.load() {
             Ok(()) => Power::On(DemoStation::begin(device, serves)),
             Err(fault) => Power::Off(fault, device.into_flash()),
@@ -175,7 +182,7 @@ impl<'a> Power<'a> {
     }
 
     /// Switches the device's power off and on again. It has these options then, and services that begin with it or none.
-    pub(crate) fn restart(self, options: DeviceOptions, serves: bool) -> Power<'a>
+    pub(crate) fn restart(self, options: DeviceOptions, answers: bool, serves: bool) -> Power<'a>
         ensures runs { (station : Station) → IsRunning station self.entry →
             IsRunning (demo_started options serves station.live.values.stored station.live.values.room) result }
         ensures back { IsBack options serves self.entry result }
@@ -184,15 +191,20 @@ impl<'a> Power<'a> {
             Power::On(demo) => {
                 // The flash holds what is stored.
                 let _ = demo.device.stored();
-                Power::with_power(options, serves, demo.into_flash())
+                Power::with_power(options, answers, serves, demo.into_flash())
             }
-            Power::Off(_, flash) => Power::with_power(options, serves, flash),
+            Power::Off(_, flash) => Power::with_power(options, answers, serves, flash),
             Power::Away => Power::Away,
         }
     }
 
     /// Switches the power of a flash on again, and starts the device with these options. A pending order stays armed.
-    fn with_power(options: DeviceOptions, serves: bool, flash: DemoFlash<'a>) -> Power<'a>
+    fn with_power(
+        options: DeviceOptions,
+        answers: bool,
+        serves: bool,
+        flash: DemoFlash<'a>,
+    ) -> Power<'a>
         ensures runs { (settings : Settings) (room : ℕ) → IsReliable flash.entry → LeftByDevice (image_of flash.entry) →
             StartsWith (image_of flash.entry) settings room →
             IsRunning (demo_started options serves settings room) result }
@@ -200,7 +212,7 @@ impl<'a> Power<'a> {
     {
         let mut flash = flash;
         flash.power_up();
-        Power::start(options, serves, flash)
+        Power::start(options, answers, serves, flash)
     }
 
     /// Starts the services beside the device, if it runs and there are none yet.
@@ -232,5 +244,28 @@ impl<'a> Power<'a> {
             Power::On(_) | Power::Away => None,
             Power::Off(fault, _) => Some(*fault),
         }
+    }
+}
+
+// The records that the application of the demo device answers, if it answers records: record 0x2000 of each of its two modules, the
+// first up to 1,308 octets and the second up to 4, which can only be read.
+fn demo_records(answers: bool) -> NamedRecords {
+    let long = RecordName {
+        slot: 1,
+        subslot: 1,
+        index: 0x2000,
+        greatest_length: 1308,
+        is_readable: true,
+        is_writable: true,
+    };
+    let short = RecordName {
+        slot: 2,
+        greatest_length: 4,
+        is_writable: false,
+        ..long
+    };
+    match NamedRecords::of(&[long, short]) {
+        Ok(named) if answers => named,
+        _ => NamedRecords::new(),
     }
 }

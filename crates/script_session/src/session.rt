@@ -70,7 +70,7 @@ impl<'a> Session<'a> {
         let other = OtherEnd::new(alloc);
         Session {
             alloc,
-            power: Power::start(other.options(), false, Lent::new(flash)),
+            power: Power::start(other.options(), false, false, Lent::new(flash)),
             other,
             outbox: StationOutbox::new(),
         }
@@ -172,6 +172,14 @@ impl<'a> Session<'a> {
                 always(self.say(Local::Plug(slot, ident, submodule), text))
             }
             Command::Expected => always(self.expected(text)),
+            Command::Asked => always(self.asked(text)),
+            Command::Answer(number, octets) => {
+                always(self.say(Local::Answer(number, Octets::of(octets)), text))
+            }
+            Command::Written(number) => always(self.say(Local::Written(number), text)),
+            Command::Refuse(number, code1, code2) => {
+                always(self.say(Local::Refuse(number, code1, code2), text))
+            }
             Command::Diagnosis(slot, subslot, channel, error, appears) => {
                 let change = Local::Diagnosis(slot, subslot, channel, error, appears);
                 always(self.say(change, text))
@@ -253,6 +261,14 @@ impl<'a> Session<'a> {
         }
     }
 
+    /// Shows what is asked of the device's application.
+    fn asked(&self, text: &mut Vec<u8>) -> Result<(), AllocError> {
+        match &self.power {
+            Power::On(demo) => show::asked(demo.device().asked(), text),
+            Power::Off(_, _) | Power::Away => text.extend_from_slice(b"off\n"),
+        }
+    }
+
     /// Switches the device's power off and on again. The frames that wait are lost.
     fn restart(&mut self, text: &mut Vec<u8>) -> Result<(), AllocError>
         ensures obeys { (network : Network) → Are network self.old →
@@ -262,7 +278,11 @@ impl<'a> Session<'a> {
         ensures printed { OnOk result (text.new.items ≡ text.old.items ++ boot_line (refusal_of self.new.power)) }
     {
         let power = mem::replace(&mut self.power, Power::Away);
-        self.power = power.restart(self.other.options(), self.other.serves());
+        self.power = power.restart(
+            self.other.options(),
+            self.other.answers_records(),
+            self.other.serves(),
+        );
         self.other.clear();
         render::boot(self.power.refusal(), text)
     }

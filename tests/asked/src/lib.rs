@@ -2,6 +2,7 @@
 #![cfg(test)]
 
 mod answers;
+mod device;
 mod judging;
 mod machine;
 mod names;

@@ -4,7 +4,7 @@ ghost use Rattle.std.specs.Option.{option_map};
 ghost use Rattle.device_abi.specs.port.State.{IsIdle, IsRead, closed, has_some, has_work as is_left, waiting as waiting_in};
 ghost use Rattle.device_abi.specs.declared.port.stage.Stage.TheVariants.{Booted, Made};
 ghost use Rattle.device_frames.specs.declared.event.Event.TheVariants.{Application, Frame as Framed};
-ghost use Rattle.device_frames.specs.declared.local.Local.TheVariants.{Alarm, Diagnosis, Input, Plug, ProviderState, Pull, PullModule, Ready, ReadyAt, Status};
+ghost use Rattle.device_frames.specs.declared.local.Local.TheVariants.{Alarm, Answer, Diagnosis, Input, Plug, ProviderState, Pull, PullModule, Ready, ReadyAt, Refuse, Status, Written};
 ghost use Rattle.device_abi.specs.port.Pace.{AreCalm};
 ghost use Rattle.device_abi.specs.port.Served.{IsFetched, IsNextBoth, advanced_both, barred_both, conflicts_of, due_both, frames_of, linked_both, lost_both, or_own as kind_or_own, waiting_both};
 ghost use Rattle.device_abi.specs.port.ServedSteps.{AnswersBoth, HearsBoth, IsOfApplication, KnowsBothOrNot, PassesBothOrNot, PassesOneOrNot, QuietOrNot, SkipsOrNot};
@@ -365,6 +365,30 @@ impl Port {
         ensures { AnswersBoth self.old (Application (ProviderState is_running)) result self.new }
     {
         self.apply(&Event::provider_state(is_running))
+    }
+
+    /// The application answers the question with this number by the octets of a record.
+    #[inline(never)]
+    pub fn answer(&mut self, number: u32, octets: &[u8]) -> Result<Note, Refusal>
+        ensures { AnswersBoth self.old (Application (Answer number (record { items = take 1519 octets.now }))) result self.new }
+    {
+        self.apply(&Event::answer(number, octets))
+    }
+
+    /// The application has written the record of the question with this number.
+    #[inline(never)]
+    pub fn written(&mut self, number: u32) -> Result<Note, Refusal>
+        ensures { AnswersBoth self.old (Application (Written number)) result self.new }
+    {
+        self.apply(&Event::written(number))
+    }
+
+    /// The application refuses the question with this number, with this ErrorCode1 and ErrorCode2.
+    #[inline(never)]
+    pub fn refuse(&mut self, number: u32, code1: u8, code2: u8) -> Result<Note, Refusal>
+        ensures { AnswersBoth self.old (Application (Refuse number code1 code2)) result self.new }
+    {
+        self.apply(&Event::refuse(number, code1, code2))
     }
 
     // Any event but a frame and a unit of time: of the services it only lets them see the running settings.
