@@ -794,7 +794,7 @@ class Plugs:
         self.say.tells(f"place {slot} {subslot} {word}")
 
     def tells(self, kind, specifier, *sent, slot=1, subslot=1, priority="low", api=0):
-        """An alarm of a submodule, and what is sent behind its ACK and its AlarmAck, which the station acknowledges."""
+        """An alarm of a submodule, and what is sent after its ACK and its AlarmAck, which the station acknowledges."""
         number, taken = self.number[priority], self.last[priority]
         source, layer, ack = ((low_pdu, AlarmNotification_Low, LowAlarmAck) if priority == "low" else
                               (high_pdu, AlarmNotification_High, exchange.AlarmAck))
@@ -946,7 +946,7 @@ def plugs(say):
     on.accepts(on.asks(0))
     on.tells(PLUG, 4, slot=2)
     on.tells(PLUG, 5)
-    # The place waits behind the others now.
+    # The place waits after the others now.
     on.accepts(on.asks(2))
     on.accepts(on.ends(4))
     on.tells(WRONG, 6, slot=2)
