@@ -37,14 +37,14 @@ extern "C" {
 #endif
 
 /* Octets of the room of a device; its address is a multiple of 16. */
-#define PN_DEVICE_SIZE 75776u
+#define PN_DEVICE_SIZE 77312u
 /* Octets of each of the two flash sectors. An erased sector is all ones; a program call turns ones to zeros. */
 #define PN_SECTOR_SIZE 4096u
 /* The longest sent frame, without its check sequence. A received frame may be longer; it is refused. */
 #define PN_FRAME_SIZE 1518u
 /* The maximum number of octets of one operation, and the octets of an operation up to and with these: the library uses no others. */
 #define PN_OP_SIZE 1520u
-#define PN_OP_LENGTH 1672u
+#define PN_OP_LENGTH 1680u
 /* A unit of time, in nanoseconds: 32 of them are a millisecond. */
 #define PN_UNIT_NS 31250u
 /* How many units a host may be late and still catch up. After a longer stall, drop the units beyond this; otherwise repeats and error
@@ -56,6 +56,9 @@ extern "C" {
 #define PN_SUBMODULES 4u
 #define PN_PARAMETERS 2u
 #define PN_PLACES 64u /* submodules that a Connect expects, at most */
+/* Records that the application answers, at most, and the most octets of one. */
+#define PN_ASKED_RECORDS 16u
+#define PN_RECORD_SIZE 1308u
 
 /* The result of an event that was accepted (pn_op.note). None of them is a fault of the host. Only a frame has another one than PN_DONE: what
  * the application says is done, or PN_REFUSED is returned. */
@@ -74,7 +77,8 @@ enum pn_note {
 enum pn_reason {
     PN_WHY_NOT_PLUGGED = 1,   /* no submodule is plugged in this slot and subslot */
     PN_WHY_NO_RELATION = 2,   /* no controller has a relation with the device */
-    PN_WHY_BAD_LENGTH = 3,    /* pn_input: the input of the submodule has another length; pn_alarm: more than 32 octets */
+    PN_WHY_BAD_LENGTH = 3,    /* pn_input: the input of the submodule has another length; pn_alarm: more than 32 octets; pn_answer: more octets
+                               * than the greatest length of the record */
     PN_WHY_NO_PLACE = 4,      /* pn_input: the relation has no input of this submodule with this length */
     PN_WHY_NO_EXCHANGE = 5,   /* pn_alarm: there is a relation, but data is not exchanged yet */
     PN_WHY_ALARM_OPEN = 6,    /* pn_alarm: the controller has not confirmed the alarm before this one yet */
@@ -90,7 +94,10 @@ enum pn_reason {
     PN_WHY_PLUGGED = 16,      /* pn_plug: a submodule is plugged there already */
     PN_WHY_NO_ROOM = 17,      /* pn_plug: four submodules are plugged in this module */
     PN_WHY_BAD_SUBMODULE = 18, /* pn_plug: a number is not in its range */
-    PN_WHY_NO_PLUG = 19       /* pn_ready_at: the relation knows of no plug there, or its ApplicationReady is answered */
+    PN_WHY_NO_PLUG = 19,      /* pn_ready_at: the relation knows of no plug there, or its ApplicationReady is answered */
+    PN_WHY_NOT_ASKED = 20,    /* pn_answer, pn_written, pn_refuse: nothing is asked under this number, or no longer */
+    PN_WHY_OTHER_KIND = 21,   /* pn_answer: what is asked is a Write; pn_written: it is a Read */
+    PN_WHY_BAD_CODE = 22      /* pn_refuse: ErrorCode1 is below 0xA0 or above 0xAF */
 };
 
 /* The text of a reason, for a message. It is never null, and lasts as long as the program. */
@@ -118,6 +125,9 @@ static inline const char *pn_strreason(uint32_t reason)
         return "a slot is 1 to 15, a subslot 1 to 36863, an ident number of a module at least 1, data at most 1440 octets, the index of a record at most "
                "32767 and no other's, and its length 1 to 64";
     case PN_WHY_NO_PLUG: return "no plug there waits for the application";
+    case PN_WHY_NOT_ASKED: return "nothing is asked under this number";
+    case PN_WHY_OTHER_KIND: return "a Read is answered by octets, a Write is not";
+    case PN_WHY_BAD_CODE: return "ErrorCode1 of an application is 0xA0 to 0xAF";
     default: return "no reason";
     }
 }
@@ -139,6 +149,12 @@ enum pn_progress {
     PN_PLACE_TOLD = 3,    /* the alarm was sent: the controller writes the parameters */
     PN_PLACE_ENDED = 4,   /* the controller has ended the parameters: with `ready_by_application`, call pn_ready_at when they are in use */
     PN_PLACE_REFUSED = 5  /* the controller refused ApplicationReady: only another pull and plug, or another relation, can change this */
+};
+
+/* What is wanted of a record that the application answers (pn_op.wanted). */
+enum pn_wanted {
+    PN_WANTS_READ = 1, /* its octets: answer with pn_answer */
+    PN_WANTS_WRITE = 2 /* that these octets are written: answer with pn_written when that is done */
 };
 
 /* What the application relation waits for (pn_op.phase). */
@@ -189,7 +205,11 @@ enum pn_what {
     PN_OP_PULL_MODULE = 29,
     PN_OP_PLUG = 30,
     PN_OP_READY_AT = 31,
-    PN_OP_EXPECTED = 32
+    PN_OP_EXPECTED = 32,
+    PN_OP_ASKED = 33,
+    PN_OP_ANSWER = 34,
+    PN_OP_WRITTEN = 35,
+    PN_OP_REFUSE = 36
 };
 
 /* A parameter record that a submodule accepts: its index, 0 to 32,767 and no other record's of the submodule, and its exact length, 1 to
@@ -217,6 +237,19 @@ typedef struct pn_module {
     uint16_t submodule_count;
     pn_submodule submodules[PN_SUBMODULES];
 } pn_module;
+
+/* A record that the application answers. A controller reads or writes it, or a tool reads it without a relation, and the device asks the
+ * application (pn_asked). Its index is 0 to 32,767; no other such record has the same slot, subslot and index. A parameter record of a submodule
+ * that has the same ones comes first. The submodule may be any, also one that is plugged later: as long as nothing is plugged there, the device
+ * refuses the call. */
+typedef struct pn_asked_record {
+    uint16_t slot;
+    uint16_t subslot;
+    uint16_t index;
+    uint16_t greatest_length; /* 1 to PN_RECORD_SIZE octets */
+    uint16_t is_readable;     /* not 0: it can be read */
+    uint16_t is_writable;     /* not 0: it can be written. A record has at least one of both */
+} pn_asked_record;
 
 /* Beside a device are the services of its IP address and its neighbours. They answer echo requests (ping), the endpoint mapper's lookups,
  * pings of RPC and calls to unknown interfaces or operations; they announce the address, count its conflicts (pn_conflicts) and defend it. They send LLDP each
@@ -255,6 +288,8 @@ typedef struct pn_station {
     uint32_t without_services;     /* not 0: the device alone, without the services of its IP address */
     uint32_t module_count;         /* at most PN_MODULES */
     pn_module modules[PN_MODULES];
+    uint32_t record_count;         /* at most PN_ASKED_RECORDS. 0: the application answers no records */
+    pn_asked_record records[PN_ASKED_RECORDS];
 } pn_station;
 
 /* One operation. A host keeps one and reuses it; it needs no initial value. Each field has one meaning, whichever function uses it. A function
@@ -273,6 +308,7 @@ typedef struct pn_station {
  *   pn_provider_state             nothing                                 note, work, confirmed (0)
  *   pn_pull, pn_plug, pn_ready_at  slot, subslot                          note, work, confirmed (0); with PN_REFUSED only reason
  *   pn_pull_module                slot                                    note, work, confirmed (0); with PN_REFUSED only reason
+ *   pn_answer, pn_written, pn_refuse  number                              note, work, confirmed (0); with PN_REFUSED only reason
  *   pn_tell_link                  is_up                                   nothing
  *   pn_next                       nothing                                 work, more, length, data; of a flash call sector and place
  *   pn_carry_out                  work                                    what pn_next sets
@@ -286,6 +322,8 @@ typedef struct pn_station {
  *   pn_conflicts, pn_passed_on    nothing                                 count
  *   pn_taken, pn_passed           number                                  slot, subslot, index, length, octets
  *   pn_expected                   number                                  slot, subslot, progress
+ *   pn_asked                      nothing                                 number, slot, subslot, index, wanted; of a Read read_length, of a
+ *                                                                         Write length, octets
  *   pn_running, pn_stored         nothing                                 length, octets
  *
  * nandutable_controller.h has those of a controller and of a tool. */
@@ -294,7 +332,7 @@ typedef struct pn_op {
     uint32_t slot;           /* of a submodule: 0 to 65,535 */
     uint32_t subslot;        /* of a submodule: 0 to 65,535 */
     uint32_t index;          /* of a record: 0 to 65,535 */
-    uint32_t number;         /* the place of an item in a list, from 0 on */
+    uint32_t number;         /* the place of an item in a list, from 0 on; of what is asked of the application its number, from 1 on */
     uint32_t channel;        /* ChannelNumber of a diagnosis: 0 to 0x7FFF, or 0x8000 for the submodule itself */
     uint32_t error;          /* ChannelErrorType of a diagnosis: 1 to 0xFFFF */
     uint32_t appears;        /* 0: the diagnosis disappears */
@@ -321,6 +359,8 @@ typedef struct pn_op {
     uint32_t sequence;       /* SendSeqNum of an alarm */
     uint32_t confirmed;      /* enum pn_confirmed: what became of the open alarm of a device in an event */
     uint32_t progress;       /* enum pn_progress: how far a place of the relation is */
+    uint32_t wanted;         /* enum pn_wanted: what is wanted of a record that the application answers */
+    uint32_t read_length;    /* RecordDataLength of a Read: how many octets of the record are sent at most */
     uint32_t port_length;    /* octets of the PortID of a neighbour: at most 255 */
     uint32_t chassis_length; /* octets of the ChassisID of a neighbour: at most 255 */
     uint32_t work;           /* enum pn_work: after an event the next piece of work, after pn_next the one that it handed out */
@@ -347,9 +387,9 @@ typedef struct pn_device {
 
 /* The sizes that the library was built with. */
 #if defined(__cplusplus)
-static_assert(offsetof(pn_op, octets) + PN_OP_SIZE == PN_OP_LENGTH && sizeof(pn_station) == 1528, "another layout than the library's");
+static_assert(offsetof(pn_op, octets) + PN_OP_SIZE == PN_OP_LENGTH && sizeof(pn_station) == 1724, "another layout than the library's");
 #else
-_Static_assert(offsetof(pn_op, octets) + PN_OP_SIZE == PN_OP_LENGTH && sizeof(pn_station) == 1528, "another layout than the library's");
+_Static_assert(offsetof(pn_op, octets) + PN_OP_SIZE == PN_OP_LENGTH && sizeof(pn_station) == 1724, "another layout than the library's");
 #endif
 
 /* The settings that survive a power failure. */
@@ -384,7 +424,7 @@ void pn_fetch(void *room, pn_op *op, uint32_t *answer, const uint8_t **octets);
 
 /* Makes a device from this station in a room of `size` octets. `abi` is the version of the caller's header, `op_size` the size of its
  * operation. It does not set `made` of a pn_device: for a room elsewhere call pn_step.
- * May return PN_NULL, PN_BAD_ABI, PN_SMALL_ROOM, PN_BAD_STATION, and PN_BAD_MAC to PN_BAD_OPTION. */
+ * May return PN_NULL, PN_BAD_ABI, PN_SMALL_ROOM, PN_BAD_STATION, PN_BAD_MAC to PN_BAD_OPTION, and PN_BAD_RECORD. */
 static inline uint32_t pn_device_make(void *room, size_t size, uint32_t abi, size_t op_size, const pn_station *station)
 {
     uint32_t answer;
@@ -400,7 +440,7 @@ static inline uint32_t pn_device_make(void *room, size_t size, uint32_t abi, siz
 
 /* Makes a device from this station, and copies the station. Call it first; a device that is made again forgets everything. Of several
  * faults of a station it returns the first of: PN_BAD_STATION, PN_BAD_MAC, PN_BAD_SLOT, PN_BAD_SUBSLOT, PN_BAD_DATA, PN_BAD_PARAMETER,
- * PN_BAD_OPTION. May also return PN_NULL, PN_BAD_ABI, PN_SMALL_ROOM. */
+ * PN_BAD_OPTION, PN_BAD_RECORD. May also return PN_NULL, PN_BAD_ABI, PN_SMALL_ROOM. */
 static inline uint32_t pn_make(pn_device *device, const pn_station *station)
 {
     uint32_t answer;
@@ -454,8 +494,8 @@ static inline uint32_t pn_boot(pn_device *device, pn_op *op, const uint8_t first
  * pn_carry_out, or pn_next while work remains: neither changes `confirmed`. ---
  * They may return PN_NULL, PN_NOT_MADE, PN_NOT_BOOTED, PN_LOST, PN_HAS_WORK, and what each names. After such a number nothing was done:
  * `units` of pn_tick, for one, is still the number that was handed in. A loop must end on it. What the application says (pn_input, pn_alarm,
- * pn_status, pn_diagnosis, pn_ready, pn_pull, pn_pull_module, pn_plug, pn_ready_at) may be refused: PN_REFUSED, with `reason`. Then nothing
- * changed, and no work remains. */
+ * pn_status, pn_diagnosis, pn_ready, pn_pull, pn_pull_module, pn_plug, pn_ready_at, pn_answer, pn_written, pn_refuse) may be refused:
+ * PN_REFUSED, with `reason`. Then nothing changed, and no work remains. */
 
 /* Hands in a received frame: its octets from the destination address on, without the check sequence. They are only read during the call.
  * The interface must accept the device's address, the broadcast address, the group address 01-0E-CF-00-00-00, and for LLDP
@@ -630,6 +670,47 @@ static inline uint32_t pn_ready_at(pn_device *device, pn_op *op, uint16_t slot, 
     op->slot = slot;
     op->subslot = subslot;
     return pn_ask(device, op, PN_OP_READY_AT, NULL, 0);
+}
+
+/* --- Records that the application answers: `records` of the station. A call of a controller for one of them is asked of the application
+ * (PN_NEW_ASKED of pn_news, pn_asked), one at a time. The answer makes the response to the call: it is the work of the event. Answer soon: a
+ * controller waits some seconds, and a call without an answer after 64,000 units of time, two seconds, is refused by the device (busy,
+ * ErrorCode1 0xA7). While one is asked, another call for such a record is refused (resource busy, 0xC2). What is asked is dropped without a
+ * response when its relation ends, when its submodule is pulled, and at a start. At a start the numbers begin with 1 again. --- */
+
+/* The octets of the record are the answer to the Read with this number (pn_asked): at most its greatest length. Of more octets than
+ * `read_length` only the first ones are sent.
+ * May return PN_REFUSED: PN_WHY_NOT_ASKED, PN_WHY_OTHER_KIND, PN_WHY_BAD_LENGTH. */
+static inline uint32_t pn_answer(pn_device *device, pn_op *op, uint32_t number, const uint8_t *octets, size_t length)
+{
+    if (op == NULL)
+        return PN_NULL;
+    op->number = number;
+    return pn_ask(device, op, PN_OP_ANSWER, octets, length);
+}
+
+/* The Write with this number is done: its octets are written. May return PN_REFUSED: PN_WHY_NOT_ASKED, PN_WHY_OTHER_KIND. */
+static inline uint32_t pn_written(pn_device *device, pn_op *op, uint32_t number)
+{
+    if (op == NULL)
+        return PN_NULL;
+    op->number = number;
+    return pn_ask(device, op, PN_OP_WRITTEN, NULL, 0);
+}
+
+/* The Read or Write with this number is refused: its PNIOStatus is DE (of a Read) or DF (of a Write), 80, `code1` and `code2`. ErrorCode1 of an
+ * application is 0xA0 to 0xAF (IEC 61158-6-10: 0xA0 read error, 0xA1 write error, 0xA9 feature not supported, 0xAA to 0xAF user specific);
+ * ErrorCode2 is its own.
+ * May return PN_REFUSED: PN_WHY_NOT_ASKED, PN_WHY_BAD_CODE. */
+static inline uint32_t pn_refuse(pn_device *device, pn_op *op, uint32_t number, uint8_t code1, uint8_t code2)
+{
+    uint8_t octets[2];
+    if (op == NULL)
+        return PN_NULL;
+    op->number = number;
+    octets[0] = code1;
+    octets[1] = code2;
+    return pn_ask(device, op, PN_OP_REFUSE, octets, sizeof octets);
 }
 
 /* What the host knows of the link, for the LLDP of the device. */
@@ -863,6 +944,14 @@ static inline uint32_t pn_expected(const pn_device *device, pn_op *op, uint32_t 
     return pn_read(device, op, PN_OP_EXPECTED);
 }
 
+/* What is asked of the application: the record that a call reads or writes (`slot`, `subslot`, `index`), what is wanted (`wanted`, enum
+ * pn_wanted), and the `number` that its answer names. Of a Read `read_length` is how many octets are sent at most; of a Write the octets are
+ * in `length` and `octets`. May return PN_NOT_ASKED: nothing is asked, or no longer. */
+static inline uint32_t pn_asked(const pn_device *device, pn_op *op)
+{
+    return pn_read(device, op, PN_OP_ASKED);
+}
+
 /* With `records_passed_on`: how many parameter records were passed on and not kept in the relation, modulo 2^32 (`*count`; 0 without a
  * relation). */
 static inline uint32_t pn_passed_on(const pn_device *device, pn_op *op, uint32_t *count)
@@ -948,9 +1037,10 @@ static inline uint32_t pn_left(const pn_device *device, pn_op *op, uint32_t *lef
 
 /* --- What changed ---
  *
- * How a host learns of a parameter record, of PrmEnd, of a reset, of another name or address, and of what a pull or a plug led to. Only frames
- * that are not cyclic change these, pulls and plugs, and units of time that end the relation. So keep one pn_watch for each device, all zeros at
- * first, show it each frame (pn_watch_frame) before pn_frame, and call pn_news when the work of each such event is done. */
+ * How a host learns of a parameter record, of PrmEnd, of a reset, of another name or address, of what a pull or a plug led to, and of what is
+ * asked of its application. Only frames that are not cyclic change these, pulls and plugs, and units of time that end the relation. So keep one
+ * pn_watch for each device, all zeros at first, show it each frame (pn_watch_frame) before pn_frame, and call pn_news when the work of each
+ * such event is done. */
 enum pn_change {
     PN_NEW_PHASE = 1,      /* the phase of the relation (`phase` of the watch) */
     PN_NEW_RELATION = 2,   /* a Connect was accepted: the records before it are no longer valid */
@@ -960,6 +1050,7 @@ enum pn_change {
     PN_NEW_ADDRESS = 32,   /* the running address, mask or gateway */
     PN_NEW_PASSED = 128,   /* parameter records were passed on and not kept: the last `new_passed` ones (pn_passed, the oldest of them first:
                             * from `new_passed` - 1 down to 0) */
+    PN_NEW_ASKED = 512,    /* something is asked of the application that was not reported yet: pn_asked */
     PN_NEW_PLUGS = 256,    /* how far a place of the relation is (pn_expected). As a relation begins, all places are as its Connect found them */
     PN_RESET = 64          /* a reset was accepted: FactoryReset, or ResetToFactory of any kind (needs pn_watch_frame) */
 };
@@ -974,6 +1065,7 @@ typedef struct pn_watch {
     uint32_t left;     /* commits that the flash still accepts */
     uint32_t is_begun; /* 0 before the first call */
     uint32_t is_asked; /* 1 if a frame asked for a reset since the call before */
+    uint32_t asked;    /* the number of what was asked of the application last; 0 if nothing was yet */
     uint8_t progress[PN_PLACES]; /* how far each place of the relation is */
 } pn_watch;
 
@@ -1052,6 +1144,15 @@ static inline uint32_t pn_passed_news(const pn_device *device, pn_op *op, int is
     return more != 0 ? PN_NEW_PASSED : 0;
 }
 
+/* Compares the number of what is asked of the application with that in `watch`, and puts it there. Returns what changed. */
+static inline uint32_t pn_asked_news(const pn_device *device, pn_op *op, pn_watch *watch)
+{
+    if (pn_asked(device, op) != PN_OK || op->number == watch->asked)
+        return 0;
+    watch->asked = op->number;
+    return PN_NEW_ASKED;
+}
+
 /* Compares the phase and the records with those in `watch`, and puts them there. Returns what changed. */
 static inline uint32_t pn_relation_news(const pn_device *device, pn_op *op, pn_watch *watch)
 {
@@ -1109,7 +1210,7 @@ static inline uint32_t pn_news(const pn_device *device, pn_op *op, pn_watch *wat
         answer = pn_state(device, op);
     if (answer != PN_OK)
         return answer;
-    *news = pn_relation_news(device, op, watch) | pn_settings_news(&now, left, watch);
+    *news = pn_relation_news(device, op, watch) | pn_settings_news(&now, left, watch) | pn_asked_news(device, op, watch);
     if (watch->is_begun == 0)
         *news = 0;
     watch->is_begun = 1;

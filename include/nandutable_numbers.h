@@ -12,7 +12,7 @@ extern "C" {
 
 /* The version of the product, and that of its headers. Each of the three libraries compares PN_ABI with its own. */
 #define PN_VERSION "0.1.0"
-#define PN_ABI 8u
+#define PN_ABI 9u
 /* A number from PN_PLAN_JSON on, minus this, is the number of the fault in the documents and in messages of the programs: 1 to 11. */
 #define PN_PLAN_FAULT 32u
 
@@ -48,6 +48,9 @@ enum {
     PN_BAD_OPTION = 23,    /* the smallest interval of the station is more than 65,536 units */
     PN_REFUSED = 44,       /* the device refused what its application said: `reason` of the operation says why (enum pn_reason) */
     PN_NO_PLACE = 45,      /* no place of the relation has this number, or there is no relation */
+    PN_BAD_RECORD = 46,    /* a record that the application answers has an index after 32,767 or a length outside 1 to 1,308, can be neither read
+                            * nor written, or is there twice */
+    PN_NOT_ASKED = 47,     /* nothing is asked of the application */
 
     /* Of a controller. */
     PN_BAD_PLAN = 16,   /* the plan is not valid (pn_plan_fault returns why), or the ARUUID is zero */
@@ -107,6 +110,8 @@ static inline const char *pn_strerror(uint32_t number)
     case PN_BAD_OPTION: return "the smallest interval of the station is more than 65,536 units";
     case PN_REFUSED: return "the device refused what its application said";
     case PN_NO_PLACE: return "no place of the relation has this number";
+    case PN_BAD_RECORD: return "a record that the application answers has a wrong index or length, no access, or is there twice";
+    case PN_NOT_ASKED: return "nothing is asked of the application";
     case PN_NO_FRAME: return "no cyclic frame with data of this submodule was accepted";
     case PN_NO_REFUSAL: return "the device refused no call, or no record of the plan, yet";
     case PN_BUSY: return "no data is exchanged, or another request waits for its answer";

@@ -123,6 +123,30 @@ static void takes(const char *what)
     bend_again();
 }
 
+/* A station whose second record of the application is this one. */
+static void bend_record(pn_asked_record record)
+{
+    bend_again();
+    bent.record_count = 2;
+    bent.records[0] = (pn_asked_record){1, 1, 8, 4, 1, 0};
+    bent.records[1] = record;
+}
+
+/* Stations with other records that the application answers. */
+static void bend_records(void)
+{
+    bend_record((pn_asked_record){1, 1, 9, PN_RECORD_SIZE, 0, 1}), takes("two records of the application");
+    bend_record((pn_asked_record){1, 2, 8, 1, 1, 1}), takes("the same index of another submodule");
+    bend_record((pn_asked_record){9, 1, 32767, 1, 1, 0}), takes("a record of an empty slot");
+    bend_record((pn_asked_record){1, 1, 8, 1, 1, 1}), refuses("a record twice", PN_BAD_RECORD);
+    bend_record((pn_asked_record){1, 1, 32768, 1, 1, 1}), refuses("a record past the last index", PN_BAD_RECORD);
+    bend_record((pn_asked_record){1, 1, 9, 0, 1, 1}), refuses("a record without octets", PN_BAD_RECORD);
+    bend_record((pn_asked_record){1, 1, 9, PN_RECORD_SIZE + 1, 1, 1}), refuses("a record that is too long", PN_BAD_RECORD);
+    bend_record((pn_asked_record){1, 1, 9, 1, 0, 0}), refuses("a record without access", PN_BAD_RECORD);
+    bend_record((pn_asked_record){1, 1, 9, 0, 1, 1}), bent.record_count = 1, takes("a record of the application that is not counted");
+    bent.record_count = PN_ASKED_RECORDS + 1, refuses("17 records", PN_BAD_STATION);
+}
+
 /* Stations that cannot be, each with one fault. */
 static void bend_stations(void)
 {
@@ -153,6 +177,7 @@ static void bend_stations(void)
     part->parameter_count = 1, part->parameters[1].length = 65, takes("a record that is not counted");
     bent.module_count = 2, bent.modules[2].slot = 40, takes("a module that is not counted");
     bent.modules[2].submodule_count = 1, bent.modules[2].submodules[1].subslot = 1, takes("a submodule that is not counted");
+    bend_records();
 }
 
 /* The device refuses what its application says, for this reason. */
@@ -191,6 +216,9 @@ static void refuse_events(void)
         keep(pn_diagnosis(&device, &op, 1, 1, channel, 1, 1));
     reasons("a diagnosis that exists", pn_diagnosis(&device, &op, 1, 1, 31, 1, 1), PN_WHY_EXISTS);
     reasons("a 33rd diagnosis", pn_diagnosis(&device, &op, 1, 1, 32, 1, 1), PN_WHY_FULL);
+    reasons("an answer to nothing", pn_answer(&device, &op, 1, octets, 1), PN_WHY_NOT_ASKED);
+    reasons("a Write is done that was not asked", pn_written(&device, &op, 1), PN_WHY_NOT_ASKED);
+    reasons("a refusal of nothing", pn_refuse(&device, &op, 1, 0, 0), PN_WHY_NOT_ASKED);
 }
 
 /* A plug of a submodule that differs in one number from one that is accepted. */
@@ -288,6 +316,10 @@ int main(void)
     wants("a plug before the start", pn_plug(&device, &op, 1, 1, &plugged), PN_NOT_BOOTED);
     wants("ready at a place before the start", pn_ready_at(&device, &op, 1, 1), PN_NOT_BOOTED);
     wants("a place before the start", pn_expected(&device, &op, 0), PN_NOT_BOOTED);
+    wants("a question before the start", pn_asked(&device, &op), PN_NOT_BOOTED);
+    wants("an answer before the start", pn_answer(&device, &op, 1, octets, 1), PN_NOT_BOOTED);
+    wants("a Write that is done before the start", pn_written(&device, &op, 1), PN_NOT_BOOTED);
+    wants("a refusal before the start", pn_refuse(&device, &op, 1, 0xA0, 0), PN_NOT_BOOTED);
     wants("a provider before the start", pn_provider(&device, &op, 0, 1, octets, octets + 1), PN_NOT_BOOTED);
     wants("a received output before the start", pn_received(&device, &op, 0, 1, octets, octets + 1), PN_NOT_BOOTED);
     wants("news before the start", pn_news(&device, &op, &watch, &left), PN_NOT_BOOTED);
@@ -307,7 +339,13 @@ int main(void)
         return 1;
     wants("a second start", pn_boot(&device, &op, erased, erased), PN_IS_BOOTED);
     wants("no operation", pn_ask(&device, &op, 0, NULL, 0), PN_UNKNOWN);
-    wants("another operation", pn_ask(&device, &op, 33, NULL, 0), PN_UNKNOWN);
+    wants("another operation", pn_ask(&device, &op, 37, NULL, 0), PN_UNKNOWN);
+    wants("a refusal with one code", pn_ask(&device, &op, PN_OP_REFUSE, octets, 1), PN_BAD_LENGTH);
+    wants("no question", pn_asked(&device, &op), PN_NOT_ASKED);
+    wants("an answer for no operation", pn_answer(&device, NULL, 1, octets, 1), PN_NULL);
+    wants("an answer without octets", pn_answer(&device, &op, 1, NULL, 1), PN_NULL);
+    wants("a Write that is done for no operation", pn_written(&device, NULL, 1), PN_NULL);
+    wants("a refusal for no operation", pn_refuse(&device, NULL, 1, 0xA0, 0), PN_NULL);
     wants("no operation's room", pn_frame(&device, NULL, set, sizeof set), PN_NULL);
     wants("no octets", pn_frame(&device, &op, NULL, 1), PN_NULL);
     wants("no operation for a frame after units", pn_frame_after(&device, NULL, 1, set, sizeof set), PN_NULL);

@@ -7,6 +7,7 @@
 #include "loop.h"
 #include "modules.h"
 #include "options.h"
+#include "records.h"
 #include "say.h"
 #include "sets.h"
 #include "station.h"
@@ -38,6 +39,9 @@ struct options {
     int any_controller;
     int keeps_records;
     int has_fixed_numbers;
+    pn_station records; /* whose records the application answers */
+    char **words;       /* of the command line: an option may have several words */
+    int count;
 };
 
 /* From this many commits that the flash still takes on, the device reports that they are few, and again at each tenth of that. */
@@ -144,6 +148,7 @@ static void start(struct device *device)
     uint32_t answer;
     device->conflicts = 0;
     device->has_told_link = 0;
+    device->watch.asked = 0; /* its questions are counted from 1 again */
     device->station.first_number = first_number(device);
     if (chip_settle(&device->chip) != 0)
         fail(STATUS_INPUT, "the flash file '%s' cannot be read and written: %s. Nothing was sent of the step in which it failed; correct this and start again",
@@ -277,6 +282,20 @@ static void look_at_places(struct device *device, int is_new)
     }
 }
 
+/* Reports what is asked of the application. */
+static void tell_asked(struct device *device, lines_writer tell)
+{
+    static char text[RECORDS_LINE];
+    uint32_t answer = pn_asked(&device->room, &device->op);
+    if (answer == PN_NOT_ASKED) {
+        tell(&device->loop.lines, "asked -");
+        return;
+    }
+    loop_must(answer, "pn_asked");
+    records_line(text, &device->op);
+    tell(&device->loop.lines, "%s", text);
+}
+
 /* What a frame, a pull or a plug changed besides the process data, and at the first time what there is. */
 static void look_at_news(struct device *device, int is_first)
 {
@@ -288,6 +307,8 @@ static void look_at_news(struct device *device, int is_first)
         lines_tell(&device->loop.lines, "parameters end");
     if ((news & (PN_NEW_PLUGS | PN_NEW_RELATION)) != 0)
         look_at_places(device, (news & PN_NEW_RELATION) != 0);
+    if ((news & PN_NEW_ASKED) != 0)
+        tell_asked(device, lines_tell);
 }
 
 /* Whether the controller runs, by the first output that it sends. */
@@ -727,8 +748,8 @@ static void forget(struct device *device, uint16_t slot, uint16_t subslot, int i
     device->diagnosis_count = diagnoses;
 }
 
-/* Answers a line by which modules come or go. Returns whether the device accepted it. */
-static int is_changed(struct device *device, uint32_t answer, const char *call)
+/* Answers a line of the application. Returns whether the device accepted it. */
+static int is_taken(struct device *device, uint32_t answer, const char *call)
 {
     int is_done = is_accepted(device, answer, call);
     if (is_done)
@@ -744,7 +765,7 @@ static void take_pull(void *context, char *words[])
     uint16_t place[2];
     if (!words_numbers(words + 1, place, 2)) {
         lines_answer(&device->loop.lines, "wrong: pull SLOT SUBSLOT");
-    } else if (is_changed(device, pn_pull(&device->room, &device->op, place[0], place[1]), "pn_pull")) {
+    } else if (is_taken(device, pn_pull(&device->room, &device->op, place[0], place[1]), "pn_pull")) {
         modules_pull(&device->station, place[0], place[1]);
         forget(device, place[0], place[1], 0);
         look_at_modules(device);
@@ -757,7 +778,7 @@ static void take_pull_module(void *context, char *words[])
     uint16_t slot;
     if (!words_numbers(words + 1, &slot, 1)) {
         lines_answer(&device->loop.lines, "wrong: pull SLOT");
-    } else if (is_changed(device, pn_pull_module(&device->room, &device->op, slot), "pn_pull_module")) {
+    } else if (is_taken(device, pn_pull_module(&device->room, &device->op, slot), "pn_pull_module")) {
         modules_pull_module(&device->station, slot);
         forget(device, slot, 0, 1);
         look_at_modules(device);
@@ -773,7 +794,7 @@ static void take_plug(void *context, char *words[])
     } else if (plug.submodule.input == STATION_DATA || plug.submodule.output == STATION_DATA) {
         /* The device starts again from the station, which cannot have it. */
         lines_answer(&device->loop.lines, "note refused: a cyclic frame carries at most 1439 octets of a submodule");
-    } else if (is_changed(device, pn_plug(&device->room, &device->op, plug.slot, plug.module, &plug.submodule), "pn_plug")) {
+    } else if (is_taken(device, pn_plug(&device->room, &device->op, plug.slot, plug.module, &plug.submodule), "pn_plug")) {
         modules_plug(&device->station, &plug);
         look_at_modules(device);
     }
@@ -785,7 +806,7 @@ static void take_ready_at(void *context, char *words[])
     uint16_t place[2];
     if (!words_numbers(words + 1, place, 2))
         lines_answer(&device->loop.lines, "wrong: ready SLOT SUBSLOT");
-    else if (is_changed(device, pn_ready_at(&device->room, &device->op, place[0], place[1]), "pn_ready_at"))
+    else if (is_taken(device, pn_ready_at(&device->room, &device->op, place[0], place[1]), "pn_ready_at"))
         look_at_news(device, 0);
 }
 
@@ -817,6 +838,36 @@ static void take_expected(void *context, char *words[])
     if (count == 0)
         lines_answer(&device->loop.lines, "expected -");
     (void)words;
+}
+
+/* --- Records that the application answers --- */
+
+static void take_asked(void *context, char *words[])
+{
+    tell_asked(context, lines_answer);
+    (void)words;
+}
+
+static void take_answer(void *context, char *words[])
+{
+    struct device *device = context;
+    struct records_answer given;
+    if (!records_read_answer(words + 1, &given))
+        lines_answer(&device->loop.lines, "wrong: answer NUMBER [HEX], at most %u octets, - for none", PN_RECORD_SIZE);
+    else if (given.has_octets)
+        is_taken(device, pn_answer(&device->room, &device->op, given.number, given.octets, given.length), "pn_answer");
+    else
+        is_taken(device, pn_written(&device->room, &device->op, given.number), "pn_written");
+}
+
+static void take_refuse(void *context, char *words[])
+{
+    struct device *device = context;
+    struct records_answer given;
+    if (!records_read_refusal(words + 1, &given))
+        lines_answer(&device->loop.lines, "wrong: refuse NUMBER ERRORCODE1 ERRORCODE2");
+    else
+        is_taken(device, pn_refuse(&device->room, &device->op, given.number, given.code1, given.code2), "pn_refuse");
 }
 
 /* --- The state of the application --- */
@@ -869,6 +920,10 @@ static const struct command commands[] = {
     {"ready", 1, take_ready, "ready                    the parameters are in use (--ready-by-application)"},
     {"ready", 3, take_ready_at, "ready SLOT SUBSLOT        those of the submodule that was plugged there are"},
     {"expected", 1, take_expected, "expected                 the submodules that the relation expects, and how far each is after a pull or a plug"},
+    {"asked", 1, take_asked, "asked                    what is asked of the application, for the number of an answer (--record)"},
+    {"answer", 3, take_answer, "answer NUMBER HEX        the octets of the record that a Read asks for; `answer NUMBER`: a Write is done"},
+    {"answer", 2, take_answer, NULL},
+    {"refuse", 4, take_refuse, "refuse NUMBER ERRORCODE1 ERRORCODE2   refuses what is asked; ErrorCode1 is 160 to 175"},
     {"show", 1, show, "show                     name, address, remaining commits, phase, lamp, inputs and outputs"},
     {"statistics", 1, NULL, "statistics               counts since the start"},
     {"quit", 1, NULL, "quit                     ends the program"},
@@ -881,7 +936,7 @@ static void usage(void)
     puts("Usage: nandutable-device IFACE --flash FILE [--station FILE] [--identity FILE] [--mac MAC] [--socket PATH]\n"
          "                         [--socket-group GROUP] [--period US] [--realtime N] [--sets-per-second N] [--smallest-interval N]\n"
          "                         [--inputs-begin-bad] [--ready-by-application] [--any-controller] [--keep-records] [--fixed-numbers]\n"
-         "                         [--no-services]\n"
+         "                         [--no-services] [--record SLOT SUBSLOT INDEX LENGTH read|write|both]..\n"
          "\n"
          "A PROFINET IO device on the network interface IFACE. Its name, address and I&M texts are in the flash file, and survive a power\n"
          "failure at any moment.\n"
@@ -911,9 +966,11 @@ static void usage(void)
          "                        each relation: a late frame of an earlier relation may count in the next one\n"
          "  --no-services         the device alone: no answer to ping, to lookups of the endpoint mapper and to calls to other interfaces, no\n"
          "                        announcement of the address, and no LLDP\n"
-         "  --help, --version\n"
-         "\n"
-         "It needs the capability CAP_NET_RAW: run it as root, or run `setcap cap_net_raw+ep nandutable-device` once.\n"
+         "  --record SLOT SUBSLOT INDEX LENGTH read|write|both  a record that the application answers: up to LENGTH octets, at most 1308. INDEX is\n"
+         "                        decimal, or 0x and hex digits, at most 32767. Up to 16 of them. Each Read or Write of such a record is a line `asked`,\n"
+         "                        which is answered within two seconds by a line `answer` or `refuse`\n"
+         "  --help, --version\n");
+    puts("It needs the capability CAP_NET_RAW: run it as root, or run `setcap cap_net_raw+ep nandutable-device` once.\n"
          "\n"
          "Examples:\n"
          "  nandutable-device eth1 --flash /var/lib/nandutable/pump.flash\n"
@@ -921,7 +978,8 @@ static void usage(void)
          "\n"
          "Lines that it accepts: `input SLOT SUBSLOT HEX`, `alarm SLOT SUBSLOT HEX`, `status SLOT SUBSLOT good|bad`,\n"
          "`diagnosis SLOT SUBSLOT CHANNEL ERROR appears|disappears`, `application run|stop`, `pull SLOT [SUBSLOT]`,\n"
-         "`plug SLOT SUBSLOT MODULE SUBMODULE INPUT OUTPUT [INDEX LENGTH]..`, `ready [SLOT SUBSLOT]`, `expected`, `show`, `statistics`, `help`, `quit`.\n"
+         "`plug SLOT SUBSLOT MODULE SUBMODULE INPUT OUTPUT [INDEX LENGTH]..`, `ready [SLOT SUBSLOT]`, `expected`,\n"
+         "`asked`, `answer NUMBER [HEX]`, `refuse NUMBER ERRORCODE1 ERRORCODE2`, `show`, `statistics`, `help`, `quit`.\n"
          "On SIGUSR1 it prints its statistics; SIGTERM ends it.");
 }
 
@@ -948,10 +1006,28 @@ static void take_interval(struct options *options, const char *word)
     options->smallest_interval = (uint32_t)number;
 }
 
+/* `--record` and five words: getopt knows of one argument; the four after it are read here. */
+static void take_record(struct options *options, char *word)
+{
+    char *words[5] = {word};
+    pn_asked_record record;
+    const char *why;
+    if (optind + 4 > options->count)
+        options_misused("--record takes " RECORDS_FORM ": ", word);
+    for (int i = 1; i < 5; i++)
+        words[i] = options->words[optind++];
+    if (!records_read(words, &record))
+        options_misused("--record takes " RECORDS_FORM ", INDEX at most 32767 and LENGTH from 1 to 1308", "");
+    why = records_add(&options->records, &record);
+    if (why != NULL)
+        options_misused("--record: ", why);
+}
+
 static int take_option(void *context, int option, const char *word)
 {
     struct options *options = context;
     switch (option) {
+    case 'q': take_record(options, optarg); return 1;
     case 'n': take_interval(options, word); return 1;
     case 'b': options->inputs_begin_bad = 1; return 1;
     case 'a': options->is_ready_by_application = 1; return 1;
@@ -980,6 +1056,7 @@ static const struct option known[] = {{"flash", required_argument, NULL, 'f'},
                                       {"any-controller", no_argument, NULL, 'y'},
                                       {"keep-records", no_argument, NULL, 'k'},
                                       {"fixed-numbers", no_argument, NULL, 'x'},
+                                      {"record", required_argument, NULL, 'q'},
                                       SHARED_OPTIONS};
 
 /* Checks only the flash file's name, before any message is printed: a message could go into that file. */
@@ -999,6 +1076,8 @@ static void read_words(struct options *options, int count, char *words[])
     int first;
     memset(options, 0, sizeof *options);
     options->smallest_interval = 32;
+    options->words = words;
+    options->count = count;
     first = options_read(&line, &options->shared, options, count, words);
     if (first + 1 != count)
         options_misused(first == count ? "name a network interface" : "a device has only one interface", "");
@@ -1032,6 +1111,8 @@ static int read_station(struct device *device, const struct options *options)
     device->station.records_passed_on = options->keeps_records == 0;
     device->station.numbers_go_round = options->has_fixed_numbers == 0;
     device->station.without_services = options->is_without_services != 0;
+    device->station.record_count = options->records.record_count;
+    memcpy(device->station.records, options->records.records, sizeof device->station.records);
     station_places(&device->inputs, device->station.modules, device->station.module_count, OF_INPUT);
     station_places(&device->outputs, device->station.modules, device->station.module_count, OF_OUTPUT);
     return has_mac;

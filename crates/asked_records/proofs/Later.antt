@@ -1,5 +1,5 @@
 -- Several units of time at once, before the one with which the call is refused.
-use Rattle.std.proofs.Common.{◌≡◌, ◌+◌, ◌<◌, ℕ, zero, suc, false, refl, ap, ◌∙◌, arith, Option, Some, None}
+use Rattle.std.proofs.Common.{◌≡◌, ◌+◌, ◌<◌, ◌≤◌, ℕ, zero, suc, false, refl, ap, ◌∙◌, arith, Option, Some, None}
 use Rattle.std.specs.Prelude.{option_map}
 use Rattle.std.proofs.lemmas.Bool.{ne_eqb}
 use Rattle.pn_alarms.specs.Leaps.{after}
@@ -35,6 +35,13 @@ pub later_after : (state : AskedState) (units : ℕ) → units < due_in state �
 later_after state zero before = ap (with_standing state) (none_later state.standing)
 later_after state (suc units) before =
     ap ticked (later_after state units (omega (arith, before))) ∙ ap (with_standing state) (one_more state.standing units before)
+
+due_nearer : (standing : Option Standing) (units : ℕ) → units < due_with standing → due_with standing ≤ due_with (option_map (waits units) standing) + units
+due_nearer None units before = omega arith
+due_nearer (Some standing) units before = omega (arith, before)
+
+pub nearer_by : (state : AskedState) (units : ℕ) → units < due_in state → due_in state ≤ due_in (later units state) + units
+nearer_by state units before = due_nearer state.standing units before
 
 pub never_over : (state : AskedState) (units : ℕ) → units < due_in state → NeverOver units state
 never_over state units below before earlier =

@@ -5,9 +5,8 @@ use Rattle.std.specs.Result.{is_err}
 use Rattle.module_diff.specs.Changes.{covers}
 use Rattle.asked_records.specs.declared.answering.AnswerFault.{AnswerFault}
 use Rattle.asked_records.specs.declared.answering.AnswerFault.TheVariants as fault
-use Rattle.asked_records.specs.declared.answering.Given.{Given}
 use Rattle.asked_records.specs.declared.question.Question.{Question}
-use Rattle.asked_records.specs.Answers.{fault_of, judged, question_unless}
+use Rattle.asked_records.specs.Answers.{Gives, fault_of, judged, question_unless}
 use Rattle.asked_records.specs.Asked.{AskedState, Standing, limit, next_number, waits as waiting}
 use Rattle.asked_records.specs.Questions.{header_of, is_of_relation}
 use Rattle.asked_records.specs.Runs.{Ascends, Event, after_answer, answered_in, number_if, numbers_after, open_with, questions_in}
@@ -58,7 +57,7 @@ abbrev made : ℕ → Option Standing → AskedState
 made last standing = record { standing = standing; last = last }
 
 -- An answer that is accepted names the call that is asked.
-named_is_last : (number last : ℕ) (given : Given) (standing : Standing) (question : Question) →
+named_is_last : (number last : ℕ) (given : Gives) (standing : Standing) (question : Question) →
     judged number given (made last (Some standing)) ≡ Ok question → number ≡ last
 named_is_last number last given standing question accepted = by_number (number == last) refl accepted
   where

@@ -21,27 +21,39 @@ use Rattle.asked_records.specs.Questions.{is_write, operation_of}
 
 -- ---- which answers are accepted
 
+-- What is given: the octets of a record that is read, that a record was written, or a refusal with this ErrorCode1 and
+-- ErrorCode2.
+pub data Gives : Type 0 where
+  gives_octets : List ℕ → Gives
+  gives_done : Gives
+  gives_refusal : (code1 code2 : ℕ) → Gives
+
+-- What is given, independent of the place of its octets in memory.
+abbrev pub gives : Given → Gives
+gives (Octets octets) = gives_octets octets.now
+gives Done = gives_done
+gives (Refused code1 code2) = gives_refusal code1 code2
+
 -- The number of octets that are given.
-abbrev pub given_size : Given → ℕ
-given_size (Octets octets) = length octets.now
-given_size Done = 0
-given_size (Refused code1 code2) = 0
+abbrev pub given_size : Gives → ℕ
+given_size (gives_octets octets) = length octets
+given_size gives_done = 0
+given_size (gives_refusal code1 code2) = 0
 
 -- Whether it is a refusal.
-abbrev pub is_refusal : Given → Bool
-is_refusal (Octets octets) = false
-is_refusal Done = false
-is_refusal (Refused code1 code2) = true
+abbrev pub is_refusal : Gives → Bool
+is_refusal (gives_refusal code1 code2) = true
+is_refusal other = false
 
 -- Why an answer to a call is not accepted: octets answer a Read, `done` a Write, and the ErrorCode1 of an application is 0xA0 to
 -- 0xAF.
-abbrev pub fault_of : Question → Given → Option AnswerFault
-fault_of question (Octets octets) =
+abbrev pub fault_of : Question → Gives → Option AnswerFault
+fault_of question (gives_octets octets) =
     if is_write question.request then Some fault.Kind
-    else if nat_lt question.greatest_length (length octets.now) then Some fault.Length
+    else if nat_lt question.greatest_length (length octets) then Some fault.Length
     else None
-fault_of question Done = if is_write question.request then None else Some fault.Kind
-fault_of question (Refused code1 code2) = if nat_lt code1 0xA0 || nat_lt 0xAF code1 then Some fault.Code else None
+fault_of question gives_done = if is_write question.request then None else Some fault.Kind
+fault_of question (gives_refusal code1 code2) = if nat_lt code1 0xA0 || nat_lt 0xAF code1 then Some fault.Code else None
 
 -- The question, or its fault.
 abbrev pub question_unless : Question → Option AnswerFault → Result Question AnswerFault
@@ -49,13 +61,13 @@ question_unless question (Some it) = Err it
 question_unless question None = Ok question
 
 -- The call that an answer under a number goes to: the last one, if it is still asked and has this number.
-abbrev pub judged_with : ℕ → ℕ → Given → Option Standing → Result Question AnswerFault
+abbrev pub judged_with : ℕ → ℕ → Gives → Option Standing → Result Question AnswerFault
 judged_with last number given None = Err fault.NotAsked
 judged_with last number given (Some standing) =
     if number == last then question_unless standing.question (fault_of standing.question given) else Err fault.NotAsked
 
 -- The call that an answer under a number goes to.
-abbrev pub judged : ℕ → Given → AskedState → Result Question AnswerFault
+abbrev pub judged : ℕ → Gives → AskedState → Result Question AnswerFault
 judged number given state = judged_with state.last number given state.standing
 
 -- The number of a fault.
@@ -68,10 +80,10 @@ answer_number fault.Code = 4
 -- ---- the response
 
 -- PNIOStatus: DE or DF, 80, ErrorCode1 and ErrorCode2 of a refusal.
-abbrev pub answer_status : Request → Given → Status
-answer_status request (Octets octets) = done
-answer_status request Done = done
-answer_status request (Refused code1 code2) = access (operation_of request) code1 code2
+abbrev pub answer_status : Request → Gives → Status
+answer_status request (gives_octets octets) = done
+answer_status request gives_done = done
+answer_status request (gives_refusal code1 code2) = access (operation_of request) code1 code2
 
 -- The IODReadRes of a record, with as much of it as the request asks for.
 abbrev pub read_blocks : Request → List ℕ → List ℕ
@@ -86,10 +98,10 @@ written_blocks (ReadImplicit request) = []
 written_blocks (Write request) = write_answer request
 
 -- The blocks of the response. A refusal has none.
-abbrev pub answer_blocks : Request → Given → List ℕ
-answer_blocks request (Octets octets) = read_blocks request octets.now
-answer_blocks request Done = written_blocks request
-answer_blocks request (Refused code1 code2) = []
+abbrev pub answer_blocks : Request → Gives → List ℕ
+answer_blocks request (gives_octets octets) = read_blocks request octets
+answer_blocks request gives_done = written_blocks request
+answer_blocks request (gives_refusal code1 code2) = []
 
 -- ---- what the device refuses by itself
 

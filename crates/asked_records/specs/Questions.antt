@@ -23,9 +23,8 @@ operation_of (Write request) = operation.Write
 
 -- Whether it is a Write.
 abbrev pub is_write : Request → Bool
-is_write (Read request) = false
-is_write (ReadImplicit request) = false
 is_write (Write request) = true
+is_write other = false
 
 -- Whether it is of the relation with this ARUUID. A Read Implicit is of none.
 abbrev pub is_of_relation : List ℕ → Request → Bool

@@ -2,16 +2,15 @@
 use Rattle.std.specs.Prelude.{◌+◌, ◌≤◌, ℕ, zero, suc, List, [], ◌∷◌, ◌++◌, Option, Some, None, Result, Ok, Err, unwrap_or}
 use Rattle.module_diff.specs.declared.changes.Affected.{Affected}
 use Rattle.asked_records.specs.declared.answering.AnswerFault.{AnswerFault}
-use Rattle.asked_records.specs.declared.answering.Given.{Given}
 use Rattle.asked_records.specs.declared.question.Question.{Question}
-use Rattle.asked_records.specs.Answers.{judged}
+use Rattle.asked_records.specs.Answers.{Gives, judged}
 use Rattle.asked_records.specs.Asked.{AskedState, Standing, asks, dropped_at, next_number, settled, ticked, without_relation}
 
 -- A call for a record of the application with the octets that it writes, an answer of the application to the question with a
 -- number, a unit of time, the end of the relation with an ARUUID, and a pull.
 pub data Event : Type 0 where
   calls : Question → List ℕ → Event
-  answers : ℕ → Given → Event
+  answers : ℕ → Gives → Event
   waits : Event
   ends : List ℕ → Event
   pulls : Affected → Event

@@ -1,7 +1,7 @@
 //! What the application answers, and the response that its answer makes.
 ghost use Rattle.std.specs.Prelude.{◌≡◌, ◌≤◌, [], Err, IfErr, IfNone, IfOk, Ok, OnOk, false, length, true};
 ghost use Rattle.rpc_core.specs.Response.{is_done};
-ghost use Rattle.asked_records.specs.Answers.{answer_blocks, answer_number, answer_status, fault_of, given_size, is_refusal, judged, read_blocks, written_blocks};
+ghost use Rattle.asked_records.specs.Answers.{answer_blocks, answer_number, answer_status, fault_of, given_size, gives, is_refusal, judged, read_blocks, written_blocks};
 ghost use Rattle.asked_records.specs.Asked.{settled};
 
 use crate::asked::AskedRecords;
@@ -73,15 +73,16 @@ impl AskedRecords {
     ) -> Result<Reply, AnswerFault>
         requires empty { blocks.old.items ≡ [] }
         // The call that is answered is the one that is asked, under this number.
-        ensures question { IfOk result (λ reply. judged number given.now self.old ≡ Ok reply.question) }
-        ensures status { IfOk result (λ reply. reply.status ≡ answer_status reply.question.request given.now) }
-        ensures blocks { IfOk result (λ reply. blocks.new.items ≡ answer_blocks reply.question.request given.now) }
+        ensures question { IfOk result (λ reply. judged number (gives given.now) self.old ≡ Ok reply.question) }
+        ensures status { IfOk result (λ reply. reply.status ≡ answer_status reply.question.request (gives given.now)) }
+        ensures blocks { IfOk result (λ reply. blocks.new.items ≡ answer_blocks reply.question.request (gives given.now)) }
         // It gets no further answer.
         ensures state { OnOk result (self.new ≡ settled self.old) }
         // A refusal is never positive.
-        ensures negative { IfOk result (λ reply. is_refusal given.now ≡ true → is_done reply.status ≡ false) }
+        ensures negative { IfOk result (λ reply. is_refusal (gives given.now) ≡ true → is_done reply.status ≡ false) }
         // An answer that is not accepted changes nothing.
-        ensures refused { IfErr result (λ fault. (judged number given.now self.old ≡ Err fault) × (self.new ≡ self.old) × (blocks.new.items ≡ [])) }
+        ensures refused { IfErr result (λ fault. (judged number (gives given.now) self.old ≡ Err fault)
+            × (self.new ≡ self.old) × (blocks.new.items ≡ [])) }
     {
         match self.judge(number, given) {
             Ok(question) => Ok(self.reply(&question, given, blocks)),
@@ -91,8 +92,8 @@ impl AskedRecords {
 
     /// The call that an answer under this number goes to, or why the answer is not accepted.
     fn judge(&self, number: u32, given: &Given<'_>) -> Result<Question, AnswerFault>
-        ensures value { result ≡ judged number given.now self.now }
-        ensures room { IfOk result (λ _. given_size given.now ≤ 1308) }
+        ensures value { result ≡ judged number (gives given.now) self.now }
+        ensures room { IfOk result (λ _. given_size (gives given.now) ≤ 1308) }
     {
         let Some(question) = self.question() else {
             return Err(AnswerFault::NotAsked);
@@ -109,12 +110,12 @@ impl AskedRecords {
     /// The response to the call that is asked, by an answer that is accepted. Nothing is asked any more.
     fn reply(&mut self, question: &Question, given: &Given<'_>, blocks: &mut Blocks) -> Reply
         requires empty { blocks.old.items ≡ [] }
-        requires room { given_size given.now ≤ 1308 }
+        requires room { given_size (gives given.now) ≤ 1308 }
         ensures question { result.question ≡ question.now }
-        ensures status { result.status ≡ answer_status question.now.request given.now }
-        ensures blocks { blocks.new.items ≡ answer_blocks question.now.request given.now }
+        ensures status { result.status ≡ answer_status question.now.request (gives given.now) }
+        ensures blocks { blocks.new.items ≡ answer_blocks question.now.request (gives given.now) }
         ensures state { self.new ≡ settled self.old }
-        ensures negative { is_refusal given.now ≡ true → is_done result.status ≡ false }
+        ensures negative { is_refusal (gives given.now) ≡ true → is_done result.status ≡ false }
     {
         self.clear();
         Reply {
@@ -126,8 +127,8 @@ impl AskedRecords {
 
 /// Why an answer to a call is not accepted.
 fn fault_of(question: &Question, given: &Given<'_>) -> Option<AnswerFault>
-    ensures value { result ≡ fault_of question.now given.now }
-    ensures room { IfNone result (given_size given.now ≤ question.now.greatest_length) }
+    ensures value { result ≡ fault_of question.now (gives given.now) }
+    ensures room { IfNone result (given_size (gives given.now) ≤ question.now.greatest_length) }
 {
     match *given {
         Given::Octets(_) if question.request.is_write() => Some(AnswerFault::Kind),
@@ -145,10 +146,10 @@ fn fault_of(question: &Question, given: &Given<'_>) -> Option<AnswerFault>
 /// Puts the blocks of the response into the empty list, and returns its PNIOStatus.
 fn put_answer(request: &Request, given: &Given<'_>, blocks: &mut Blocks) -> Status
     requires empty { blocks.old.items ≡ [] }
-    requires room { given_size given.now ≤ 1308 }
-    ensures status { result ≡ answer_status request.now given.now }
-    ensures blocks { blocks.new.items ≡ answer_blocks request.now given.now }
-    ensures negative { is_refusal given.now ≡ true → is_done result ≡ false }
+    requires room { given_size (gives given.now) ≤ 1308 }
+    ensures status { result ≡ answer_status request.now (gives given.now) }
+    ensures blocks { blocks.new.items ≡ answer_blocks request.now (gives given.now) }
+    ensures negative { is_refusal (gives given.now) ≡ true → is_done result ≡ false }
 {
     match *given {
         Given::Octets(octets) => {

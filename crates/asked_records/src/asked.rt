@@ -1,5 +1,5 @@
 //! The call that is asked of the application: one at a time.
-ghost use Rattle.std.specs.Prelude.{◌≡◌, ◌<◌, ◌≤◌, IfSome, false, length, unwrap_or};
+ghost use Rattle.std.specs.Prelude.{◌≡◌, ◌+◌, ◌<◌, ◌≤◌, IfSome, false, length, unwrap_or};
 ghost use Rattle.std.specs.Option.{option_map};
 ghost use Rattle.pn_alarms.specs.Leaps.{after};
 ghost use Rattle.asked_records.specs.Asked.{NeverOver, asks, dropped_at, due_in, is_affected, is_of, is_over, is_repeat, last_number};
@@ -220,6 +220,8 @@ impl AskedRecords {
         // It is what that many ticks do.
         ensures state { self.new ≡ after ticked units self.old }
         ensures nothing { NeverOver units self.old }
+        // What is due comes nearer by these units, and by no more.
+        ensures due { due_in self.old ≤ due_in self.new + units }
     {
         let Some(_question) = &self.question else {
             return;

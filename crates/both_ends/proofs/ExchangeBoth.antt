@@ -5,6 +5,7 @@ use Rattle.std.specs.List.{AllByRecursion}
 use Rattle.flash_model.specs.declared.flash.Flash.{Ghosts as Flash}
 use Rattle.pn_values.specs.declared.identity.Identity.{Identity}
 use Rattle.rpc_core.specs.Cache.{kept_of}
+use Rattle.asked_records.specs.Asked.{question_in}
 use Rattle.both_ends.specs.startup.request.Request.{request_for}
 use Rattle.relations.specs.Exchanged.{output_in}
 use Rattle.relations.specs.RelationState.{RelationState, is_exchanging}
@@ -80,6 +81,8 @@ pub record Laws {F : Type 0} {S : ℕ} (as_flash : Flash F S) (setup : Setup) (i
       → NoneIsAtZero first.device.live.rest.real.modules.items → NoneIsAtZero (last_world first run).device.live.rest.real.modules.items
   pub station : CanMeet setup identity → (first : World F) (run : List (Move × World F)) → Begins setup identity first → AreMade as_flash first run
       → (last_world first run).device.station ≡ first.device.station
+  pub unasked : CanMeet setup identity → (first : World F) (run : List (Move × World F)) → Begins setup identity first → AreMade as_flash first run
+      → (last_world first run).device.live.rest.link ≡ None → question_in (last_world first run).device.live.rest.asked ≡ None
   pub others : CanMeet setup identity → (first : World F) (run : List (Move × World F)) → Begins setup identity first → AreMade as_flash first run
       → (activity : List ℕ) → (setup.activity ≡ activity → ⊥) → kept_of activity first.device.live.rest.calls ≡ None
       → kept_of activity (last_world first run).device.live.rest.calls ≡ None
@@ -137,6 +140,7 @@ module _ {F : Type 0} {S : ℕ} (as_flash : Flash F S) (setup : Setup) (identity
         told = λ are. laws.told meets first run begun made real moves_sized (known_first are);
         list = λ are none. laws.list meets first run begun made real moves_sized (known_first are) (none_first none);
         station = laws.station meets first run begun made ∙ ap (λ (d : State F). d.station) of_device;
+        unasked = laws.unasked meets first run begun made;
         others = λ activity other none. laws.others meets first run begun made activity other (ap (λ (d : State F). kept_of activity d.live.rest.calls) of_device ∙ none);
         known = λ are. laws.known meets first run begun made real moves_sized (known_first are);
         plugged = λ are none. laws.plugged meets first run begun made real moves_sized (known_first are) (none_first none);

@@ -20,6 +20,8 @@ use Rattle.controller_messages.specs.declared.record_request.RecordService.{Reco
 use Rattle.controller_messages.specs.declared.record_request.RecordService.TheVariants as service
 use Rattle.controller_messages.specs.PlugRequests.{plug_blocks, plug_operation}
 use Rattle.controller_messages.specs.RecordRequests.{record_blocks, service_operation}
+use Rattle.asked_records.specs.Asked.{question_in}
+use Rattle.asked_records.specs.declared.question.Question.{Question}
 use Rattle.connects.specs.requests.Request.{Request}
 use Rattle.records.specs.declared.writes.taken.TakenRecord.{TakenRecord}
 use Rattle.pn_alarms.specs.Abort.{status_of}
@@ -57,15 +59,16 @@ use Rattle.controller_core.specs.stored.State.{Live as ControllerLive}
 use Rattle.end_laws.specs.turns.Alarms.{IsQuiet, Relation, ReportsNone, Move, AlarmComes, Hears, PassesAtController, Gives, GivesStatus, Reads, Stops, Writes, alarm_comes, behind, behind_one, is_looked_at, is_priority, report_as, start, turns}
 use Rattle.end_laws.specs.both.Small as small
 use Rattle.end_laws.specs.both.Small.{Rules, ToDevice}
-use Rattle.end_laws.specs.both.Steps.{DeviceSteps, Forgets, GoesBy}
+use Rattle.end_laws.specs.both.Steps.{DeviceSteps, Forgets, GoesBy, IsSameOrNone}
 use Rattle.end_laws.specs.device.Orderly.{IsOrderlyIn}
 use Rattle.end_laws.specs.device.Owed.{IsOfKept, IsOwed}
-use Rattle.end_laws.specs.device.Small.{IsHeardAs, IsPlanned, IsPlannedAs, IsPlannedCall, heard_as, kept_in, link_of, small_of}
+use Rattle.end_laws.specs.device.Small.{IsAskedOwn, IsHeardAs, IsPlanned, IsPlannedAs, IsPlannedCall, heard_as, kept_in, link_of, small_of}
 use Rattle.end_laws.specs.device.Small as ends
 use Rattle.both_ends.specs.startup.View.{IsSaidAs, is_planned, rules_of, says_to_device}
+use Rattle.both_ends.proofs.StartupEach.{each_of}
 use Rattle.both_ends.proofs.ExchangeEarly.{EarlyTurn, IsEarlyAt, IsEarlyFrame, IsUnreadyAt, messages_early, turn_early}
 use Rattle.both_ends.proofs.ExchangeOutputsTurns.{KindsSo}
-use Rattle.both_ends.proofs.ExchangeReported.{IsCallIn, IsCalledAs, IsGood, IsNotedAs, IsNotedBy, IsOfPriority, IsOurs, IsReportedAs, IsWell, IsWellSent, ack_in, alarm_in, data_in, noted_at, noted_by, noted_of, reported_in, reported_of, reported_reply}
+use Rattle.both_ends.proofs.ExchangeReported.{IsGood, IsNotedAs, IsNotedBy, IsOfPriority, IsOurs, IsReportedAs, IsWell, IsWellSent, ack_in, alarm_in, data_in, noted_at, noted_by, noted_of, reported_in, reported_of, reported_reply}
 use Rattle.both_ends.specs.exchange.Over.{taken_by}
 use Rattle.both_ends.proofs.ExchangeLists.{Extends, each_behind, each_on, more_extends, none_some, some_is, unchanged}
 use Rattle.end_laws.specs.hearing.Stations.{IsSetup}
@@ -86,7 +89,6 @@ pub record IsIn (priority : Priority) (setup : Setup) (identity : Identity) (r :
   pub noted : IsSaid r.alarms.pdus (alarm_in priority (noted_of setup frame))
   pub reported : IsHeard priority r.reported (ack_in priority (reported_of identity frame))
   pub first : (sequence : ℕ) → heard_as (is_planned setup) (heard_of identity (Frame (record { items = frame }))) ≡ small.Call sequence small.Connects → sequence ≡ 0
-  pub called : IsCallIn setup (heard_of identity (Frame (record { items = frame })))
   pub good : IsGood identity.mac (heard_by setup.plan.controller frame)
   pub well : IsWell setup (heard_by setup.plan.controller frame)
 
@@ -96,7 +98,6 @@ in_stays priority setup identity r next frame p t is = record {
   noted = said_stays r.alarms.pdus next.alarms.pdus (alarm_in priority (noted_of setup frame)) p is.noted;
   reported = heard_stays priority r.reported next.reported (ack_in priority (reported_of identity frame)) t is.reported;
   first = is.first;
-  called = is.called;
   good = is.good;
   well = is.well;
 }
@@ -146,8 +147,11 @@ pub record Follows (priority : Priority) (setup : Setup) (station : Station) (li
   pub apart : station.identity.mac ≡ setup.plan.controller.mac → ⊥
   pub real : AreSizedModules live.rest.real.modules.items
   pub sized : AreSizedIn live.rest.real.modules.items (request_for setup.plan setup.ar) live.rest.link
-  -- the relation of the device is in order
+  -- the relation of the device is in order, and what is asked of its application is a call of this controller: nothing is, until
+  -- the device answered a call
   pub orderly : IsOrderlyIn live.rest.link
+  pub own : IsAskedOwn setup.activity live.rest.asked
+  pub unasked : kept_at setup live ≡ None → (small_of setup.activity live).asked ≡ None
   pub lives : IsLive controlling
   pub placed : IsPlaced station.identity.mac controlling
 
@@ -167,19 +171,44 @@ module _ (rules : Rules TakenRecord Request) where
       let now : AllByRecursion P (answered.frame ∷ answered.others) = subst (λ (fs : List (List ℕ)). AllByRecursion P fs) answered.sent all in
       subst (λ (k : small.Kept). P k.frame) (some_is (record { sequence = sequence; frame = answered.frame }) answer (sym answered.keeps ∙ is)) now.0
   kept_is P (small.Call sequence ask) before after frames (inr (inl repeats)) was all answer is = was answer (ap (λ (d : Small). d.kept) (sym repeats.unchanged) ∙ is)
-  kept_is P (small.Call sequence ask) before after frames (inr (inr rests)) was all answer is = was answer (ap (λ (d : Small). d.kept) (sym rests.0) ∙ is)
+  kept_is P (small.Call sequence ask) before after frames (inr (inr (inl rests))) was all answer is = was answer (ap (λ (d : Small). d.kept) (sym rests.0) ∙ is)
+  kept_is P (small.Call sequence ask) before after frames (inr (inr (inr asks))) was all answer is =
+      was answer (ap (λ (d : Small). d.kept) (sym asks.becomes) ∙ is)
   kept_is P small.Confirms before after frames (inl confirms) was all answer is = was answer (ap (λ (d : Small). d.kept) (sym confirms.becomes) ∙ is)
   kept_is P small.Confirms before after frames (inr goes) was all answer is = was answer (sym goes.keeps ∙ is)
-  kept_is P small.Idle before after frames goes was all answer is = was answer (sym goes.keeps ∙ is)
+  kept_is P small.Idle before after frames (inl goes) was all answer is = was answer (sym goes.keeps ∙ is)
+  kept_is P small.Idle before after frames (inr replies) was all answer is =
+      let now : AllByRecursion P (replies.others ++ replies.frame ∷ []) = subst (λ (fs : List (List ℕ)). AllByRecursion P fs) replies.sent all in
+      subst (λ (k : small.Kept). P k.frame) (some_is (record { sequence = replies.sequence; frame = replies.frame }) answer (sym replies.keeps ∙ is))
+      (each_of P replies.others replies.frame [] now)
 
   -- if no response is stored after a step, none was before
   none_kept : (heard : ToDevice) (before after : Small) (frames : List (List ℕ)) → DeviceSteps rules heard before after frames → after.kept ≡ None → before.kept ≡ None
   none_kept (small.Call sequence ask) before after frames (inl answered) none = absurd (none_some _ after.kept none answered.keeps)
   none_kept (small.Call sequence ask) before after frames (inr (inl repeats)) none = ap (λ (d : Small). d.kept) (sym repeats.unchanged) ∙ none
-  none_kept (small.Call sequence ask) before after frames (inr (inr rests)) none = ap (λ (d : Small). d.kept) (sym rests.0) ∙ none
+  none_kept (small.Call sequence ask) before after frames (inr (inr (inl rests))) none = ap (λ (d : Small). d.kept) (sym rests.0) ∙ none
+  none_kept (small.Call sequence ask) before after frames (inr (inr (inr asks))) none = ap (λ (d : Small). d.kept) (sym asks.becomes) ∙ none
   none_kept small.Confirms before after frames (inl confirms) none = ap (λ (d : Small). d.kept) (sym confirms.becomes) ∙ none
   none_kept small.Confirms before after frames (inr goes) none = sym goes.keeps ∙ none
-  none_kept small.Idle before after frames goes none = sym goes.keeps ∙ none
+  none_kept small.Idle before after frames (inl goes) none = sym goes.keeps ∙ none
+  none_kept small.Idle before after frames (inr replies) none = absurd (none_some _ after.kept none replies.keeps)
+
+  -- if no response is stored after a step, and nothing was asked, nothing is asked by a call other than those of the application
+  same_unasked : (before after : Small) → IsSameOrNone before.asked after.asked → before.asked ≡ None → after.asked ≡ None
+  same_unasked before after (inl same) was = same ∙ was
+  same_unasked before after (inr none) was = none
+
+  unasked_on : (heard : ToDevice) (before after : Small) (frames : List (List ℕ)) → DeviceSteps rules heard before after frames
+      → after.kept ≡ None → before.asked ≡ None → ((sequence : ℕ) → heard ≡ small.Call sequence small.Accesses → ⊥) → after.asked ≡ None
+  unasked_on (small.Call sequence ask) before after frames (inl answered) none was late = absurd (none_some _ after.kept none answered.keeps)
+  unasked_on (small.Call sequence ask) before after frames (inr (inl repeats)) none was late = ap (λ (d : Small). d.asked) repeats.unchanged ∙ was
+  unasked_on (small.Call sequence ask) before after frames (inr (inr (inl rests))) none was late = ap (λ (d : Small). d.asked) rests.0 ∙ was
+  unasked_on (small.Call sequence ask) before after frames (inr (inr (inr asks))) none was late =
+      absurd (late sequence (ap (λ (a : small.Ask). small.Call sequence a) asks.accesses))
+  unasked_on small.Confirms before after frames (inl confirms) none was late = ap (λ (d : Small). d.asked) confirms.becomes ∙ was
+  unasked_on small.Confirms before after frames (inr goes) none was late = same_unasked before after goes.asked was
+  unasked_on small.Idle before after frames (inl goes) none was late = same_unasked before after goes.asked was
+  unasked_on small.Idle before after frames (inr replies) none was late = replies.settled
 
   -- something goes by
   linked_by : (before after : Small) (frames : List (List ℕ)) → GoesBy rules before after frames
@@ -197,11 +226,14 @@ module _ (rules : Rules TakenRecord Request) where
   linked_on (small.Call sequence ask) before after frames (inl answered) was link is none = none_some _ after.kept none answered.keeps
   linked_on (small.Call sequence ask) before after frames (inr (inl repeats)) was link is none =
       was link (ap (λ (d : Small). d.link) (sym repeats.unchanged) ∙ is) (ap (λ (d : Small). d.kept) (sym repeats.unchanged) ∙ none)
-  linked_on (small.Call sequence ask) before after frames (inr (inr rests)) was link is none =
+  linked_on (small.Call sequence ask) before after frames (inr (inr (inl rests))) was link is none =
       was link (ap (λ (d : Small). d.link) (sym rests.0) ∙ is) (ap (λ (d : Small). d.kept) (sym rests.0) ∙ none)
+  linked_on (small.Call sequence ask) before after frames (inr (inr (inr asks))) was link is none =
+      was link (ap (λ (d : Small). d.link) (sym asks.becomes) ∙ is) (ap (λ (d : Small). d.kept) (sym asks.becomes) ∙ none)
   linked_on small.Confirms before after frames (inl confirms) was link is none = was confirms.link confirms.was (ap (λ (d : Small). d.kept) (sym confirms.becomes) ∙ none)
   linked_on small.Confirms before after frames (inr goes) was link is none = linked_by before after frames goes was link is none
-  linked_on small.Idle before after frames goes was link is none = linked_by before after frames goes was link is none
+  linked_on small.Idle before after frames (inl goes) was link is none = linked_by before after frames goes was link is none
+  linked_on small.Idle before after frames (inr replies) was link is none = absurd (none_some _ after.kept none replies.keeps)
 
 -- ---- the device
 
@@ -245,7 +277,7 @@ module _ (priority : Priority) (setup : Setup) (station : Station) (live : Live)
   abbrev rules : Rules TakenRecord Request
   rules = rules_of setup station
 
-  module _ (heard : Heard) (planned : IsPlanned rules setup.activity live.rest.real heard)
+  module _ (heard : Heard) (planned : IsPlanned rules setup.activity station.named live.rest.real heard)
       (first : (sequence : ℕ) → heard_as (is_planned setup) heard ≡ small.Call sequence small.Connects → sequence ≡ 0)
       (late : (sequence : ℕ) → heard_as (is_planned setup) heard ≡ small.Call sequence small.Accesses → kept_at setup live ≡ None → ⊥) where
     pub unlinked : (link : Option RelationState) → live.rest.link ≡ link → kept_at setup live ≡ None → live.rest.link ≡ None
@@ -257,24 +289,37 @@ module _ (priority : Priority) (setup : Setup) (station : Station) (live : Live)
         → looked call.header.activity call.header.sequence live.rest.calls ≡ new
         → (live.rest.link ≡ None) × (heard_as (is_planned setup) heard ≡ small.Call call.header.sequence small.Accesses → ⊥)
     unlinked_new caller address call is zero_is fresh =
-        let plan : IsPlannedCall rules setup.activity live.rest.real call = subst (λ (h : Heard). IsPlanned rules setup.activity live.rest.real h) is planned in
+        let plan : IsPlannedCall rules setup.activity station.named live.rest.real call =
+        subst (λ (h : Heard). IsPlanned rules setup.activity station.named live.rest.real h) is planned in
         let reported : reported_by 0 (kept_of setup.activity live.rest.calls) ≡ new =
         ap (λ (n : ℕ). reported_by n (kept_of setup.activity live.rest.calls)) (sym zero_is)
         ∙ (ap (λ (a : List ℕ). reported_by call.header.sequence (kept_of a live.rest.calls)) (sym plan.own) ∙ fresh) in
         let none : kept_at setup live ≡ None = ap (λ (k : Option Answer). option_map kept_in k) (new_none (kept_of setup.activity live.rest.calls) reported) in
         (unlinked live.rest.link refl none, λ e. late call.header.sequence e none)
 
+    -- a call that is asked and has no later answer is not of number 0
+    pub later_asked : (question : Question) → question_in live.rest.asked ≡ Some question → question.header.sequence ≡ 0
+        → looked question.header.activity question.header.sequence live.rest.calls ≡ new → ⊥
+    later_asked question is zero_is fresh =
+        let reported : reported_by 0 (kept_of setup.activity live.rest.calls) ≡ new =
+        ap (λ (n : ℕ). reported_by n (kept_of setup.activity live.rest.calls)) (sym zero_is)
+        ∙ (ap (λ (a : List ℕ). reported_by question.header.sequence (kept_of a live.rest.calls)) (sym (follows.own question is)) ∙ fresh) in
+        let none : kept_at setup live ≡ None = ap (λ (k : Option Answer). option_map kept_in k) (new_none (kept_of setup.activity live.rest.calls) reported) in
+        none_some question.header.sequence (small_of setup.activity live).asked (follows.unasked none)
+        (ap (λ (o : Option Question). option_map (λ q. q.header.sequence) o) is)
+
     -- a relation that is made now is the first one, and that of the plan
     pub makes_planned : (after : Option RelationState) (messages : List Sent) (makes : Makes live.rest.calls live.rest.link heard after messages) → (kept_at setup live ≡ None) × (makes.request ≡ rules.request)
     makes_planned after messages makes =
-        let plan : IsPlannedCall rules setup.activity live.rest.real makes.call = subst (λ (h : Heard). IsPlanned rules setup.activity live.rest.real h) makes.is planned in
+        let plan : IsPlannedCall rules setup.activity station.named live.rest.real makes.call =
+        subst (λ (h : Heard). IsPlanned rules setup.activity station.named live.rest.real h) makes.is planned in
         let zero_is : makes.call.header.sequence ≡ 0 = first makes.call.header.sequence (ap (heard_as (is_planned setup)) makes.is ∙ ap (λ (o : Option Operation). ends.asked_by (is_planned setup) makes.call.header.sequence (unwrap_or makes.call.blocks []) o) makes.connects) in
         let fresh : reported_by 0 (kept_of setup.activity live.rest.calls) ≡ new =
         ap (λ (n : ℕ). reported_by n (kept_of setup.activity live.rest.calls)) (sym zero_is)
         ∙ (ap (λ (a : List ℕ). reported_by makes.call.header.sequence (kept_of a live.rest.calls)) (sym plan.own) ∙ makes.fresh) in
         let unkept : kept_at setup live ≡ None = ap (λ (k : Option Answer). option_map kept_in k) (new_none (kept_of setup.activity live.rest.calls) fresh) in
-        let asks : IsPlannedAs rules live.rest.real makes.call.header.sequence plan.blocks (Some operation.Connect) =
-        subst (λ (o : Option Operation). IsPlannedAs rules live.rest.real makes.call.header.sequence plan.blocks o) makes.connects plan.asks in
+        let asks : IsPlannedAs rules station.named live.rest.real makes.call.header.sequence plan.blocks (Some operation.Connect) =
+        subst (λ (o : Option Operation). IsPlannedAs rules station.named live.rest.real makes.call.header.sequence plan.blocks o) makes.connects plan.asks in
         let same : plan.blocks ≡ makes.blocks = some_is plan.blocks makes.blocks (sym plan.counted ∙ makes.counted) in
         let reads : connect_of live.rest.link makes.blocks ≡ Ok rules.request =
         ap (λ (l : Option RelationState). connect_of l makes.blocks) (unlinked live.rest.link refl unkept) ∙ (ap (λ (b : List ℕ). connect_of None b) (sym same) ∙ asks) in
@@ -294,7 +339,8 @@ module _ (priority : Priority) (setup : Setup) (station : Station) (live : Live)
         (goes : Goes priority setup follows.relation live.rest.link (heard_step outcomes station live heard).live.rest.link (heard_step outcomes station live heard).sent now)
         (real : AreSizedModules (heard_step outcomes station live heard).live.rest.real.modules.items)
         (sized : AreSizedIn (heard_step outcomes station live heard).live.rest.real.modules.items (request_for setup.plan setup.ar) (heard_step outcomes station live heard).live.rest.link)
-        (orderly : IsOrderlyIn (heard_step outcomes station live heard).live.rest.link) where
+        (orderly : IsOrderlyIn (heard_step outcomes station live heard).live.rest.link)
+        (own : IsAskedOwn setup.activity (heard_step outcomes station live heard).live.rest.asked) where
       abbrev r : Relation
       r = follows.relation
 
@@ -307,7 +353,8 @@ module _ (priority : Priority) (setup : Setup) (station : Station) (live : Live)
       -- the frame of a repeated response
       again_in : (frame : List ℕ) → IsOfKept heard live frame → IsIn priority setup station.identity next frame
       again_in frame owed_so =
-          let plan : IsPlannedCall rules setup.activity live.rest.real owed_so.call = subst (λ (h : Heard). IsPlanned rules setup.activity live.rest.real h) owed_so.is planned in
+          let plan : IsPlannedCall rules setup.activity station.named live.rest.real owed_so.call =
+          subst (λ (h : Heard). IsPlanned rules setup.activity station.named live.rest.real h) owed_so.is planned in
           let kept : kept_of setup.activity live.rest.calls ≡ Some owed_so.kept = ap (λ (a : List ℕ). kept_of a live.rest.calls) (sym plan.own) ∙ owed_so.there in
           subst (λ (f : List ℕ). IsIn priority setup station.identity next f) owed_so.same
           (stays owed_so.kept.frame (follows.again (kept_in owed_so.kept) (ap (λ (k : Option Answer). option_map kept_in k) kept)))
@@ -318,7 +365,6 @@ module _ (priority : Priority) (setup : Setup) (station : Station) (live : Live)
         noted = as_said heard_so.0;
         reported = subst (λ (o : Option (Option Priority × Notice AlarmAck)). IsHeard priority next.reported (ack_in priority o)) (sym heard_so.1) tt;
         first = λ sequence e. absurd (idle_call sequence (sym idle_is ∙ e));
-        called = λ caller address call is_call other. absurd (other idle_is);
         good = heard_so.2;
         well = well_so;
       }
@@ -346,7 +392,8 @@ module _ (priority : Priority) (setup : Setup) (station : Station) (live : Live)
       -- while no response is stored, the frames of the device are early ones
       message_early : kept_at setup live ≡ None → (message : Sent) → IsOwed heard live message → IsHeardAs rules station.identity message → IsEarlyFrame setup station (bytes_of station.identity message)
       message_early none (Again frame) owed_so heard_so =
-          let plan : IsPlannedCall rules setup.activity live.rest.real owed_so.call = subst (λ (h : Heard). IsPlanned rules setup.activity live.rest.real h) owed_so.is planned in
+          let plan : IsPlannedCall rules setup.activity station.named live.rest.real owed_so.call =
+          subst (λ (h : Heard). IsPlanned rules setup.activity station.named live.rest.real h) owed_so.is planned in
           let kept : kept_of setup.activity live.rest.calls ≡ Some owed_so.kept = ap (λ (a : List ℕ). kept_of a live.rest.calls) (sym plan.own) ∙ owed_so.there in
           absurd (none_some (kept_in owed_so.kept) (kept_at setup live) none (ap (λ (k : Option Answer). option_map kept_in k) kept))
       message_early none (ReadyCall address ready) owed_so heard_so =
@@ -399,6 +446,10 @@ module _ (priority : Priority) (setup : Setup) (station : Station) (live : Live)
             real = real;
             sized = sized;
             orderly = orderly;
+            own = own;
+            unasked = λ none. let was = none_kept rules (heard_as (is_planned setup) heard) before after step.frames steps none in
+                unasked_on rules (heard_as (is_planned setup) heard) before after step.frames steps none (follows.unasked was)
+                (λ sequence is. late sequence is was);
             lives = follows.lives;
             placed = follows.placed;
           }
@@ -626,12 +677,11 @@ module _ (priority : Priority) (setup : Setup) (station : Station) (live : Live)
   first_said other sequence e = absurd cc
 
   said_in : (next : Relation) (message : said.Sent) → (k : ℕ) × (slice_get next.reported k ≡ Some message) → IsSaidAs setup station message → IsReportedAs setup station.identity message
-      → IsCalledAs setup station.identity message → IsIn priority setup station.identity next (said.bytes_of setup message)
-  said_in next message there meant reported called = record {
+      → IsIn priority setup station.identity next (said.bytes_of setup message)
+  said_in next message there meant reported = record {
     noted = subst (λ (h : controller.Heard). IsSaid next.alarms.pdus (alarm_in priority (noted_at h))) (sym reported.1) tt;
     reported = as_reported reported.0;
     first = λ sequence e. as_first sequence e meant.1;
-    called = called;
     good = subst (λ (h : controller.Heard). IsGood station.identity.mac h) (sym reported.1) tt;
     well = subst (λ (h : controller.Heard). IsWell setup h) (sym reported.1) tt;
   }
@@ -651,15 +701,15 @@ module _ (priority : Priority) (setup : Setup) (station : Station) (live : Live)
 
   all_said_in : (then : Relation) (messages : List said.Sent) → AllByRecursion (λ message. (k : ℕ) × (slice_get then.reported k ≡ Some message)) messages
       → AllByRecursion (IsSaidAs setup station) messages → AllByRecursion (IsReportedAs setup station.identity) messages
-      → AllByRecursion (IsCalledAs setup station.identity) messages → AllByRecursion (IsIn priority setup station.identity then) (map (said.bytes_of setup) messages)
-  all_said_in then [] there meant reported called = tt
-  all_said_in then (message ∷ messages) there meant reported called =
-      (said_in then message there.0 meant.0 reported.0 called.0, all_said_in then messages there.1 meant.1 reported.1 called.1)
+      → AllByRecursion (IsIn priority setup station.identity then) (map (said.bytes_of setup) messages)
+  all_said_in then [] there meant reported = tt
+  all_said_in then (message ∷ messages) there meant reported =
+      (said_in then message there.0 meant.0 reported.0, all_said_in then messages there.1 meant.1 reported.1)
 
   turn_follows : (turn : Turn) (now : List AlarmNotification) → Turned turn now → AllByRecursion (IsSaidAs setup station) turn.sent → AllByRecursion (IsReportedAs setup station.identity) turn.sent
-      → AllByRecursion (IsCalledAs setup station.identity) turn.sent → IsLive turn.live → IsPlaced station.identity.mac turn.live → (kept_at setup live ≡ None → EarlyTurn turn)
+      → IsLive turn.live → IsPlaced station.identity.mac turn.live → (kept_at setup live ≡ None → EarlyTurn turn)
       → Follows priority setup station live turn.live (sent ++ map (said.bytes_of setup) turn.sent) raised (taken ++ now)
-  turn_follows turn now turned_so meant reported called lives placed_so early_so =
+  turn_follows turn now turned_so meant reported lives placed_so early_so =
       let r = follows.relation in
       let next = turned_so.next in
       let pdus : Extends r.alarms.pdus next.alarms.pdus = subst (λ (xs : List (ℕ × AlarmNotification)). Extends r.alarms.pdus xs) (sym turned_so.pdus_are) (unchanged r.alarms.pdus) in
@@ -682,7 +732,7 @@ module _ (priority : Priority) (setup : Setup) (station : Station) (live : Live)
         again = λ answer is. stays answer.frame (follows.again answer is);
         frames = each_behind (IsIn priority setup station.identity next) sent (map (said.bytes_of setup) turn.sent)
             (each_on (IsIn priority setup station.identity r) (IsIn priority setup station.identity next) sent stays follows.frames)
-            (all_said_in next turn.sent places meant reported called);
+            (all_said_in next turn.sent places meant reported);
         early = λ none. let now_so = early_so none in
             (now_so.live, each_behind (IsEarlyFrame setup station) sent (map (said.bytes_of setup) turn.sent) (follows.early none).1 (messages_early setup station turn.sent now_so.sent meant));
         good = follows.good;
@@ -690,6 +740,8 @@ module _ (priority : Priority) (setup : Setup) (station : Station) (live : Live)
         real = follows.real;
         sized = follows.sized;
         orderly = follows.orderly;
+        own = follows.own;
+        unasked = follows.unasked;
         lives = lives;
         placed = placed_so;
       }
@@ -697,12 +749,10 @@ module _ (priority : Priority) (setup : Setup) (station : Station) (live : Live)
   -- an event at the controller
   pub controller_follows : KindsSo → (one : Event) → IsEventIn one → AllByRecursion (IsSaidAs setup station) (turn_of setup controlling one).sent
       → AllByRecursion (IsReportedAs setup station.identity) (turn_of setup controlling one).sent
-      → AllByRecursion (IsCalledAs setup station.identity) (turn_of setup controlling one).sent
       → IsLive (turn_of setup controlling one).live → IsPlaced station.identity.mac (turn_of setup controlling one).live → Follows priority setup station live (turn_of setup controlling one).live (sent ++ map (said.bytes_of setup) (turn_of setup controlling one).sent) raised (taken ++ taken_at one)
-  controller_follows kinds one is meant reported called lives placed_so =
+  controller_follows kinds one is meant reported lives placed_so =
       subst (λ (l : ControllerLive). AllByRecursion (IsSaidAs setup station) (turn_of setup l one).sent → AllByRecursion (IsReportedAs setup station.identity) (turn_of setup l one).sent
-      → AllByRecursion (IsCalledAs setup station.identity) (turn_of setup l one).sent
       → IsLive (turn_of setup l one).live → IsPlaced station.identity.mac (turn_of setup l one).live → (kept_at setup live ≡ None → EarlyTurn (turn_of setup l one))
       → Follows priority setup station live (turn_of setup l one).live (sent ++ map (said.bytes_of setup) (turn_of setup l one).sent) raised (taken ++ taken_at one)) follows.same
-      (turn_follows (turn_of setup follows.relation.live one) (taken_at one) (event_turned one is)) meant reported called lives placed_so
+      (turn_follows (turn_of setup follows.relation.live one) (taken_at one) (event_turned one is)) meant reported lives placed_so
       (λ none. turn_early kinds setup controlling one (follows.early none).0 (event_unready one is none))

@@ -1,5 +1,5 @@
 -- What an alarm of low priority that is sent, a pull and a plug leave of a relation: laws of the crate below.
-use Rattle.std.proofs.Common.{◌≡◌, ℕ, List, Option}
+use Rattle.std.proofs.Common.{◌≡◌, List, Option}
 use Rattle.wire.specs.blocks.modules.Lists.{Listed}
 use Rattle.connect_blocks.specs.declared.module_diff.DiffModule.{DiffModule}
 use Rattle.connect_blocks.specs.declared.module_diff.DiffSubmodule.{DiffSubmodule}

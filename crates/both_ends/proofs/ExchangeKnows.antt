@@ -1,25 +1,23 @@
 -- The changes that a device reported by alarms of low priority, and those that wait, lead to the diagnoses that it has.
-use Rattle.std.proofs.Common.{◌≡◌, ◌⊎◌, inl, inr, ◌&&◌, ◌||◌, ◌==◌, ◌++◌, ◌-◌, ◌<◌, ◌≤◌, ℕ, Bool, true, false, cond, List, [], ◌∷◌, length, map, Option, Some, None, option_map, refl, sym, ap, subst, ◌∙◌, not, append-nil, append_assoc, arith}
+use Rattle.std.proofs.Common.{◌≡◌, ◌⊎◌, inl, inr, ◌&&◌, ◌==◌, ◌++◌, ◌-◌, ◌<◌, ◌≤◌, ℕ, Bool, true, false, cond, List, [], ◌∷◌, length, map, Option, Some, None, option_map, refl, sym, ap, subst, ◌∙◌, not, append-nil, append_assoc, arith}
 use Rattle.std.specs.Prelude.{is_some, nat_le, nat_lt, unwrap_or}
 use Rattle.std.specs.List.{list_any}
-use Rattle.std.proofs.lemmas.Bool.{and_parts, false≢true, leb-false, lt-ltb, or_parts, true≢false}
+use Rattle.std.proofs.lemmas.Bool.{and_parts, false≢true, leb-false, lt-ltb, true≢false}
 use Rattle.std.proofs.lemmas.List.{length-append, length-map, map-append, take_all}
 use Rattle.std.proofs.lemmas.List.Filters.{length-filter_both}
 use Rattle.pn_values.specs.declared.real.RealModule.{RealModule}
 use Rattle.record_blocks.specs.declared.alarm_notification.AlarmNotification.{AlarmNotification}
 use Rattle.rpc_core.specs.Cache.{Kept as Answer}
-use Rattle.diagnosis.specs.Existing.{changed, remaining}
+use Rattle.diagnosis.specs.Existing.{remaining}
 use Rattle.diagnosis.specs.Notices.{first_notice, notice_of}
 use Rattle.diagnosis.specs.declared.diagnosis.Change.{Change}
 use Rattle.diagnosis.specs.declared.diagnosis.Diagnosis.{Diagnosis}
 use Rattle.diagnosis.specs.declared.module_change.ModuleChange.{ModuleChange}
-use Rattle.diagnosis.specs.declared.module_change.ModuleChangeKind.{ModuleChangeKind}
-use Rattle.diagnosis.specs.declared.module_change.ModuleChangeKind.TheVariants as kind_is
 use Rattle.diagnosis.specs.declared.queue.LowChange.{LowChange}
 use Rattle.diagnosis.specs.declared.queue.LowChange.TheVariants as change_is
 use Rattle.diagnosis.specs.declared.queue.QueuedAlarm.{QueuedAlarm}
 use Rattle.diagnosis.specs.alarms.Alarms.{Low, is_full as is_low_full, noted}
-use Rattle.diagnosis.specs.Queue.{after_next, alarm_of, begun, diagnosis_queued, is_reported, kind_type, module_queued, module_waits, queued, reach_of, waits_with}
+use Rattle.diagnosis.specs.Queue.{after_next, alarm_of, begun, diagnosis_queued, is_reported, module_queued, module_waits, queued, reach_of, waits_with}
 use Rattle.diagnosis.specs.alarms.Own.{is_own}
 use Rattle.diagnosis.specs.declared.alarms.own.Place.{Place}
 use Rattle.module_diff.specs.Changes.{affected_by, covers}

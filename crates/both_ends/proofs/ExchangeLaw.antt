@@ -34,12 +34,10 @@ use Rattle.record_blocks.specs.declared.alarm_ack.AlarmAck.{AlarmAck}
 use Rattle.diagnosis.specs.declared.diagnosis.Diagnosis.{Diagnosis}
 use Rattle.diagnosis.specs.reported.Reported.{nothing_reported}
 use Rattle.pn_alarms.specs.Ends.{DeviceEnd}
-use Rattle.frame_codec.specs.declared.udp.Caller.{Caller}
-use Rattle.rpc_core.specs.Call.{Asked as Call}
 use Rattle.both_ends.specs.startup.request.Request.{request_for}
 use Rattle.device_frames.specs.Sent.{Sent as DeviceSent}
 use Rattle.device_frames.specs.declared.local.Local.TheVariants as local
-use Rattle.device_frames.specs.Heard.{Heard, Ticks, Elsewhere, Asks, Resolves, Reported, Calls, Cyclic, Applied, Met, broadcast, heard_alarm, heard_content, heard_frame, heard_of, heard_request, is_own, is_taken}
+use Rattle.device_frames.specs.Heard.{Heard, Ticks, Elsewhere, Asks, Resolves, Cyclic, Applied, Met, broadcast, heard_alarm, heard_content, heard_frame, heard_of, heard_request, is_own, is_taken}
 use Rattle.device_core.specs.State.{State, Station, Live, Rest}
 use Rattle.device_core.specs.Machine.{heard_step}
 use Rattle.controller_messages.specs.declared.request.Request.TheVariants as asks
@@ -65,10 +63,12 @@ use Rattle.end_laws.specs.both.Small.{Rules}
 use Rattle.end_laws.specs.both.Steps.{DeviceSteps}
 use Rattle.end_laws.specs.device.Orderly.{IsOrderlyIn}
 use Rattle.end_laws.specs.device.Turn.{Changes, IsRaise, Makes, Turn, alarm_heard}
-use Rattle.end_laws.specs.device.Small.{IsHeardAs, IsPlanned, Planned, heard_as, kept_in, link_of, small_of}
+use Rattle.end_laws.specs.device.Small.{IsAskedOwn, IsHeardAs, IsPlanned, Planned, heard_as, kept_in, link_of, small_of}
 use Rattle.both_ends.specs.startup.Played.{AreMeant, Begins, CanMeet}
 use Rattle.end_laws.specs.controller.Small.{said_to}
 use Rattle.both_ends.specs.startup.View.{IsMeant, IsMeantAtController, IsMeantAtDevice, is_planned, rules_of}
+use Rattle.asked_records.specs.declared.question.Question.{Question}
+use Rattle.both_ends.proofs.StartupAsked.{OwnsSo, first_own}
 use Rattle.both_ends.proofs.ExchangeEarly.{IsEarlyAt, IsEarlyFrame}
 use Rattle.both_ends.proofs.ExchangeOutputsTurns.{KindsSo}
 use Rattle.end_laws.specs.sending.Messages.{CanBeSent as CanBeSaid}
@@ -79,9 +79,9 @@ use Rattle.both_ends.proofs.ExchangeRelated.{IsRight, response_right}
 use Rattle.both_ends.proofs.ExchangeMade.{stated_made}
 use Rattle.both_ends.proofs.ExchangeServed.{all_served}
 use Rattle.both_ends.proofs.ExchangeStated.{IsSizedHeard, change_sized}
-use Rattle.both_ends.proofs.ExchangeWell.{all_called, all_well}
+use Rattle.both_ends.proofs.ExchangeWell.{all_well}
 use Rattle.both_ends.proofs.ExchangePlaced.{IsEventOf, IsOf, IsPlaced, event_placed, first_placed}
-use Rattle.both_ends.proofs.ExchangeReported.{IsCallIn, IsGood, IsWell, ack_in, alarm_in, noted_at, reported_at}
+use Rattle.both_ends.proofs.ExchangeReported.{IsGood, IsWell, ack_in, alarm_in, noted_at, reported_at}
 use Rattle.both_ends.proofs.ExchangeMessages.{HearsSo, all_noted, all_ready, all_reported, both_sized, other_mac}
 use Rattle.both_ends.proofs.ExchangeKeys.{KeysSo}
 use Rattle.both_ends.proofs.ExchangeSizes.{turn_sized}
@@ -92,7 +92,7 @@ use Rattle.both_ends.proofs.ExchangeTurns.{IsTurn, as_alarms, end_at}
 use Rattle.both_ends.proofs.ExchangeHeardAlarm.{alarm_holds}
 use Rattle.both_ends.proofs.ExchangeLowTied.{low_turn_on, reported_same}
 use Rattle.both_ends.proofs.ExchangeTied.{Goes, IsFresh, IsHeard, IsSaid, IsTied, IsUnraised, raise_on, turn_on}
-use Rattle.both_ends.proofs.ExchangeFollows.{Follows, IsEventIn, IsIn, controller_follows, device_follows, kept_at, makes_fresh, makes_planned, taken_at, unlinked, unlinked_new}
+use Rattle.both_ends.proofs.ExchangeFollows.{Follows, IsEventIn, IsIn, controller_follows, device_follows, kept_at, makes_fresh, later_asked, makes_planned, taken_at, unlinked, unlinked_new}
 
 -- ---- what a controller hears of its device
 
@@ -166,13 +166,14 @@ pub record DeviceSo : Type 0 where
   pub goes_sized : (setup : Setup) (controlling : ControllerLive) (one : Event) → IsSetup setup → IsLive controlling → IsSizedEvent setup one
       → IsLive (turn_of setup controlling one).live × AllByRecursion (CanBeSaid setup) (turn_of setup controlling one).sent
   pub goes_on : (rules : Rules TakenRecord Request) (activity : List ℕ) (outcomes : List Outcome) (station : Station) (live : Live) (heard : Heard)
-      → IsOrderlyIn live.rest.link → IsPlanned rules activity live.rest.real heard
+      → IsOrderlyIn live.rest.link → IsAskedOwn activity live.rest.asked → IsPlanned rules activity station.named live.rest.real heard
       → AllByRecursion (IsHeardAs rules station.identity) (heard_step outcomes station live heard).sent
       → DeviceSteps rules (heard_as rules.is_planned heard) (small_of activity live) (small_of activity (heard_step outcomes station live heard).live) (heard_step outcomes station live heard).frames
   pub kinds : KindsSo
   pub turns : (rules : Rules TakenRecord Request) (activity : List ℕ) (outcomes : List Outcome) (station : Station) (live : Live) (heard : Heard)
-      → IsPlanned rules activity live.rest.real heard
+      → IsPlanned rules activity station.named live.rest.real heard
       → Turn station live heard (heard_step outcomes station live heard).live.rest (heard_step outcomes station live heard).sent
+  pub owns : OwnsSo
   pub keys : KeysSo
   pub raises : (outcomes : List Outcome) (station : Station) (live : Live) (slot subslot : ℕ) (octets : List ℕ)
       → IsRaise live.rest.real.modules.items live.rest.link slot subslot octets (heard_step outcomes station live (alarm_heard slot subslot octets)).live.rest.link
@@ -309,7 +310,7 @@ module _ {F : Type 0} where
         as_alarms live.rest.real.modules.items (heard_step outcomes station live heard).live.rest.real.modules.items live.rest.calls live.rest.diagnoses (heard_step outcomes station live heard).live.rest.diagnoses live.rest.link heard _ _ (so.turns (rules_of setup station) setup.activity outcomes station live heard meant.planned).is
 
     module _ (heard : Heard) (first : (sequence : ℕ) → heard_as (is_planned setup) heard ≡ small.Call sequence small.Connects → sequence ≡ 0)
-        (late : (sequence : ℕ) → heard_as (is_planned setup) heard ≡ small.Call sequence small.Accesses → kept_at setup live ≡ None → ⊥) (called : IsCallIn setup heard)
+        (late : (sequence : ℕ) → heard_as (is_planned setup) heard ≡ small.Call sequence small.Accesses → kept_at setup live ≡ None → ⊥)
         (made : AtDevice as_flash before heard after) (meant : IsMeantAtDevice before heard) where
       pub makes_so : (link : Option RelationState) (messages : List DeviceSent) (makes : Makes live.rest.calls live.rest.link heard link messages) → (kept_at setup live ≡ None) × (makes.request ≡ request_for setup.plan setup.ar)
       makes_so link messages makes = makes_planned priority setup station live before.controller.live before.sent raised taken follows heard meant.planned first late link messages makes
@@ -340,15 +341,17 @@ module _ {F : Type 0} where
           (modules_in station live heard step.live.rest step.sent acts) (turn_at heard outcomes meant) in
           let heard_so = meant.sent outcomes heard_it.steps.sendable in
           let owes = acts.owed in
+          let own = so.owns rules setup.activity outcomes station live heard meant.planned follows.own in
           let serves = all_served setup station live heard step.live.rest step.sent meant.planned
-          (unlinked_new priority setup station live before.controller.live before.sent raised taken follows heard meant.planned first late) acts.does in
+          (unlinked_new priority setup station live before.controller.live before.sent raised taken follows heard meant.planned first late)
+          (later_asked priority setup station live before.controller.live before.sent raised taken follows heard meant.planned first late) acts.does in
           let all : Follows priority setup station step.live before.controller.live (before.sent ++ step.frames) (raised ++ now) taken =
           device_follows priority setup station live before.controller.live before.sent raised taken follows heard meant.planned first late outcomes now
-          (so.goes_on rules setup.activity outcomes station live heard follows.orderly meant.planned heard_so) owes
+          (so.goes_on rules setup.activity outcomes station live heard follows.orderly follows.own meant.planned heard_so) owes
           heard_so (all_noted hears setup station.identity step.sent heard_it.steps.sendable turn.messages
           (all_ready hears setup station.identity follows.good heard live step.sent follows.sized follows.orderly owes))
-          (all_well hears setup station follows.good live heard meant.planned called step.sent heard_it.steps.sendable owes heard_so serves)
-          (goes outcomes heard_it.steps.live) (modules_sized station live heard step.live.rest step.sent acts fits follows.real) turn.link (acts.orderly follows.orderly) in
+          (all_well hears setup station follows.good live step.sent heard_it.steps.sendable heard_so serves)
+          (goes outcomes heard_it.steps.live) (modules_sized station live heard step.live.rest step.sent acts fits follows.real) turn.link (acts.orderly follows.orderly) own in
           subst (λ (c : Controlling). Follows priority c.setup after.device.station after.device.live c.live after.sent (raised ++ now) taken) (sym made.controller)
           (subst (λ (s : Station). Follows priority setup s after.device.live before.controller.live after.sent (raised ++ now) taken) (sym heard_it.steps.same)
           (subst (λ (l : Live). Follows priority setup station l before.controller.live after.sent (raised ++ now) taken) (sym heard_it.steps.live)
@@ -358,14 +361,14 @@ module _ {F : Type 0} where
     -- anything but an alarm that the application raises
     device_hears : (one : Move) → raised_with before one ≡ [] → (heard : Heard) → IsSizedHeard heard → IsUnraised heard → IsHeard priority follows.relation.reported (ack_in priority (reported_at heard))
         → ((sequence : ℕ) → heard_as (is_planned setup) heard ≡ small.Call sequence small.Connects → sequence ≡ 0)
-        → ((sequence : ℕ) → heard_as (is_planned setup) heard ≡ small.Call sequence small.Accesses → kept_at setup live ≡ None → ⊥) → IsCallIn setup heard
+        → ((sequence : ℕ) → heard_as (is_planned setup) heard ≡ small.Call sequence small.Accesses → kept_at setup live ≡ None → ⊥)
         → AtDevice as_flash before heard after → IsMeantAtDevice before heard → FollowsAt priority after (raised ++ now_at priority before one after) taken
-    device_hears one none heard fits unraised is first late called made meant =
+    device_hears one none heard fits unraised is first late made meant =
         subst (λ (now : List AlarmNotification). FollowsAt priority after (raised ++ now) taken) (told_is priority before one after none)
-        (device_on heard first late called made meant fits (told_in priority live.rest.link after.device.live.rest.link) (λ outcomes same.
+        (device_on heard first late made meant fits (told_in priority live.rest.link after.device.live.rest.link) (λ outcomes same.
         subst (λ (l : Live). Goes priority setup follows.relation live.rest.link (heard_step outcomes station live heard).live.rest.link (heard_step outcomes station live heard).sent (told_in priority live.rest.link l.rest.link)) (sym same)
         (goes_in priority setup follows.relation live.rest.real.modules.items (heard_step outcomes station live heard).live.rest.real.modules.items live.rest.calls live.rest.diagnoses (heard_step outcomes station live heard).live.rest.diagnoses live.rest.link heard (heard_step outcomes station live heard).live.rest.link (heard_step outcomes station live heard).sent
-        follows.tied is (calm_for priority heard unraised) (fresh_so heard first late called made meant _ _) (alone_so heard first late called made meant _ _) (turn_at heard outcomes meant))))
+        follows.tied is (calm_for priority heard unraised) (fresh_so heard first late made meant _ _) (alone_so heard first late made meant _ _) (turn_at heard outcomes meant))))
 
     pub never_first : (sequence : ℕ) → small.Idle ≡ small.Call sequence small.Connects → sequence ≡ 0
     never_first sequence e = absurd cc
@@ -380,13 +383,13 @@ module _ {F : Type 0} where
         let heard = alarm_heard slot subslot octets in
         let real = live.rest.real.modules.items in
         subst (λ (now : List AlarmNotification). FollowsAt priority after (raised ++ now) taken) (alarm_is priority before one slot subslot octets after raises)
-        (device_on heard never_first never_late (λ caller address call e other. absurd (other refl)) made meant tt
+        (device_on heard never_first never_late made meant tt
         (alarm_told priority real slot subslot octets live.rest.link after.device.live.rest.link) (λ outcomes same.
         subst (λ (l : Live). Goes priority setup follows.relation live.rest.link (heard_step outcomes station live heard).live.rest.link (heard_step outcomes station live heard).sent
         (alarm_told priority real slot subslot octets live.rest.link l.rest.link)) (sym same)
         (alarm_goes priority setup follows.relation real (heard_step outcomes station live heard).live.rest.real.modules.items live.rest.calls live.rest.diagnoses (heard_step outcomes station live heard).live.rest.diagnoses live.rest.link slot subslot octets (heard_step outcomes station live heard).live.rest.link
-        (heard_step outcomes station live heard).sent follows.tied (fresh_so heard never_first never_late (λ caller address call e other. absurd (other refl)) made meant _ _)
-        (alone_so heard never_first never_late (λ caller address call e other. absurd (other refl)) made meant _ _) (turn_at heard outcomes meant) (so.raises outcomes station live slot subslot octets))))
+        (heard_step outcomes station live heard).sent follows.tied (fresh_so heard never_first never_late made meant _ _)
+        (alone_so heard never_first never_late made meant _ _) (turn_at heard outcomes meant) (so.raises outcomes station live slot subslot octets))))
 
     pub early_at : (number : ℕ) (octets : List ℕ) → slice_get before.sent number ≡ Some octets → kept_at setup live ≡ None → IsEarlyFrame setup station octets
     early_at number octets there none = each_at (IsEarlyFrame setup station) before.sent number octets (follows.early none).1 there
@@ -407,7 +410,7 @@ module _ {F : Type 0} where
         → FollowsAt priority after (raised ++ now_at priority before one after) taken
     comes_to_device one none octets true is early meant comes = rests_at one none (same_device comes) (same_follows comes)
     comes_to_device one none octets false is early meant comes =
-        device_hears one none (heard_of station.identity (Frame (record { items = octets }))) (framed_sized _ (of_frame station.identity octets)) (unraised _ (of_frame station.identity octets)) is.reported is.first (λ sequence e unkept. (early unkept).0 sequence e) is.called comes meant
+        device_hears one none (heard_of station.identity (Frame (record { items = octets }))) (framed_sized _ (of_frame station.identity octets)) (unraised _ (of_frame station.identity octets)) is.reported is.first (λ sequence e unkept. (early unkept).0 sequence e) comes meant
 
     delivered_to_device : (one : Move) → raised_with before one ≡ [] → (octets : Option (List ℕ))
         → ((frame : List ℕ) → octets ≡ Some frame → IsIn priority setup station.identity follows.relation frame)
@@ -434,7 +437,7 @@ module _ {F : Type 0} where
         let sayable = both_sized setup turn.sent sized.1 placed.sent in
         let all : FollowsAt priority there raised (taken ++ taken_at priority setup station live before.controller.live before.sent raised taken follows one) =
         controller_follows priority setup station live before.controller.live before.sent raised taken follows so.kinds one is meant (all_reported hears setup station.identity follows.good follows.apart turn.sent sayable)
-        (all_called hears setup station follows.good turn.sent sayable meant) sized.0 placed.live in
+        sized.0 placed.live in
         subst (λ (w : World F). FollowsAt priority w raised (taken ++ now)) (sym same) (subst (λ (xs : List AlarmNotification). FollowsAt priority there raised (taken ++ xs)) takes all)
 
     comes_to_controller : (octets : List ℕ) (skipped : Bool) → IsIn priority setup station.identity follows.relation octets → (kept_at setup live ≡ None → IsEarlyFrame setup station octets)
@@ -470,14 +473,14 @@ module _ {F : Type 0} where
 
     -- an event at the device, of its application or of time
     device_event : (one : Move) → raised_with before one ≡ [] → taken_with priority before one ≡ [] → (heard : Heard) → IsSizedHeard heard → IsUnraised heard → ack_in priority (reported_at heard) ≡ None
-        → ((planned : Planned) → heard_as planned heard ≡ small.Idle) → ((caller : Caller) (address : List ℕ) (call : Call) → heard ≡ Reported caller address (Calls call) → ⊥)
+        → ((planned : Planned) → heard_as planned heard ≡ small.Idle)
         → AtDevice as_flash before heard after → IsMeantAtDevice before heard → FollowsAt priority after (raised ++ now_at priority before one after) (taken ++ taken_with priority before one)
-    device_event one none takes heard fits unraised unsaid idle no_call happens meant =
+    device_event one none takes heard fits unraised unsaid idle happens meant =
         subst (λ (xs : List AlarmNotification). FollowsAt priority after (raised ++ now_at priority before one after) (taken ++ xs)) (sym takes)
         (taken_none priority after (raised ++ now_at priority before one after) taken
         (device_hears one none heard fits unraised (subst (λ (o : Option (ℕ × AlarmAck)). IsHeard priority follows.relation.reported o) (sym unsaid) tt)
         (λ sequence e. absurd (idle_connect sequence (sym (idle (is_planned setup)) ∙ e))) (λ sequence e unkept. absurd (idle_access sequence (sym (idle (is_planned setup)) ∙ e)))
-        (λ caller address call e other. absurd (no_call caller address call e)) happens meant))
+        happens meant))
       where
         idle_connect : (sequence : ℕ) → small.Idle ≡ small.Call sequence small.Connects → ⊥
         idle_connect sequence e = absurd cc
@@ -505,17 +508,18 @@ module _ {F : Type 0} where
         (sym (still_none priority before (move.Deliver Controller number) after refl (delivered_device (slice_get before.sent number) happens)))
         (raised_none priority after raised (taken ++ taken_from priority before (slice_get before.sent number))
         (delivered_to_controller (slice_get before.sent number) (λ frame there. in_at number frame there) (λ frame there. early_at number frame there) meant happens))
-    one_follows (move.Tick Device) happens meant sized = device_event (move.Tick Device) refl refl Ticks tt tt refl (λ planned. refl) (λ caller address call e. absurd cc) happens meant
+    one_follows (move.Tick Device) happens meant sized = device_event (move.Tick Device) refl refl Ticks tt tt refl (λ planned. refl) happens meant
     one_follows (move.Tick Controller) happens meant sized =
         controller_event (move.Tick Controller) event.Tick refl refl tt refl meant (so.goes_sized setup before.controller.live event.Tick follows.good follows.lives tt, tt) happens
     one_follows (move.Application (local.Alarm slot subslot octets)) happens meant sized =
         taken_none priority after _ taken (device_raises (move.Application (local.Alarm slot subslot octets)) slot subslot octets.items refl happens meant)
     one_follows (move.Application (local.Plug slot ident part)) happens meant sized =
-        device_event (move.Application (local.Plug slot ident part)) refl refl (Applied (local.Plug slot ident part)) sized tt refl (λ planned. refl) (λ caller address call e. absurd cc) happens meant
+        device_event (move.Application (local.Plug slot ident part)) refl refl (Applied (local.Plug slot ident part))
+        sized tt refl (λ planned. refl) happens meant
     one_follows (move.Application other) happens meant sized =
-        device_event (move.Application other) refl refl (Applied other) tt tt refl (λ planned. refl) (λ caller address call e. absurd cc) happens meant
+        device_event (move.Application other) refl refl (Applied other) tt tt refl (λ planned. refl) happens meant
     one_follows (move.Neighbour neighbour) happens meant sized =
-        device_event (move.Neighbour neighbour) refl refl (Met (option_map peer_as neighbour)) tt tt refl (λ planned. refl) (λ caller address call e. absurd cc) happens meant
+        device_event (move.Neighbour neighbour) refl refl (Met (option_map peer_as neighbour)) tt tt refl (λ planned. refl) happens meant
     one_follows (move.Give slot subslot value) happens meant sized =
         controller_event (move.Give slot subslot value) (event.Give slot subslot value) refl refl tt refl meant
         (so.goes_sized setup before.controller.live (event.Give slot subslot value) follows.good follows.lives tt, tt) happens
@@ -558,6 +562,8 @@ module _ {F : Type 0} where
     real = real;
     sized = λ l is. absurd (none_some l first.device.live.rest.link begins.unrelated is);
     orderly = subst (λ (l : Option RelationState). IsOrderlyIn l) (sym begins.unrelated) tt;
+    own = first_own first.controller.setup.activity first.device.live.rest.asked begins.unasked;
+    unasked = λ none. ap (λ (o : Option Question). option_map (λ q. q.header.sequence) o) begins.unasked;
     relation = start first.controller.setup;
     moves = [];
     made = refl;
@@ -586,7 +592,6 @@ module _ {F : Type 0} where
         good = subst (λ (h : controller.Heard). IsGood first.device.station.identity.mac h) (sym unheard) tt;
         reported = subst (λ (h : Heard). IsHeard priority [] (ack_in priority (reported_at h))) (sym asks_it) tt;
         first = λ sequence e. absurd (idle_call sequence (ap (heard_as (is_planned first.controller.setup)) (sym asks_it) ∙ e));
-        called = λ caller address call e other. absurd (other (ap (heard_as (is_planned first.controller.setup)) asks_it));
         well = subst (λ (h : controller.Heard). IsWell first.controller.setup h) (sym unheard) tt;
       },
       tt,

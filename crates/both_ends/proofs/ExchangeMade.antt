@@ -55,4 +55,7 @@ module _ (station : Station) (live : Live) (heard : Heard) (after : Rest) (sent 
   stated_made (inr (inl it)) = none_after (kept_none it.link)
   stated_made (inr (inr (inl it))) = absurd (none_some it.link live.rest.link alone it.was)
   stated_made (inr (inr (inr (inl it)))) = none_after (ap (λ (r : Rest). r.link) it.same ∙ alone)
-  stated_made (inr (inr (inr (inr it)))) = by_effect it.caller it.blocks it.outcome it.which it.effect
+  stated_made (inr (inr (inr (inr (inl it))))) = by_effect it.caller it.blocks it.outcome it.which it.effect
+  stated_made (inr (inr (inr (inr (inr (inl it)))))) = none_after (ap (λ (r : Rest). r.link) it.becomes ∙ alone)
+  stated_made (inr (inr (inr (inr (inr (inr (inl it))))))) = none_after (ap (λ (r : Rest). r.link) it.becomes ∙ alone)
+  stated_made (inr (inr (inr (inr (inr (inr (inr it))))))) = none_after (kept_none it.link)

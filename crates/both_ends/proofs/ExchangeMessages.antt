@@ -173,9 +173,6 @@ pub record HearsSo : Type 0 where
   pub response_at_controller : (mine : Controller) (identity : Identity) (caller : Caller) (address : List ℕ) (answer : Response)
       → IsDevice identity → IsCaller caller → IsAddress address → CanBeAnswered answer
       → heard_by mine (response_frame identity caller address answer) ≡ mine_reported mine caller.mac caller.endpoint (controller.Responds answer)
-  pub response_long : (mine : Controller) (identity : Identity) (caller : Caller) (address : List ℕ) (answer : Response)
-      → IsDevice identity → IsCaller caller → IsAddress address → IsCallHeader answer.header → 1372 < length answer.blocks
-      → heard_by mine (response_frame identity caller address answer) ≡ controller.Nothing
   pub chosen : (setup : Setup) (identity : Identity) (real : Real) (number : ℕ) → IsSetup setup → IsDevice identity → number < 14336
       → IsChosenWell (connect_blocks identity number (request_for setup.plan setup.ar) (differing_of (request_for setup.plan setup.ar) real))
   pub response_no_call : (interface : Interface) (response : Response) (more : List ℕ) → IsErr (call_of interface (response_bytes response ++ more))

@@ -32,7 +32,7 @@ use Rattle.relations.specs.Exchanged.{hearing}
 use Rattle.both_ends.specs.startup.request.Request.{request_for}
 use Rattle.device_frames.specs.Heard.{Heard, Cyclic as Comes}
 use Rattle.device_frames.specs.Sent.{Sent, CallAnswer, Again, bytes_of}
-use Rattle.device_frames.specs.Sendable.{AreSendable}
+use Rattle.device_frames.specs.Sendable.{AreSendable, IsSendable}
 use Rattle.device_core.specs.State.{Station, Rest, Live}
 use Rattle.settings_journal.specs.settings_store.Machine.{Outcome, carried}
 use Rattle.device_core.specs.Handled.{kept_for, handled}
@@ -44,6 +44,7 @@ use Rattle.both_ends.specs.startup.View.{rules_of}
 use Rattle.end_laws.specs.device.Turn.{Answers, BeginsNumbered, IsNumbered, IsSameOr, IsTurn, Makes, Standing, Takes, Turn, heard_low_in, standing_of}
 use Rattle.both_ends.proofs.ExchangeKeys.{StandingSo}
 use Rattle.end_laws.specs.device.Owed.{IsOwed}
+use Rattle.both_ends.proofs.StartupEach.{each_of}
 use Rattle.both_ends.proofs.ExchangeOutputsBrings.{IsKnown, message_silent}
 use Rattle.both_ends.proofs.ExchangeTied.{begun_link, changed_link, diagnosed_link, next_link}
 use Rattle.both_ends.specs.exchange.Shown.{accepted_in, brought_in, image_in, is_output, octets_in, outputs_of, route_for, zeros_for}
@@ -339,7 +340,7 @@ module _ (setup : Setup) (station : Station) where
     -- ---- a turn
 
     module _ (standing : StandingSo) (live : Live) (heard : Heard) (ours : IsOursIn live.rest.link) (silent : AreKeptSilent live.rest.calls)
-        (planned : IsPlanned (rules_of setup station) setup.activity live.rest.real heard) where
+        (planned : IsPlanned (rules_of setup station) setup.activity station.named live.rest.real heard) where
       -- what is shown after a turn, and that it is of the plan
       abbrev ShowsSo : Option RelationState → Type 0
       ShowsSo after = ShowsIn (brought_in station.options setup heard) live.rest.link after × IsOursIn after
@@ -350,10 +351,10 @@ module _ (setup : Setup) (station : Station) where
       -- a relation that is made is that of the plan
       makes_so : (after : Option RelationState) (sent : List Sent) → BeginsNumbered station.options live.rest.link after → Makes live.rest.calls live.rest.link heard after sent → ShowsSo after
       makes_so after sent numbers makes =
-          let plan : IsPlannedCall (rules_of setup station) setup.activity live.rest.real makes.call =
-          subst (λ (h : Heard). IsPlanned (rules_of setup station) setup.activity live.rest.real h) makes.is planned in
-          let asks : IsPlannedAs (rules_of setup station) live.rest.real makes.call.header.sequence plan.blocks (Some operation.Connect) =
-          subst (λ (o : Option Operation). IsPlannedAs (rules_of setup station) live.rest.real makes.call.header.sequence plan.blocks o) makes.connects plan.asks in
+          let plan : IsPlannedCall (rules_of setup station) setup.activity station.named live.rest.real makes.call =
+          subst (λ (h : Heard). IsPlanned (rules_of setup station) setup.activity station.named live.rest.real h) makes.is planned in
+          let asks : IsPlannedAs (rules_of setup station) station.named live.rest.real makes.call.header.sequence plan.blocks (Some operation.Connect) =
+          subst (λ (o : Option Operation). IsPlannedAs (rules_of setup station) station.named live.rest.real makes.call.header.sequence plan.blocks o) makes.connects plan.asks in
           let same : plan.blocks ≡ makes.blocks = some_is plan.blocks makes.blocks (sym plan.counted ∙ makes.counted) in
           let request : makes.request ≡ request_for setup.plan setup.ar =
           made_from live.rest.link makes.blocks makes.request (request_for setup.plan setup.ar) makes.read (ap (λ (b : List ℕ). request_of None b) (sym same) ∙ asks) in
@@ -412,14 +413,16 @@ module _ (setup : Setup) (station : Station) where
       calls_silent after sent (inl same) can = subst (λ (c : List Answer). AreKeptSilent c) (sym same) silent
       calls_silent after sent (inr answers) can =
           let answer = CallAnswer answers.caller answers.address answers.answer in
-          let first : AreSendable station.identity (answer ∷ answers.others) = subst (λ (messages : List Sent). AreSendable station.identity messages) answers.sends can in
+          let one : IsSendable station.identity answer =
+          each_of (IsSendable station.identity) answers.first answer answers.others
+          (subst (λ (messages : List Sent). AreSendable station.identity messages) answers.sends can) in
           subst (λ (c : List Answer). AreKeptSilent c) (sym answers.keeps)
-          (more_kept (BringsNone rules) setup.activity (kept_for station.identity answers.call answer) live.rest.calls (λ own. message_silent station.options setup station.identity sound apart answer first.0 tt) silent)
+          (more_kept (BringsNone rules) setup.activity (kept_for station.identity answers.call answer) live.rest.calls (λ own. message_silent station.options setup station.identity sound apart answer one tt) silent)
 
       owed_known : (message : Sent) → IsOwed heard live message → IsKnown rules message
       owed_known (Again frame) owed =
-          let plan : IsPlannedCall (rules_of setup station) setup.activity live.rest.real owed.call =
-          subst (λ (h : Heard). IsPlanned (rules_of setup station) setup.activity live.rest.real h) owed.is planned in
+          let plan : IsPlannedCall (rules_of setup station) setup.activity station.named live.rest.real owed.call =
+          subst (λ (h : Heard). IsPlanned (rules_of setup station) setup.activity station.named live.rest.real h) owed.is planned in
           subst (λ (f : List ℕ). BringsNone rules f) owed.same
           (kept_at (BringsNone rules) setup.activity live.rest.calls silent owed.kept (ap (λ (a : List ℕ). kept_of a live.rest.calls) (sym plan.own) ∙ owed.there))
       owed_known other owed = tt

@@ -94,12 +94,12 @@ all_addressed shown (message ∷ sent) all = (all.0.1, all_addressed shown sent 
 
 -- the law of a device's turns
 abbrev pub TurnsSo : Type 0
-TurnsSo = (rules : Rules TakenRecord Request) (activity : List ℕ) (outcomes : List Outcome) (station : Station) (live : Live) (heard : Heard) → IsPlanned rules activity live.rest.real heard
+TurnsSo = (rules : Rules TakenRecord Request) (activity : List ℕ) (outcomes : List Outcome) (station : Station) (live : Live) (heard : Heard) → IsPlanned rules activity station.named live.rest.real heard
     → Turn station live heard (heard_step outcomes station live heard).live.rest (heard_step outcomes station live heard).sent
 
 -- the law of the number of a relation that begins
 abbrev pub NumbersSo : Type 0
-NumbersSo = (rules : Rules TakenRecord Request) (activity : List ℕ) (outcomes : List Outcome) (station : Station) (live : Live) (heard : Heard) → IsPlanned rules activity live.rest.real heard
+NumbersSo = (rules : Rules TakenRecord Request) (activity : List ℕ) (outcomes : List Outcome) (station : Station) (live : Live) (heard : Heard) → IsPlanned rules activity station.named live.rest.real heard
     → BeginsNumbered station.options live.rest.link (heard_step outcomes station live heard).live.rest.link
 
 module _ (turns : TurnsSo) (numbers : NumbersSo) (standing : StandingSo) (kinds : KindsSo) (sound : IsSound ethernet) (whole : IsSoundWhole layers) {F : Type 0} where

@@ -26,18 +26,13 @@ use Rattle.controller_messages.specs.Heard as controller
 use Rattle.controller_messages.specs.Heard.{heard_of as heard_by}
 use Rattle.controller_messages.specs.Sent as said
 use Rattle.frame_codec.specs.Sendable.{IsMac}
-use Rattle.frame_codec.specs.declared.udp.Caller.{Caller}
-use Rattle.rpc_core.specs.Call.{Asked as Call}
 use Rattle.rpc_core.specs.Response.{is_done}
 use Rattle.rpc_core.specs.Sendable.{IsHeader}
 use Rattle.controller_messages.specs.declared.request.Request.TheVariants as asks
 use Rattle.controller_core.specs.start_up.Answers.{is_answer}
-use Rattle.end_laws.specs.both.Small as small
-use Rattle.end_laws.specs.device.Small.{heard_as}
 use Rattle.end_laws.specs.hearing.Stations.{IsCaller}
 use Rattle.end_laws.specs.sending.Sized.{IsNotice}
 use Rattle.end_laws.specs.turns.Alarms.{is_priority, report_as}
-use Rattle.both_ends.specs.startup.View.{is_planned}
 use Rattle.both_ends.specs.exchange.Sized.{IsChosenWell}
 
 -- ---- at the device
@@ -147,16 +142,6 @@ abbrev pub IsWell : Setup → controller.Heard → Type 0
 IsWell setup (controller.Responds response) = is_answer setup asks.Connect response.header ≡ true → is_done response.status ≡ true → IsChosenWell response.blocks
 IsWell setup other = Unit {0}
 
--- ---- what a device hears of its controller
-
-pub record IsSizedCall (call : Call) : Type 0 where
-  pub header : IsHeader call.header
-  pub maximum : call.args_maximum < 4294967296
-
--- a call of a start-up or of the application has its sizes
-abbrev pub IsCallIn : Setup → device.Heard → Type 0
-IsCallIn setup heard = (caller : Caller) (address : List ℕ) (call : Call) → heard ≡ device.Reported caller address (device.Calls call) → (heard_as (is_planned setup) heard ≡ small.Idle → ⊥) → IsSizedCall call
-
 -- ---- what is heard as it is said
 
 -- what the device and the controller hear of octets
@@ -208,7 +193,3 @@ IsWellSent setup identity (sent.ArpReply asker address target) = IsWellBy setup 
 IsWellSent setup identity (sent.CallAnswer caller address answer) = IsWellBy setup (bytes_of identity (sent.CallAnswer caller address answer))
 IsWellSent setup identity (sent.ReadyCall address ready) = IsWellBy setup (bytes_of identity (sent.ReadyCall address ready))
 IsWellSent setup identity (sent.PlugReadyCall address ready) = IsWellBy setup (bytes_of identity (sent.PlugReadyCall address ready))
-
--- a message of the controller, in which a call has its sizes
-abbrev pub IsCalledAs : Setup → Identity → said.Sent → Type 0
-IsCalledAs setup identity message = IsCallIn setup (heard_of identity (comes_in (record { items = said.bytes_of setup message })))

@@ -4,8 +4,6 @@ use Rattle.std.specs.Prelude.{slice_get}
 use Rattle.lldp.specs.Views.{peer_as}
 use Rattle.flash_model.specs.declared.flash.Flash.{Ghosts as Flash}
 use Rattle.pn_values.specs.declared.identity.Identity.{Identity}
-use Rattle.frame_codec.specs.declared.udp.Caller.{Caller}
-use Rattle.rpc_core.specs.Call.{Asked as Call}
 use Rattle.record_blocks.specs.declared.alarm_notification.AlarmNotification.{AlarmNotification}
 use Rattle.diagnosis.specs.declared.diagnosis.Change.{Change}
 use Rattle.diagnosis.specs.declared.queue.LowChange.{LowChange}
@@ -17,7 +15,7 @@ use Rattle.relations.specs.RelationState.{RelationState, is_exchanging}
 use Rattle.diagnosis.specs.declared.reports.priority.Priority.TheVariants.{Low as low_priority}
 use Rattle.device_frames.specs.declared.event.Event.TheVariants.{Frame}
 use Rattle.device_frames.specs.declared.local.Local.TheVariants as local
-use Rattle.device_frames.specs.Heard.{Heard, Ticks, Reported, Calls, Applied, Met, heard_of}
+use Rattle.device_frames.specs.Heard.{Heard, Ticks, Applied, Met, heard_of}
 use Rattle.device_core.specs.State.{State, Live}
 use Rattle.device_core.specs.Machine.{heard_step}
 use Rattle.controller_messages.specs.declared.setup.Setup.{Setup}
@@ -45,7 +43,6 @@ use Rattle.both_ends.proofs.ExchangeLists.{none_some}
 use Rattle.both_ends.proofs.ExchangeLowTied.{reported_same}
 use Rattle.both_ends.proofs.ExchangeMade.{stated_made}
 use Rattle.both_ends.proofs.ExchangeMessages.{HearsSo}
-use Rattle.both_ends.proofs.ExchangeReported.{IsCallIn}
 
 -- ---- a move
 
@@ -74,8 +71,8 @@ module _ {F : Type 0} where
     -- the device hears something
     hears_knows : (heard : Heard) → IsSmall heard → ((sequence : ℕ) → heard_as (is_planned before.controller.setup) heard ≡ small.Call sequence small.Connects → sequence ≡ 0)
         → ((sequence : ℕ) → heard_as (is_planned before.controller.setup) heard ≡ small.Call sequence small.Accesses → kept_at before.controller.setup before.device.live ≡ None → ⊥)
-        → IsCallIn before.controller.setup heard → AtDevice as_flash before heard after → IsMeantAtDevice before heard → KnowsAt Apart after (raised ++ reported_with before after)
-    hears_knows heard is_small first late called made meant =
+        → AtDevice as_flash before heard after → IsMeantAtDevice before heard → KnowsAt Apart after (raised ++ reported_with before after)
+    hears_knows heard is_small first late made meant =
         let live = before.device.live in
         let station = before.device.station in
         let outcomes = made.hears.steps.outcomes in
@@ -86,16 +83,15 @@ module _ {F : Type 0} where
         subst (λ (l : Live). Knows Apart l.rest.real.modules.items l.rest.link l.rest.diagnoses (raised ++ reported_by live.rest.link l.rest.link)) (sym made.hears.steps.live)
         (knows_on so.keys elsewhere Apart live.rest.real.modules.items live.rest.link live.rest.diagnoses raised knows live.rest.calls heard link step.live.rest.real.modules.items step.live.rest.diagnoses step.sent is_small
         (λ makes. (
-          alone_so low_priority so hears as_flash before after raised taken follows heard first late called made meant link step.sent makes,
-          follows.unraised (makes_so low_priority so hears as_flash before after raised taken follows heard first late called made meant link step.sent makes).0,
-          stated_made station live heard step.live.rest step.sent (alone_so low_priority so hears as_flash before after raised taken follows heard first late called made meant link step.sent makes) acts.does,
+          alone_so low_priority so hears as_flash before after raised taken follows heard first late made meant link step.sent makes,
+          follows.unraised (makes_so low_priority so hears as_flash before after raised taken follows heard first late made meant link step.sent makes).0,
+          stated_made station live heard step.live.rest step.sent (alone_so low_priority so hears as_flash before after raised taken follows heard first late made meant link step.sent makes) acts.does,
         )) turn (modules_in station live heard step.live.rest step.sent acts) acts.diagnoses)
 
-    idle_knows : (heard : Heard) → IsSmall heard → heard_as (is_planned before.controller.setup) heard ≡ small.Idle → ((caller : Caller) (address : List ℕ) (call : Call) → heard ≡ Reported caller address (Calls call) → ⊥)
+    idle_knows : (heard : Heard) → IsSmall heard → heard_as (is_planned before.controller.setup) heard ≡ small.Idle
         → AtDevice as_flash before heard after → IsMeantAtDevice before heard → KnowsAt Apart after (raised ++ reported_with before after)
-    idle_knows heard is_small idle no_call made meant =
-        hears_knows heard is_small (λ sequence e. absurd (idle_connect sequence (sym idle ∙ e))) (λ sequence e none. absurd (idle_access sequence (sym idle ∙ e)))
-        (λ caller address call e other. absurd (no_call caller address call e)) made meant
+    idle_knows heard is_small idle made meant =
+        hears_knows heard is_small (λ sequence e. absurd (idle_connect sequence (sym idle ∙ e))) (λ sequence e none. absurd (idle_access sequence (sym idle ∙ e))) made meant
       where
         idle_connect : (sequence : ℕ) → small.Idle ≡ small.Call sequence small.Connects → ⊥
         idle_connect sequence e = absurd cc
@@ -110,7 +106,7 @@ module _ {F : Type 0} where
     comes_knows octets true is early meant comes = rests_knows (ap (λ (w : World F). w.device) comes)
     comes_knows octets false is early meant comes =
         let heard = heard_of before.device.station.identity (Frame (record { items = octets })) in
-        hears_knows heard (framed_small heard (of_frame before.device.station.identity octets)) is.first (λ sequence e unkept. (early unkept).0 sequence e) is.called comes meant
+        hears_knows heard (framed_small heard (of_frame before.device.station.identity octets)) is.first (λ sequence e unkept. (early unkept).0 sequence e) comes meant
 
     delivered_knows : (octets : Option (List ℕ))
         → ((frame : List ℕ) → octets ≡ Some frame → IsIn low_priority before.controller.setup before.device.station.identity follows.relation frame)
@@ -128,12 +124,12 @@ module _ {F : Type 0} where
         delivered_knows (slice_get before.sent number) (λ frame there. in_at low_priority so hears as_flash before after raised taken follows number frame there)
         (λ frame there. early_at low_priority so hears as_flash before after raised taken follows number frame there) meant happens
     one_knows (move.Deliver Controller number) happens meant sized = away_knows (slice_get before.sent number) happens
-    one_knows (move.Tick Device) happens meant sized = idle_knows Ticks (λ change e. absurd cc) refl (λ caller address call e. absurd cc) happens meant
+    one_knows (move.Tick Device) happens meant sized = idle_knows Ticks (λ change e. absurd cc) refl happens meant
     one_knows (move.Application (local.Diagnosis slot subslot channel error appears)) happens meant sized =
         idle_knows (Applied (local.Diagnosis slot subslot channel error appears))
-        (λ change e. subst (λ (n : ℕ). n < 65536) (sym (error_is slot subslot channel error appears change e)) sized) refl (λ caller address call e. absurd cc) happens meant
-    one_knows (move.Application other) happens meant sized = idle_knows (Applied other) (λ change e. absurd cc) refl (λ caller address call e. absurd cc) happens meant
-    one_knows (move.Neighbour neighbour) happens meant sized = idle_knows (Met (option_map peer_as neighbour)) (λ change e. absurd cc) refl (λ caller address call e. absurd cc) happens meant
+        (λ change e. subst (λ (n : ℕ). n < 65536) (sym (error_is slot subslot channel error appears change e)) sized) refl happens meant
+    one_knows (move.Application other) happens meant sized = idle_knows (Applied other) (λ change e. absurd cc) refl happens meant
+    one_knows (move.Neighbour neighbour) happens meant sized = idle_knows (Met (option_map peer_as neighbour)) (λ change e. absurd cc) refl happens meant
     one_knows other happens meant sized = rests_knows (ap (λ (w : World F). w.device) happens)
 
   -- ---- any run

@@ -18,6 +18,8 @@ use Rattle.relations.specs.RelationState.{RelationState}
 use Rattle.relations.specs.Connect.{connect_blocks, connect_of, differing_of}
 use Rattle.relations.specs.Numbers.{IsNumber}
 use Rattle.device_frames.specs.Heard.{Heard, Reported, Calls}
+use Rattle.asked_records.specs.Asked.{question_in}
+use Rattle.asked_records.specs.declared.question.Question.{Question}
 use Rattle.device_frames.specs.Sent.{Sent, Exchanges, CallAnswer, Again}
 use Rattle.device_core.specs.State.{Station, Live, Rest}
 use Rattle.device_core.specs.Handled.{answer_from, outcome_of}
@@ -29,7 +31,7 @@ use Rattle.end_laws.specs.both.Small as small
 use Rattle.end_laws.specs.device.Small.{IsPlanned, IsPlannedAs, IsPlannedCall, asked_by, heard_as, written_by}
 use Rattle.both_ends.specs.startup.View.{is_planned, rules_of}
 use Rattle.both_ends.specs.exchange.Sized.{IsChosenWell}
-use Rattle.both_ends.proofs.ExchangeLists.{none_some, some_is}
+use Rattle.both_ends.proofs.ExchangeLists.{each_behind, none_some, some_is}
 
 ok_is : {A B : Type 0} (x y : A) → ◌≡◌ {A = Result A B} (Ok x) (Ok y) → x ≡ y
 ok_is x y e = cc
@@ -88,7 +90,7 @@ module _ (setup : Setup) (station : Station) (live : Live) where
 
   outcome_well : (caller : Caller) (sequence : ℕ) (blocks : List ℕ) (outcome : Result (List ℕ) CallFault) (which : Operation) (after : Option RelationState) → sequence ≡ 0 → live.rest.link ≡ None
       → (asked_by (is_planned setup) sequence blocks (Some which) ≡ small.Call sequence small.Accesses → ⊥)
-      → IsPlannedAs (rules_of setup station) live.rest.real sequence blocks (Some which) → IsEffect station live.rest.real caller blocks outcome which live.rest.link after → Chooses → IsChosenWell (outcome_of which outcome).1
+      → IsPlannedAs (rules_of setup station) station.named live.rest.real sequence blocks (Some which) → IsEffect station live.rest.real caller blocks outcome which live.rest.link after → Chooses → IsChosenWell (outcome_of which outcome).1
   outcome_well caller sequence blocks (Err why) which after zero_is none early plan effect chooses = empty_well
   outcome_well caller sequence blocks (Ok octets) operation.Connect after zero_is none early plan effect chooses =
       let is : effect.request ≡ asked = ok_is effect.request asked (sym effect.read ∙ (ap (λ (l : Option RelationState). connect_of l blocks) none ∙ plan)) in
@@ -104,22 +106,24 @@ module _ (setup : Setup) (station : Station) (live : Live) where
 
   -- ---- a turn
 
-  module _ (heard : Heard) (after : Rest) (sent : List Sent) (planned : IsPlanned (rules_of setup station) setup.activity live.rest.real heard)
+  module _ (heard : Heard) (after : Rest) (sent : List Sent) (planned : IsPlanned (rules_of setup station) setup.activity station.named live.rest.real heard)
       (none : (caller : Caller) (address : List ℕ) (call : Call) → heard ≡ Reported caller address (Calls call) → call.header.sequence ≡ 0
       → looked call.header.activity call.header.sequence live.rest.calls ≡ new
-      → (live.rest.link ≡ None) × (heard_as (is_planned setup) heard ≡ small.Call call.header.sequence small.Accesses → ⊥)) where
+      → (live.rest.link ≡ None) × (heard_as (is_planned setup) heard ≡ small.Call call.header.sequence small.Accesses → ⊥))
+      (later : (question : Question) → question_in live.rest.asked ≡ Some question → question.header.sequence ≡ 0
+      → looked question.header.activity question.header.sequence live.rest.calls ≡ new → ⊥) where
     silent_served : (messages : List Sent) → sent ≡ messages → AreServed messages → AreServed sent
     silent_served messages is all = subst (λ (those : List Sent). AreServed those) (sym is) all
 
     call_served : Serves station live heard after sent → AreServed sent
     call_served it = silent_served _ it.sends (well, readied_served live.values.running.suite.address it.ready)
       where
-        plan : IsPlannedCall (rules_of setup station) setup.activity live.rest.real it.call
-        plan = subst (λ (h : Heard). IsPlanned (rules_of setup station) setup.activity live.rest.real h) it.is planned
+        plan : IsPlannedCall (rules_of setup station) setup.activity station.named live.rest.real it.call
+        plan = subst (λ (h : Heard). IsPlanned (rules_of setup station) setup.activity station.named live.rest.real h) it.is planned
 
-        asks : IsPlannedAs (rules_of setup station) live.rest.real it.call.header.sequence it.blocks (Some it.which)
-        asks = subst (λ (o : Option Operation). IsPlannedAs (rules_of setup station) live.rest.real it.call.header.sequence it.blocks o) it.asks
-            (subst (λ (b : List ℕ). IsPlannedAs (rules_of setup station) live.rest.real it.call.header.sequence b (operation_of it.call.header.operation))
+        asks : IsPlannedAs (rules_of setup station) station.named live.rest.real it.call.header.sequence it.blocks (Some it.which)
+        asks = subst (λ (o : Option Operation). IsPlannedAs (rules_of setup station) station.named live.rest.real it.call.header.sequence it.blocks o) it.asks
+            (subst (λ (b : List ℕ). IsPlannedAs (rules_of setup station) station.named live.rest.real it.call.header.sequence b (operation_of it.call.header.operation))
             (some_is plan.blocks it.blocks (sym plan.counted ∙ it.counted)) plan.asks)
 
         well : IsServed (answer_from live.values.running.suite.address it.caller it.call it.which it.outcome)
@@ -135,4 +139,9 @@ module _ (setup : Setup) (station : Station) (live : Live) where
     all_served (inr (inl it)) = others_served after.link sent it.others
     all_served (inr (inr (inl it))) = exchanges_served sent it.others
     all_served (inr (inr (inr (inl it)))) = silent_served _ it.sends (tt, tt)
-    all_served (inr (inr (inr (inr it)))) = call_served it
+    all_served (inr (inr (inr (inr (inl it))))) = call_served it
+    all_served (inr (inr (inr (inr (inr (inl it)))))) = silent_served [] it.silent tt
+    all_served (inr (inr (inr (inr (inr (inr (inl it))))))) = silent_served _ it.sends ((λ chooses zero_is done. empty_well), tt)
+    all_served (inr (inr (inr (inr (inr (inr (inr it))))))) =
+        silent_served _ it.sends (each_behind IsServed it.first _ (others_served after.link it.first it.others)
+        ((λ chooses zero_is done. absurd (later it.question it.asked zero_is it.fresh)), tt))

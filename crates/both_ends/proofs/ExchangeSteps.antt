@@ -14,7 +14,6 @@ use Rattle.diagnosis.specs.declared.module_change.ModuleChangeKind.{ModuleChange
 use Rattle.diagnosis.specs.declared.module_change.ModuleChangeKind.TheVariants as kind_is
 use Rattle.diagnosis.specs.declared.queue.LowChange.{LowChange}
 use Rattle.diagnosis.specs.declared.queue.LowChange.TheVariants as change_is
-use Rattle.diagnosis.specs.declared.queue.QueuedAlarm.{QueuedAlarm}
 use Rattle.diagnosis.specs.declared.reports.priority.Priority.TheVariants.{Low as low_priority}
 use Rattle.diagnosis.specs.declared.reports.report.Report.{Report}
 use Rattle.diagnosis.specs.declared.reported.channel.ChannelReport.{ChannelReport}

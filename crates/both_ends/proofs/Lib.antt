@@ -1,4 +1,5 @@
 pub mod StartupEach
+pub mod StartupAsked
 pub mod StartupGiven
 pub mod StartupHeard
 pub mod StartupLists

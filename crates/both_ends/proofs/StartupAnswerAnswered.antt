@@ -24,7 +24,7 @@ use Rattle.wire.specs.Codec.{◌>>=◌}
 use Rattle.relations.specs.declared.options.DeviceOptions.{DeviceOptions}
 use Rattle.relations.specs.RelationState.{RelationState}
 use Rattle.relations.specs.Phases.{differing_octets, updated}
-use Rattle.device_core.specs.State.{Station, station_with}
+use Rattle.device_core.specs.State.{Station, station_named}
 use Rattle.connects.specs.answers.AlarmRelation.{alarm_relation}
 use Rattle.relations.specs.Numbers.{endpoint_of}
 use Rattle.relations.specs.Connect.{alarm_answer, connect_answer, connect_blocks, connect_within, differing_of, making}
@@ -47,8 +47,8 @@ use Rattle.both_ends.specs.startup.answer.Answer.{AnswersSo, IsAllThere, answer_
 -- ---- at the device
 
 pub answers_so : (setup : Setup) (identity : Identity) → AnswersSo setup identity
-answers_so setup identity given options device none plugged =
-    let station : Station = station_with identity given options in
+answers_so setup identity given options named device none plugged =
+    let station : Station = station_named identity given options named in
     let call = call_for setup asks.Connect in
     let caller = caller_of setup.plan.controller in
     let blocks = blocks_of setup asks.Connect in

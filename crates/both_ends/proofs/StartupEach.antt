@@ -11,6 +11,11 @@ module _ {A : Type 0} where
   each_behind P [] more all others = others
   each_behind P (x ∷ xs) more all others = (all.0, each_behind P xs more all.1 others)
 
+  -- one in the middle has the property
+  pub each_of : (P : A → Type 0) (xs : List A) (x : A) (more : List A) → AllByRecursion P (xs ++ x ∷ more) → P x
+  each_of P [] x more all = all.0
+  each_of P (other ∷ xs) x more all = each_of P xs x more all.1
+
   -- an item at an index has the property
   pub each_at : (P : A → Type 0) (xs : List A) (number : ℕ) (x : A) → AllByRecursion P xs → slice_get xs number ≡ Some x → P x
   each_at P [] number x all there = absurd cc

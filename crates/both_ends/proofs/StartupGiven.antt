@@ -1,5 +1,5 @@
 -- The laws of the crates below.
-use Rattle.std.specs.Prelude.{◌≡◌, ◌<◌, ◌++◌, ℕ, List, length, map, Option, Some, None}
+use Rattle.std.specs.Prelude.{◌≡◌, ◌++◌, ℕ, List, length, map, Option, Some, None}
 use Rattle.std.specs.List.{AllByRecursion}
 use Rattle.pn_values.specs.declared.identity.Identity.{Identity}
 use Rattle.pn_values.specs.declared.mac.Mac.{Mac}
@@ -23,7 +23,7 @@ use Rattle.plans.specs.declared.parts.Parts.{Parts}
 use Rattle.relations.specs.declared.plugging.PlugReady.{PlugReady}
 use Rattle.relations.specs.declared.ready.Ready.{Ready}
 use Rattle.settings_journal.specs.settings_store.Machine.{Outcome}
-use Rattle.device_frames.specs.Heard.{Calls, Garbled, Heard, Resolves, Responds, Unreadable, heard_of as device_hears}
+use Rattle.device_frames.specs.Heard.{Calls, Garbled, Heard, Resolves, Responds, heard_of as device_hears}
 use Rattle.device_frames.specs.Sent.{ArpReply, bytes_of as device_bytes, plug_ready_frame, ready_frame, response_frame}
 use Rattle.device_core.specs.State.{Live, Station}
 use Rattle.device_core.specs.Machine.{heard_step}
@@ -51,8 +51,8 @@ use Rattle.end_laws.specs.both.StartUp.{Begins, IsRun, last_of}
 use Rattle.end_laws.specs.both.Steps.{DeviceSteps}
 use Rattle.end_laws.specs.controller.Small.{GoesOn, IsSteady, said_in, small_of as small_controller}
 use Rattle.end_laws.specs.device.Orderly.{IsOrderlyIn}
-use Rattle.end_laws.specs.device.Owed.{IsOwed}
-use Rattle.end_laws.specs.device.Small.{IsHeardAs, IsPlanned, heard_as, small_of}
+use Rattle.end_laws.specs.device.Owed.{IsAskedLater, IsOwed}
+use Rattle.end_laws.specs.device.Small.{IsAskedOwn, IsHeardAs, IsPlanned, heard_as, small_of}
 
 -- the laws of frames, and of what is heard of them
 pub record HeardSo : Type 0 where
@@ -84,12 +84,6 @@ pub record HeardSo : Type 0 where
   pub response_at_device : (other identity : Identity) (caller : Caller) (address : List ℕ) (answer : Response)
       → IsDevice identity → IsCaller caller → IsAddress address → CanBeAnswered answer
       → device_hears other (comes (response_frame identity caller address answer)) ≡ own_reported other identity.mac caller.mac (calls_at address) caller.endpoint (Responds answer)
-  pub long_at_controller : (mine : Controller) (identity : Identity) (caller : Caller) (address : List ℕ) (answer : Response)
-      → IsDevice identity → IsCaller caller → IsAddress address → IsHeader answer.header → 1372 < length answer.blocks
-      → controller_hears mine (response_frame identity caller address answer) ≡ Nothing
-  pub long_at_device : (other identity : Identity) (caller : Caller) (address : List ℕ) (answer : Response)
-      → IsDevice identity → IsCaller caller → IsAddress address → IsHeader answer.header → 1372 < length answer.blocks
-      → device_hears other (comes (response_frame identity caller address answer)) ≡ Unreadable
   pub ready_at_controller : (mine : Controller) (identity : Identity) (address : List ℕ) (ready : Ready)
       → IsDevice identity → IsMac ready.partner.mac → IsAddress ready.partner.address → IsAddress address → CanBeCalled controllers (ready_call ready)
       → controller_hears mine (ready_frame identity address ready)
@@ -127,13 +121,16 @@ pub record GoesSo : Type 0 where
       → GoesOn setup.plan (said_in setup (controller_hears setup.plan.controller) event) live (turn_of setup live event)
   pub frames_are : (old : Controlling) (event : Event) → (step_of old event).frames ≡ map (controller_bytes old.setup) (turn_of old.setup old.live event).sent
   pub device_on : (rules : Rules TakenRecord Request) (activity : List ℕ) (outcomes : List Outcome) (station : Station) (live : Live) (heard : Heard)
-      → IsOrderlyIn live.rest.link → IsPlanned rules activity live.rest.real heard
+      → IsOrderlyIn live.rest.link → IsAskedOwn activity live.rest.asked → IsPlanned rules activity station.named live.rest.real heard
       → AllByRecursion (IsHeardAs rules station.identity) (heard_step outcomes station live heard).sent
       → DeviceSteps rules (heard_as rules.is_planned heard) (small_of activity live) (small_of activity (heard_step outcomes station live heard).live) (heard_step outcomes station live heard).frames
   pub orderly : (rules : Rules TakenRecord Request) (activity : List ℕ) (outcomes : List Outcome) (station : Station) (live : Live) (heard : Heard)
-      → IsPlanned rules activity live.rest.real heard → IsOrderlyIn live.rest.link → IsOrderlyIn (heard_step outcomes station live heard).live.rest.link
+      → IsPlanned rules activity station.named live.rest.real heard → IsOrderlyIn live.rest.link → IsOrderlyIn (heard_step outcomes station live heard).live.rest.link
+  pub asked : (rules : Rules TakenRecord Request) (activity : List ℕ) (outcomes : List Outcome) (station : Station) (live : Live) (heard : Heard)
+      → IsPlanned rules activity station.named live.rest.real heard
+      → IsAskedLater heard live.rest.asked (heard_step outcomes station live heard).live.rest.asked
   pub owed : (rules : Rules TakenRecord Request) (activity : List ℕ) (outcomes : List Outcome) (station : Station) (live : Live) (heard : Heard)
-      → IsPlanned rules activity live.rest.real heard
+      → IsPlanned rules activity station.named live.rest.real heard
       → AllByRecursion (IsOwed heard live) (heard_step outcomes station live heard).sent
   pub relation : (rules : Rules TakenRecord Request) (from : World TakenRecord Request) (run : List (Move × World TakenRecord Request)) → Begins rules from → IsRun rules from run
       → (link : RelationState TakenRecord Request) → (last_of from run).device.link ≡ Some link → link.request ≡ rules.request

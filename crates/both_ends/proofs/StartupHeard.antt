@@ -1,9 +1,9 @@
 -- What either end hears of each message of the other.
 use Rattle.std.proofs.Common.{◌≡◌, ◌⊎◌, inl, inr, ◌<◌, ◌+◌, ◌-◌, ◌==◌, ◌&&◌, ◌||◌, ℕ, Bool, true, false, cond, List, [], ◌∷◌, length, Option, Some, None, Result, Ok, Err, refl, sym, ap, subst, ◌∙◌, add-one, arith}
-use Rattle.std.specs.Prelude.{nat_eq, nat_le, nat_lt}
+use Rattle.std.specs.Prelude.{nat_eq, nat_lt}
 use Rattle.std.specs.List.{AllByRecursion}
 use Rattle.std.specs.Cmp.Lexicographic.{pointwise, same_text}
-use Rattle.std.proofs.lemmas.Bool.{eq-eqb, leb-true, leb-false, lt-ltb}
+use Rattle.std.proofs.lemmas.Bool.{eq-eqb, lt-ltb}
 use Rattle.wire.specs.Codec.{IsSoundWhole}
 use Rattle.pn_values.specs.declared.identity.Identity.{Identity}
 use Rattle.pn_values.specs.declared.mac.Mac.{Mac}
@@ -25,9 +25,11 @@ use Rattle.rpc_core.specs.declared.interface.Interface.TheVariants.{Controller a
 use Rattle.rpc_core.specs.declared.header.CallHeader.{CallHeader}
 use Rattle.rpc_core.specs.Call.{Asked as Call, call_of}
 use Rattle.rpc_core.specs.Response.{Answered as Response, response_of}
-use Rattle.rpc_core.specs.Sendable.{CanBeAnswered, CanBeCalled, IsHeader, IsStatus, IsUuid}
+use Rattle.rpc_core.specs.Sendable.{CanBeAnswered, CanBeCalled, IsUuid}
 use Rattle.connect_blocks.specs.declared.control.ControlBlock.{ControlBlock}
 use Rattle.connects.specs.requests.Request.{Request as Asked_for}
+use Rattle.asked_records.specs.Asked.{AskedState, question_in}
+use Rattle.asked_records.specs.declared.question.Question.{Question}
 use Rattle.records.specs.status.Operation.{operation_of}
 use Rattle.pn_alarms.specs.declared.fault.AlarmFault.{AlarmFault}
 use Rattle.pn_alarms.specs.declared.pdu.Header.{Header}
@@ -76,7 +78,7 @@ use Rattle.end_laws.specs.both.Small.{ToController, ToDevice}
 use Rattle.end_laws.specs.both.Steps.{CallsWhile, SaysToDevice}
 use Rattle.end_laws.specs.controller.Small.{asked_by, is_positive, readied_by, said_by, said_to}
 use Rattle.end_laws.specs.device.Orderly.{IsOrderlyIn}
-use Rattle.end_laws.specs.device.Owed.{IsAnswering, IsOwed}
+use Rattle.end_laws.specs.device.Owed.{IsAnswering, IsOwed, IsReplying}
 use Rattle.end_laws.specs.device.Small as ends
 use Rattle.end_laws.specs.device.Small.{IsHeardAs, Planned, confirms, heard_as}
 use Rattle.both_ends.specs.startup.View.{IsSaidAs, is_planned, rules_of, says_to_device}
@@ -227,6 +229,15 @@ known_caller setup caller call (inl own) = own.caller_is
 known_caller setup caller call (inr (inl access)) = access.caller_is
 known_caller setup caller call (inr (inr plugged)) = plugged.caller_is
 
+-- what is asked of the application is such a call
+pub record IsKnownQuestion (setup : Setup) (question : Question) : Type 0 where
+  pub call : Call
+  pub known : IsKnownCall setup question.caller call
+  pub header : question.header ≡ call.header
+
+abbrev pub IsKnownAsked : Setup → AskedState → Type 0
+IsKnownAsked setup asked = (question : Question) → question_in asked ≡ Some question → IsKnownQuestion setup question
+
 abbrev pub IsKnownSaid : Setup → Caller → device.Said → Type 0
 IsKnownSaid setup caller (device.Calls call) = IsKnownCall setup caller call
 IsKnownSaid setup caller reported = Unit {0}
@@ -365,28 +376,18 @@ module _ (so : HeardSo) (setup : Setup) (station : Station) (good : IsSetup setu
   abbrev pub AtMost : ToController → controller.Heard → Type 0
   AtMost says heard = (said_to setup heard ≡ small.Nothing) ⊎ (said_to setup heard ≡ says)
 
-  answer_met : (caller : Caller) (address : List ℕ) (answer : Response) → caller ≡ record { mac = mine.mac; endpoint = calls_at mine.address } → IsAddress address → IsHeader answer.header → IsStatus answer.status
-      → answer.maximum_count < 4294967296 → IsMet (bytes_of identity (CallAnswer caller address answer)) (small.Answers answer.header.sequence (is_positive setup.plan answer))
-  answer_met caller address answer caller_is four header status maximum = by_length (nat_le (length answer.blocks) 1372) refl
-    where
-      calls : IsCaller caller
-      calls = subst (λ (c : Caller). IsCaller c) (sym caller_is) (record { mac = good.mac; endpoint = (good.address, omega arith) })
-
-      by_length : (b : Bool) → nat_le (length answer.blocks) 1372 ≡ b → IsMet (bytes_of identity (CallAnswer caller address answer)) (small.Answers answer.header.sequence (is_positive setup.plan answer))
-      by_length true e =
-          let can : CanBeAnswered answer = record { header = header; status = status; maximum = maximum; few = leb-true (length answer.blocks) 1372 e } in
-          met_by (bytes_of identity (CallAnswer caller address answer)) (small.Answers answer.header.sequence (is_positive setup.plan answer)) device.Elsewhere
-          (mine_reported mine caller.mac caller.endpoint (controller.Responds answer))
-          (so.response_at_device identity identity caller address answer real calls four can
-          ∙ elsewhere identity.mac caller.mac (calls_at address) caller.endpoint (device.Responds answer) (ap (λ (c : Caller). c.mac) caller_is))
-          (so.response_at_controller mine identity caller address answer real calls four can) tt refl
-          (mine_holds (λ (h : controller.Heard). IsHeardFrom identity.mac h) caller.mac caller.endpoint (controller.Responds answer) tt tt)
-          (mine_holds (AtMost (small.Answers answer.header.sequence (is_positive setup.plan answer))) caller.mac caller.endpoint (controller.Responds answer) (answer_says answer) (inl refl))
-      by_length false e =
-          let long : 1372 < length answer.blocks = leb-false (length answer.blocks) 1372 e in
-          met_by (bytes_of identity (CallAnswer caller address answer)) (small.Answers answer.header.sequence (is_positive setup.plan answer)) device.Unreadable controller.Nothing
-          (so.long_at_device identity identity caller address answer real calls four header long) (so.long_at_controller mine identity caller address answer real calls four header long)
-          tt refl tt (inl refl)
+  answer_met : (caller : Caller) (address : List ℕ) (answer : Response) → caller ≡ record { mac = mine.mac; endpoint = calls_at mine.address }
+      → IsAddress address → CanBeAnswered answer
+      → IsMet (bytes_of identity (CallAnswer caller address answer)) (small.Answers answer.header.sequence (is_positive setup.plan answer))
+  answer_met caller address answer caller_is four can =
+      let calls : IsCaller caller = subst (λ (c : Caller). IsCaller c) (sym caller_is) (record { mac = good.mac; endpoint = (good.address, omega arith) }) in
+      met_by (bytes_of identity (CallAnswer caller address answer)) (small.Answers answer.header.sequence (is_positive setup.plan answer)) device.Elsewhere
+      (mine_reported mine caller.mac caller.endpoint (controller.Responds answer))
+      (so.response_at_device identity identity caller address answer real calls four can
+      ∙ elsewhere identity.mac caller.mac (calls_at address) caller.endpoint (device.Responds answer) (ap (λ (c : Caller). c.mac) caller_is))
+      (so.response_at_controller mine identity caller address answer real calls four can) tt refl
+      (mine_holds (λ (h : controller.Heard). IsHeardFrom identity.mac h) caller.mac caller.endpoint (controller.Responds answer) tt tt)
+      (mine_holds (AtMost (small.Answers answer.header.sequence (is_positive setup.plan answer))) caller.mac caller.endpoint (controller.Responds answer) (answer_says answer) (inl refl))
 
   -- ---- ApplicationReady
 
@@ -469,18 +470,14 @@ module _ (so : HeardSo) (setup : Setup) (station : Station) (good : IsSetup setu
   own_call : (heard : Heard) (caller : Caller) (address : List ℕ) (call : Call) → heard ≡ device.Reported caller address (device.Calls call) → IsKnownHeard setup heard → IsKnownCall setup caller call
   own_call heard caller address call is known = subst (λ (h : Heard). IsKnownHeard setup h) is known
 
-  known_can : (caller : Caller) (call : Call) → IsKnownCall setup caller call → CanBeCalled devices call
-  known_can caller call (inl own) = subst (λ (c : Call). CanBeCalled devices c) (sym own.is) (so.call_can setup own.request good own.called own.numbered)
-  known_can caller call (inr (inl access)) = subst (λ (c : Call). CanBeCalled devices c) (sym access.is) (so.record_can setup access.request access.octets good access.sized)
-  known_can caller call (inr (inr plugged)) = subst (λ (c : Call). CanBeCalled devices c) (sym plugged.is) (so.plug_call_can setup plugged.request good plugged.sized)
-
-  answering_met : (heard : Heard) (caller : Caller) (address : List ℕ) (answer : Response) → IsKnownHeard setup heard → IsAnswering heard caller answer → IsAddress address
-      → IsMet (bytes_of identity (CallAnswer caller address answer)) (small.Answers answer.header.sequence (is_positive setup.plan answer))
-  answering_met heard caller address answer known owed four =
-      let call = own_call heard caller owed.address owed.call owed.is known in
-      let can = known_can caller owed.call call in
-      answer_met caller address answer (known_caller setup caller owed.call call) four (subst (λ (h : CallHeader). IsHeader h) (sym owed.header) can.header) owed.status
-      (subst (λ (n : ℕ). n < 4294967296) (sym owed.maximum) can.maximum)
+  -- a response goes to the controller
+  answering_caller : (heard : Heard) (live : Live) (caller : Caller) (answer : Response) → IsKnownHeard setup heard → IsKnownAsked setup live.rest.asked
+      → IsAnswering heard caller answer ⊎ IsReplying live caller answer → caller ≡ record { mac = mine.mac; endpoint = calls_at mine.address }
+  answering_caller heard live caller answer known asked (inl owed) =
+      known_caller setup caller owed.call (own_call heard caller owed.address owed.call owed.is known)
+  answering_caller heard live caller answer known asked (inr owed) =
+      let own = asked owed.question owed.is in
+      owed.own ∙ known_caller setup owed.question.caller own.call own.known
 
   -- the relation of the device is the plan's
   abbrev pub IsPlans : Option RelationState → Type 0
@@ -497,29 +494,33 @@ module _ (so : HeardSo) (setup : Setup) (station : Station) (good : IsSetup setu
   IsMetAs (Again frame) = Unit {0}
   IsMetAs message = IsMet (bytes_of identity message) (says_of message)
 
-  message_met : (heard : Heard) (live : Live) (message : Sent) → IsKnownHeard setup heard → IsPlans live.rest.link → IsOrderlyIn live.rest.link → IsOwed heard live message → IsSendable identity message → IsMetAs message
-  message_met heard live (Again frame) known plans orderly owed can = tt
-  message_met heard live (IdentifyAnswer asker running xid) known plans orderly owed can = data_met asker None _ _ can.destination tt
-  message_met heard live (GetAnswer asker running alias request) known plans orderly owed can = data_met asker None _ _ can.destination tt
-  message_met heard live (SetAnswer asker request answers) known plans orderly owed can = data_met asker None _ _ can.destination tt
-  message_met heard live (ArpReply asker address target) known plans orderly owed can = packet_met asker address target can.destination can.content.0.1 can.content.1
-  message_met heard live (CallAnswer caller address answer) known plans orderly owed can = answering_met heard caller address answer known owed can.0.content.0.0
-  message_met heard live (ReadyCall address ready) known plans orderly owed can =
+  message_met : (heard : Heard) (live : Live) (message : Sent) → IsKnownHeard setup heard → IsKnownAsked setup live.rest.asked
+      → IsPlans live.rest.link → IsOrderlyIn live.rest.link → IsOwed heard live message → IsSendable identity message → IsMetAs message
+  message_met heard live (Again frame) known asked plans orderly owed can = tt
+  message_met heard live (IdentifyAnswer asker running xid) known asked plans orderly owed can = data_met asker None _ _ can.destination tt
+  message_met heard live (GetAnswer asker running alias request) known asked plans orderly owed can = data_met asker None _ _ can.destination tt
+  message_met heard live (SetAnswer asker request answers) known asked plans orderly owed can = data_met asker None _ _ can.destination tt
+  message_met heard live (ArpReply asker address target) known asked plans orderly owed can = packet_met asker address target can.destination can.content.0.1 can.content.1
+  message_met heard live (CallAnswer caller address answer) known asked plans orderly owed can =
+      answer_met caller address answer (answering_caller heard live caller answer known asked owed) can.0.content.0.0 can.1
+  message_met heard live (ReadyCall address ready) known asked plans orderly owed can =
       ready_met address ready can.destination can.content.1.0 can.content.0.0 (ready_can_be owed.link ready (plans owed.link owed.is) owed.header owed.block)
-  message_met heard live (PlugReadyCall address ready) known plans orderly owed can =
+  message_met heard live (PlugReadyCall address ready) known asked plans orderly owed can =
       plug_met address ready can.destination can.content.1.0 can.content.0.0
       (plug_can_be owed.link owed.call ready (plans owed.link owed.is) (owed.sequence orderly) owed.header owed.block)
-  message_met heard live (Ends farewell) known plans orderly owed can = data_met farewell.initiator (Some farewell.tag) _ _ can.destination can.tag
-  message_met heard live (Exchanges route frame) known plans orderly owed can = data_met route.partner (Some _) _ _ can.destination can.tag
+  message_met heard live (Ends farewell) known asked plans orderly owed can = data_met farewell.initiator (Some farewell.tag) _ _ can.destination can.tag
+  message_met heard live (Exchanges route frame) known asked plans orderly owed can = data_met route.partner (Some _) _ _ can.destination can.tag
 
   heard_met : (message : Sent) → IsMetAs message → IsHeardAs (rules_of setup station) identity message
   heard_met (Again frame) met = tt
   heard_met message met = (met.idle, met.says_at_most)
 
-  pub all_met : (heard : Heard) (live : Live) (messages : List Sent) → IsKnownHeard setup heard → IsPlans live.rest.link → IsOrderlyIn live.rest.link → AllByRecursion (IsOwed heard live) messages
+  pub all_met : (heard : Heard) (live : Live) (messages : List Sent) → IsKnownHeard setup heard → IsKnownAsked setup live.rest.asked
+      → IsPlans live.rest.link → IsOrderlyIn live.rest.link → AllByRecursion (IsOwed heard live) messages
       → AllByRecursion (IsSendable identity) messages → AllByRecursion IsMetAs messages
-  all_met heard live [] known plans orderly owed can = tt
-  all_met heard live (message ∷ messages) known plans orderly owed can = (message_met heard live message known plans orderly owed.0 can.0, all_met heard live messages known plans orderly owed.1 can.1)
+  all_met heard live [] known asked plans orderly owed can = tt
+  all_met heard live (message ∷ messages) known asked plans orderly owed can =
+      (message_met heard live message known asked plans orderly owed.0 can.0, all_met heard live messages known asked plans orderly owed.1 can.1)
 
   pub all_heard : (messages : List Sent) → AllByRecursion IsMetAs messages → AllByRecursion (IsHeardAs (rules_of setup station) identity) messages
   all_heard [] met = tt

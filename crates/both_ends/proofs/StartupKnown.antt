@@ -7,7 +7,10 @@ use Rattle.lldp.specs.Views.{peer_as}
 use Rattle.flash_model.specs.declared.flash.Flash.{Ghosts as Flash}
 use Rattle.settings_journal.specs.settings_store.Machine.{Outcome}
 use Rattle.pn_values.specs.declared.identity.Identity.{Identity}
+use Rattle.rpc_core.specs.declared.header.CallHeader.{CallHeader}
 use Rattle.rpc_core.specs.Cache.{Kept as Answer, kept_of}
+use Rattle.asked_records.specs.Asked.{AskedState, question_in}
+use Rattle.asked_records.specs.declared.question.Question.{Question}
 use Rattle.connects.specs.requests.Request.{Request}
 use Rattle.connects.specs.requests.Handled.{request_of}
 use Rattle.plans.specs.Connect.{connect_of}
@@ -38,14 +41,15 @@ use Rattle.end_laws.specs.both.StartUp.{Begins as BeginsSmall, IsRun, last_of}
 use Rattle.end_laws.specs.both.Steps.{DeviceSteps, IsDull, Steps}
 use Rattle.end_laws.specs.controller.Small.{IsSteady, small_of}
 use Rattle.end_laws.specs.device.Orderly.{IsOrderlyIn}
-use Rattle.end_laws.specs.device.Owed.{IsOfKept, IsOwed}
-use Rattle.end_laws.specs.device.Small.{heard_as, kept_in, link_of}
+use Rattle.end_laws.specs.device.Owed.{IsAsking, IsOfKept, IsOwed}
+use Rattle.end_laws.specs.device.Small.{IsAskedOwn, heard_as, kept_in, link_of}
 use Rattle.end_laws.specs.device.Small as device
 use Rattle.both_ends.specs.startup.View.{IsMeant, IsMeantAtController, IsMeantAtDevice, move_of, rules_of, says_to_device, view_of}
-use Rattle.both_ends.specs.startup.Played.{AreMeant, ArePlaced, Begins, CanMeet, viewed}
-use Rattle.both_ends.proofs.StartupEach.{each_at, each_behind, some_is}
+use Rattle.both_ends.specs.startup.Played.{AreMeant, ArePlaced, AreUnnamed, Begins, CanMeet, viewed}
+use Rattle.both_ends.proofs.StartupEach.{each_at, each_behind, each_of, some_is}
+use Rattle.both_ends.proofs.StartupAsked.{none_question}
 use Rattle.both_ends.proofs.StartupGiven.{GoesSo, HeardSo}
-use Rattle.both_ends.proofs.StartupHeard.{IsKnown, IsKnownCall, IsKnownHeard, IsMetAs, IsPlans, IsReported, all_heard, all_met, all_said, all_reported, known_activity, opening_reported}
+use Rattle.both_ends.proofs.StartupHeard.{IsKnown, IsKnownAsked, IsKnownCall, IsKnownHeard, IsKnownQuestion, IsMetAs, IsPlans, IsReported, all_heard, all_met, all_said, all_reported, known_activity, opening_reported}
 use Rattle.both_ends.proofs.StartupPlanned.{IsGood, count_few, heard_planned}
 use Rattle.both_ends.proofs.StartupRuns.{InStep, controller_is, delivered, happens_steps, last_viewed, rules_at}
 
@@ -54,6 +58,7 @@ pub record CanStart (setup : Setup) (station : Station) : Type 0 where
   pub setup_is : IsSetup setup
   pub good : IsGood setup
   pub device_is : IsDevice station.identity
+  pub unnamed : AreUnnamed station.named setup.plan.records.items
   pub apart : station.identity.mac ≡ setup.plan.controller.mac → ⊥
 
 -- the response that is stored is a frame that is known
@@ -61,14 +66,18 @@ abbrev pub IsKnownKept : Setup → Identity → Option small.Kept → Type 0
 IsKnownKept setup identity kept = (answer : small.Kept) → kept ≡ Some answer → IsKnown setup identity answer.frame
 
 -- the invariant of both ends
-pub record Holds (setup : Setup) (station : Station) (live : ControllerLive) (link : Option RelationState) (kept : Option small.Kept) (sent : List (List ℕ)) : Type 0 where
+pub record Holds (setup : Setup) (station : Station) (live : ControllerLive) (link : Option RelationState) (asked : AskedState)
+    (kept : Option small.Kept) (sent : List (List ℕ)) : Type 0 where
   pub known : AllByRecursion (IsKnown setup station.identity) sent
   pub again : IsKnownKept setup station.identity kept
   pub aimed : IsAimed live
   pub orderly : IsOrderlyIn link
+  pub of_known : IsKnownAsked setup asked
 
 abbrev pub HoldsAt : {F : Type 0} → World F → Type 0
-HoldsAt w = Holds w.controller.setup w.device.station w.controller.live w.device.live.rest.link (device.small_of w.controller.setup.activity w.device.live).kept w.sent
+HoldsAt w =
+    Holds w.controller.setup w.device.station w.controller.live w.device.live.rest.link w.device.live.rest.asked
+    (device.small_of w.controller.setup.activity w.device.live).kept w.sent
 
 -- the response that is stored after a step
 kept_known : (rules : Rules TakenRecord Request) (P : List ℕ → Type 0) (heard : ToDevice) (before after : small.Device TakenRecord Request) (frames : List (List ℕ)) → DeviceSteps rules heard before after frames
@@ -78,12 +87,24 @@ kept_known rules P (small.Call sequence ask) before after frames (inl answered) 
     subst (λ (k : small.Kept). P k.frame) (some_is (record { sequence = sequence; frame = answered.frame }) answer (sym answered.keeps ∙ is)) now.0
 kept_known rules P (small.Call sequence ask) before after frames (inr (inl again)) was all answer is =
     was answer (ap (λ (d : small.Device TakenRecord Request). d.kept) (sym again.unchanged) ∙ is)
-kept_known rules P (small.Call sequence ask) before after frames (inr (inr rests)) was all answer is =
+kept_known rules P (small.Call sequence ask) before after frames (inr (inr (inl rests))) was all answer is =
     was answer (ap (λ (d : small.Device TakenRecord Request). d.kept) (sym rests.0) ∙ is)
+kept_known rules P (small.Call sequence ask) before after frames (inr (inr (inr asks))) was all answer is =
+    was answer (ap (λ (d : small.Device TakenRecord Request). d.kept) (sym asks.becomes) ∙ is)
 kept_known rules P small.Confirms before after frames (inl confirms) was all answer is =
     was answer (ap (λ (d : small.Device TakenRecord Request). d.kept) (sym confirms.becomes) ∙ is)
 kept_known rules P small.Confirms before after frames (inr goes) was all answer is = was answer (sym goes.keeps ∙ is)
-kept_known rules P small.Idle before after frames goes was all answer is = was answer (sym goes.keeps ∙ is)
+kept_known rules P small.Idle before after frames (inl goes) was all answer is = was answer (sym goes.keeps ∙ is)
+kept_known rules P small.Idle before after frames (inr replies) was all answer is =
+    let now : AllByRecursion P (replies.others ++ replies.frame ∷ []) = subst (λ (fs : List (List ℕ)). AllByRecursion P fs) replies.sent all in
+    subst (λ (k : small.Kept). P k.frame) (some_is (record { sequence = replies.sequence; frame = replies.frame }) answer (sym replies.keeps ∙ is))
+    (each_of P replies.others replies.frame [] now)
+
+-- what is asked is a call of the activity of the controller
+pub known_own : (setup : Setup) (asked : AskedState) → IsKnownAsked setup asked → IsAskedOwn setup.activity asked
+known_own setup asked known question is =
+    let own = known question is in
+    ap (λ (h : CallHeader). h.activity) own.header ∙ known_activity setup question.caller own.call own.known
 
 module _ (so : HeardSo) (goes : GoesSo) where
   -- ---- one move
@@ -103,13 +124,26 @@ module _ (so : HeardSo) (goes : GoesSo) where
 
     module _ (plans : IsPlans so setup station can.setup_is can.device_is can.apart before.device.live.rest.link) (heard : Heard) (known : IsKnownHeard setup heard) where
       all_owed : (outcomes : List Outcome) → AllByRecursion (IsOwed heard before.device.live) (heard_step outcomes station before.device.live heard).sent
-      all_owed outcomes = goes.owed rules setup.activity outcomes station before.device.live heard (heard_planned so.block_read so.block_long setup station before.device.live.rest.real can.good heard known)
+      all_owed outcomes = goes.owed rules setup.activity outcomes station before.device.live heard (heard_planned so.block_read so.block_long setup station before.device.live.rest.real can.good can.unnamed heard known)
 
       pub meant_at_device : IsMeantAtDevice before heard
       meant_at_device = record {
-        planned = heard_planned so.block_read so.block_long setup station before.device.live.rest.real can.good heard known;
+        planned = heard_planned so.block_read so.block_long setup station before.device.live.rest.real can.good can.unnamed heard known;
         sent = λ outcomes sendable. all_heard so setup station can.setup_is can.device_is can.apart (heard_step outcomes station before.device.live heard).sent
-            (all_met so setup station can.setup_is can.device_is can.apart heard before.device.live (heard_step outcomes station before.device.live heard).sent known plans holds.orderly (all_owed outcomes) sendable);
+            (all_met so setup station can.setup_is can.device_is can.apart heard before.device.live (heard_step outcomes station before.device.live heard).sent known holds.of_known plans holds.orderly (all_owed outcomes) sendable);
+      }
+
+      asked_own : IsAskedOwn setup.activity before.device.live.rest.asked
+      asked_own = known_own setup before.device.live.rest.asked holds.of_known
+
+      -- what is asked after it was asked before, or is the call that is heard
+      asked_known : (question : Question) → (question_in before.device.live.rest.asked ≡ Some question) ⊎ IsAsking heard question
+          → IsKnownQuestion setup question
+      asked_known question (inl was) = holds.of_known question was
+      asked_known question (inr asks) = record {
+        call = asks.call;
+        known = subst (λ (h : Heard). IsKnownHeard setup h) asks.is known;
+        header = asks.header;
       }
 
       -- the frame of a repeated response was known
@@ -141,20 +175,23 @@ module _ (so : HeardSo) (goes : GoesSo) where
           let hears = made.hears in
           let live = before.device.live in
           let step = heard_step hears.steps.outcomes station live heard in
-          let met = all_met so setup station can.setup_is can.device_is can.apart heard live step.sent known plans holds.orderly (all_owed hears.steps.outcomes) hears.steps.sendable in
+          let met = all_met so setup station can.setup_is can.device_is can.apart heard live step.sent known holds.of_known plans holds.orderly (all_owed hears.steps.outcomes) hears.steps.sendable in
           let frames : AllByRecursion (IsKnown setup station.identity) step.frames = step_frames hears.steps.outcomes met in
-          let steps = goes.device_on rules setup.activity hears.steps.outcomes station live heard holds.orderly meant_at_device.planned (meant_at_device.sent hears.steps.outcomes hears.steps.sendable) in
+          let steps = goes.device_on rules setup.activity hears.steps.outcomes station live heard holds.orderly asked_own meant_at_device.planned (meant_at_device.sent hears.steps.outcomes hears.steps.sendable) in
           let kept = kept_known rules (IsKnown setup station.identity) (heard_as rules.is_planned heard) (device.small_of setup.activity live) (device.small_of setup.activity step.live) step.frames steps holds.again frames in
-          let all : Holds setup station before.controller.live step.live.rest.link (device.small_of setup.activity step.live).kept (before.sent ++ step.frames) = record {
+          let all : Holds setup station before.controller.live step.live.rest.link step.live.rest.asked (device.small_of setup.activity step.live).kept (before.sent ++ step.frames) = record {
             known = each_behind (IsKnown setup station.identity) before.sent step.frames holds.known frames;
             again = kept;
             aimed = holds.aimed;
             orderly = goes.orderly rules setup.activity hears.steps.outcomes station live heard meant_at_device.planned holds.orderly;
+            of_known = λ question is. asked_known question
+                (goes.asked rules setup.activity hears.steps.outcomes station live heard meant_at_device.planned question is);
           } in
-          subst (λ (c : Controlling). Holds c.setup after.device.station c.live after.device.live.rest.link (device.small_of c.setup.activity after.device.live).kept after.sent) (sym made.controller)
-          (subst (λ (s : Station). Holds setup s before.controller.live after.device.live.rest.link (device.small_of setup.activity after.device.live).kept after.sent) (sym hears.steps.same)
-          (subst (λ (l : Live). Holds setup station before.controller.live l.rest.link (device.small_of setup.activity l).kept after.sent) (sym hears.steps.live)
-          (subst (λ (fs : List (List ℕ)). Holds setup station before.controller.live step.live.rest.link (device.small_of setup.activity step.live).kept fs)
+          subst (λ (c : Controlling). Holds c.setup after.device.station c.live after.device.live.rest.link after.device.live.rest.asked (device.small_of c.setup.activity after.device.live).kept after.sent) (sym made.controller)
+          (subst (λ (s : Station). Holds setup s before.controller.live after.device.live.rest.link after.device.live.rest.asked
+          (device.small_of setup.activity after.device.live).kept after.sent) (sym hears.steps.same)
+          (subst (λ (l : Live). Holds setup station before.controller.live l.rest.link l.rest.asked (device.small_of setup.activity l).kept after.sent) (sym hears.steps.live)
+          (subst (λ (fs : List (List ℕ)). Holds setup station before.controller.live step.live.rest.link step.live.rest.asked (device.small_of setup.activity step.live).kept fs)
           (sym (hears.behind ∙ ap (λ (fs : List (List ℕ)). before.sent ++ fs) hears.steps.frames)) all)))
 
     -- ---- the controller
@@ -188,6 +225,7 @@ module _ (so : HeardSo) (goes : GoesSo) where
             known = each_behind (IsKnown setup station.identity) before.sent (map (said.bytes_of setup) turn.sent) holds.known (reported_known turn.sent reported);
             again = holds.again;
             orderly = holds.orderly;
+            of_known = holds.of_known;
             aimed = (goes.aimed station.identity.mac setup before.controller.live event can.setup_is holds.aimed from).0;
           } in
           subst (λ (w : World F). HoldsAt w) (sym there) all
@@ -270,7 +308,8 @@ module _ (so : HeardSo) (goes : GoesSo) where
     on run now last same steps can holds in_step (one ∷ others) made =
         let plans = plans_at run now last same steps in
         let meant = all_meant now can holds in_step plans one.0 in
-        let step = happens_steps as_flash goes.device_on goes.controller_on goes.frames_are now one.1 in_step holds.orderly one.0 meant made.0 in
+        let own = known_own now.controller.setup now.device.live.rest.asked holds.of_known in
+        let step = happens_steps as_flash goes.device_on goes.controller_on goes.frames_are now one.1 in_step holds.orderly own one.0 meant made.0 in
         let still : rules_at one.1 ≡ rules_at now =
         ap (λ (s : Setup). rules_of s one.1.device.station) step.setup ∙ ap (λ (s : Station). rules_of now.controller.setup s) step.station in
         let from : Steps rules (last_of (view_of first) (viewed run)) (move_of one.0) (view_of one.1) =
@@ -304,6 +343,7 @@ module _ (so : HeardSo) (goes : GoesSo) where
     begins_small = record {
       uncalled = ap (λ (kept : Option Answer). option_map kept_in kept) begins.uncalled;
       unrelated = ap (λ (l : Option RelationState). option_map link_of l) begins.unrelated;
+      unasked = ap (λ (q : Option Question). option_map (λ question. question.header.sequence) q) begins.unasked;
       seeking = ap (λ (l : ControllerLive). small_of first.controller.setup.plan l) begins.made;
       dull = subst (λ (frames : List (List ℕ)). AllByRecursion (IsDull (rules_at first)) frames) (sym begins.opened)
           ((is_idle ((rules_at first).to_device (opening_of first.controller)) opens.says_or_idle, opens.nothing), tt);
@@ -315,6 +355,7 @@ module _ (so : HeardSo) (goes : GoesSo) where
       again = λ answer is. absurd (none_kept answer (sym begins_small.uncalled ∙ is));
       aimed = subst (λ (l : ControllerLive). IsAimed l) (sym begins.made) (goes.aimed_first first.controller.setup can.setup_is);
       orderly = subst (λ (l : Option RelationState). IsOrderlyIn l) (sym begins.unrelated) tt;
+      of_known = λ question is. absurd (none_question question (sym begins.unasked ∙ is));
     }
       where
         none_kept : (answer : small.Kept) → None ≡ Some answer → ⊥
@@ -336,6 +377,7 @@ module _ (so : HeardSo) (goes : GoesSo) where
       setup_is = good;
       good = record { connect = connect; few = count_few setup.plan good.plan.few_records; short = good.plan.short_records; records = can.records; placed = placed; named = good.ar };
       device_is = subst (λ (i : Identity). IsDevice i) (sym begins.of_device) real;
+      unnamed = begins.unnamed;
       apart = subst (λ (i : Identity). i.mac ≡ setup.plan.controller.mac → ⊥) (sym begins.of_device) can.apart;
     })
 
@@ -347,6 +389,8 @@ module _ (so : HeardSo) (goes : GoesSo) where
       opened = begins.opened;
       uncalled = subst (λ (s : Setup). kept_of s.activity first.device.live.rest.calls ≡ None) (sym begins.of_setup) begins.uncalled;
       unrelated = begins.unrelated;
+      unasked = begins.unasked;
+      unnamed = subst (λ (s : Setup). AreUnnamed first.device.station.named s.plan.records.items) (sym begins.of_setup) begins.unnamed;
     }
 
     pub starts_small : BeginsSmall (rules_at first) (view_of first)

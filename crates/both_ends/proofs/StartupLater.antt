@@ -7,7 +7,9 @@ use Rattle.lldp.specs.Views.{peer_as}
 use Rattle.std.specs.Option.{option_map}
 use Rattle.flash_model.specs.declared.flash.Flash.{Ghosts as Flash}
 use Rattle.rpc_core.specs.Cache.{Kept as Answer, kept_more, kept_of}
-use Rattle.device_frames.specs.Heard.{Heard, Ticks, Applied, Met}
+use Rattle.frame_codec.specs.declared.udp.Caller.{Caller}
+use Rattle.rpc_core.specs.Call.{Asked as Call}
+use Rattle.device_frames.specs.Heard.{Heard, Ticks, Applied, Met, Reported, Calls}
 use Rattle.device_frames.specs.Sent.{Sent}
 use Rattle.device_core.specs.State.{Live, Rest, Station}
 use Rattle.device_core.specs.Machine.{heard_step}
@@ -19,11 +21,13 @@ use Rattle.network_world.specs.declared.moves.Move.{Move}
 use Rattle.network_world.specs.declared.moves.Move.TheVariants as move
 use Rattle.network_world.specs.World.{AreMade, at_controller, AtDevice, Happens, last_world, World}
 use Rattle.end_laws.specs.device.Does.{Does}
-use Rattle.end_laws.specs.device.Small.{IsPlanned, IsPlannedCall}
+use Rattle.end_laws.specs.device.Owed.{IsAskedOf}
+use Rattle.end_laws.specs.device.Small.{IsAskedOwn, IsPlanned, IsPlannedCall}
 use Rattle.both_ends.specs.startup.Played.{AreMeant}
 use Rattle.both_ends.specs.startup.View.{IsMeant, IsMeantAtDevice, rules_of}
 use Rattle.both_ends.proofs.ExchangeOutputsShows.{AreKept, kept_at, more_kept, none_kept}
 use Rattle.both_ends.proofs.ExchangeOutputsWorlds.{TurnsSo}
+use Rattle.both_ends.proofs.StartupAsked.{OwnsSo}
 use Rattle.both_ends.proofs.StartupRuns.{controller_is, delivered}
 
 -- ---- the responses of another activity
@@ -51,36 +55,65 @@ module _ (activity : List ℕ) where
   -- ---- a step of the device
 
   module _ (setup : Setup) (station : Station) (live : Live) (heard : Heard) (other : setup.activity ≡ activity → ⊥)
-      (planned : IsPlanned (rules_of setup station) setup.activity live.rest.real heard) where
+      (planned : IsPlanned (rules_of setup station) setup.activity station.named live.rest.real heard) (own : IsAskedOwn setup.activity live.rest.asked) where
+    -- a call that is heard has the activity of the controller
+    call_own : (caller : Caller) (address : List ℕ) (call : Call) → heard ≡ Reported caller address (Calls call) → call.header.activity ≡ setup.activity
+    call_own caller address call is =
+        let plan : IsPlannedCall (rules_of setup station) setup.activity station.named live.rest.real call =
+        subst (λ (h : Heard). IsPlanned (rules_of setup station) setup.activity station.named live.rest.real h) is planned in
+        plan.own
+
     does_none : (after : Rest) (sent : List Sent) → Does station live heard after sent → IsUncalled live.rest.calls → IsUncalled after.calls
     does_none after sent (inl rests) none = ap (λ (r : Rest). kept_of activity r.calls) rests.same ∙ none
     does_none after sent (inr (inl goes)) none = ap (λ (c : List Answer). kept_of activity c) goes.calls ∙ none
     does_none after sent (inr (inr (inl confirms))) none = ap (λ (r : Rest). kept_of activity r.calls) confirms.becomes ∙ none
     does_none after sent (inr (inr (inr (inl repeats)))) none = ap (λ (r : Rest). kept_of activity r.calls) repeats.same ∙ none
-    does_none after sent (inr (inr (inr (inr serves)))) none =
-        let plan : IsPlannedCall (rules_of setup station) setup.activity live.rest.real serves.call =
-        subst (λ (h : Heard). IsPlanned (rules_of setup station) setup.activity live.rest.real h) serves.is planned in
+    does_none after sent (inr (inr (inr (inr (inl serves))))) none =
         ap (λ (c : List Answer). kept_of activity c) serves.keeps
-        ∙ more_none _ live.rest.calls (λ own. other (sym plan.own ∙ own)) none
+        ∙ more_none _ live.rest.calls (λ same. other (sym (call_own serves.caller serves.address serves.call serves.is) ∙ same)) none
+    does_none after sent (inr (inr (inr (inr (inr (inl asks)))))) none = ap (λ (r : Rest). kept_of activity r.calls) asks.becomes ∙ none
+    does_none after sent (inr (inr (inr (inr (inr (inr (inl declines))))))) none =
+        let it = declines.new_call in
+        ap (λ (r : Rest). kept_of activity r.calls) declines.becomes
+        ∙ more_none _ live.rest.calls (λ same. other (sym (call_own it.caller it.address it.call it.is) ∙ same)) none
+    does_none after sent (inr (inr (inr (inr (inr (inr (inr replies))))))) none =
+        ap (λ (c : List Answer). kept_of activity c) replies.keeps
+        ∙ more_none _ live.rest.calls (λ same. other (sym (own replies.question replies.asked) ∙ same)) none
 
   -- ---- worlds
 
-  module _ (turns : TurnsSo) {F : Type 0} where
+  module _ (turns : TurnsSo) (owns : OwnsSo) {F : Type 0} where
     -- what a move leaves
     pub record Leaves (before after : World F) : Type 0 where
       pub station : after.device.station ≡ before.device.station
       pub setup : after.controller.setup ≡ before.controller.setup
-      pub uncalled : (before.controller.setup.activity ≡ activity → ⊥) → IsUncalled before.device.live.rest.calls → IsUncalled after.device.live.rest.calls
+      pub uncalled : IsAskedOwn before.controller.setup.activity before.device.live.rest.asked → (before.controller.setup.activity ≡ activity → ⊥)
+          → IsUncalled before.device.live.rest.calls → IsUncalled after.device.live.rest.calls
+      pub own : IsAskedOwn before.controller.setup.activity before.device.live.rest.asked
+          → IsAskedOwn after.controller.setup.activity after.device.live.rest.asked
+      pub related : IsAskedOf before.device.live.rest.link before.device.live.rest.asked → IsAskedOf after.device.live.rest.link after.device.live.rest.asked
 
     same_leaves : (before after : World F) → after ≡ before → Leaves before after
-    same_leaves before after same = subst (λ (w : World F). Leaves before w) (sym same) (record { station = refl; setup = refl; uncalled = λ other none. none })
+    same_leaves before after same = subst (λ (w : World F). Leaves before w) (sym same) (record {
+      station = refl;
+      setup = refl;
+      uncalled = λ own other none. none;
+      own = λ was. was;
+      related = λ was. was;
+    })
 
     controller_leaves : (before after : World F) (event : Event) → after ≡ at_controller before event → Leaves before after
     controller_leaves before after event is = record {
       station = ap (λ (w : World F). w.device.station) is;
-      setup = ap (λ (w : World F). w.controller.setup) is ∙ ap (λ (c : Controlling). c.setup) (controller_is before.controller event);
-      uncalled = λ other none. ap (λ (w : World F). kept_of activity w.device.live.rest.calls) is ∙ none;
+      setup = same_setup;
+      uncalled = λ own other none. ap (λ (w : World F). kept_of activity w.device.live.rest.calls) is ∙ none;
+      own = λ was. subst (λ (w : World F). IsAskedOwn after.controller.setup.activity w.device.live.rest.asked) (sym is)
+          (subst (λ (s : Setup). IsAskedOwn s.activity before.device.live.rest.asked) (sym same_setup) was);
+      related = λ was. subst (λ (w : World F). IsAskedOf w.device.live.rest.link w.device.live.rest.asked) (sym is) was;
     }
+      where
+        same_setup : after.controller.setup ≡ before.controller.setup
+        same_setup = ap (λ (w : World F). w.controller.setup) is ∙ ap (λ (c : Controlling). c.setup) (controller_is before.controller event)
 
     module _ {S : ℕ} (as_flash : Flash F S) where
       device_leaves : (before after : World F) (heard : Heard) → IsMeantAtDevice before heard → AtDevice as_flash before heard after → Leaves before after
@@ -93,8 +126,12 @@ module _ (activity : List ℕ) where
           record {
             station = made.hears.steps.same;
             setup = ap (λ (c : Controlling). c.setup) made.controller;
-            uncalled = λ other none. ap (λ (l : Live). kept_of activity l.rest.calls) made.hears.steps.live
-                ∙ does_none setup station live heard other meant.planned (heard_step outcomes station live heard).live.rest (heard_step outcomes station live heard).sent turn.does none;
+            uncalled = λ own other none. ap (λ (l : Live). kept_of activity l.rest.calls) made.hears.steps.live
+                ∙ does_none setup station live heard other meant.planned own (heard_step outcomes station live heard).live.rest (heard_step outcomes station live heard).sent turn.does none;
+            own = λ was. subst (λ (c : Controlling). IsAskedOwn c.setup.activity after.device.live.rest.asked) (sym made.controller)
+                (subst (λ (l : Live). IsAskedOwn setup.activity l.rest.asked) (sym made.hears.steps.live)
+                (owns (rules_of setup station) setup.activity outcomes station live heard meant.planned was));
+            related = λ was. subst (λ (l : Live). IsAskedOf l.rest.link l.rest.asked) (sym made.hears.steps.live) (turn.related was);
           }
 
       leaves : (before after : World F) (one : Move) → IsMeant before one → Happens as_flash before one after → Leaves before after
@@ -115,5 +152,8 @@ module _ (activity : List ℕ) where
           record {
             station = rest.station ∙ first.station;
             setup = rest.setup ∙ first.setup;
-            uncalled = λ other none. rest.uncalled (λ own. other (ap (λ (s : Setup). s.activity) (sym first.setup) ∙ own)) (first.uncalled other none);
+            uncalled = λ own other none.
+                rest.uncalled (first.own own) (λ same. other (ap (λ (s : Setup). s.activity) (sym first.setup) ∙ same)) (first.uncalled own other none);
+            own = λ was. rest.own (first.own was);
+            related = λ was. rest.related (first.related was);
           }

@@ -1,8 +1,8 @@
 -- Each call that a device hears is one of the start-up or of the application.
 use Rattle.std.proofs.Common.{◌≡◌, inl, inr, ◌<◌, ◌≤◌, ◌+◌, ◌*◌, ◌/◌, ◌&&◌, ◌==◌, ℕ, zero, suc, Bool, true, false, not, cond, List, [], ◌∷◌, ◌++◌, length, take, drop, map, Option, Some, None, Result, Ok, Err, refl, sym, ap, subst, ◌∙◌, add-one, arith}
-use Rattle.std.specs.Prelude.{nat_eq, nat_lt, slice_get}
+use Rattle.std.specs.Prelude.{is_some, nat_eq, nat_lt, slice_get}
 use Rattle.std.specs.Cmp.Lexicographic.{pointwise, same_text}
-use Rattle.std.specs.List.{AllByRecursion}
+use Rattle.std.specs.List.{AllByRecursion, find}
 use Rattle.std.proofs.lemmas.Bool.{and_parts, cond-false, ltb-true, ne_eqb}
 use Rattle.wire.specs.Codec.{◌>>=◌}
 use Rattle.wire.specs.Checks.{or_fault}
@@ -41,6 +41,15 @@ use Rattle.records.specs.writes.Asked.{handled_writing, several_of, writing_of}
 use Rattle.records.specs.writes.Handled.{effect_of, is_known, is_length, handled_request, kept, stored, targeted, written}
 use Rattle.records.specs.writes.Entry.{Entry}
 use Rattle.records.specs.writes.Several.{is_several, list_behind}
+use Rattle.records.specs.declared.status.operation.Operation.TheVariants as operation
+use Rattle.records.specs.reads.Handled.{has_parameter}
+use Rattle.record_blocks.specs.declared.record_header.RecordHeader.{RecordHeader}
+use Rattle.rpc_core.specs.declared.response.Status.{Status}
+use Rattle.asked_records.specs.Answers.{unanswered_status}
+use Rattle.asked_records.specs.Judging.{asked_name}
+use Rattle.asked_records.specs.Names.{is_named, last_index, named_at}
+use Rattle.asked_records.specs.declared.names.RecordName.{RecordName}
+use Rattle.asked_records.specs.declared.status.Unanswered.TheVariants.{InList}
 use Rattle.plans.specs.declared.parts.Parts.{Parts}
 use Rattle.plans.specs.declared.parts.PlanRecord.{PlanRecord}
 use Rattle.plans.specs.Connect.{connect_of}
@@ -49,7 +58,8 @@ use Rattle.both_ends.specs.startup.request.Request.{request_for}
 use Rattle.device_frames.specs.Heard as device
 use Rattle.device_frames.specs.Heard.{Heard}
 use Rattle.device_core.specs.State.{Station}
-use Rattle.device_core.specs.Several.{judged_each}
+use Rattle.device_core.specs.Asking.{write_within}
+use Rattle.device_core.specs.Several.{judged_each, with_status}
 use Rattle.controller_messages.specs.declared.plug_request.PlugStep.{PlugStep}
 use Rattle.controller_messages.specs.declared.plug_request.PlugStep.TheVariants as plug_step
 use Rattle.controller_messages.specs.declared.record_request.RecordService.{RecordService}
@@ -66,7 +76,7 @@ use Rattle.end_laws.specs.hearing.Stations.{IsCalled}
 use Rattle.end_laws.specs.both.Small.{Rules}
 use Rattle.end_laws.specs.controller.Small.{says_written}
 use Rattle.end_laws.specs.device.Small.{AreKeeping, IsPlanned, IsPlannedAs, IsPlannedCall, IsPlannedIn, IsPlannedWrite, IsWritingOf}
-use Rattle.both_ends.specs.startup.Played.{ArePlaced, IsParameter, IsPlaced}
+use Rattle.both_ends.specs.startup.Played.{ArePlaced, AreUnnamed, IsParameter, IsPlaced, IsUnnamed}
 use Rattle.both_ends.specs.startup.View.{is_planned, rules_of, taken_for}
 use Rattle.wire.proofs.Fields.{bind_ok, ok_is}
 use Rattle.both_ends.proofs.StartupEach.{each_at, some_is}
@@ -218,8 +228,19 @@ pub record IsGood (setup : Setup) : Type 0 where
 
 -- ---- a list of records
 
+-- a record that is judged well in a list would be by itself: it is not one of the application
+judged_alone : (b : Bool) (judged : Result Write CallFault) (write : Write)
+    → ◌≡◌ {A = Result Write Status} (cond b (Err (unanswered_status operation.Write InList)) (with_status judged)) (Ok write) → judged ≡ Ok write
+judged_alone true judged write e = absurd cc
+judged_alone false (Ok one) write e = ap (λ (w : Write). Ok w) (same_write one write e)
+  where
+    same_write : (one other : Write) → ◌≡◌ {A = Result Write Status} (Ok one) (Ok other) → one ≡ other
+    same_write one other f = cc
+judged_alone false (Err why) write e = absurd cc
+
 -- what is read of the blocks of a list that the controller writes
-module _ (read : (block : Block) (rest : List ℕ) → CanBeWritten block → block_of (block_bytes block ++ rest) ≡ front block rest) (setup : Setup) (real : Real) (number : ℕ) where
+module _ (read : (block : Block) (rest : List ℕ) → CanBeWritten block → block_of (block_bytes block ++ rest) ≡ front block rest)
+    (setup : Setup) (named : List RecordName) (real : Real) (number : ℕ) where
   abbrev listing : List PlanRecord → IodWriteReq
   listing entries = list_asked setup number (length (entries_bytes setup number entries))
 
@@ -250,9 +271,14 @@ module _ (read : (block : Block) (rest : List ℕ) → CanBeWritten block → bl
 
   -- each record that is judged well is kept
   each_keeps : (standing : Option (List ℕ)) (entries : List PlanRecord) → AllByRecursion IsParameter entries
-      → AreKeeping (judged_each standing real (listed read setup number entries)) (map taken_for entries)
+      → AreKeeping (judged_each named standing real (listed read setup number entries)) (map taken_for entries)
   each_keeps standing [] below = tt
-  each_keeps standing (entry ∷ entries) below = (λ write e. request_is setup real number entry below.0 standing write e, each_keeps standing entries below.1)
+  each_keeps standing (entry ∷ entries) below =
+      let request = write_asked setup number entry in
+      let judged = handled_request standing real request entry.data.items in (
+        λ write e. request_is setup real number entry below.0 standing write (judged_alone (is_some (asked_name real named request.header)) judged write e),
+        each_keeps standing entries below.1,
+      )
 
 nothing_single : (type : BlockType) (x : Block × List ℕ) → single_of type [] ≡ Ok x → ⊥
 unfolding single_of
@@ -264,10 +290,64 @@ nothing_written standing real writing e =
     let one = bind_ok (single_of kind.IodWriteReq []) (λ x. or_fault fault.BlockForm (in_iod_write_req x.0) >>= λ request. handled_writing standing real request x.1) writing e in
     nothing_single kind.IodWriteReq one.0 one.1
 
+-- ---- which Writes are of a record of the application
+
+-- what a Write names, if its blocks are read
+within_is : (request : IodWriteReq) (octets : List ℕ)
+    → block_of (block_bytes (variant.IodWriteReq request) ++ octets) ≡ front (variant.IodWriteReq request) octets
+    → (standing : Option (List ℕ)) (write : IodWriteReq × List ℕ)
+    → write_within standing (block_bytes (variant.IodWriteReq request) ++ octets) ≡ Ok write → write.0 ≡ request
+unfolding write_within
+within_is request octets read standing write e =
+    let blocks = block_bytes (variant.IodWriteReq request) ++ octets in
+    let one = bind_ok (single_of kind.IodWriteReq blocks)
+    (λ x. or_fault fault.BlockForm (in_iod_write_req x.0) >>= λ found. in_relation standing found.header.ar_uuid >>= λ _. Ok (found, x.1)) write e in
+    let same : one.0 ≡ (variant.IodWriteReq request, octets) =
+    ok_is one.0 (variant.IodWriteReq request, octets) (sym (single_is kind.IodWriteReq blocks one.0 one.1) ∙ read) in
+    let two : (in_relation standing request.header.ar_uuid >>= λ _. Ok (request, octets)) ≡ Ok write =
+    subst (λ (x : Block × List ℕ). (or_fault fault.BlockForm (in_iod_write_req x.0)
+    >>= λ found. in_relation standing found.header.ar_uuid >>= λ _. Ok (found, x.1)) ≡ Ok write) same one.2 in
+    let three = bind_ok (in_relation standing request.header.ar_uuid) (λ _. Ok (request, octets)) write two in
+    ap (λ (x : IodWriteReq × List ℕ). x.0) (sym (ok_is (request, octets) write three.2))
+
+-- no Write without a block names one
+nothing_within : (standing : Option (List ℕ)) (write : IodWriteReq × List ℕ) → write_within standing [] ≡ Ok write → ⊥
+unfolding write_within
+nothing_within standing write e =
+    let one = bind_ok (single_of kind.IodWriteReq [])
+    (λ x. or_fault fault.BlockForm (in_iod_write_req x.0) >>= λ found. in_relation standing found.header.ar_uuid >>= λ _. Ok (found, x.1)) write e in
+    nothing_single kind.IodWriteReq one.0 one.1
+
+-- a header names none of the application's records if the application does not answer its place and index
+unnamed_is : (real : Real) (named : List RecordName) (header : RecordHeader)
+    → named_at header.slot_number header.subslot_number header.index named ≡ None → asked_name real named header ≡ None
+unnamed_is real named header none = by_parameter (has_parameter real header.slot_number header.subslot_number header.index)
+  where
+    by_parameter : (b : Bool) → cond b None (named_at header.slot_number header.subslot_number header.index named) ≡ None
+    by_parameter true = refl
+    by_parameter false = none
+
+and_false : (a b c : Bool) → c ≡ false → (a && (b && c)) ≡ false
+and_false true true c e = e
+and_false true false c e = refl
+and_false false b c e = refl
+
+-- an index above 0x7FFF is not one of the application
+none_above : (named : List RecordName) → AllByRecursion (λ name. name.index ≤ last_index) named
+    → (slot subslot index : ℕ) → last_index < index → named_at slot subslot index named ≡ None
+none_above [] low slot subslot index above = refl
+none_above (name ∷ named) low slot subslot index above =
+    let other : is_named slot subslot index name ≡ false =
+    and_false (name.slot == slot) (name.subslot == subslot) (name.index == index) (ne_eqb name.index index (λ same. omega (arith, low.0, above, same))) in
+    ap (λ (b : Bool). cond b (Some name) (find (is_named slot subslot index) named)) other ∙ none_above named low.1 slot subslot index above
+
 module _ (read : (block : Block) (rest : List ℕ) → CanBeWritten block → block_of (block_bytes block ++ rest) ≡ front block rest) (long : (block : Block) → length (block_bytes block) ≡ block_size block)
-    (setup : Setup) (station : Station) (real : Real) (good : IsGood setup) where
+    (setup : Setup) (station : Station) (real : Real) (good : IsGood setup) (unnamed : AreUnnamed station.named setup.plan.records.items) where
   abbrev rules : Rules TakenRecord Asked_for
   rules = rules_of setup station
+
+  abbrev named : List RecordName
+  named = station.named
 
   -- the blocks of a record can be written
   record_can : (number : ℕ) → number < write_count setup.plan → (entry : PlanRecord) → IsParameter entry → IsPlaced entry → length entry.data.items ≤ 64
@@ -298,7 +378,7 @@ module _ (read : (block : Block) (rest : List ℕ) → CanBeWritten block → bl
     group = group_of setup.plan number
 
     -- a Write that carries one record
-    one_planned : setup.plan.multiple_write ≡ false → IsPlannedWrite rules real (number + 1) (writing_blocks setup number)
+    one_planned : setup.plan.multiple_write ≡ false → IsPlannedWrite rules named real (number + 1) (writing_blocks setup number)
     one_planned alone =
         let inside : number < length records =
         subst (λ (count : ℕ). number < count) (ap (λ (b : Bool). cond b ((length records + 9) / 10) (length records)) alone) listed in
@@ -318,8 +398,15 @@ module _ (read : (block : Block) (rest : List ℕ) → CanBeWritten block → bl
           keeps = λ standing writing e.
               let keeping = write_is setup real number entry below (λ rest. read (variant.IodWriteReq (write_asked setup number entry)) rest (record_can number listed entry below fits short))
               standing writing (subst (λ (b : List ℕ). writing_of standing real b ≡ Ok writing) blocks e) in
-              subst (λ (w : Writing). IsWritingOf rules real standing (number + 1) (map taken_for group) w) (sym keeping.1)
+              subst (λ (w : Writing). IsWritingOf rules named real standing (number + 1) (map taken_for group) w) (sym keeping.1)
               (taken_for entry, ap (λ (entries : List PlanRecord). map taken_for entries) is_one, keeping.2);
+          unasked = λ standing write e.
+              let asked = write_asked setup number entry in
+              let same = within_is asked entry.data.items
+              (read (variant.IodWriteReq asked) entry.data.items (record_can number listed entry below fits short)) standing write
+              (subst (λ (b : List ℕ). write_within standing b ≡ Ok write) blocks e) in
+              subst (λ (request : IodWriteReq). asked_name real named request.header ≡ None) (sym same)
+              (unnamed_is real named asked.header (each_at (IsUnnamed named) records number entry unnamed.records there.1));
         }
 
     -- a Write that carries a list of these records
@@ -327,16 +414,28 @@ module _ (read : (block : Block) (rest : List ℕ) → CanBeWritten block → bl
         → AllByRecursion IsParameter entries → IsRecord (list_asked setup number (length (entries_bytes setup number entries))).header
         → ((octets : List ℕ) → says_written setup.plan (number + 1) octets ≡ true → is_all_written (outcomes_behind (outcome_at octets) (length entries)) ≡ true)
         → (writing : Writing) → writing_of standing real (list_blocks setup number entries) ≡ Ok writing
-        → IsWritingOf rules real standing (number + 1) (map taken_for entries) writing
+        → IsWritingOf rules named real standing (number + 1) (map taken_for entries) writing
     list_kept several standing [] few can below sized says writing e = absurd (nothing_written standing real writing e)
     list_kept several standing (entry ∷ entries) few can below sized says writing e =
-        let outcome = list_is read setup real number entry entries few can sized standing writing e in
-        subst (λ (w : Writing). IsWritingOf rules real standing (number + 1) (map taken_for (entry ∷ entries)) w) (sym outcome) (
-          each_keeps read setup real number standing (entry ∷ entries) below,
+        let outcome = list_is read setup named real number entry entries few can sized standing writing e in
+        subst (λ (w : Writing). IsWritingOf rules named real standing (number + 1) (map taken_for (entry ∷ entries)) w) (sym outcome) (
+          each_keeps read setup named real number standing (entry ∷ entries) below,
           λ outcomes are said. list_done read setup number (entry ∷ entries) sized can outcomes are (says _ said),
         )
 
-    list_planned : setup.plan.multiple_write ≡ true → IsPlannedWrite rules real (number + 1) (writing_blocks setup number)
+    -- the Write of a list is not of one of the application's records
+    list_unasked : (entries : List PlanRecord) → IsRecord (list_asked setup number (length (entries_bytes setup number entries))).header
+        → (standing : Option (List ℕ)) (write : IodWriteReq × List ℕ) → write_within standing (list_blocks setup number entries) ≡ Ok write
+        → asked_name real named write.0.header ≡ None
+    list_unasked [] sized standing write e = absurd (nothing_within standing write e)
+    list_unasked (entry ∷ entries) sized standing write e =
+        let octets = entries_bytes setup number (entry ∷ entries) in
+        let asked = list_asked setup number (length octets) in
+        let same = within_is asked octets (read (variant.IodWriteReq asked) octets (record { header = sized })) standing write e in
+        subst (λ (request : IodWriteReq). asked_name real named request.header ≡ None) (sym same)
+        (unnamed_is real named asked.header (none_above named unnamed.indices 0xFFFF 0xFFFF 0xE040 (omega arith)))
+
+    list_planned : setup.plan.multiple_write ≡ true → IsPlannedWrite rules named real (number + 1) (writing_blocks setup number)
     list_planned several = record {
       number = number;
       is = refl;
@@ -353,17 +452,28 @@ module _ (read : (block : Block) (rest : List ℕ) → CanBeWritten block → bl
           list_kept several standing group few (records_can number listed group below fits short) below
           (list_can read setup number long group good.named (omega (arith, listed, good.few)) few short)
           (λ octets says. says_all setup number several listed octets says) writing (subst (λ (b : List ℕ). writing_of standing real b ≡ Ok writing) blocks e);
+      unasked = λ standing write e.
+          let start = first_of setup.plan number in
+          let each = per_call setup.plan in
+          let blocks : writing_blocks setup number ≡ list_blocks setup number group =
+          ap (λ (b : Bool). cond b (list_blocks setup number group) (write_blocks setup number (slice_get records number))) several in
+          let short = each_take (λ (e : PlanRecord). length e.data.items ≤ 64) each (drop start records)
+          (each_drop (λ (e : PlanRecord). length e.data.items ≤ 64) start records good.short) in
+          let ten : each ≡ 10 = ap (λ (b : Bool). cond b 10 1) several in
+          let few : length group ≤ 10 = omega (arith, take_few each (drop start records), ten) in
+          list_unasked group (list_can read setup number long group good.named (omega (arith, listed, good.few)) few short) standing write
+          (subst (λ (b : List ℕ). write_within standing b ≡ Ok write) blocks e);
     }
 
-    write_planned : IsPlannedWrite rules real (number + 1) (writing_blocks setup number)
+    write_planned : IsPlannedWrite rules named real (number + 1) (writing_blocks setup number)
     write_planned = by_kind setup.plan.multiple_write refl
       where
-        by_kind : (b : Bool) → setup.plan.multiple_write ≡ b → IsPlannedWrite rules real (number + 1) (writing_blocks setup number)
+        by_kind : (b : Bool) → setup.plan.multiple_write ≡ b → IsPlannedWrite rules named real (number + 1) (writing_blocks setup number)
         by_kind true several = list_planned several
         by_kind false alone = one_planned alone
 
   asked_planned : (request : Request) → IsCalled request → IsListed setup.plan request
-      → IsPlannedAs rules real (call_for setup request).header.sequence (blocks_of setup request) (operation_of (call_for setup request).header.operation)
+      → IsPlannedAs rules named real (call_for setup request).header.sequence (blocks_of setup request) (operation_of (call_for setup request).header.operation)
   unfolding operation_of
   asked_planned asks.Identify called listed = absurd called
   asked_planned asks.Address called listed = absurd called
@@ -373,49 +483,49 @@ module _ (read : (block : Block) (rest : List ℕ) → CanBeWritten block → bl
   asked_planned (asks.Release sequence) called listed = tt
 
   -- a Write of the application, or after a plug, that is one of the plan
-  access_write : (sequence : ℕ) (blocks : List ℕ) → is_planned setup sequence blocks ≡ true → IsPlannedWrite rules real sequence blocks
+  access_write : (sequence : ℕ) (blocks : List ℕ) → is_planned setup sequence blocks ≡ true → IsPlannedWrite rules named real sequence blocks
   access_write zero blocks e = absurd cc
   access_write (suc number) blocks e =
       let parts = and_parts (nat_lt number (write_count setup.plan)) (pointwise nat_eq blocks (writing_blocks setup number)) e in
       let planned = write_planned number (ltb-true number (write_count setup.plan) parts.0) in
-      subst (λ (b : List ℕ). IsPlannedWrite rules real (suc number) b) (sym (same_text blocks _ (sym parts.1)))
-      (subst (λ (n : ℕ). IsPlannedWrite rules real n (writing_blocks setup number)) (add-one number) planned)
+      subst (λ (b : List ℕ). IsPlannedWrite rules named real (suc number) b) (sym (same_text blocks _ (sym parts.1)))
+      (subst (λ (n : ℕ). IsPlannedWrite rules named real n (writing_blocks setup number)) (add-one number) planned)
 
-  access_planned : (kind : RecordService) (sequence : ℕ) (blocks : List ℕ) → IsPlannedAs rules real sequence blocks (operation_of (service_operation kind))
+  access_planned : (kind : RecordService) (sequence : ℕ) (blocks : List ℕ) → IsPlannedAs rules named real sequence blocks (operation_of (service_operation kind))
   unfolding operation_of
   access_planned service.Read sequence blocks = tt
   access_planned service.Write sequence blocks = λ planned. access_write sequence blocks planned
 
   -- a Write after a plug, whose record may be one of the plan, or PrmEnd
-  plug_planned : (step : PlugStep) (sequence : ℕ) (blocks : List ℕ) → IsPlannedAs rules real sequence blocks (operation_of (plug_operation step))
+  plug_planned : (step : PlugStep) (sequence : ℕ) (blocks : List ℕ) → IsPlannedAs rules named real sequence blocks (operation_of (plug_operation step))
   unfolding operation_of
   plug_planned (plug_step.Record number) sequence blocks = λ planned. access_write sequence blocks planned
   plug_planned plug_step.PrmEnd sequence blocks = tt
 
-  call_planned : (caller : Caller) (call : Call) → IsKnownCall setup caller call → IsPlannedCall rules setup.activity real call
-  call_planned caller call (inl own) = subst (λ (c : Call). IsPlannedCall rules setup.activity real c) (sym own.is) (record {
+  call_planned : (caller : Caller) (call : Call) → IsKnownCall setup caller call → IsPlannedCall rules setup.activity named real call
+  call_planned caller call (inl own) = subst (λ (c : Call). IsPlannedCall rules setup.activity named real c) (sym own.is) (record {
     own = refl;
     blocks = blocks_of setup own.request;
     counted = refl;
     asks = asked_planned own.request own.called own.listed;
   })
-  call_planned caller call (inr (inl access)) = subst (λ (c : Call). IsPlannedCall rules setup.activity real c) (sym access.is) (record {
+  call_planned caller call (inr (inl access)) = subst (λ (c : Call). IsPlannedCall rules setup.activity named real c) (sym access.is) (record {
     own = refl;
     blocks = record_blocks setup access.request access.octets access.request.service;
     counted = refl;
     asks = access_planned access.request.service access.request.sequence (record_blocks setup access.request access.octets access.request.service);
   })
-  call_planned caller call (inr (inr plugged)) = subst (λ (c : Call). IsPlannedCall rules setup.activity real c) (sym plugged.is) (record {
+  call_planned caller call (inr (inr plugged)) = subst (λ (c : Call). IsPlannedCall rules setup.activity named real c) (sym plugged.is) (record {
     own = refl;
     blocks = plug_blocks setup plugged.request plugged.request.step;
     counted = refl;
     asks = plug_planned plugged.request.step plugged.request.sequence (plug_blocks setup plugged.request plugged.request.step);
   })
 
-  said_planned : (caller : Caller) (reported : device.Said) → IsKnownSaid setup caller reported → IsPlannedIn rules setup.activity real reported
+  said_planned : (caller : Caller) (reported : device.Said) → IsKnownSaid setup caller reported → IsPlannedIn rules setup.activity named real reported
   said_planned caller (device.Calls call) known = call_planned caller call known
   said_planned caller reported known = tt
 
-  pub heard_planned : (heard : Heard) → IsKnownHeard setup heard → IsPlanned rules setup.activity real heard
+  pub heard_planned : (heard : Heard) → IsKnownHeard setup heard → IsPlanned rules setup.activity named real heard
   heard_planned (device.Reported caller address reported) known = said_planned caller reported known
   heard_planned heard known = tt

@@ -32,7 +32,7 @@ use Rattle.end_laws.specs.both.Steps.{CallsWhile, DeviceSteps, ControllerSteps, 
 use Rattle.end_laws.specs.both.StartUp.{last_of}
 use Rattle.end_laws.specs.controller.Small.{GoesOn, IsSteady, said_by, said_in, small_of, state_of}
 use Rattle.end_laws.specs.device.Orderly.{IsOrderlyIn}
-use Rattle.end_laws.specs.device.Small.{IsHeardAs, IsPlanned, heard_as, link_of}
+use Rattle.end_laws.specs.device.Small.{IsAskedOwn, IsHeardAs, IsPlanned, heard_as, link_of}
 use Rattle.end_laws.specs.device.Small as device
 use Rattle.both_ends.specs.startup.View.{IsMeant, IsMeantAtController, IsMeantAtDevice, IsSaidAs, move_of, rules_of, view_of}
 use Rattle.both_ends.specs.startup.Played.{IsRunOf, viewed}
@@ -41,7 +41,7 @@ use Rattle.both_ends.specs.startup.Played.{IsRunOf, viewed}
 
 abbrev pub DeviceGoesOn : Type 0
 DeviceGoesOn = (rules : Rules TakenRecord Request) (activity : List ℕ) (outcomes : List Outcome) (station : Station) (live : Live) (heard : Heard)
-    → IsOrderlyIn live.rest.link → IsPlanned rules activity live.rest.real heard
+    → IsOrderlyIn live.rest.link → IsAskedOwn activity live.rest.asked → IsPlanned rules activity station.named live.rest.real heard
     → AllByRecursion (IsHeardAs rules station.identity) (heard_step outcomes station live heard).sent
     → DeviceSteps rules (heard_as rules.is_planned heard) (device.small_of activity live) (device.small_of activity (heard_step outcomes station live heard).live) (heard_step outcomes station live heard).frames
 
@@ -174,15 +174,16 @@ module _ {F : Type 0} where
   -- ---- a step of the device
 
   module _ {S : ℕ} (as_flash : Flash F S) (goes : DeviceGoesOn) where
-    at_device_steps : (before after : World F) (heard : Heard) → InStep before → IsOrderlyIn before.device.live.rest.link → IsMeantAtDevice before heard → AtDevice as_flash before heard after
+    at_device_steps : (before after : World F) (heard : Heard) → InStep before → IsOrderlyIn before.device.live.rest.link
+        → IsAskedOwn before.controller.setup.activity before.device.live.rest.asked → IsMeantAtDevice before heard → AtDevice as_flash before heard after
         → Refines before after (StepsAtDevice (rules_at before) (heard_as (rules_at before).is_planned heard) (view_of before) (view_of after))
-    at_device_steps before after heard in_step orderly meant made =
+    at_device_steps before after heard in_step orderly own meant made =
         let hears = made.hears in
         let activity = before.controller.setup.activity in
         let station = before.device.station in
         let step = heard_step hears.steps.outcomes station before.device.live heard in
         let rules = rules_at before in
-        let on = goes rules activity hears.steps.outcomes station before.device.live heard orderly meant.planned (meant.sent hears.steps.outcomes hears.steps.sendable) in
+        let on = goes rules activity hears.steps.outcomes station before.device.live heard orderly own meant.planned (meant.sent hears.steps.outcomes hears.steps.sendable) in
         let steps : DeviceSteps rules (heard_as rules.is_planned heard) (device.small_of activity before.device.live) (device.small_of after.controller.setup.activity after.device.live) hears.frames =
         subst (λ (c : Controlling). DeviceSteps rules (heard_as rules.is_planned heard) (device.small_of activity before.device.live) (device.small_of c.setup.activity after.device.live) hears.frames) (sym made.controller)
         (subst (λ (l : Live). DeviceSteps rules (heard_as rules.is_planned heard) (device.small_of activity before.device.live) (device.small_of activity l) hears.frames) (sym hears.steps.live)
@@ -210,21 +211,22 @@ module _ {F : Type 0} where
     does : (before after : World F) (Same Does More : Type 0) → (Does → More) → Refines before after Does → Refines before after (Same ⊎ More)
     does before after Same Does More more refines = record { is = inr (more refines.is); setup = refines.setup; station = refines.station; in_step = refines.in_step }
 
-    module _ (on : ControllerGoesOn) (frames_are : FramesAre) (before after : World F) (in_step : InStep before) (orderly : IsOrderlyIn before.device.live.rest.link) where
+    module _ (on : ControllerGoesOn) (frames_are : FramesAre) (before after : World F) (in_step : InStep before) (orderly : IsOrderlyIn before.device.live.rest.link)
+        (own : IsAskedOwn before.controller.setup.activity before.device.live.rest.asked) where
       pub happens_steps : (one : Move) → IsMeant before one → Happens as_flash before one after
           → Refines before after (Steps (rules_at before) (view_of before) (move_of one) (view_of after))
       happens_steps (move.Deliver Device number) meant happens =
           delivered as_flash before after Device _ (slice_get before.sent number) happens (λ same. rests before after _ in_step same)
           (λ frame there comes. does before after _ _ _ (λ steps. record { frame = frame; there = there; steps = steps })
-          (at_device_steps before after _ in_step orderly (meant frame there) comes))
+          (at_device_steps before after _ in_step orderly own (meant frame there) comes))
       happens_steps (move.Deliver Controller number) meant happens =
           delivered as_flash before after Controller _ (slice_get before.sent number) happens (λ same. rests before after _ in_step same)
           (λ frame there comes. does before after _ _ _ (λ steps. record { frame = frame; there = there; steps = steps })
           (at_controller_steps on frames_are before after (controller.Frame (record { items = frame })) in_step (meant frame there) comes))
-      happens_steps (move.Tick Device) meant happens = does before after _ _ _ (λ steps. steps) (at_device_steps before after Ticks in_step orderly meant happens)
+      happens_steps (move.Tick Device) meant happens = does before after _ _ _ (λ steps. steps) (at_device_steps before after Ticks in_step orderly own meant happens)
       happens_steps (move.Tick Controller) meant happens = does before after _ _ _ (λ steps. steps) (at_controller_steps on frames_are before after controller.Tick in_step meant happens)
-      happens_steps (move.Application local) meant happens = does before after _ _ _ (λ steps. steps) (at_device_steps before after (Applied local) in_step orderly meant happens)
-      happens_steps (move.Neighbour neighbour) meant happens = does before after _ _ _ (λ steps. steps) (at_device_steps before after (Met (option_map peer_as neighbour)) in_step orderly meant happens)
+      happens_steps (move.Application local) meant happens = does before after _ _ _ (λ steps. steps) (at_device_steps before after (Applied local) in_step orderly own meant happens)
+      happens_steps (move.Neighbour neighbour) meant happens = does before after _ _ _ (λ steps. steps) (at_device_steps before after (Met (option_map peer_as neighbour)) in_step orderly own meant happens)
       happens_steps (move.Give slot subslot value) meant happens =
           does before after _ _ _ (λ steps. steps) (at_controller_steps on frames_are before after (controller.Give slot subslot value) in_step meant happens)
       happens_steps (move.OutputStatus slot subslot is_good) meant happens =

@@ -9,7 +9,7 @@ pub use exchange::{
     worlds_show_what_is_given, worlds_take_alarms,
 };
 pub use startup::{
-    Fresh, Net, answer_blocks_are_read, answers_are_read, begin_world, can_meet,
-    connect_answer_is_read, connect_is_taken, fresh_world, later_worlds_begin,
+    Fresh, Net, answer_blocks_are_read, answers_are_read, are_unnamed, begin_world, can_meet,
+    connect_answer_is_read, connect_is_taken, fresh_world, later_worlds_begin, nothing_is_named,
     plans_have_parameters, requests_are_read, responses_are_no_calls, worlds_start_up,
 };

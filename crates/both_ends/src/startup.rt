@@ -16,7 +16,7 @@ pub use answer::{
 };
 pub use fresh::{Fresh, Net, fresh_world};
 pub use later::later_worlds_begin;
-pub use meeting::{begin_world, can_meet};
+pub use meeting::{are_unnamed, begin_world, can_meet, nothing_is_named};
 pub use request::{connect_is_taken, requests_are_read};
 pub use start_up::worlds_start_up;
 pub use texts::plans_have_parameters;

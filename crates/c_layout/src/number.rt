@@ -54,5 +54,11 @@ pub const REFUSED: u32 = 44;
 /// No place of the relation has this number.
 pub const NO_PLACE: u32 = 45;
 
+/// A record that the application answers is not in its range, or is there twice.
+pub const BAD_RECORD: u32 = 46;
+
+/// Nothing is asked of the application.
+pub const NOT_ASKED: u32 = 47;
+
 /// The number of a fault of a catalogue or a plan is that of the fault, plus this.
 pub const PLAN_FAULT: u32 = 32;

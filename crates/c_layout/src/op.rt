@@ -14,7 +14,7 @@ pub struct Op {
     pub subslot: u32,
     /// The index of a record.
     pub index: u32,
-    /// The place of an item in a list, from 0 on.
+    /// The place of an item in a list, from 0 on; or the number of what is asked of the application, from 1 on.
     pub number: u32,
     /// ChannelNumber of a diagnosis.
     pub channel: u32,
@@ -67,6 +67,10 @@ pub struct Op {
     pub confirmed: u32,
     /// How far a place of the relation is.
     pub progress: u32,
+    /// What is wanted of a record that the application answers.
+    pub wanted: u32,
+    /// RecordDataLength of a Read.
+    pub read_length: u32,
     /// The number of octets of a PortID.
     pub port_length: u32,
     /// The number of octets of a ChassisID.

@@ -1,5 +1,5 @@
 //! The modules that are plugged in a station, as they lie in the memory of the host.
-ghost use Rattle.std.specs.Prelude.{◌≡◌, ◌≤◌, true, length, map};
+ghost use Rattle.std.specs.Prelude.{◌≡◌, ◌<◌, ◌≤◌, ◌++◌, [], ◌∷◌, true, length, map};
 ghost use Rattle.std.specs.List.{list_all};
 ghost use Rattle.c_layout.specs.Modules.{are_parameters, has_index, is_module, is_parameter, is_submodule, module_of, parameter_of, parameters_in, submodule_of};
 ghost use Rattle.c_layout.specs.Modules.{submodules_in};
@@ -105,32 +105,30 @@ pub fn modules(written: &[Module]) -> ArrayVec<RealModule, 16>
 {
     let mut modules = ArrayVec::new();
     for entry in written {
-        modules.push(plugged(entry));
+        modules.push(RealModule {
+            slot: entry.slot,
+            ident: entry.ident,
+            submodules: ArrayVec::new(),
+        });
+        // Its submodules are made where they stay: what is moved takes room on the stack of pn_put.
+        let place = modules.len() - 1;
+        put_submodules(
+            submodules_in(entry),
+            &mut modules.as_mut_slice()[place].submodules,
+        );
     }
     modules
 }
 
-fn plugged(entry: &Module) -> RealModule
-    requires { is_module entry.now ≡ true }
-    ensures { result ≡ module_of entry.now }
-{
-    RealModule {
-        slot: entry.slot,
-        ident: entry.ident,
-        submodules: submodules(submodules_in(entry)),
-    }
-}
-
-fn submodules(written: &[Submodule]) -> ArrayVec<RealSubmodule, 4>
+fn put_submodules(written: &[Submodule], submodules: &mut ArrayVec<RealSubmodule, 4>)
+    requires empty { submodules.old.items ≡ [] }
     requires few { length written.now ≤ 4 }
     requires small { list_all is_submodule written.now ≡ true }
-    ensures { result ≡ record { items = map submodule_of written.now } }
+    ensures { submodules.new ≡ record { items = map submodule_of written.now } }
 {
-    let mut submodules = ArrayVec::new();
     for submodule in written {
         submodules.push(plugged_in(submodule));
     }
-    submodules
 }
 
 fn plugged_in(submodule: &Submodule) -> RealSubmodule

@@ -132,6 +132,8 @@ fn copy_of(op: &Op) -> Op
         sequence: op.sequence,
         confirmed: op.confirmed,
         progress: op.progress,
+        wanted: op.wanted,
+        read_length: op.read_length,
         port_length: op.port_length,
         chassis_length: op.chassis_length,
         work: op.work,

@@ -30,13 +30,13 @@ use station_names::check;
 use uuid::Uuid;
 
 /// The version of the header.
-const ABI: u32 = 8;
+const ABI: u32 = 9;
 
 /// The number of octets of the memory for a port.
 const ROOM: usize = 40960;
 
 /// The number of octets of an operation.
-const OP_SIZE: usize = 1672;
+const OP_SIZE: usize = 1680;
 
 // The faults of a plan, with the numbers that a catalogue with the same fault has.
 const NUMBER: u32 = PLAN_FAULT + 4;

@@ -1,5 +1,5 @@
 -- What is due comes nearer by each unit with which nothing is due, exactly.
-use Rattle.std.proofs.Common.{◌≡◌, ◌⊎◌, ◌+◌, ◌-◌, ◌%◌, ◌<◌, ◌≤◌, ◌==◌, ◌&&◌, ℕ, zero, suc, Bool, true, false, nat_le, Option, Some, None, [], if◌then◌else◌, inl, inr, refl, sym, ap, ◌∙◌, subst, arith}
+use Rattle.std.proofs.Common.{◌≡◌, ◌⊎◌, ◌+◌, ◌-◌, ◌%◌, ◌<◌, ◌≤◌, ◌==◌, ◌&&◌, ℕ, zero, suc, Bool, true, false, nat_le, Option, Some, None, List, [], length, if◌then◌else◌, inl, inr, refl, sym, ap, ◌∙◌, subst, arith}
 use Rattle.std.specs.Prelude.{min, max, unwrap_or}
 use Rattle.std.proofs.Math.Nat.{mod-add-mod, mod-eq_of_lt}
 use Rattle.std.proofs.lemmas.Bool.{cases_lt, ne_eqb}
@@ -25,9 +25,13 @@ use Rattle.relations.specs.Leaps.{due_within, inactive_in, link_due_in, plug_aga
 use Rattle.relations.specs.Phases.{passing_by, updated}
 use Rattle.relations.specs.RelationState.{RelationState, is_awaiting, phase_of}
 use Rattle.relations.specs.Runs.{unit_over, units_over}
-use Rattle.relations.specs.Timers.{ending_of, inactive_later, is_again, is_timed, limit_of, plugs_later, unit_later, waited_later}
+use Rattle.relations.specs.declared.farewell.Farewell.{Farewell}
+use Rattle.relations.specs.Timers.{due_by, due_of, ending_of, inactive_later, is_again, is_timed, limit_of, plugs_later, unit_later, waited_later}
 use Rattle.device_frames.specs.declared.event.Event.TheVariants.{Tick}
 use Rattle.device_frames.specs.Heard.{heard_of}
+use Rattle.asked_records.specs.Asked.{AskedState, Standing, asks_of, due_in as asked_due_in, due_with, later_with, over_with, settled, ticked as asked_ticked}
+use Rattle.device_core.specs.Asking.{asked_later, ended_by, is_full, left_asked}
+use Rattle.device_core.specs.Handled.{unit_sent}
 use Rattle.device_core.specs.Leaps.{lamp_off_in, live_due_in, ticks_of}
 use Rattle.device_core.specs.Machine.{handled_step, heard_step, step_of}
 use Rattle.device_core.specs.State.{Live, Station}
@@ -213,10 +217,46 @@ tick_link : (station : Station) (live : Live) → (step_of [] station live Tick)
 unfolding heard_of heard_step handled_step
 tick_link station live = refl
 
+tick_asked : (station : Station) (live : Live)
+    → (step_of [] station live Tick).live.rest.asked ≡ asked_later (length (unit_sent live)) (left_asked (ended_by (due_of live.rest.link).farewell) live.rest.asked)
+unfolding heard_of heard_step handled_step
+tick_asked station live = refl
+
+-- ---- one unit of what is asked of the application
+
+waits_nears : (standing : Option Standing) → 1 < due_with standing → Nears (due_with standing) (due_with (later_with standing))
+waits_nears None some = stays
+waits_nears (Some standing) some =
+    let goes : (standing.waited + 1 == 64000) ≡ false = ne_eqb (standing.waited + 1) 64000 (λ e. omega (arith, e, some)) in
+    exactly _ _ (rw goes (omega (arith, some)))
+
+not_late : (standing : Option Standing) → 1 < due_with standing → over_with standing ≡ false
+not_late None some = refl
+not_late (Some standing) some = ne_eqb (standing.waited + 1) 64000 (λ e. omega (arith, e, some))
+
+waits_on : (count : ℕ) (asked : AskedState) → over_with asked.standing ≡ false → asked_later count asked ≡ asked_ticked asked
+waits_on count asked going = ap (λ (b : Bool). let a : AskedState = if b && is_full count then asked else asked_ticked asked in a) going
+
+none_ends : (link : Option RelationState) → 1 < due_within link → (due_of link).farewell ≡ None
+none_ends None some = refl
+none_ends (Some link) some = ap (λ (e : Option Abort). (due_by link e).farewell) (goes_on link some)
+
+asked_nears : (station : Station) (live : Live) → 1 < due_within live.rest.link → 1 < asked_due_in live.rest.asked
+    → Nears (asked_due_in live.rest.asked) (asked_due_in (step_of [] station live Tick).live.rest.asked)
+asked_nears station live stays_on some =
+    let kept : left_asked (ended_by (due_of live.rest.link).farewell) live.rest.asked ≡ live.rest.asked =
+    ap (λ (f : Option Farewell). left_asked (ended_by f) live.rest.asked) (none_ends live.rest.link stays_on) in
+    let later : (step_of [] station live Tick).live.rest.asked ≡ asked_ticked live.rest.asked =
+    tick_asked station live ∙ (ap (asked_later (length (unit_sent live))) kept ∙ waits_on (length (unit_sent live)) live.rest.asked (not_late live.rest.asked.standing some)) in
+    subst (λ (a : AskedState). Nears (asked_due_in live.rest.asked) (asked_due_in a)) (sym later) (waits_nears live.rest.asked.standing some)
+
 live_nears : (station : Station) (live : Live) → 1 < live_due_in live → Nears (live_due_in live) (live_due_in (step_of [] station live Tick).live)
 live_nears station live some =
+    let others = below_right 1 _ _ some in
+    let relation = below_left 1 _ _ others in
+    let asked = asked_nears station live relation (below_right 1 _ _ others) in
     rw (tick_lamp station live, tick_link station live)
-    (both _ _ _ _ (lamp_nears live.rest.lamp (below_left 1 _ _ some)) (within_nears live.rest.link (below_right 1 _ _ some)))
+    (both _ _ _ _ (lamp_nears live.rest.lamp (below_left 1 _ _ some)) (both _ _ _ _ (within_nears live.rest.link relation) asked))
 
 -- ---- several units
 
@@ -245,8 +285,27 @@ no_link : (link : Option RelationState) → phase_of link ≡ None → link ≡ 
 no_link None none = refl
 no_link (Some link) none = cc none
 
-never_due : (live : Live) → live.rest.lamp ≡ 0 → live.rest.link ≡ None → live_due_in live ≡ never
-never_due live off none = rw (off, none) refl
+left_none : (uuid : Option (List ℕ)) (asked : AskedState) → asked.standing ≡ None → (left_asked uuid asked).standing ≡ None
+left_none None asked none = none
+left_none (Some uuid) asked none = ap (λ (b : Bool). let a : AskedState = if b then settled asked else asked in a.standing) (ap (asks_of uuid) none) ∙ none
+
+tick_unasked : (station : Station) (live : Live) → live.rest.asked.standing ≡ None → (step_of [] station live Tick).live.rest.asked.standing ≡ None
+tick_unasked station live none =
+    let left = left_asked (ended_by (due_of live.rest.link).farewell) live.rest.asked in
+    let still : left.standing ≡ None = left_none (ended_by (due_of live.rest.link).farewell) live.rest.asked none in
+    ap (λ (a : AskedState). a.standing) (tick_asked station live)
+    ∙ (ap (λ (a : AskedState). a.standing) (waits_on (length (unit_sent live)) left (ap over_with still)) ∙ ap later_with still)
+
+unasked_later : (station : Station) (live : Live) (units : ℕ) → live.rest.asked.standing ≡ None → (ticks_of units station live).live.rest.asked.standing ≡ None
+unasked_later station live zero none = none
+unasked_later station live (suc units) none = tick_unasked station (ticks_of units station live).live (unasked_later station live units none)
+
+none_waits : (standing : Option Standing) → never ≤ due_with standing → standing ≡ None
+none_waits None many = refl
+none_waits (Some standing) many = absurd (omega (arith, many))
+
+never_due : (live : Live) → live.rest.lamp ≡ 0 → live.rest.link ≡ None → live.rest.asked.standing ≡ None → live_due_in live ≡ never
+never_due live off none unasked = rw (off, none, unasked) refl
 
 too_many : (new units old : ℕ) → new + units ≡ old → never ≤ new → old < never → ⊥
 too_many new units old counted many few = omega (arith, counted, many, few)
@@ -261,8 +320,9 @@ later_by station live units below rests (inr many) =
     let idle = rests many in
     let off = lamp_later station live units idle.0 in
     let none = link_later station live units (no_link live.rest.link idle.1) in
+    let unasked = unasked_later station live units (none_waits live.rest.asked.standing (omega (arith, many))) in
     let known : nat_le never (live_due_in live) ≡ true = grind (arith, nat_tests) in
-    record { due = never_due (ticks_of units station live).live off none ∙ sym (rw known refl); rests = λ _. (off, ap phase_of none) }
+    record { due = never_due (ticks_of units station live).live off none unasked ∙ sym (rw known refl); rests = λ _. (off, ap phase_of none) }
 
 pub later_at : (station : Station) (live : Live) (units : ℕ) → units < live_due_in live → RestsAt live → LaterAt units live (ticks_of units station live).live
 later_at station live units below rests = later_by station live units below rests (cases_lt (live_due_in live) never)

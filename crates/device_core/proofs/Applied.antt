@@ -1,7 +1,7 @@
 -- What the application says, case by case, is local.
-use Rattle.std.proofs.Common.{◌≡◌, ◌∙◌, ◌++◌, ℕ, Bool, true, false, not, length, List, [], ◌∷◌, Option, Some, None, is_some, option_map, if◌then◌else◌, inl, inr, refl}
+use Rattle.std.proofs.Common.{◌≡◌, ◌≤◌, ◌==◌, ◌⊎◌, ◌∙◌, ◌++◌, ℕ, Bool, true, false, cond, length, Result, Ok, Err, ap, arith, List, [], ◌∷◌, Option, Some, None, option_map, if◌then◌else◌, inl, inr, refl}
 use Rattle.std.specs.List.{AllByRecursion}
-use Rattle.std.proofs.lemmas.Bool.{cond_both}
+use Rattle.std.proofs.lemmas.Bool.{cond_both, false≢true, true≢false}
 use Rattle.arrayvec.specs.ArrayVec.{ArrayVec}
 use Rattle.pn_values.specs.declared.real.RealModule.{RealModule}
 use Rattle.module_diff.specs.Plugged.{module_ident, submodule_ident}
@@ -32,17 +32,26 @@ use Rattle.relations.specs.exchange.Process.{remarked, with_cyclic, with_input}
 use Rattle.relations.specs.exchange.Statuses.{statuses_at}
 use Rattle.relations.specs.Diagnosed.{diagnose_one, diagnosing}
 use Rattle.relations.specs.Exchanged.{given_to, raised_to, rating, turning}
-use Rattle.relations.specs.Phases.{Exchanged, Prepared, prepared_from, updated}
+use Rattle.relations.specs.Phases.{Exchanged, Prepared, updated}
 use Rattle.relations.specs.RelationState.{RelationState, flow_of, is_preparing, phase_of}
 use Rattle.device_frames.specs.declared.local.Local.{Local}
 use Rattle.device_frames.specs.declared.local.Local.TheVariants as local
 use Rattle.device_frames.specs.declared.note.Note.TheVariants as note
 use Rattle.device_frames.specs.Relation.{alarms_of, frames_in, low_alarms_of, plug_call_in, plug_calls, ready_calls, where_due}
 use Rattle.device_frames.specs.Sent.{Sent}
+use Rattle.pn_values.specs.declared.set_item.BlockError.{BlockError}
+use Rattle.rpc_core.specs.Cache.{looked}
+use Rattle.asked_records.specs.Answers.{Gives, gives_octets, gives_done, gives_refusal, answer_blocks, answer_status, fault_of, judged, judged_with, question_unless}
+use Rattle.asked_records.specs.Asked.{Standing, question_in}
+use Rattle.asked_records.specs.declared.answering.AnswerFault.{AnswerFault}
+use Rattle.asked_records.specs.declared.answering.AnswerFault.TheVariants as fault
+use Rattle.asked_records.specs.declared.question.Question.{Question}
+use Rattle.device_core.specs.Asking.{is_new, kept_reply, reply_to}
+use Rattle.device_core.specs.Machine.{finished}
 use Rattle.device_core.specs.State.{Station, Live}
-use Rattle.device_core.specs.Handled.{Refuses, Moves, change_of, handled_change, handled_diagnosed, handled_input, handled_local, handled_modules, handled_notice, handled_ready, handled_ready_at, handled_turned, kept_status, may_be_diagnosed}
+use Rattle.device_core.specs.Handled.{Refuses, Moves, change_of, handled_change, handled_diagnosed, handled_input, handled_judged, handled_local, handled_modules, handled_notice, handled_ready, handled_ready_at, handled_turned, kept_status, may_be_diagnosed}
 use Rattle.device_core.specs.Modules.{changed_rest, next_call_sent, outside, plug_of, pull_of, sent_after, slot_pull_of}
-use Rattle.device_core.specs.Local.{IsFlowOf, IsLinkOf, IsLocal, IsOfRelation, IsRelationOf, modules_by}
+use Rattle.device_core.specs.Local.{AnswersGoToTheQuestion, IsFlowOf, IsLeft, IsLinkOf, IsLocal, IsOfRelation, IsRelationOf, IsReplied, IsReplyTo, is_answer, modules_by}
 
 -- ---- the relation
 
@@ -282,25 +291,101 @@ module _ (station : Station) (live : Live) where
       (λ _. moved (calling_next link) live.rest.is_running live.rest.statuses live.rest.diagnoses (next_call_sent address link) (readied_in slot subslot live.rest.link)
       (plug_calls_sent (is_calling link) address (calling_next link))) (λ _. refused)
 
-pub local_is : (station : Station) (live : Live) (said : Local (ArrayVec ℕ))
+pub local_is : (station : Station) (live : Live) (said : Local (ArrayVec ℕ)) → is_answer said ≡ false
     → IsLocal station live (modules_by said live.rest.real.modules.items) (handled_local station live said)
-local_is station live (local.Input slot subslot value) =
+local_is station live (local.Input slot subslot value) no_answer =
     input_local station live (given_to slot subslot value.items live.rest.link) (given_in slot subslot value.items live.rest.link)
-local_is station live (local.Alarm slot subslot octets) =
+local_is station live (local.Alarm slot subslot octets) no_answer =
     let real = live.rest.real.modules.items in
     notice_local station live (raised_to real slot subslot octets.items live.rest.link) (raised_in real slot subslot octets.items live.rest.link)
-local_is station live (local.Status slot subslot is_good) =
+local_is station live (local.Status slot subslot is_good) no_answer =
     status_local station live slot subslot is_good
     (statuses_at live.rest.real.modules.items (record { slot = slot; subslot = subslot; is_good = is_good }) live.rest.statuses)
-local_is station live (local.Diagnosis slot subslot channel error appears) = diagnosis_local station live (change_of slot subslot channel error appears)
-local_is station live (local.Pull slot subslot) =
+local_is station live (local.Diagnosis slot subslot channel error appears) no_answer = diagnosis_local station live (change_of slot subslot channel error appears)
+local_is station live (local.Pull slot subslot) no_answer =
     let real = live.rest.real.modules.items in
     modules_local station live (pull_of real slot subslot) (outside slot (pulled slot subslot real))
-local_is station live (local.PullModule slot) =
+local_is station live (local.PullModule slot) no_answer =
     let real = live.rest.real.modules.items in
     modules_local station live (slot_pull_of real slot) (outside slot (slot_pulled slot real))
-local_is station live (local.Plug slot ident part) =
+local_is station live (local.Plug slot ident part) no_answer =
     modules_local station live (plug_of slot ident part) (plugged_with slot ident part live.rest.real.modules.items)
-local_is station live (local.ReadyAt slot subslot) = ready_at_local station live slot subslot
-local_is station live local.Ready = ready_local station live
-local_is station live (local.ProviderState is_running) = turned_local station live is_running
+local_is station live (local.ReadyAt slot subslot) no_answer = ready_at_local station live slot subslot
+local_is station live local.Ready no_answer = ready_local station live
+local_is station live (local.ProviderState is_running) no_answer = turned_local station live is_running
+local_is station live (local.Answer number octets) no_answer = absurd (true≢false no_answer)
+local_is station live (local.Written number) no_answer = absurd (true≢false no_answer)
+local_is station live (local.Refuse number code1 code2) no_answer = absurd (true≢false no_answer)
+
+-- ---- answers
+
+-- At most one response is sent.
+reply_one : (is_due : Bool) (answer : Sent) → length (where_due is_due (answer ∷ [])) ≤ 1
+reply_one true answer = omega arith
+reply_one false answer = omega arith
+
+reply_sends : (is_due : Bool) (question : Question) (answer : Sent) → IsReplyTo question answer → AllByRecursion (IsReplyTo question) (where_due is_due (answer ∷ []))
+reply_sends true question answer is = (is, tt)
+reply_sends false question answer is = tt
+
+-- The call of an answer that is accepted.
+abbrev ok_of : Result Question AnswerFault → Option Question
+ok_of (Ok question) = Some question
+ok_of (Err it) = None
+
+-- The call that an answer goes to is the one that is asked.
+goes_to : (number last : ℕ) (given : Gives) (standing : Option Standing) (question : Question)
+    → judged_with last number given standing ≡ Ok question → option_map (λ s. s.question) standing ≡ Some question
+goes_to number last given None question is = cc
+goes_to number last given (Some standing) question is = by_number (number == last) is
+  where
+    by_fault : (found : Option AnswerFault) → question_unless standing.question found ≡ Ok question → ◌≡◌ {A = Option Question} (Some standing.question) (Some question)
+    by_fault None accepted = ap ok_of accepted
+    by_fault (Some it) accepted = cc
+
+    by_number : (same : Bool) → cond same (question_unless standing.question (fault_of standing.question given)) (Err fault.NotAsked) ≡ Ok question
+        → ◌≡◌ {A = Option Question} (Some standing.question) (Some question)
+    by_number true accepted = by_fault (fault_of standing.question given) accepted
+    by_number false accepted = cc
+
+judged_goes : (station : Station) (live : Live) (given : Gives) (answers : List BlockError) (judged : Result Question AnswerFault)
+    → ((question : Question) → judged ≡ Ok question → question_in live.rest.asked ≡ Some question)
+    → IsLeft live (finished station.identity live.rest (handled_judged station live given judged) answers)
+    ⊎ ((question : Question) × IsReplied live question (finished station.identity live.rest (handled_judged station live given judged) answers))
+judged_goes station live given answers (Ok question) asks =
+    let address = live.values.running.suite.address in
+    let reply = reply_to address question (answer_status question.request given) (answer_blocks question.request given) in
+    let is_due = is_new (looked question.header.activity question.header.sequence live.rest.calls) in
+    inr (
+      question,
+      record {
+        asked = asks question refl;
+        settles = refl;
+        keeps = refl;
+        calls = (kept_reply station.identity question reply ∷ [], refl);
+        one = reply_one is_due reply;
+        sends = reply_sends is_due question reply (refl, refl);
+      },
+    )
+judged_goes station live given answers (Err fault) asks = inl (refl, refl)
+
+pub answer_goes : AnswersGoToTheQuestion
+answer_goes station live (local.Answer number octets) answers is =
+    judged_goes station live (gives_octets octets.items) answers (judged number (gives_octets octets.items) live.rest.asked)
+    (λ question. goes_to number live.rest.asked.last (gives_octets octets.items) live.rest.asked.standing question)
+answer_goes station live (local.Written number) answers is =
+    judged_goes station live gives_done answers (judged number gives_done live.rest.asked)
+    (λ question. goes_to number live.rest.asked.last gives_done live.rest.asked.standing question)
+answer_goes station live (local.Refuse number code1 code2) answers is =
+    judged_goes station live (gives_refusal code1 code2) answers (judged number (gives_refusal code1 code2) live.rest.asked)
+    (λ question. goes_to number live.rest.asked.last (gives_refusal code1 code2) live.rest.asked.standing question)
+answer_goes station live (local.Input slot subslot value) answers is = absurd (false≢true is)
+answer_goes station live (local.Alarm slot subslot octets) answers is = absurd (false≢true is)
+answer_goes station live (local.Status slot subslot is_good) answers is = absurd (false≢true is)
+answer_goes station live (local.Diagnosis slot subslot channel error appears) answers is = absurd (false≢true is)
+answer_goes station live (local.Pull slot subslot) answers is = absurd (false≢true is)
+answer_goes station live (local.PullModule slot) answers is = absurd (false≢true is)
+answer_goes station live (local.Plug slot ident part) answers is = absurd (false≢true is)
+answer_goes station live (local.ReadyAt slot subslot) answers is = absurd (false≢true is)
+answer_goes station live local.Ready answers is = absurd (false≢true is)
+answer_goes station live (local.ProviderState is_running) answers is = absurd (false≢true is)

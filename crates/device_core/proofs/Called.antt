@@ -1,6 +1,6 @@
 -- What happens to the stored answers.
 use Rattle.std.proofs.lemmas.Bool.{cond_both}
-use Rattle.std.proofs.Common.{◌≡◌, ◌&&◌, ℕ, Bool, not, List, [], ◌∷◌, ◌++◌, Option, Some, None, is_some, Result, Ok, Err, refl, sym, ap, ◌∙◌}
+use Rattle.std.proofs.Common.{◌≡◌, ◌&&◌, ℕ, List, [], ◌∷◌, ◌++◌, length, Option, Some, None, Result, Ok, Err, refl, sym, ap, ◌∙◌}
 use Rattle.pn_values.specs.declared.mac.Mac.{Mac}
 use Rattle.pn_values.specs.declared.set_item.BlockError.{BlockError}
 use Rattle.settings_journal.specs.settings_store.Machine.{Outcome, carried}
@@ -24,17 +24,14 @@ use Rattle.pn_alarms.specs.declared.device.PduFate.{PduFate}
 use Rattle.pn_alarms.specs.declared.device.PduFate.TheVariants as fate
 use Rattle.cyclic_data.specs.declared.exchange.received.Received.{Received}
 use Rattle.cyclic_data.specs.declared.exchange.received.Received.TheVariants as received
-use Rattle.relations.specs.declared.exchange.statuses.InputStatus.{InputStatus}
-use Rattle.relations.specs.exchange.Statuses.{statuses_at}
-use Rattle.relations.specs.exchange.Flow.{Flow}
-use Rattle.relations.specs.Exchanged.{given_to, heard_by, hearing, raised_to, received_by, receiving}
+use Rattle.relations.specs.Exchanged.{heard_by, hearing, received_by, receiving}
 use Rattle.rpc_core.specs.Response.{Answered}
 use Rattle.relations.specs.declared.plugging.PlugAnswer.{PlugAnswer}
 use Rattle.relations.specs.declared.plugging.PlugAnswer.TheVariants as to_plug
 use Rattle.relations.specs.Plugging.{is_plug_control, plug_answer_in, plug_end_answer, plug_end_in}
 use Rattle.relations.specs.declared.hearing.ReadyAnswer.{ReadyAnswer}
 use Rattle.relations.specs.declared.hearing.ReadyAnswer.TheVariants as to_ready
-use Rattle.relations.specs.RelationState.{RelationState, uuid_of, is_alarm_of, is_in_exchange, is_preparing, phase_of}
+use Rattle.relations.specs.RelationState.{RelationState, uuid_of, is_alarm_of, is_in_exchange}
 use Rattle.device_records.specs.Reading.{implicit_read, relation_read}
 use Rattle.relations.specs.Phases.{keeping, updated}
 use Rattle.relations.specs.Calls.{prm_end_answer, release_answer}
@@ -46,13 +43,19 @@ use Rattle.device_core.specs.State.{Station, Live, Rest, alias_in}
 use Rattle.device_frames.specs.Sent.{Sent}
 use Rattle.pn_alarms.specs.declared.pdu.Header.{Header}
 use Rattle.pn_alarms.specs.Message.{ToDevice}
-use Rattle.module_diff.specs.Plugged.{submodule_ident}
-use Rattle.diagnosis.specs.Existing.{changed}
-use Rattle.diagnosis.specs.declared.diagnosis.Change.{Change}
-use Rattle.diagnosis.specs.declared.diagnosis.Diagnosis.{Diagnosis}
-use Rattle.relations.specs.Diagnosed.{has_sent_low, heard_low, hearing_low, is_full_in}
+use Rattle.relations.specs.Diagnosed.{has_sent_low, heard_low, hearing_low}
 use Rattle.device_frames.specs.Heard.{Heard, Ticks, Unreadable, Elsewhere, Asks, Resolves, Reported, Cyclic, Alarms, LowReplies, LowConfirms, Met, Applied, Said, Calls, Responds, Garbled, heard_of}
-use Rattle.device_core.specs.Handled.{Handled, is_running, is_request, answer_from, kept_for, kept_answer, handled_request, handled_effect, handled_write, handled_new, handled_looked, handled_blocks, handled_call, handled_answer, handled_said, handled_pdu, handled_received, handled_input, handled_notice, kept_status, handled, known_of, number_now, handled_alarm, handled_change, handled_low, handled_low_pdu, handled_plug_answer, handled_response}
+use Rattle.device_core.specs.Handled.{Handled, is_running, is_request, answer_from, kept_for, kept_answer, handled_request, handled_effect, handled_write, handled_own, handled_asking, handled_judged, handled_local, handled_question, handled_unanswered, unit_rest, unit_sent, handled_looked, handled_blocks, handled_call, handled_answer, handled_said, handled_pdu, handled_received, handled, known_of, number_now, handled_alarm, handled_low, handled_low_pdu, handled_plug_answer, handled_response}
+use Rattle.arrayvec.specs.ArrayVec.{ArrayVec}
+use Rattle.asked_records.specs.Answers.{Gives, gives_octets, gives_done, gives_refusal, answer_blocks, answer_status, judged, unanswered_status}
+use Rattle.asked_records.specs.Asked.{AskedState, asks, is_repeat}
+use Rattle.asked_records.specs.Questions.{operation_of as operation_asked}
+use Rattle.asked_records.specs.declared.answering.AnswerFault.{AnswerFault}
+use Rattle.asked_records.specs.declared.question.Question.{Question}
+use Rattle.asked_records.specs.declared.status.Unanswered.TheVariants.{Busy}
+use Rattle.device_frames.specs.declared.local.Local.{Local}
+use Rattle.device_frames.specs.declared.local.Local.TheVariants as local
+use Rattle.device_core.specs.Asking.{Asking, asking_of, calls_after, kept_reply, late_calls, late_in, late_reply, reply_to}
 use Rattle.device_core.specs.Several.{judged_each}
 use Rattle.device_core.specs.Machine.{items_in, first_answer, several_answer, written_as, finished, heard_step, handled_step, step_of, first_step, later_steps, run_of}
 use Rattle.device_core.specs.Steps.{IsBehindCalls}
@@ -96,30 +99,54 @@ write_called : (station : Station) (live : Live) (answers : List BlockError) (ca
     → looked call.header.activity call.header.sequence live.rest.calls ≡ new → IsKept station live answers (handled_write station live caller call writing)
 write_called station live answers caller call (Ok (One write)) is_new = effect_called station live answers caller call write.request write.effect is_new
 write_called station live answers caller call (Ok (Each header entries)) is_new =
-    let judged = judged_each (uuid_of live.rest.link) live.rest.real entries in
+    let judged = judged_each station.named (uuid_of live.rest.link) live.rest.real entries in
     kept_called station live call (answer_from live.values.running.suite.address caller call Write (Ok (several_answer header judged answers live.rest.link))) is_new
 write_called station live answers caller call (Err fault) is_new = served_called station live caller call Write (Err fault) is_new
 
-new_called : (station : Station) (live : Live) (answers : List BlockError) (caller : Caller) (call : Called) (blocks : List ℕ) (operation : Operation)
-    → looked call.header.activity call.header.sequence live.rest.calls ≡ new → IsKept station live answers (handled_new station live caller call blocks operation)
-new_called station live answers caller call blocks Connect is_new =
+own_called : (station : Station) (live : Live) (answers : List BlockError) (caller : Caller) (call : Called) (blocks : List ℕ) (operation : Operation)
+    → looked call.header.activity call.header.sequence live.rest.calls ≡ new → IsKept station live answers (handled_own station live caller call blocks operation)
+own_called station live answers caller call blocks Connect is_new =
     served_called station live caller call Connect (connect_answer station.identity live.rest.real station.options (number_now station live) caller.mac live.rest.link blocks) is_new
-new_called station live answers caller call blocks Release is_new =
+own_called station live answers caller call blocks Release is_new =
     served_called station live caller call Release (release_answer live.rest.link blocks) is_new
-new_called station live answers caller call blocks Read is_new =
+own_called station live answers caller call blocks Read is_new =
     served_called station live caller call Read (relation_read (known_of station live) station.identity live.rest.real live.values.running blocks) is_new
-new_called station live answers caller call blocks Write is_new =
+own_called station live answers caller call blocks Write is_new =
     write_called station live answers caller call (writing_of (uuid_of live.rest.link) live.rest.real blocks) is_new
-new_called station live answers caller call blocks Control is_new =
+own_called station live answers caller call blocks Control is_new =
     cond_both (is_plug_control blocks live.rest.link) _ _ (IsKept station live answers)
     (λ _. served_called station live caller call Control (plug_end_answer (plug_end_in blocks live.rest.link)) is_new)
     (λ _. served_called station live caller call Control (prm_end_answer live.rest.link blocks) is_new)
-new_called station live answers caller call blocks ReadImplicit is_new =
+own_called station live answers caller call blocks ReadImplicit is_new =
     served_called station live caller call ReadImplicit (implicit_read (known_of station live) station.identity live.rest.real live.values.running blocks) is_new
+
+-- The response to a call that was asked is stored, unless a later call of its activity was answered.
+replied_called : (station : Station) (rest : Rest) (question : Question) (answer : Sent) → IsBehindCalls rest.calls (calls_after station.identity question answer rest.calls)
+replied_called station rest question answer = (kept_reply station.identity question answer ∷ [], refl)
+
+question_called : (station : Station) (live : Live) (answers : List BlockError) (question : Question) (asked : Option AskedState)
+    → IsKept station live answers (handled_question station live question asked)
+question_called station live answers question (Some asked) = ([], refl)
+question_called station live answers question None =
+    replied_called station live.rest question (reply_to live.values.running.suite.address question (unanswered_status (operation_asked question.request) Busy) [])
+
+asking_called : (station : Station) (live : Live) (answers : List BlockError) (caller : Caller) (call : Called) (blocks : List ℕ) (operation : Operation)
+    (asking : Result (Option Asking) CallFault) → looked call.header.activity call.header.sequence live.rest.calls ≡ new
+    → IsKept station live answers (handled_asking station live caller call blocks operation asking)
+asking_called station live answers caller call blocks operation (Ok None) is_new = own_called station live answers caller call blocks operation is_new
+asking_called station live answers caller call blocks operation (Ok (Some asking)) is_new =
+    question_called station live answers asking.0 (asks asking.0 asking.1 live.rest.asked)
+asking_called station live answers caller call blocks operation (Err fault) is_new = served_called station live caller call operation (Err fault) is_new
+
+unanswered_called : (station : Station) (live : Live) (answers : List BlockError) (caller : Caller) (call : Called) (blocks : List ℕ) (operation : Operation)
+    → looked call.header.activity call.header.sequence live.rest.calls ≡ new → IsKept station live answers (handled_unanswered station live caller call blocks operation)
+unanswered_called station live answers caller call blocks operation is_new =
+    cond_both (is_repeat call.header.activity call.header.sequence live.rest.asked) _ _ (IsKept station live answers) (λ _. ([], refl))
+    (λ _. asking_called station live answers caller call blocks operation (asking_of live.rest.real station.named (uuid_of live.rest.link) caller call blocks operation) is_new)
 
 looked_called : (station : Station) (live : Live) (answers : List BlockError) (caller : Caller) (call : Called) (blocks : List ℕ) (operation : Operation) (reported : Looked)
     → looked call.header.activity call.header.sequence live.rest.calls ≡ reported → IsKept station live answers (handled_looked station live caller call blocks operation reported)
-looked_called station live answers caller call blocks operation new reported = new_called station live answers caller call blocks operation reported
+looked_called station live answers caller call blocks operation new reported = unanswered_called station live answers caller call blocks operation reported
 looked_called station live answers caller call blocks operation (again frame) reported = ([], refl)
 looked_called station live answers caller call blocks operation old reported = ([], refl)
 
@@ -184,6 +211,35 @@ received_called station live answers received.Short link = ([], refl)
 received_called station live answers received.Stale link = ([], refl)
 received_called station live answers received.Taken link = ([], refl)
 
+-- A call that has no answer in time.
+late_called : (station : Station) (rest : Rest) (late : Option Question) (address : List ℕ) → IsBehindCalls rest.calls (late_calls station.identity address late rest.calls)
+late_called station rest None address = ([], refl)
+late_called station rest (Some question) address = replied_called station rest question (late_reply address question)
+
+-- An answer of the application, and all else that it says.
+judged_called : (station : Station) (live : Live) (answers : List BlockError) (given : Gives) (judged : Result Question AnswerFault)
+    → IsKept station live answers (handled_judged station live given judged)
+judged_called station live answers given (Ok question) =
+    replied_called station live.rest question (reply_to live.values.running.suite.address question (answer_status question.request given) (answer_blocks question.request given))
+judged_called station live answers given (Err fault) = ([], refl)
+
+local_called : (station : Station) (live : Live) (answers : List BlockError) (said : Local (ArrayVec ℕ)) → IsKept station live answers (handled_local station live said)
+local_called station live answers (local.Answer number octets) =
+    judged_called station live answers (gives_octets octets.items) (judged number (gives_octets octets.items) live.rest.asked)
+local_called station live answers (local.Written number) = judged_called station live answers gives_done (judged number gives_done live.rest.asked)
+local_called station live answers (local.Refuse number code1 code2) =
+    judged_called station live answers (gives_refusal code1 code2) (judged number (gives_refusal code1 code2) live.rest.asked)
+local_called station live answers (local.Input slot subslot value) = ([], ap (λ (rest : Rest). rest.calls) ((local_is station live (local.Input slot subslot value) refl).keeps answers))
+local_called station live answers (local.Alarm slot subslot octets) = ([], ap (λ (rest : Rest). rest.calls) ((local_is station live (local.Alarm slot subslot octets) refl).keeps answers))
+local_called station live answers (local.Status slot subslot is_good) = ([], ap (λ (rest : Rest). rest.calls) ((local_is station live (local.Status slot subslot is_good) refl).keeps answers))
+local_called station live answers (local.Diagnosis slot subslot channel error appears) = ([], ap (λ (rest : Rest). rest.calls) ((local_is station live (local.Diagnosis slot subslot channel error appears) refl).keeps answers))
+local_called station live answers (local.Pull slot subslot) = ([], ap (λ (rest : Rest). rest.calls) ((local_is station live (local.Pull slot subslot) refl).keeps answers))
+local_called station live answers (local.PullModule slot) = ([], ap (λ (rest : Rest). rest.calls) ((local_is station live (local.PullModule slot) refl).keeps answers))
+local_called station live answers (local.Plug slot ident part) = ([], ap (λ (rest : Rest). rest.calls) ((local_is station live (local.Plug slot ident part) refl).keeps answers))
+local_called station live answers (local.ReadyAt slot subslot) = ([], ap (λ (rest : Rest). rest.calls) ((local_is station live (local.ReadyAt slot subslot) refl).keeps answers))
+local_called station live answers local.Ready = ([], ap (λ (rest : Rest). rest.calls) ((local_is station live local.Ready refl).keeps answers))
+local_called station live answers (local.ProviderState is_running) = ([], ap (λ (rest : Rest). rest.calls) ((local_is station live (local.ProviderState is_running) refl).keeps answers))
+
 handled_called : (station : Station) (live : Live) (answers : List BlockError) (heard : Heard) → IsKept station live answers (handled station live heard)
 handled_called station live answers (Asks asker request) = request_called station live answers asker request.service request
 handled_called station live answers (Resolves asker packet) =
@@ -199,8 +255,8 @@ handled_called station live answers (LowConfirms source header message) =
 handled_called station live answers (Cyclic source frame_id body) =
     received_called station live answers (received_by source frame_id body live.rest.link) (updated (receiving source frame_id body live.rest.link) live.rest.link)
 handled_called station live answers (Met peer) = ([], refl)
-handled_called station live answers (Applied said) = ([], ap (λ (rest : Rest). rest.calls) ((local_is station live said).keeps answers))
-handled_called station live answers Ticks = ([], refl)
+handled_called station live answers (Applied said) = local_called station live answers said
+handled_called station live answers Ticks = late_called station (unit_rest live) (late_in (length (unit_sent live)) (unit_rest live).asked) live.values.running.suite.address
 handled_called station live answers Unreadable = ([], refl)
 handled_called station live answers Elsewhere = ([], refl)
 

@@ -1,5 +1,5 @@
 -- A pull or a plug is refused, or the modules change.
-use Rattle.std.proofs.Common.{◌≡◌, ◌==◌, ◌&&◌, ◌++◌, map, ℕ, Bool, cond, true, false, nat_lt, List, [], ◌∷◌, Option, Some, None, is_some, option_map, unwrap_or, if◌then◌else◌, inl, inr, refl, sym, ap, ◌∙◌}
+use Rattle.std.proofs.Common.{◌≡◌, ◌&&◌, ◌++◌, map, ℕ, Bool, cond, true, false, nat_lt, List, [], ◌∷◌, Option, Some, None, is_some, option_map, unwrap_or, inl, inr, refl, sym, ap, ◌∙◌}
 use Rattle.std.specs.List.{find}
 use Rattle.std.proofs.lemmas.Bool.{cases_Bool, false≢true, true≢false}
 use Rattle.std.proofs.lemmas.List.{map-append}
@@ -9,6 +9,7 @@ use Rattle.diagnosis.specs.declared.diagnosis.Diagnosis.{Diagnosis}
 use Rattle.diagnosis.specs.Existing.{remaining}
 use Rattle.relations.specs.declared.exchange.statuses.InputStatus.{InputStatus}
 use Rattle.relations.specs.exchange.Statuses.{remaining_statuses}
+use Rattle.asked_records.specs.Asked.{AskedState, dropped_at}
 use Rattle.device_frames.specs.Relation.{low_alarms_of, plug_calls, where_due}
 use Rattle.device_frames.specs.Sent.{Sent}
 use Rattle.pn_values.specs.declared.real.RealSubmodule.{RealSubmodule}
@@ -183,12 +184,13 @@ plug_garbled response (Some l) is = ap (λ (heard : PlugAnswer). Some (answered_
 module _ (rest : Rest) (made : RealChange) (d : List Diagnosis) (l : Option RelationState)
     (d_is : d ≡ remaining (affected_by made) rest.diagnoses) (l_is : l ≡ modules_changing rest.real.modules.items made d rest.link) where
   -- The rest after it.
-  pub rest_changed : (s : List InputStatus) → s ≡ remaining_statuses (affected_by made) rest.statuses
-      → record rest { diagnoses = d; statuses = s; link = l } ≡ changed_rest rest made rest.real.modules.items
-  rest_changed s s_is =
-      ap (λ (x : Option RelationState). record rest { diagnoses = d; statuses = s; link = x }) l_is
-      ∙ (ap (λ (x : List InputStatus). record rest { diagnoses = d; statuses = x; link = modules_changing rest.real.modules.items made d rest.link }) s_is
-      ∙ ap (λ (x : List Diagnosis). record rest { diagnoses = x; statuses = remaining_statuses (affected_by made) rest.statuses; link = modules_changing rest.real.modules.items made x rest.link }) d_is)
+  pub rest_changed : (s : List InputStatus) (a : AskedState) → s ≡ remaining_statuses (affected_by made) rest.statuses → a ≡ dropped_at (affected_by made) rest.asked
+      → record rest { diagnoses = d; statuses = s; link = l; asked = a } ≡ changed_rest rest made rest.real.modules.items
+  rest_changed s a s_is a_is =
+      ap (λ (x : Option RelationState). record rest { diagnoses = d; statuses = s; link = x; asked = a }) l_is
+      ∙ (ap (λ (x : List InputStatus). record rest { diagnoses = d; statuses = x; link = modules_changing rest.real.modules.items made d rest.link; asked = a }) s_is
+      ∙ (ap (λ (x : List Diagnosis). record rest { diagnoses = x; statuses = remaining_statuses (affected_by made) rest.statuses; link = modules_changing rest.real.modules.items made x rest.link; asked = a }) d_is
+      ∙ ap (λ (x : AskedState). record rest { diagnoses = remaining (affected_by made) rest.diagnoses; statuses = remaining_statuses (affected_by made) rest.statuses; link = modules_changing rest.real.modules.items made (remaining (affected_by made) rest.diagnoses) rest.link; asked = x }) a_is))
 
   -- What is sent.
   pub sent_changed : (values : Values) (address : List ℕ) (alarm ready : Bool) → alarm ≡ is_alarmed_by rest.real.modules.items made d rest.link

@@ -1,7 +1,7 @@
 -- An outcome that asks nothing of the settings.
 use Rattle.std.proofs.lemmas.Bool.{cond_both}
 use Rattle.relations.specs.declared.exchange.statuses.InputStatus.{InputStatus}
-use Rattle.std.proofs.Common.{◌≡◌, ◌&&◌, ℕ, Bool, false, not, is_some, List, [], Option, Some, None, refl}
+use Rattle.std.proofs.Common.{◌≡◌, ◌&&◌, ℕ, Bool, false, not, is_some, List, [], Option, Some, None, Result, Ok, Err, refl}
 use Rattle.pn_values.specs.declared.mac.Mac.{Mac}
 use Rattle.frame_codec.specs.declared.arp.Arp.{Arp}
 use Rattle.pn_alarms.specs.declared.pdu.Header.{Header}
@@ -37,8 +37,12 @@ use Rattle.arrayvec.specs.ArrayVec.{ArrayVec}
 use Rattle.relations.specs.exchange.Statuses.{statuses_at}
 use Rattle.device_frames.specs.declared.local.Local.{Local}
 use Rattle.device_frames.specs.declared.local.Local.TheVariants as local
+use Rattle.asked_records.specs.Answers.{Gives, gives_octets, gives_done, gives_refusal, judged}
+use Rattle.asked_records.specs.Asked.{AskedState}
+use Rattle.asked_records.specs.declared.answering.AnswerFault.{AnswerFault}
+use Rattle.asked_records.specs.declared.question.Question.{Question}
 use Rattle.device_core.specs.State.{Station, Live}
-use Rattle.device_core.specs.Handled.{change_of, is_running, is_request, handled_arp, handled_answer, handled_alarm, handled_pdu, handled_received, handled_cyclic, handled_input, handled_local, handled_notice, handled_ready, handled_change, handled_diagnosed, handled_low, handled_low_pdu, handled_low_reply, handled_modules, handled_new, handled_plug_answer, handled_ready_at, handled_response, kept_status}
+use Rattle.device_core.specs.Handled.{change_of, is_running, is_request, handled_arp, handled_answer, handled_alarm, handled_pdu, handled_received, handled_cyclic, handled_input, handled_local, handled_notice, handled_ready, handled_change, handled_diagnosed, handled_low, handled_low_pdu, handled_low_reply, handled_modules, handled_own, handled_judged, handled_question, handled_plug_answer, handled_ready_at, handled_response, kept_status}
 use Rattle.device_core.specs.Machine.{end_of}
 use Rattle.device_core.specs.Modules.{outside, plug_of, pull_of, slot_pull_of}
 use Rattle.device_core.proofs.Machine.{is_asking}
@@ -112,11 +116,11 @@ pub ready_asks_nothing : (live : Live) → is_asking (handled_ready live) ≡ fa
 ready_asks_nothing live = cond_both (is_preparing (phase_of live.rest.link)) _ _ (λ what. is_asking what ≡ false) (λ _. refl) (λ _. refl)
 
 -- A PrmEnd, also one after a plug.
-pub control_asks_nothing : (station : Station) (live : Live) (caller : Caller) (call : Called) (blocks : List ℕ) → is_asking (handled_new station live caller call blocks Control) ≡ false
+pub control_asks_nothing : (station : Station) (live : Live) (caller : Caller) (call : Called) (blocks : List ℕ) → is_asking (handled_own station live caller call blocks Control) ≡ false
 control_asks_nothing station live caller call blocks =
     cond_both (is_plug_control blocks live.rest.link) _ _ (λ what. is_asking what ≡ false) (λ _. refl) (λ _. refl)
 
-pub control_done : (station : Station) (live : Live) (caller : Caller) (call : Called) (blocks : List ℕ) → (end_of station live (handled_new station live caller call blocks Control)).note ≡ Done
+pub control_done : (station : Station) (live : Live) (caller : Caller) (call : Called) (blocks : List ℕ) → (end_of station live (handled_own station live caller call blocks Control)).note ≡ Done
 control_done station live caller call blocks =
     cond_both (is_plug_control blocks live.rest.link) _ _ (λ what. (end_of station live what).note ≡ Done) (λ _. refl) (λ _. refl)
 
@@ -175,6 +179,20 @@ modules_ask_nothing live made (Some real) =
 pub ready_at_asks_nothing : (live : Live) (slot subslot : ℕ) → is_asking (handled_ready_at live slot subslot) ≡ false
 ready_at_asks_nothing live slot subslot = cond_both (is_readied_in slot subslot live.rest.link) _ _ (λ what. is_asking what ≡ false) (λ _. refl) (λ _. refl)
 
+-- An answer of the application.
+judged_asks_nothing : (station : Station) (live : Live) (given : Gives) (judged : Result Question AnswerFault) → is_asking (handled_judged station live given judged) ≡ false
+judged_asks_nothing station live given (Ok question) = refl
+judged_asks_nothing station live given (Err fault) = refl
+
+-- A call for a record of the application.
+pub question_asks_nothing : (station : Station) (live : Live) (question : Question) (asked : Option AskedState) → is_asking (handled_question station live question asked) ≡ false
+question_asks_nothing station live question (Some asked) = refl
+question_asks_nothing station live question None = refl
+
+pub question_done : (station : Station) (live : Live) (question : Question) (asked : Option AskedState) → (end_of station live (handled_question station live question asked)).note ≡ Done
+question_done station live question (Some asked) = refl
+question_done station live question None = refl
+
 -- Whatever the application says.
 pub local_asks_nothing : (station : Station) (live : Live) (said : Local (ArrayVec ℕ)) → is_asking (handled_local station live said) ≡ false
 local_asks_nothing station live (local.Input slot subslot value) = input_asks_nothing live (given_to slot subslot value.items live.rest.link)
@@ -194,3 +212,8 @@ local_asks_nothing station live (local.Plug slot ident part) =
 local_asks_nothing station live (local.ReadyAt slot subslot) = ready_at_asks_nothing live slot subslot
 local_asks_nothing station live local.Ready = ready_asks_nothing live
 local_asks_nothing station live (local.ProviderState is_running) = refl
+local_asks_nothing station live (local.Answer number octets) =
+    judged_asks_nothing station live (gives_octets octets.items) (judged number (gives_octets octets.items) live.rest.asked)
+local_asks_nothing station live (local.Written number) = judged_asks_nothing station live gives_done (judged number gives_done live.rest.asked)
+local_asks_nothing station live (local.Refuse number code1 code2) =
+    judged_asks_nothing station live (gives_refusal code1 code2) (judged number (gives_refusal code1 code2) live.rest.asked)

@@ -14,6 +14,8 @@ pub mod Runs
 pub mod Restarts
 pub mod Exchanged
 mod Rated
+mod Counting
+mod Unnamed
 mod Changing
 pub mod Leaping
 mod Logged

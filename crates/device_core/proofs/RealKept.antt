@@ -1,6 +1,6 @@
 -- What is real stays, but for a pull or a plug.
 use Rattle.std.proofs.lemmas.Bool.{cond_both}
-use Rattle.std.proofs.Common.{◌≡◌, ◌&&◌, ℕ, List, Option, Some, None, Result, Ok, Err, refl, ◌∙◌}
+use Rattle.std.proofs.Common.{◌≡◌, ◌&&◌, ℕ, List, Option, Some, None, Result, Ok, Err, refl}
 use Rattle.pn_values.specs.declared.mac.Mac.{Mac}
 use Rattle.pn_values.specs.declared.set_item.BlockError.{BlockError}
 use Rattle.dcp_core.specs.declared.request.Service.{Service}
@@ -39,9 +39,17 @@ use Rattle.pn_alarms.specs.declared.pdu.Header.{Header}
 use Rattle.pn_alarms.specs.Message.{ToDevice}
 use Rattle.relations.specs.Diagnosed.{has_sent_low, heard_low, hearing_low}
 use Rattle.device_frames.specs.Heard.{Heard, Ticks, Unreadable, Elsewhere, Asks, Resolves, Reported, Cyclic, Alarms, LowReplies, LowConfirms, Met, Applied, Said, Calls, Responds, Garbled}
-use Rattle.device_core.specs.Handled.{Handled, is_running, is_request, handled_request, handled_effect, handled_write, handled_new, handled_looked, handled_blocks, handled_call, handled_answer, handled_said, handled_pdu, handled_received, handled, handled_alarm, handled_low, handled_low_pdu, handled_plug_answer, handled_response}
+use Rattle.device_core.specs.Handled.{Handled, is_running, is_request, handled_request, handled_effect, handled_write, handled_own, handled_asking, handled_judged, handled_local, handled_question, handled_unanswered, handled_looked, handled_blocks, handled_call, handled_answer, handled_said, handled_pdu, handled_received, handled, handled_alarm, handled_low, handled_low_pdu, handled_plug_answer, handled_response}
 use Rattle.device_core.specs.Machine.{finished}
-use Rattle.device_core.specs.Local.{IsRealBehind}
+use Rattle.device_core.specs.Local.{IsRealBehind, IsRealOf, modules_by}
+use Rattle.arrayvec.specs.ArrayVec.{ArrayVec}
+use Rattle.asked_records.specs.Answers.{Gives, gives_octets, gives_done, gives_refusal, judged}
+use Rattle.asked_records.specs.Asked.{AskedState, asks, is_repeat}
+use Rattle.asked_records.specs.declared.answering.AnswerFault.{AnswerFault}
+use Rattle.asked_records.specs.declared.question.Question.{Question}
+use Rattle.device_frames.specs.declared.local.Local.{Local}
+use Rattle.device_frames.specs.declared.local.Local.TheVariants as local
+use Rattle.device_core.specs.Asking.{Asking, asking_of}
 use Rattle.device_core.proofs.Applied.{local_is}
 
 -- What is real after an outcome is what was real before.
@@ -65,19 +73,37 @@ write_stays station live answers caller call (Ok (One write)) = effect_stays sta
 write_stays station live answers caller call (Ok (Each header entries)) = refl
 write_stays station live answers caller call (Err fault) = refl
 
-new_stays : (station : Station) (live : Live) (answers : List BlockError) (caller : Caller) (call : Called) (blocks : List ℕ) (operation : Operation)
-    → IsRealKept station live answers (handled_new station live caller call blocks operation)
-new_stays station live answers caller call blocks Connect = refl
-new_stays station live answers caller call blocks Release = refl
-new_stays station live answers caller call blocks Read = refl
-new_stays station live answers caller call blocks Write = write_stays station live answers caller call (writing_of (uuid_of live.rest.link) live.rest.real blocks)
-new_stays station live answers caller call blocks Control =
+own_stays : (station : Station) (live : Live) (answers : List BlockError) (caller : Caller) (call : Called) (blocks : List ℕ) (operation : Operation)
+    → IsRealKept station live answers (handled_own station live caller call blocks operation)
+own_stays station live answers caller call blocks Connect = refl
+own_stays station live answers caller call blocks Release = refl
+own_stays station live answers caller call blocks Read = refl
+own_stays station live answers caller call blocks Write = write_stays station live answers caller call (writing_of (uuid_of live.rest.link) live.rest.real blocks)
+own_stays station live answers caller call blocks Control =
     cond_both (is_plug_control blocks live.rest.link) _ _ (IsRealKept station live answers) (λ _. refl) (λ _. refl)
-new_stays station live answers caller call blocks ReadImplicit = refl
+own_stays station live answers caller call blocks ReadImplicit = refl
+
+question_stays : (station : Station) (live : Live) (answers : List BlockError) (question : Question) (asked : Option AskedState)
+    → IsRealKept station live answers (handled_question station live question asked)
+question_stays station live answers question (Some asked) = refl
+question_stays station live answers question None = refl
+
+asking_stays : (station : Station) (live : Live) (answers : List BlockError) (caller : Caller) (call : Called) (blocks : List ℕ) (operation : Operation)
+    (asking : Result (Option Asking) CallFault) → IsRealKept station live answers (handled_asking station live caller call blocks operation asking)
+asking_stays station live answers caller call blocks operation (Ok None) = own_stays station live answers caller call blocks operation
+asking_stays station live answers caller call blocks operation (Ok (Some asking)) =
+    question_stays station live answers asking.0 (asks asking.0 asking.1 live.rest.asked)
+asking_stays station live answers caller call blocks operation (Err fault) = refl
+
+unanswered_stays : (station : Station) (live : Live) (answers : List BlockError) (caller : Caller) (call : Called) (blocks : List ℕ) (operation : Operation)
+    → IsRealKept station live answers (handled_unanswered station live caller call blocks operation)
+unanswered_stays station live answers caller call blocks operation =
+    cond_both (is_repeat call.header.activity call.header.sequence live.rest.asked) _ _ (IsRealKept station live answers) (λ _. refl)
+    (λ _. asking_stays station live answers caller call blocks operation (asking_of live.rest.real station.named (uuid_of live.rest.link) caller call blocks operation))
 
 looked_stays : (station : Station) (live : Live) (answers : List BlockError) (caller : Caller) (call : Called) (blocks : List ℕ) (operation : Operation) (reported : Looked)
     → IsRealKept station live answers (handled_looked station live caller call blocks operation reported)
-looked_stays station live answers caller call blocks operation new = new_stays station live answers caller call blocks operation
+looked_stays station live answers caller call blocks operation new = unanswered_stays station live answers caller call blocks operation
 looked_stays station live answers caller call blocks operation (again frame) = refl
 looked_stays station live answers caller call blocks operation old = refl
 
@@ -143,6 +169,29 @@ received_stays station live answers received.Short link = refl
 received_stays station live answers received.Stale link = refl
 received_stays station live answers received.Taken link = refl
 
+judged_stays : (station : Station) (live : Live) (answers : List BlockError) (given : Gives) (judged : Result Question AnswerFault)
+    → IsRealKept station live answers (handled_judged station live given judged)
+judged_stays station live answers given (Ok question) = refl
+judged_stays station live answers given (Err fault) = refl
+
+local_stays : (station : Station) (live : Live) (answers : List BlockError) (said : Local (ArrayVec ℕ))
+    → IsRealOf (modules_by said live.rest.real.modules.items) live.rest.real (finished station.identity live.rest (handled_local station live said) answers).rest.real
+local_stays station live answers (local.Answer number octets) =
+    judged_stays station live answers (gives_octets octets.items) (judged number (gives_octets octets.items) live.rest.asked)
+local_stays station live answers (local.Written number) = judged_stays station live answers gives_done (judged number gives_done live.rest.asked)
+local_stays station live answers (local.Refuse number code1 code2) =
+    judged_stays station live answers (gives_refusal code1 code2) (judged number (gives_refusal code1 code2) live.rest.asked)
+local_stays station live answers (local.Input slot subslot value) = (local_is station live (local.Input slot subslot value) refl).real answers
+local_stays station live answers (local.Alarm slot subslot octets) = (local_is station live (local.Alarm slot subslot octets) refl).real answers
+local_stays station live answers (local.Status slot subslot is_good) = (local_is station live (local.Status slot subslot is_good) refl).real answers
+local_stays station live answers (local.Diagnosis slot subslot channel error appears) = (local_is station live (local.Diagnosis slot subslot channel error appears) refl).real answers
+local_stays station live answers (local.Pull slot subslot) = (local_is station live (local.Pull slot subslot) refl).real answers
+local_stays station live answers (local.PullModule slot) = (local_is station live (local.PullModule slot) refl).real answers
+local_stays station live answers (local.Plug slot ident part) = (local_is station live (local.Plug slot ident part) refl).real answers
+local_stays station live answers (local.ReadyAt slot subslot) = (local_is station live (local.ReadyAt slot subslot) refl).real answers
+local_stays station live answers local.Ready = (local_is station live local.Ready refl).real answers
+local_stays station live answers (local.ProviderState is_running) = (local_is station live (local.ProviderState is_running) refl).real answers
+
 pub real_is_behind : (station : Station) (live : Live) (answers : List BlockError) (heard : Heard) → IsRealBehind heard live.rest.real (finished station.identity live.rest (handled station live heard) answers).rest.real
 real_is_behind station live answers (Asks asker request) = request_stays station live answers asker request.service request
 real_is_behind station live answers (Resolves asker packet) =
@@ -158,7 +207,7 @@ real_is_behind station live answers (LowConfirms source header message) =
 real_is_behind station live answers (Cyclic source frame_id body) =
     received_stays station live answers (received_by source frame_id body live.rest.link) (updated (receiving source frame_id body live.rest.link) live.rest.link)
 real_is_behind station live answers (Met peer) = refl
-real_is_behind station live answers (Applied said) = (local_is station live said).real answers
+real_is_behind station live answers (Applied said) = local_stays station live answers said
 real_is_behind station live answers Ticks = refl
 real_is_behind station live answers Unreadable = refl
 real_is_behind station live answers Elsewhere = refl

@@ -13,8 +13,8 @@ use Rattle.device_frames.specs.Heard.{Heard}
 use Rattle.device_frames.specs.Sendable.{AreSendable}
 use Rattle.device_frames.specs.Sent.{bytes_of}
 use Rattle.device_frames.specs.declared.note.Note.{Note}
-use Rattle.device_core.specs.State.{Station, Live, State, with_rest}
-use Rattle.device_core.specs.Handled.{came_with, handled, handled_new, kept_answer}
+use Rattle.device_core.specs.State.{State, with_rest}
+use Rattle.device_core.specs.Handled.{came_with, handled, handled_own, kept_answer}
 use Rattle.device_core.specs.Machine.{end_of}
 use Rattle.device_core.specs.Steps.{Steps}
 use Rattle.device_core.proofs.Machine.{is_asking}
@@ -46,15 +46,15 @@ pub same_moving : (moving : Moving) (came : Result (Unit {0}) CallFault) (blocks
 same_moving moving (Ok it) blocks = refl
 same_moving moving (Err fault) blocks = refl
 
--- A new call, of an operation that asks nothing of the settings.
+-- A new call that the device answers by itself, of an operation that asks nothing of the settings.
 pub new_steps : {F : Type 0} {S : ℕ} (as_flash : Flash F S) (old new : State F) (caller : Caller) (call : Call) (blocks : List ℕ) (asks operation : Operation)
     (frames : List (List ℕ)) (said : Note) → Holds (as_flash.image old.flash) old.live.values → asks ≡ operation
-    → is_asking (handled_new old.station old.live caller call blocks operation) ≡ false
-    → new ≡ with_rest old (end_of old.station old.live (handled_new old.station old.live caller call blocks operation)).rest
-    → frames ≡ map (bytes_of old.station.identity) (end_of old.station old.live (handled_new old.station old.live caller call blocks operation)).sent
-    → said ≡ (end_of old.station old.live (handled_new old.station old.live caller call blocks operation)).note
-    → AreSendable old.station.identity (end_of old.station old.live (handled_new old.station old.live caller call blocks operation)).sent
-    → (heard : Heard) → handled old.station old.live heard ≡ handled_new old.station old.live caller call blocks asks → Steps as_flash old heard frames said new
+    → is_asking (handled_own old.station old.live caller call blocks operation) ≡ false
+    → new ≡ with_rest old (end_of old.station old.live (handled_own old.station old.live caller call blocks operation)).rest
+    → frames ≡ map (bytes_of old.station.identity) (end_of old.station old.live (handled_own old.station old.live caller call blocks operation)).sent
+    → said ≡ (end_of old.station old.live (handled_own old.station old.live caller call blocks operation)).note
+    → AreSendable old.station.identity (end_of old.station old.live (handled_own old.station old.live caller call blocks operation)).sent
+    → (heard : Heard) → handled old.station old.live heard ≡ handled_own old.station old.live caller call blocks asks → Steps as_flash old heard frames said new
 new_steps as_flash old new caller call blocks asks operation frames said holds asks_so none is frames_are note_is sendable heard handled_so =
-    inactive_steps as_flash old new heard (handled_new old.station old.live caller call blocks operation) frames said holds
-    (handled_so ∙ ap (handled_new old.station old.live caller call blocks) asks_so) none is frames_are note_is sendable
+    inactive_steps as_flash old new heard (handled_own old.station old.live caller call blocks operation) frames said holds
+    (handled_so ∙ ap (handled_own old.station old.live caller call blocks) asks_so) none is frames_are note_is sendable

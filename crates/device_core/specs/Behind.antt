@@ -1,5 +1,5 @@
 -- The result of an event that asks nothing of the settings.
-use Rattle.std.specs.Prelude.{◌++◌, ℕ, Bool, true, false, List, Option, None, Some, map, Result}
+use Rattle.std.specs.Prelude.{◌++◌, ℕ, Bool, true, false, List, Option, None, Some, map, Result, Err, []}
 use Rattle.rpc_core.specs.declared.response.Response.{Response}
 use Rattle.rpc_core.specs.Call.{Asked as Call, asked}
 use Rattle.rpc_core.specs.Response.{answered}
@@ -9,6 +9,8 @@ use Rattle.record_blocks.specs.declared.write_record.IodWriteReq.{IodWriteReq}
 use Rattle.records.specs.declared.writes.taken.TakenRecord.{TakenRecord}
 use Rattle.records.specs.declared.writes.write.Effect.TheVariants.{Keeps}
 use Rattle.records.specs.declared.writes.writing.Writing.{Writing}
+use Rattle.asked_records.specs.Asked.{asks}
+use Rattle.asked_records.specs.declared.question.Question.{Question}
 use Rattle.relations.specs.declared.phase.Phase.{Phase}
 use Rattle.relations.specs.Plugging.{plug_answer_in}
 use Rattle.relations.specs.Ready.{answer_of as ready_answer}
@@ -28,7 +30,7 @@ use Rattle.device_frames.specs.Sendable.{AreSendable}
 use Rattle.device_frames.specs.Sent.{Sent, bytes_of}
 use Rattle.device_core.specs.declared.calls.Serving.{Serving}
 use Rattle.device_core.specs.State.{State, counter_of, with_rest}
-use Rattle.device_core.specs.Handled.{Handled, answer_from, handled_answer, handled_effect, handled_new, handled_plug_answer, handled_plug_end, handled_prm_end, handled_response, handled_write}
+use Rattle.device_core.specs.Handled.{Handled, answer_from, handled_answer, handled_effect, handled_new, handled_own, handled_plug_answer, handled_plug_end, handled_prm_end, handled_question, handled_response, handled_unanswered, handled_write, served}
 use Rattle.device_core.specs.Machine.{end_of}
 
 -- The device after it.
@@ -82,6 +84,23 @@ brought old elapsed =
 -- The outcome of a call of this operation.
 abbrev pub called : {F : Type 0} → State F → Serving → Operation → Handled
 called old serving operation = handled_new old.station old.live serving.caller.now (asked serving.call.now) serving.blocks.now operation
+
+-- The outcome of a call that was not answered.
+abbrev pub unanswered : {F : Type 0} → State F → Serving → Handled
+unanswered old serving =
+    handled_unanswered old.station old.live serving.caller.now (asked serving.call.now) serving.blocks.now serving.operation
+
+-- The outcome of a call that is refused before it does anything.
+abbrev pub refused : {F : Type 0} → State F → Serving → CallFault → Handled
+refused old serving fault = served old.station old.live serving.caller.now (asked serving.call.now) serving.operation (Err fault) old.live.rest.link []
+
+-- The outcome of a call of this operation that the device answers by itself.
+abbrev pub owned : {F : Type 0} → State F → Serving → Operation → Handled
+owned old serving operation = handled_own old.station old.live serving.caller.now (asked serving.call.now) serving.blocks.now operation
+
+-- The outcome of a call that asks this.
+abbrev pub question_asked : {F : Type 0} → State F → Question → List ℕ → Handled
+question_asked old question octets = handled_question old.station old.live question (asks question octets old.live.rest.asked)
 
 -- The call, without where its octets lie.
 abbrev pub call_of : Serving → Call

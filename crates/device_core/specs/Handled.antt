@@ -1,5 +1,5 @@
 -- The outcome of an event, from the state before it.
-use Rattle.std.specs.Prelude.{◌+◌, ◌++◌, ◌%◌, ◌-◌, ◌&&◌, ℕ, Bool, true, false, not, nat_eq, List, [], ◌∷◌, if◌then◌else◌, Option, Some, None, is_some, Result, Ok, Err}
+use Rattle.std.specs.Prelude.{◌++◌, ◌-◌, ◌&&◌, ℕ, Bool, true, false, not, nat_eq, List, [], ◌∷◌, length, if◌then◌else◌, Option, Some, None, is_some, Result, Ok, Err}
 use Rattle.std.specs.Cmp.Lexicographic.{pointwise}
 use Rattle.arrayvec.specs.ArrayVec.{ArrayVec}
 use Rattle.pn_values.specs.declared.mac.Mac.{Mac}
@@ -39,6 +39,12 @@ use Rattle.pn_alarms.specs.declared.device.PduFate.TheVariants as fate
 use Rattle.pn_alarms.specs.declared.pdu.Header.{Header}
 use Rattle.cyclic_data.specs.declared.exchange.received.Received.{Received}
 use Rattle.cyclic_data.specs.declared.exchange.received.Received.TheVariants as received
+use Rattle.asked_records.specs.Answers.{Gives, gives_octets, gives_done, gives_refusal, answer_blocks, answer_status, judged, unanswered_status}
+use Rattle.asked_records.specs.Asked.{AskedState, asks, is_repeat, settled}
+use Rattle.asked_records.specs.Questions.{operation_of as operation_asked}
+use Rattle.asked_records.specs.declared.answering.AnswerFault.{AnswerFault}
+use Rattle.asked_records.specs.declared.question.Question.{Question}
+use Rattle.asked_records.specs.declared.status.Unanswered.TheVariants.{Busy}
 use Rattle.relations.specs.exchange.Flow.{Flow}
 use Rattle.relations.specs.declared.exchange.statuses.InputStatus.{InputStatus}
 use Rattle.relations.specs.exchange.Statuses.{statuses_at}
@@ -75,6 +81,7 @@ use Rattle.device_frames.specs.declared.note.Note.TheVariants as note
 use Rattle.frame_codec.specs.declared.udp.Caller.{Caller}
 use Rattle.lldp.specs.Peer.{Peer}
 use Rattle.device_core.specs.State.{Station, Rest, Live, alias_in, counter_of, units_after}
+use Rattle.device_core.specs.Asking.{Asking, answered_link, asked_later, asking_of, calls_after, ended_by, late_calls, late_in, late_sent, left_asked, question_replies, released_by, reply_to}
 use Rattle.device_core.specs.Modules.{call_after, calling_after, changed_rest, next_call_sent, outside, plug_of, pull_of, sent_after, slot_pull_of}
 use Rattle.device_core.specs.Several.{Judged, judged_each}
 use Rattle.device_core.specs.Log.{arguments_log, but_rest, connect_log, end_log, err_log, release_log, with_log}
@@ -161,6 +168,13 @@ served station live caller call operation outcome link behind =
     let answer = answer_from live.values.running.suite.address caller call operation outcome in
     Moves (kept_behind station.identity live.rest call answer link) (answer ∷ behind)
 
+-- The response to a call that was asked, and the rest before it: it is sent and kept, unless a later call of its activity was
+-- answered meanwhile.
+abbrev pub replied : Station → Live → Rest → Question → Status → List ℕ → Handled
+replied station live rest question status blocks =
+    let answer = reply_to live.values.running.suite.address question status blocks in
+    Moves (record rest { calls = calls_after station.identity question answer rest.calls }) (question_replies question answer rest.calls)
+
 -- What follows an accepted PrmEnd: ApplicationReady, unless the application says when it is ready.
 abbrev pub ready_behind : Bool → List ℕ → Option RelationState → Result ControlBlock CallFault → List Sent
 ready_behind by_application address link (Ok block) = if by_application then [] else ready_calls address link
@@ -191,7 +205,7 @@ handled_effect station live caller call header (Keeps parameter) =
 abbrev pub handled_write : Station → Live → Caller → Call → Result Writing CallFault → Handled
 handled_write station live caller call (Ok (One write)) = handled_effect station live caller call write.request write.effect
 handled_write station live caller call (Ok (Each header entries)) =
-    WritesEach caller live.values.running.suite.address call header (judged_each (uuid_of live.rest.link) live.rest.real entries)
+    WritesEach caller live.values.running.suite.address call header (judged_each station.named (uuid_of live.rest.link) live.rest.real entries)
 handled_write station live caller call (Err fault) = served station live caller call Write (Err fault) live.rest.link []
 
 -- The number of a relation that begins now.
@@ -240,32 +254,57 @@ handled_plug_end station live caller call blocks =
     let link = updated (answered (Named (partner_of caller)) ended) (plug_ending station.options.ready_by_application blocks live.rest.link) in
     served station live caller call Control (plug_end_answer ended) (calling_after ended link) (call_after ended live.values.running.suite.address link)
 
--- A new call, by its operation.
-abbrev pub handled_new : Station → Live → Caller → Call → List ℕ → Operation → Handled
-handled_new station live caller call blocks Connect =
+-- A new call that the device answers by itself, by its operation.
+abbrev pub handled_own : Station → Live → Caller → Call → List ℕ → Operation → Handled
+handled_own station live caller call blocks Connect =
     let options = station.options in
     let answer = connect_answer station.identity live.rest.real options (number_now station live) caller.mac live.rest.link blocks in
     served station (but_rest live (counted_by answer (with_log (connect_log blocks answer) live.rest))) caller call Connect answer
     (updated (making live.rest.real (partner_of caller) options (starting_of station live) (connect_within options caller.mac live.rest.link blocks)) live.rest.link) []
-handled_new station live caller call blocks Release =
+handled_own station live caller call blocks Release =
     let answer = release_answer live.rest.link blocks in
-    served station (but_rest live (with_log (release_log (uuid_of live.rest.link) answer) live.rest)) caller call Release answer
+    let asked = left_asked (released_by answer (uuid_of live.rest.link)) live.rest.asked in
+    served station (but_rest live (record (with_log (release_log (uuid_of live.rest.link) answer) live.rest) { asked = asked })) caller call Release answer
     (updated (answered Ended (release_of live.rest.link blocks)) live.rest.link) []
-handled_new station live caller call blocks Read =
+handled_own station live caller call blocks Read =
     let read = relation_read (known_of station live) station.identity live.rest.real live.values.running blocks in
     served station live caller call Read read (updated (answered (Named (partner_of caller)) read) live.rest.link) []
-handled_new station live caller call blocks Write = handled_write station live caller call (writing_of (uuid_of live.rest.link) live.rest.real blocks)
-handled_new station live caller call blocks Control =
+handled_own station live caller call blocks Write = handled_write station live caller call (writing_of (uuid_of live.rest.link) live.rest.real blocks)
+handled_own station live caller call blocks Control =
     if is_plug_control blocks live.rest.link then handled_plug_end station live caller call blocks
     else handled_prm_end station live caller call blocks
-handled_new station live caller call blocks ReadImplicit =
+handled_own station live caller call blocks ReadImplicit =
     let read = implicit_read (known_of station live) station.identity live.rest.real live.values.running blocks in
     served station live caller call ReadImplicit read (updated (answered (implicitly (partner_of caller) live.rest.link blocks) read) live.rest.link) []
 
--- A call by the result of the cache: it is answered as new, or again with the same frame, or it is older than an
+-- A call for a record of the application: it is asked, or refused while another one is.
+abbrev pub handled_question : Station → Live → Question → Option AskedState → Handled
+handled_question station live question (Some asked) = Moves (record live.rest { asked = asked }) []
+handled_question station live question None =
+    replied station live live.rest question (unanswered_status (operation_asked question.request) Busy) []
+
+-- A new call, by what it asks of the application.
+abbrev pub handled_asking : Station → Live → Caller → Call → List ℕ → Operation → Result (Option Asking) CallFault → Handled
+handled_asking station live caller call blocks operation (Ok None) = handled_own station live caller call blocks operation
+handled_asking station live caller call blocks operation (Ok (Some asking)) =
+    handled_question station live asking.0 (asks asking.0 asking.1 live.rest.asked)
+handled_asking station live caller call blocks operation (Err fault) = served station live caller call operation (Err fault) live.rest.link []
+
+-- A new call, by its operation.
+abbrev pub handled_new : Station → Live → Caller → Call → List ℕ → Operation → Handled
+handled_new station live caller call blocks operation = handled_asking station live caller call blocks operation
+    (asking_of live.rest.real station.named (uuid_of live.rest.link) caller call blocks operation)
+
+-- A call that was not answered: a repeat of the one that is asked is dropped.
+abbrev pub handled_unanswered : Station → Live → Caller → Call → List ℕ → Operation → Handled
+handled_unanswered station live caller call blocks operation =
+    if is_repeat call.header.activity call.header.sequence live.rest.asked then Moves live.rest []
+    else handled_new station live caller call blocks operation
+
+-- A call by the result of the cache: it is handled as new, or answered again with the same frame, or it is older than an
 -- answered call of its activity.
 abbrev pub handled_looked : Station → Live → Caller → Call → List ℕ → Operation → Looked → Handled
-handled_looked station live caller call blocks operation new = handled_new station live caller call blocks operation
+handled_looked station live caller call blocks operation new = handled_unanswered station live caller call blocks operation
 handled_looked station live caller call blocks operation (again frame) = Moves live.rest (Again frame ∷ [])
 handled_looked station live caller call blocks operation old = Refuses note.OldCall
 
@@ -295,7 +334,10 @@ handled_answer station live to_ready.NotWanted = Refuses note.NoRelation
 handled_answer station live to_ready.Garbled = Refuses note.Fault
 handled_answer station live to_ready.Confirmed = handled_beginning station live (updated (handled_by to_ready.Confirmed) live.rest.link)
 handled_answer station live (to_ready.Refused farewell) =
-    Moves (with_log (err_log (Some farewell)) (record live.rest { link = updated (handled_by (to_ready.Refused farewell)) live.rest.link }))
+    Moves (with_log (err_log (Some farewell)) (record live.rest {
+      link = updated (handled_by (to_ready.Refused farewell)) live.rest.link;
+      asked = left_asked (Some farewell.uuid) live.rest.asked;
+    }))
     (Ends farewell ∷ [])
 
 -- A response of the controller while data is exchanged, by what it means to the ApplicationReady of a plug: then the next one is
@@ -451,6 +493,17 @@ handled_ready_at live slot subslot =
     if is_readied_in slot subslot live.rest.link then handled_next_call live (readying_at slot subslot live.rest.link)
     else Refuses note.Refused
 
+-- An answer of the application: it goes to the call that is asked, or it is refused.
+abbrev pub handled_judged : Station → Live → Gives → Result Question AnswerFault → Handled
+handled_judged station live given (Ok question) =
+    let rest = record live.rest { asked = settled live.rest.asked; link = answered_link question given live.rest.link } in
+    replied station live rest question (answer_status question.request given) (answer_blocks question.request given)
+handled_judged station live given (Err fault) = Refuses note.Refused
+
+-- What an answer under a number does.
+abbrev pub handled_gives : Station → Live → ℕ → Gives → Handled
+handled_gives station live number given = handled_judged station live given (judged number given live.rest.asked)
+
 -- What the application says, by its cases.
 abbrev pub handled_local : Station → Live → Local (ArrayVec ℕ) → Handled
 handled_local station live (local.Input slot subslot value) = handled_given live slot subslot value.items
@@ -464,6 +517,9 @@ handled_local station live (local.Plug slot ident part) = handled_plug live slot
 handled_local station live (local.ReadyAt slot subslot) = handled_ready_at live slot subslot
 handled_local station live local.Ready = handled_ready live
 handled_local station live (local.ProviderState is_running) = handled_turned live is_running
+handled_local station live (local.Answer number octets) = handled_gives station live number (gives_octets octets.items)
+handled_local station live (local.Written number) = handled_gives station live number gives_done
+handled_local station live (local.Refuse number code1 code2) = handled_gives station live number (gives_refusal code1 code2)
 
 -- A PDU of the partner, by what happens to it: data is answered, an ACK counts or does not, and an ERR ends the
 -- relation, which is logged.
@@ -472,7 +528,8 @@ handled_pdu live (fate.Data taken) link = goes_on_with live link (replies_of tak
 handled_pdu live fate.Done link = goes_on_with live link []
 handled_pdu live fate.Ignored link = Refuses note.Filter
 handled_pdu live (fate.Aborted status) link =
-    Moves (with_log (end_log (uuid_of live.rest.link) status) (record live.rest { link = link })) []
+    let uuid = uuid_of live.rest.link in
+    Moves (with_log (end_log uuid status) (record live.rest { link = link; asked = left_asked uuid live.rest.asked })) []
 
 -- What an alarm PDU of high priority does.
 abbrev pub handled_message : Live → ToDevice → Handled
@@ -516,14 +573,37 @@ handled_low_confirm station live source header message =
 
 -- ---- events
 
--- The state after a unit of time.
-abbrev pub ticked : Live → Handled
-ticked live =
-    let due = due_of live.rest.link in
-    let link = updated (passing live.rest.link) live.rest.link in
-    let units = units_after 1 live.rest.units in
-    Moves (with_log (err_log due.farewell) (record live.rest { lamp = live.rest.lamp - 1; link = link; units = units }))
-    (due_frames live.values.running.suite.address (counter_of units) due link)
+-- What a unit of time sends of the relation.
+abbrev pub unit_sent : Live → List Sent
+unit_sent live = due_frames live.values.running.suite.address (counter_of (units_after 1 live.rest.units)) (due_of live.rest.link)
+    (updated (passing live.rest.link) live.rest.link)
+
+-- The rest after a unit of time, before what is asked is counted.
+abbrev pub unit_rest : Live → Rest
+unit_rest live =
+    let farewell = (due_of live.rest.link).farewell in
+    with_log (err_log farewell) (record live.rest {
+      lamp = live.rest.lamp - 1;
+      link = updated (passing live.rest.link) live.rest.link;
+      units = units_after 1 live.rest.units;
+      asked = left_asked (ended_by farewell) live.rest.asked;
+    })
+
+-- The rest after a unit of time of what is asked, after the relation sent this many frames.
+abbrev pub counted_rest : Identity → List ℕ → ℕ → Rest → Rest
+counted_rest identity address count rest =
+    record rest { asked = asked_later count rest.asked; calls = late_calls identity address (late_in count rest.asked) rest.calls }
+
+-- What is sent then: a call that has no answer in time is refused.
+abbrev pub counted_sent : List ℕ → ℕ → Rest → List Sent
+counted_sent address count rest = late_sent address (late_in count rest.asked) rest.calls
+
+-- The state after a unit of time: first of the relation, then of what is asked.
+abbrev pub ticked : Station → Live → Handled
+ticked station live =
+    let address = live.values.running.suite.address in
+    let sent = unit_sent live in
+    Moves (counted_rest station.identity address (length sent) (unit_rest live)) (sent ++ counted_sent address (length sent) (unit_rest live))
 
 -- What each event does to a device: the cases of its machine.
 abbrev pub handled : Station → Live → Heard → Handled
@@ -536,6 +616,6 @@ handled station live (LowConfirms source header message) = handled_low_confirm s
 handled station live (Cyclic source frame_id body) = handled_cyclic live source frame_id body
 handled station live (Met peer) = handled_met live peer
 handled station live (Applied said) = handled_local station live said
-handled station live Ticks = ticked live
+handled station live Ticks = ticked station live
 handled station live Unreadable = Refuses note.Fault
 handled station live Elsewhere = Refuses note.NotMine

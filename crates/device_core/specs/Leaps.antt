@@ -1,6 +1,7 @@
 -- Several units of time at once, which do what as many Tick events do, one by one.
 use Rattle.std.specs.Prelude.{◌≡◌, ◌<◌, ◌≤◌, ◌==◌, ◌++◌, ℕ, zero, suc, min, List, [], ◌∷◌, sum, if◌then◌else◌}
 use Rattle.pn_alarms.specs.Leaps.{never}
+use Rattle.asked_records.specs.Asked.{due_in}
 use Rattle.relations.specs.Leaps.{due_within}
 use Rattle.device_frames.specs.declared.event.Event.TheVariants.{Tick}
 use Rattle.device_core.specs.State.{Live, Station}
@@ -11,9 +12,9 @@ abbrev pub lamp_off_in : ℕ → ℕ
 lamp_off_in lamp = if lamp == 0 then never else lamp
 
 -- The number of units up to and including the next one with which something is sent, an alarm is given up, the relation ends,
--- or the lamp goes off.
+-- what is asked has no answer in time, or the lamp goes off.
 abbrev pub live_due_in : Live → ℕ
-live_due_in live = min (lamp_off_in live.rest.lamp) (due_within live.rest.link)
+live_due_in live = min (lamp_off_in live.rest.lamp) (min (due_within live.rest.link) (due_in live.rest.asked))
 
 -- The state after some events, and the frames that they send, in order.
 pub record Leapt : Type 0 where

@@ -1,13 +1,14 @@
 pub mod State
+pub mod Asking
 pub mod Several
 pub mod Log
 pub mod Modules
 pub mod Handled
 pub mod Machine
 pub mod Faults
-pub mod Local
 pub mod Behind
 pub mod Steps
+pub mod Local
 pub mod Cycle
 pub mod Leaps
 pub mod OpenAlarm

@@ -60,11 +60,7 @@ connect_log blocks (Err fault) time log = entry_log (asked_uuid blocks) (status_
 -- A call whose blocks have wrong lengths: a Connect is logged, without an ARUUID, since its blocks are not known.
 abbrev pub arguments_log : Operation → ℕ → List LogEntry → List LogEntry
 arguments_log operation.Connect time log = entry_log (replicate 16 0) (status_of operation.Connect Arguments) time log
-arguments_log operation.Release time log = log
-arguments_log operation.Read time log = log
-arguments_log operation.Write time log = log
-arguments_log operation.Control time log = log
-arguments_log operation.ReadImplicit time log = log
+arguments_log other time log = log
 
 -- ---- the state
 

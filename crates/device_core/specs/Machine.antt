@@ -1,5 +1,5 @@
 -- One step of a device, and a run of steps, given the outcome of each call that stores a command.
-use Rattle.std.specs.Prelude.{ℕ, Bool, true, false, List, [], ◌∷◌, ◌++◌, ◌&&◌, drop, map, Option, Some, None, Result, Ok, Err, if◌then◌else◌, option_map}
+use Rattle.std.specs.Prelude.{ℕ, Bool, true, false, List, [], ◌∷◌, ◌++◌, ◌&&◌, drop, map, Option, None, Result, Ok, Err, if◌then◌else◌, option_map}
 use Rattle.std.specs.List.{list_any, zip}
 use Rattle.pn_values.specs.declared.set_item.SetItem.{SetItem}
 use Rattle.pn_values.specs.declared.set_item.SetItem.TheVariants.{Ask, Signal, Answer}
@@ -30,6 +30,7 @@ use Rattle.device_core.specs.State.{Station, Rest, Live}
 use Rattle.device_frames.specs.Relation.{farewells_in}
 use Rattle.device_frames.specs.Sent.{Sent, SetAnswer, bytes_of}
 use Rattle.device_frames.specs.Heard.{Heard, heard_of}
+use Rattle.device_core.specs.Asking.{ended_by, left_asked}
 use Rattle.device_core.specs.Several.{Judged, texts_in}
 use Rattle.device_core.specs.Handled.{Handled, Refuses, Sets, Writes, WritesEach, Moves, answer_from, kept_answer, kept_behind, handled, outcome_of, partner_of}
 use Rattle.device_core.specs.Log.{err_log, with_log}
@@ -50,8 +51,7 @@ items_of station live heard = items_in (handled station live heard)
 -- Whether an item makes the lamp flash.
 abbrev pub is_signal : SetItem → Bool
 is_signal Signal = true
-is_signal (Ask command) = false
-is_signal (Answer answer) = false
+is_signal other = false
 
 -- The lamp after some items: a Signal among them makes it flash for 3 seconds, 96,000 units.
 abbrev pub lamp_after : ℕ → List SetItem → ℕ
@@ -64,21 +64,12 @@ abbrev pub is_reset : SetItem → Bool
 is_reset (Ask ResetApplication) = true
 is_reset (Ask ResetCommunication) = true
 is_reset (Ask ResetAll) = true
-is_reset (Ask (SetName permanent name)) = false
-is_reset (Ask (SetIp permanent suite)) = false
-is_reset (Ask (SetIm value)) = false
-is_reset Signal = false
-is_reset (Answer answer) = false
+is_reset other = false
 
 -- Whether a BlockError is 'done'.
 abbrev pub is_done : BlockError → Bool
 is_done error.Done = true
-is_done error.Option = false
-is_done error.Suboption = false
-is_done error.Value = false
-is_done error.Exhausted = false
-is_done error.Local = false
-is_done error.InOperation = false
+is_done other = false
 
 -- Whether a reset among these items was answered 'done', with one answer for each item.
 abbrev pub is_reset_done : SetItem × BlockError → Bool
@@ -108,11 +99,7 @@ farewells_at ends link = farewells_in (farewell_at ends link)
 abbrev pub written_as : IodWriteReq → BlockError → Result (List ℕ) CallFault
 written_as header error.Done = Ok (answer_of header)
 written_as header error.Exhausted = Err fault.JournalExhausted
-written_as header error.Local = Err fault.FlashFault
-written_as header error.Option = Err fault.FlashFault
-written_as header error.Suboption = Err fault.FlashFault
-written_as header error.Value = Err fault.FlashFault
-written_as header error.InOperation = Err fault.FlashFault
+written_as header other = Err fault.FlashFault
 
 -- The answer to the one item.
 abbrev pub first_answer : List BlockError → BlockError
@@ -127,10 +114,10 @@ abbrev pub effect_outcome : IodWriteReq → Effect → List BlockError → Optio
 effect_outcome header (Stores value) answers link = written_as header (first_answer answers)
 effect_outcome header (Keeps parameter) answers link = kept_answer header (keeping parameter link)
 
--- The outcome of one record of a Write.
-abbrev pub one_outcome : IodWriteReq → Result Asking CallFault → List BlockError → Option RelationState → Result (List ℕ) CallFault
-one_outcome header (Ok write) answers link = effect_outcome header write.effect answers link
-one_outcome header (Err fault) answers link = Err fault
+-- The PNIOStatus of one record of a Write.
+abbrev pub one_status : IodWriteReq → Result Asking Status → List BlockError → Option RelationState → Status
+one_status header (Ok write) answers link = (outcome_of Write (effect_outcome header write.effect answers link)).0
+one_status header (Err status) answers link = status
 
 -- The answers and the relation after it.
 abbrev pub effect_answers : Effect → List BlockError → List BlockError
@@ -138,9 +125,9 @@ effect_answers (Stores value) answers = drop 1 answers
 effect_answers (Keeps parameter) answers = answers
 
 -- The answers to the items after those of one record.
-abbrev pub one_answers : Result Asking CallFault → List BlockError → List BlockError
+abbrev pub one_answers : Result Asking Status → List BlockError → List BlockError
 one_answers (Ok write) answers = effect_answers write.effect answers
-one_answers (Err fault) answers = answers
+one_answers (Err status) answers = answers
 
 -- The relation after one record.
 abbrev pub effect_link : Effect → Option RelationState → Option RelationState
@@ -148,15 +135,15 @@ effect_link (Stores value) link = link
 effect_link (Keeps parameter) link = updated (taking (keeping parameter link)) link
 
 -- The relation after one record, unchanged if it is refused.
-abbrev pub one_link : Result Asking CallFault → Option RelationState → Option RelationState
+abbrev pub one_link : Result Asking Status → Option RelationState → Option RelationState
 one_link (Ok write) link = effect_link write.effect link
-one_link (Err fault) link = link
+one_link (Err status) link = link
 
 -- The status of each, in order, and the relation after all.
 abbrev pub statuses_of : List Judged → List BlockError → Option RelationState → List (IodWriteReq × Status)
 statuses_of [] answers link = []
 statuses_of (one ∷ others) answers link =
-    (one.0, (outcome_of Write (one_outcome one.0 one.1 answers link)).0) ∷ statuses_of others (one_answers one.1 answers) (one_link one.1 link)
+    (one.0, one_status one.0 one.1 answers link) ∷ statuses_of others (one_answers one.1 answers) (one_link one.1 link)
 
 -- The relation after these records.
 abbrev pub link_behind : List Judged → Option RelationState → Option RelationState
@@ -182,7 +169,11 @@ finished identity rest (Sets asker request in_operation) answers =
     let items = plan_of in_operation request in
     let ends = resets items answers in
     record {
-      rest = with_log (err_log (farewell_at ends rest.link)) (record rest { lamp = lamp_after rest.lamp items; link = link_after ends rest.link });
+      rest = with_log (err_log (farewell_at ends rest.link)) (record rest {
+        lamp = lamp_after rest.lamp items;
+        link = link_after ends rest.link;
+        asked = left_asked (ended_by (farewell_at ends rest.link)) rest.asked;
+      });
       sent = farewells_at ends rest.link ++ SetAnswer asker request answers ∷ [];
       note = note.Done;
     }

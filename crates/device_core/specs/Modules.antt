@@ -1,5 +1,5 @@
 -- Modules that come and go: what an event of the application does (IEC 61158-6-10, 4.8). Slot 0, the access point, stays.
-use Rattle.std.specs.Prelude.{◌++◌, ℕ, Bool, nat_lt, List, [], Option, Some, None, Result, Ok, Err, if◌then◌else◌}
+use Rattle.std.specs.Prelude.{◌++◌, ℕ, nat_lt, List, [], Option, None, Result, Ok, Err, if◌then◌else◌}
 use Rattle.pn_values.specs.declared.real.RealModule.{RealModule}
 use Rattle.pn_values.specs.declared.real.RealSubmodule.{RealSubmodule}
 use Rattle.module_diff.specs.declared.changes.ChangeKind.TheVariants.{Pull, PullModule, Plug}
@@ -9,6 +9,7 @@ use Rattle.module_diff.specs.Plugged.{module_ident, submodule_ident}
 use Rattle.module_diff.specs.Diff.{ident_or_zero}
 use Rattle.records.specs.declared.status.call_fault.CallFault.{CallFault}
 use Rattle.diagnosis.specs.Existing.{remaining}
+use Rattle.asked_records.specs.Asked.{dropped_at}
 use Rattle.relations.specs.exchange.Statuses.{remaining_statuses}
 use Rattle.relations.specs.Plugging.{calling_next, is_alarmed_by, is_called_by, is_calling, modules_changing}
 use Rattle.relations.specs.RelationState.{RelationState, flow_of}
@@ -16,7 +17,7 @@ use Rattle.device_frames.specs.Relation.{low_alarms_of, plug_calls, where_due}
 use Rattle.device_frames.specs.Sent.{Sent}
 use Rattle.device_core.specs.State.{Live, Rest}
 
--- What was pulled takes its diagnoses and its status with it; the relation goes on with these modules.
+-- What was pulled takes its diagnoses, its status and what is asked of it with it; the relation goes on with these modules.
 abbrev pub changed_rest : Rest → RealChange → List RealModule → Rest
 changed_rest rest made real =
     let affected = affected_by made in
@@ -26,6 +27,7 @@ changed_rest rest made real =
       diagnoses = diagnoses;
       statuses = remaining_statuses affected rest.statuses;
       link = modules_changing real made diagnoses rest.link;
+      asked = dropped_at affected rest.asked;
     }
 
 -- What is sent then: the alarm of low priority that became active, and after it the ApplicationReady of a plug that was called.
@@ -51,23 +53,13 @@ pull_of real slot subslot = record {
 
 -- The pull of a module.
 abbrev pub slot_pull_of : List RealModule → ℕ → RealChange
-slot_pull_of real slot = record {
-  kind = PullModule;
-  slot = slot;
-  subslot = 0;
-  module_ident_number = ident_or_zero (module_ident real slot);
-  submodule_ident_number = 0;
-}
+slot_pull_of real slot =
+    record { kind = PullModule; slot = slot; subslot = 0; module_ident_number = ident_or_zero (module_ident real slot); submodule_ident_number = 0 }
 
 -- A plug, with the ident numbers of what is plugged then.
 abbrev pub plug_of : ℕ → ℕ → RealSubmodule → RealChange
-plug_of slot ident part = record {
-  kind = Plug;
-  slot = slot;
-  subslot = part.subslot;
-  module_ident_number = ident;
-  submodule_ident_number = part.ident;
-}
+plug_of slot ident part =
+    record { kind = Plug; slot = slot; subslot = part.subslot; module_ident_number = ident; submodule_ident_number = part.ident }
 
 -- The next ApplicationReady of a plug, if one is called in this relation.
 abbrev pub next_call_sent : List ℕ → Option RelationState → List Sent

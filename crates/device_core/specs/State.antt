@@ -8,21 +8,29 @@ use Rattle.settings_journal.specs.settings_store.State.{Values}
 use Rattle.rpc_core.specs.Cache.{Kept}
 use Rattle.diagnosis.specs.declared.diagnosis.Diagnosis.{Diagnosis}
 use Rattle.lldp.specs.Peer.{Peer, alias_of}
+use Rattle.asked_records.specs.Asked.{AskedState, not_asked}
+use Rattle.asked_records.specs.declared.names.RecordName.{RecordName}
 use Rattle.device_records.specs.declared.log_data.entry.LogEntry.{LogEntry}
 use Rattle.relations.specs.declared.options.DeviceOptions.{DeviceOptions}
 use Rattle.relations.specs.Options.{default_options}
 use Rattle.relations.specs.declared.exchange.statuses.InputStatus.{InputStatus}
 use Rattle.relations.specs.RelationState.{RelationState}
 
--- The fixed properties of a device: its identity, the modules that it was given, and its options.
+-- The fixed properties of a device: its identity, the modules that it was given, its options, and the records that its
+-- application answers.
 pub record Station : Type 0 where
   pub identity : Identity
   pub real : Real
   pub options : DeviceOptions
+  pub named : List RecordName
 
--- A device with these options.
+-- A device with these options, whose application answers these records.
+abbrev pub station_named : Identity → Real → DeviceOptions → List RecordName → Station
+station_named identity real options named = record { identity = identity; real = real; options = options; named = named }
+
+-- A device with these options, whose application answers no records.
 abbrev pub station_with : Identity → Real → DeviceOptions → Station
-station_with identity real options = record { identity = identity; real = real; options = options }
+station_with identity real options = station_named identity real options []
 
 -- A device with all options at their defaults.
 abbrev pub plain : Identity → Real → Station
@@ -31,7 +39,8 @@ plain identity real = station_with identity real default_options
 -- The state that a device has besides its settings, and loses with its power: the number of units for which the lamp
 -- still flashes, the answers to the last calls, newest first, its application relation, if there is one, the units since
 -- its start, modulo 2^64, whether its application runs, the statuses that the application gave to its inputs, the log, its neighbour, if one is known,
--- the diagnoses that exist, how many relations it had since its start, modulo 14,336, and the modules that are plugged now.
+-- the diagnoses that exist, how many relations it had since its start, modulo 14,336, the modules that are plugged now, and
+-- what is asked of the application.
 pub record Rest : Type 0 where
   pub lamp : ℕ
   pub calls : List Kept
@@ -44,6 +53,7 @@ pub record Rest : Type 0 where
   pub diagnoses : List Diagnosis
   pub made : ℕ
   pub real : Real
+  pub asked : AskedState
 
 -- The units one unit later, and several units later.
 abbrev pub units_after : ℕ → ℕ → ℕ
@@ -54,9 +64,11 @@ abbrev pub counter_of : ℕ → ℕ
 counter_of units = units % 65536
 
 -- The rest as a device starts: the lamp is off, no answer is kept, there is no relation, the application runs and gave no status, the
--- log is empty, no neighbour is known, no diagnosis exists, it had no relation, and the given modules are plugged.
+-- log is empty, no neighbour is known, no diagnosis exists, it had no relation, the given modules are plugged, and nothing is
+-- asked.
 abbrev pub at_start : Real → Rest
-at_start given = record { lamp = 0; calls = []; link = None; units = 0; is_running = true; statuses = []; log = []; peer = None; diagnoses = []; made = 0; real = given }
+at_start given =
+    record { lamp = 0; calls = []; link = None; units = 0; is_running = true; statuses = []; log = []; peer = None; diagnoses = []; made = 0; real = given; asked = not_asked }
 
 -- The name of the station by its place (AliasName), while it knows its neighbour.
 abbrev pub alias_in : Option Peer → Option (List ℕ)

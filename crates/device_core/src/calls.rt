@@ -16,7 +16,7 @@ ghost use Rattle.device_frames.specs.Heard.{Heard as Hears, Reported, said_by};
 ghost use Rattle.device_frames.specs.Sendable.{IsSendable};
 ghost use Rattle.device_frames.specs.Sent.{bytes_of};
 ghost use Rattle.device_core.specs.Handled.{Writes, WritesEach, answer_from, came_with, count_after, kept_for, handled, handled_call, outcome_of, partner_of};
-ghost use Rattle.device_core.specs.Behind.{CanSend, answer_to, behind, brings, called, exchanging_of, frames_of, parameters_ended, plug_ended, ready_responded, responded, wrote};
+ghost use Rattle.device_core.specs.Behind.{CanSend, answer_to, behind, brings, called, exchanging_of, frames_of, owned, parameters_ended, plug_ended, ready_responded, refused, responded, unanswered, wrote};
 ghost use Rattle.device_core.specs.Log.{arguments_log, with_log};
 ghost use Rattle.device_core.specs.State.{with_rest};
 ghost use Rattle.device_core.specs.Machine.{end_of, written_as as comes_out};
@@ -24,6 +24,7 @@ ghost use Rattle.device_core.specs.Steps.{StaysReliable, Steps};
 ghost use Rattle.frame_codec.specs.Outbox.{boxed};
 
 use crate::arp::is_running;
+use crate::asking::{asking_of, leave, leave_released};
 use crate::logging::{log_answer, log_arguments, log_connect, log_release, uuid_of};
 use crate::several::{fill_texts, put_outcomes};
 use crate::{Device, Note};
@@ -112,6 +113,7 @@ impl<F: Flash<S>, const S: usize> Device<F, S> {
                 Note::Done
             }
             ReadyAnswer::Refused(farewell) => {
+                leave(&mut self.asked, &Some(farewell.uuid));
                 send_farewell(&self.identity, &farewell, outbox);
                 Note::Done
             }
@@ -147,7 +149,7 @@ impl<F: Flash<S>, const S: usize> Device<F, S> {
             .kept
             .look(&call.header.activity, call.header.sequence)
         {
-            Looked::New => self.serve_new(&serving, outbox),
+            Looked::New => self.serve_unanswered(&serving, outbox),
             Looked::Again(frame) => {
                 outbox.put_copy(frame);
                 Note::Done
@@ -180,11 +182,41 @@ impl<F: Flash<S>, const S: usize> Device<F, S> {
         Note::Done
     }
 
-    // A new call: its answer is sent and stored.
+    // A call that was not answered: a repeat of the one that is asked of the application is dropped.
+    fn serve_unanswered(&mut self, serving: &Serving<'_>, outbox: &mut Outbox) -> Note
+        requires stored { Holds (F.image self.old.flash) self.old.live.values }
+        requires empty { outbox.old.items ≡ [] }
+        ensures steps { (heard : Hears) → handled self.old.station self.old.live heard ≡ unanswered self.old serving.now →
+            Steps F.Flash self.old heard (boxed outbox.new) result self.new }
+        ensures reliable { StaysReliable F.Flash self.old self.new }
+    {
+        let header = &serving.call.header;
+        if self.asked.is_repeat(&header.activity, header.sequence) {
+            return Note::Done;
+        }
+        self.serve_new(serving, outbox)
+    }
+
+    // A new call: it is asked of the application, or answered.
     fn serve_new(&mut self, serving: &Serving<'_>, outbox: &mut Outbox) -> Note
         requires stored { Holds (F.image self.old.flash) self.old.live.values }
         requires empty { outbox.old.items ≡ [] }
         ensures steps { (heard : Hears) → handled self.old.station self.old.live heard ≡ called self.old serving.now serving.now.operation →
+            Steps F.Flash self.old heard (boxed outbox.new) result self.new }
+        ensures reliable { StaysReliable F.Flash self.old self.new }
+    {
+        match asking_of(&self.named, &self.real, self.relation.uuid(), serving) {
+            Ok(None) => self.serve_own(serving, outbox),
+            Ok(Some((question, octets))) => self.ask(&question, octets, outbox),
+            Err(fault) => self.refuse(serving, fault, outbox),
+        }
+    }
+
+    // A new call that the device answers by itself: its answer is sent and stored.
+    fn serve_own(&mut self, serving: &Serving<'_>, outbox: &mut Outbox) -> Note
+        requires stored { Holds (F.image self.old.flash) self.old.live.values }
+        requires empty { outbox.old.items ≡ [] }
+        ensures steps { (heard : Hears) → handled self.old.station self.old.live heard ≡ owned self.old serving.now serving.now.operation →
             Steps F.Flash self.old heard (boxed outbox.new) result self.new }
         ensures reliable { StaysReliable F.Flash self.old self.new }
     {
@@ -198,14 +230,14 @@ impl<F: Flash<S>, const S: usize> Device<F, S> {
         }
     }
 
-    // Each operation except a Write: state, frames and note are those of `handled_new .. OPERATION`.
+    // Each operation except a Write: state, frames and note are those of `handled_own .. OPERATION`.
     #[inline(never)]
     fn connect(&mut self, serving: &Serving<'_>, outbox: &mut Outbox) -> Note
         requires operation { serving.now.operation ≡ operation.Connect }
         requires empty { outbox.old.items ≡ [] }
-        ensures state { self.new ≡ behind self.old (called self.old serving.now operation.Connect) }
-        ensures frames { boxed outbox.new ≡ frames_of self.old (called self.old serving.now operation.Connect) }
-        ensures sendable { CanSend self.old (called self.old serving.now operation.Connect) }
+        ensures state { self.new ≡ behind self.old (owned self.old serving.now operation.Connect) }
+        ensures frames { boxed outbox.new ≡ frames_of self.old (owned self.old serving.now operation.Connect) }
+        ensures sendable { CanSend self.old (owned self.old serving.now operation.Connect) }
         ensures note { result ≡ Note.Done }
     {
         let partner = source_of(serving.caller);
@@ -238,9 +270,9 @@ impl<F: Flash<S>, const S: usize> Device<F, S> {
     fn release(&mut self, serving: &Serving<'_>, outbox: &mut Outbox) -> Note
         requires operation { serving.now.operation ≡ operation.Release }
         requires empty { outbox.old.items ≡ [] }
-        ensures state { self.new ≡ behind self.old (called self.old serving.now operation.Release) }
-        ensures frames { boxed outbox.new ≡ frames_of self.old (called self.old serving.now operation.Release) }
-        ensures sendable { CanSend self.old (called self.old serving.now operation.Release) }
+        ensures state { self.new ≡ behind self.old (owned self.old serving.now operation.Release) }
+        ensures frames { boxed outbox.new ≡ frames_of self.old (owned self.old serving.now operation.Release) }
+        ensures sendable { CanSend self.old (owned self.old serving.now operation.Release) }
         ensures note { result ≡ Note.Done }
     {
         self.answers.blocks.clear();
@@ -248,6 +280,7 @@ impl<F: Flash<S>, const S: usize> Device<F, S> {
         let came = self
             .relation
             .release(serving.blocks, &mut self.answers.blocks);
+        leave_released(&mut self.asked, &uuid, came);
         log_release(&mut self.log, self.units, uuid, came);
         let address = self.store.running().suite.address();
         self.answers
@@ -260,9 +293,9 @@ impl<F: Flash<S>, const S: usize> Device<F, S> {
     fn control(&mut self, serving: &Serving<'_>, outbox: &mut Outbox) -> Note
         requires operation { serving.now.operation ≡ operation.Control }
         requires empty { outbox.old.items ≡ [] }
-        ensures state { self.new ≡ behind self.old (called self.old serving.now operation.Control) }
-        ensures frames { boxed outbox.new ≡ frames_of self.old (called self.old serving.now operation.Control) }
-        ensures sendable { CanSend self.old (called self.old serving.now operation.Control) }
+        ensures state { self.new ≡ behind self.old (owned self.old serving.now operation.Control) }
+        ensures frames { boxed outbox.new ≡ frames_of self.old (owned self.old serving.now operation.Control) }
+        ensures sendable { CanSend self.old (owned self.old serving.now operation.Control) }
         ensures note { result ≡ Note.Done }
     {
         if self.relation.is_plug_control(serving.blocks) {
@@ -325,9 +358,9 @@ impl<F: Flash<S>, const S: usize> Device<F, S> {
     fn read(&mut self, serving: &Serving<'_>, outbox: &mut Outbox) -> Note
         requires operation { serving.now.operation ≡ operation.Read }
         requires empty { outbox.old.items ≡ [] }
-        ensures state { self.new ≡ behind self.old (called self.old serving.now operation.Read) }
-        ensures frames { boxed outbox.new ≡ frames_of self.old (called self.old serving.now operation.Read) }
-        ensures sendable { CanSend self.old (called self.old serving.now operation.Read) }
+        ensures state { self.new ≡ behind self.old (owned self.old serving.now operation.Read) }
+        ensures frames { boxed outbox.new ≡ frames_of self.old (owned self.old serving.now operation.Read) }
+        ensures sendable { CanSend self.old (owned self.old serving.now operation.Read) }
         ensures note { result ≡ Note.Done }
     {
         let settings = self.store.running();
@@ -362,9 +395,9 @@ impl<F: Flash<S>, const S: usize> Device<F, S> {
     fn read_implicit(&mut self, serving: &Serving<'_>, outbox: &mut Outbox) -> Note
         requires operation { serving.now.operation ≡ operation.ReadImplicit }
         requires empty { outbox.old.items ≡ [] }
-        ensures state { self.new ≡ behind self.old (called self.old serving.now operation.ReadImplicit) }
-        ensures frames { boxed outbox.new ≡ frames_of self.old (called self.old serving.now operation.ReadImplicit) }
-        ensures sendable { CanSend self.old (called self.old serving.now operation.ReadImplicit) }
+        ensures state { self.new ≡ behind self.old (owned self.old serving.now operation.ReadImplicit) }
+        ensures frames { boxed outbox.new ≡ frames_of self.old (owned self.old serving.now operation.ReadImplicit) }
+        ensures sendable { CanSend self.old (owned self.old serving.now operation.ReadImplicit) }
         ensures note { result ≡ Note.Done }
     {
         let settings = self.store.running();
@@ -402,7 +435,7 @@ impl<F: Flash<S>, const S: usize> Device<F, S> {
         requires operation { serving.now.operation ≡ operation.Write }
         requires stored { Holds (F.image self.old.flash) self.old.live.values }
         requires empty { outbox.old.items ≡ [] }
-        ensures steps { (heard : Hears) → handled self.old.station self.old.live heard ≡ called self.old serving.now operation.Write →
+        ensures steps { (heard : Hears) → handled self.old.station self.old.live heard ≡ owned self.old serving.now operation.Write →
             Steps F.Flash self.old heard (boxed outbox.new) result self.new }
         ensures reliable { StaysReliable F.Flash self.old self.new }
     {
@@ -411,7 +444,7 @@ impl<F: Flash<S>, const S: usize> Device<F, S> {
             Ok(Writing::Each(request, entries)) => {
                 self.write_each(serving, &request, &entries, outbox)
             }
-            Err(fault) => self.refuse_write(serving, fault, outbox),
+            Err(fault) => self.refuse(serving, fault, outbox),
         }
     }
 
@@ -447,17 +480,24 @@ impl<F: Flash<S>, const S: usize> Device<F, S> {
         requires few { length entries.now ≤ 16 }
         ensures steps { (heard : Hears) → handled self.old.station self.old.live heard
             ≡ WritesEach serving.now.caller.now self.old.live.values.running.suite.address (asked serving.now.call.now) header.now
-            (judged_each (uuid_of self.old.live.rest.link) self.old.live.rest.real entries.now) →
+            (judged_each self.old.station.named (uuid_of self.old.live.rest.link) self.old.live.rest.real entries.now) →
             Steps F.Flash self.old heard (boxed outbox.new) result self.new }
         ensures reliable { StaysReliable F.Flash self.old self.new }
     {
         let address = self.store.running().suite.address();
-        fill_texts(entries, &self.relation, &self.real, &mut self.plan);
+        fill_texts(
+            entries,
+            &self.named,
+            &self.real,
+            &self.relation,
+            &mut self.plan,
+        );
         let answers: ArrayVec<BlockError, 16> = self.store.carry_out(self.plan.as_slice());
         self.answers.blocks.clear();
         put_write_answer(&mut self.answers.blocks, header);
         put_outcomes(
             entries,
+            &self.named,
             &self.real,
             answers.as_slice(),
             &mut self.relation,
@@ -470,14 +510,13 @@ impl<F: Flash<S>, const S: usize> Device<F, S> {
         Note::Done
     }
 
-    // A Write that is refused.
+    // A call that is refused before it does anything.
     #[inline(never)]
-    fn refuse_write(&mut self, serving: &Serving<'_>, fault: CallFault, outbox: &mut Outbox) -> Note
-        requires operation { serving.now.operation ≡ operation.Write }
+    fn refuse(&mut self, serving: &Serving<'_>, fault: CallFault, outbox: &mut Outbox) -> Note
         requires empty { outbox.old.items ≡ [] }
-        ensures state { self.new ≡ behind self.old (wrote self.old serving.now (Err fault)) }
-        ensures frames { boxed outbox.new ≡ frames_of self.old (wrote self.old serving.now (Err fault)) }
-        ensures sendable { CanSend self.old (wrote self.old serving.now (Err fault)) }
+        ensures state { self.new ≡ behind self.old (refused self.old serving.now fault) }
+        ensures frames { boxed outbox.new ≡ frames_of self.old (refused self.old serving.now fault) }
+        ensures sendable { CanSend self.old (refused self.old serving.now fault) }
         ensures note { result ≡ Note.Done }
     {
         let address = self.store.running().suite.address();
@@ -541,11 +580,11 @@ impl<F: Flash<S>, const S: usize> Device<F, S> {
 
 // A call that is handled: the caller, the call, and its blocks.
 #[derive(Clone, Copy)]
-struct Serving<'a> {
-    caller: &'a Caller,
-    call: &'a Call<'a>,
-    operation: Operation,
-    blocks: &'a [u8],
+pub(crate) struct Serving<'a> {
+    pub(crate) caller: &'a Caller,
+    pub(crate) call: &'a Call<'a>,
+    pub(crate) operation: Operation,
+    pub(crate) blocks: &'a [u8],
 }
 
 // Whether data is exchanged in this phase, if there is one.
@@ -569,7 +608,7 @@ fn count_after(came: Result<(), CallFault>, made: u16) -> u16
 }
 
 // The station that sent a call.
-fn source_of(caller: &Caller) -> Partner
+pub(crate) fn source_of(caller: &Caller) -> Partner
     ensures { result ≡ partner_of caller.now }
 {
     Partner {

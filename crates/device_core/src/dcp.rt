@@ -16,6 +16,7 @@ ghost use Rattle.device_core.specs.State.{alias_in};
 ghost use Rattle.device_core.specs.Steps.{StaysReliable, Steps};
 ghost use Rattle.frame_codec.specs.Outbox.{boxed};
 
+use crate::asking::{ended_by, leave};
 use crate::logging::log_err;
 use crate::{Device, Note};
 use dcp_core::{
@@ -168,6 +169,7 @@ impl<F: Flash<S>, const S: usize> Device<F, S> {
         // Its ERR is sent before the answer, so that a controller does not exchange data with a station that was reset.
         let farewell = end_if(is_ended, &self.identity, &mut self.relation, outbox);
         log_err(&mut self.log, self.units, &farewell);
+        leave(&mut self.asked, &ended_by(&farewell));
         let answer = set_answer(request, &answers);
         send_dcp_answer(&self.identity, asker, DCP_GET_SET, &answer, outbox);
         Note::Done

@@ -11,10 +11,11 @@ ghost use Rattle.relations.specs.RelationState.{is_parameterized, passed_of, pha
 ghost use Rattle.relations.specs.Outputs.{output_of};
 ghost use Rattle.device_core.specs.Cycle.{started};
 ghost use Rattle.device_core.specs.OpenAlarm.{has_open_alarm};
-ghost use Rattle.device_core.specs.State.{plain, station_with};
+ghost use Rattle.device_core.specs.State.{plain, station_named, station_with};
 
 use crate::calls::Answering;
 use arrayvec::ArrayVec;
+use asked_records::{AskedRecords, NamedRecords};
 use device_records::Log;
 use diagnosis::Diagnoses;
 use flash_model::{Flash, Order};
@@ -55,6 +56,10 @@ pub struct Device<F: Flash<S>, const S: usize> {
     pub(crate) diagnoses: Diagnoses,
     // How many relations there were since the start, modulo 14,336.
     pub(crate) made: u16,
+    // The records that the application answers.
+    pub(crate) named: NamedRecords,
+    // The call that is asked of the application, if there is one.
+    pub(crate) asked: AskedRecords,
     // Room for the plan of a Set; it holds the last one.
     pub(crate) plan: ArrayVec<SetItem, 16>,
     // The settings, and the flash below them. It is the last: the size of a struct that the prover has to bound doubles with each
@@ -72,7 +77,7 @@ impl<F: Flash<S>, const S: usize> Model for Device<F, S> {
 
     ghost view = { λ device. record {
       flash = device.store.flash;
-      station = record { identity = device.identity; real = device.given; options = device.options };
+      station = record { identity = device.identity; real = device.given; options = device.options; named = device.named };
       live = record {
         values = device.store.values;
         rest = record {
@@ -87,6 +92,7 @@ impl<F: Flash<S>, const S: usize> Model for Device<F, S> {
           diagnoses = device.diagnoses;
           made = device.made;
           real = device.real;
+          asked = device.asked;
         };
       };
     } };
@@ -168,7 +174,48 @@ impl<F: Flash<S>, const S: usize> Device<F, S> {
             MatchResult result (λ device. F.is_reliable device.flash) (λ refused. F.is_reliable refused.1
             × (refused.0 ≡ BootFault.Foreign)) }
     {
-        let mut device = Device::unstarted(identity, real, options, flash);
+        Device::boot_named(identity, real, options, NamedRecords::new(), flash)
+    }
+
+    /// The same, with an application that answers these records.
+    pub fn boot_named(
+        identity: Identity,
+        real: Real,
+        options: DeviceOptions,
+        named: NamedRecords,
+        flash: F,
+    ) -> Result<Device<F, S>, (BootFault, F)>
+        // After a successful start the stored settings are the running settings, and nothing remains of an earlier
+        // cycle.
+        ensures starts { IfOk result (λ device. StartsWith (F.image flash) device.live.values.stored device.live.values.room) }
+        ensures fresh { IfOk result (λ device. device.live ≡ started real device.live.values.stored device.live.values.room) }
+        ensures station { IfOk result (λ device. device.station ≡ station_named identity real options named) }
+
+        // If the settings can be read, the start succeeds with them, or it fails with FlashFault. Content that this device
+        // wrote is refused only with FlashFault. A blank flash counts as such, with the factory settings and room for at
+        // least 65,535 commits.
+        ensures known { (settings : Settings) (room : ℕ) → StartsWith (F.image flash) settings room →
+            MatchResult result (λ device. device.live ≡ started real settings room) (λ refused. refused.0 ≡ BootFault.FlashFault) }
+        ensures left { LeftByDevice (F.image flash) → IfErr result (λ refused. refused.0 ≡ BootFault.FlashFault) }
+        ensures blank { F.image flash ≡ record { first = erased S; second = erased S } →
+            LeftByDevice (F.image flash) × StartsWith (F.image flash) factory_settings (capacity S) }
+        ensures ample { IsAmple S }
+
+        // `Foreign` is returned only if the content cannot be read, and a start on such content always fails.
+        ensures foreign { IfErr result (λ refused. refused.0 ≡ BootFault.Foreign → IsForeign (F.image flash)) }
+        ensures strange { IsForeign (F.image flash) → IsErr result }
+
+        // Nothing is written. After a successful start the failure counter of the flash is unchanged; FlashFault means
+        // that it rose or is saturated. A reliable flash never returns FlashFault.
+        ensures same { MatchResult result (λ device. F.image device.flash ≡ F.image flash) (λ refused. F.image refused.1 ≡ F.image flash) }
+        ensures calls { MatchResult result (λ device. F.asked flash [] device.flash) (λ refused. F.asked flash [] refused.1) }
+        ensures cause { MatchResult result (λ device. F.failures device.flash ≡ F.failures flash)
+            (λ refused. HasBootCause refused.0 (F.failures flash) (F.failures refused.1)) }
+        ensures reliable { F.is_reliable flash →
+            MatchResult result (λ device. F.is_reliable device.flash) (λ refused. F.is_reliable refused.1
+            × (refused.0 ≡ BootFault.Foreign)) }
+    {
+        let mut device = Device::unstarted_named(identity, real, options, named, flash);
         match device.load() {
             Ok(()) => Ok(device),
             Err(fault) => Err((fault, device.into_flash())),
@@ -330,12 +377,13 @@ impl<F: Flash<S>, const S: usize> Device<F, S> {
     pub fn into_flash(self) -> F
         ensures { result ≡ self.flash }
     {
-        self.into_parts().3
+        self.into_parts().4
     }
 
-    /// Returns the identity, the plugged modules, the options, and the flash.
-    pub(crate) fn into_parts(self) -> (Identity, Real, DeviceOptions, F)
-        ensures { result ≡ (self.station.identity, self.station.real, self.station.options, self.flash) }
+    /// Returns the identity, the modules that the device was given, the options, the records that the application answers, and the
+    /// flash.
+    pub(crate) fn into_parts(self) -> (Identity, Real, DeviceOptions, NamedRecords, F)
+        ensures { result ≡ (self.station.identity, self.station.real, self.station.options, self.station.named, self.flash) }
     {
         let Device {
             identity,
@@ -353,8 +401,10 @@ impl<F: Flash<S>, const S: usize> Device<F, S> {
             neighbour: _,
             diagnoses: _,
             made: _,
+            named,
+            asked: _,
             plan: _,
         } = self;
-        (identity, given, options, store.into_flash())
+        (identity, given, options, named, store.into_flash())
     }
 }

@@ -95,7 +95,7 @@ pub fn cycle_with<F: Flash<S>, const S: usize, K: Sink, P: FnOnce(F) -> F>(
     restart(device, power_up)
 }
 
-/// Restores the power of a device's flash, and starts the device again from what it left there, with the same options. A
+/// Restores the power of a device's flash, and starts the device again from what it left there, with the same options and named records. A
 /// refused start returns the flash. `cycle` ends with it; so does whoever makes the steps of a device itself.
 pub fn restart<F: Flash<S>, const S: usize, P: FnOnce(F) -> F>(
     device: Device<F, S>,
@@ -125,6 +125,6 @@ pub fn restart<F: Flash<S>, const S: usize, P: FnOnce(F) -> F>(
     ensures reliable { F.is_reliable device.flash → ((lost flash : F) → P.post power_up lost flash → F.is_reliable lost → F.is_reliable flash) →
         LeftByDevice (F.image device.flash) → IsOk result }
 {
-    let (identity, real, options, flash) = device.into_parts();
-    Device::boot_with(identity, real, options, power_up(flash))
+    let (identity, real, options, named, flash) = device.into_parts();
+    Device::boot_named(identity, real, options, named, power_up(flash))
 }

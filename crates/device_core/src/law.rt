@@ -4,7 +4,7 @@ ghost use Rattle.settings_journal.specs.settings_store.Carries.{Holds};
 ghost use Rattle.device_frames.specs.Heard.{heard_of};
 ghost use Rattle.device_frames.specs.declared.event.Event.{Event};
 ghost use Rattle.device_core.specs.Faults.{RunGoesOn};
-ghost use Rattle.device_core.specs.Local.{ApplicationIsLocal, OnlyPullsAndPlugsChangeModules};
+ghost use Rattle.device_core.specs.Local.{AnswersGoToTheQuestion, ApplicationIsLocal, OnlyPullsAndPlugsChangeModules};
 ghost use Rattle.device_core.specs.State.{State};
 ghost use Rattle.device_core.specs.Steps.{HandsOn, IsBehindCalls, IsExactRun, Runs, TakesRoom};
 
@@ -39,11 +39,18 @@ pub fn steps_make_runs<F: Flash<S>, const S: usize>()
         new.live.values.has_failed ≡ false → TakesRoom old events new }
 {}
 
-/// What an application says asks nothing of the settings, keeps the stored answers, the neighbour and the count of relations,
+/// What an application says, other than an answer, asks nothing of the settings, keeps the stored answers, the neighbour and the count of relations,
 /// leaves the relation with the time that it has, sends only frames of the relation, and changes the modules only by a pull or a
 /// plug. This is a law of the definitions that specify `Device::step`; the function has no code.
 pub fn application_is_local()
     ensures { ApplicationIsLocal }
+{}
+
+/// An answer of the application goes to the call that is asked, or it is refused: then nothing changes. The call is asked no longer, and
+/// at most one frame is sent, the response to it. This is a law of the definitions that specify `Device::step`; the function has no
+/// code.
+pub fn answers_go_to_the_question()
+    ensures { AnswersGoToTheQuestion }
 {}
 
 /// The modules that are plugged change only by a pull or a plug, and then to exactly what that makes of them. This is a law of the

@@ -11,12 +11,13 @@ use pn_alarms::NEVER;
 
 impl<F: Flash<S>, const S: usize> Device<F, S> {
     /// The number of units up to and including the next one with which something is sent, an alarm is given up, the relation
-    /// ends, or the lamp goes off. 4,294,967,295 if no unit ever does any of these.
+    /// ends, what is asked of the application has no answer in time, or the lamp goes off. 4,294,967,295 if no unit ever does any of these.
     pub fn due(&self) -> u32
         ensures value { result ≡ live_due_in self.now.live }
         ensures some { 0 < result }
     {
-        lamp_off_in(self.lamp).min(self.relation.due_in())
+        let due = self.relation.due_in().min(self.asked.due_in());
+        lamp_off_in(self.lamp).min(due)
     }
 
     /// Lets `units` units of 31.25 microseconds pass at once, at most as many as `due` returns, and replaces the content
@@ -58,6 +59,7 @@ impl<F: Flash<S>, const S: usize> Device<F, S> {
         self.lamp = self.lamp.saturating_sub(units);
         self.units = units_later(self.units, units);
         self.relation.pass(units);
+        self.asked.pass(units);
     }
 }
 

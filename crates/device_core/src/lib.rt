@@ -2,6 +2,7 @@
 #![tactic(auto)]
 
 mod arp;
+mod asking;
 mod calls;
 mod dcp;
 mod device;
@@ -21,6 +22,9 @@ mod step;
 pub use device::Device;
 pub use device_frames::{Caller, Event, Local, Note, Octets};
 pub use headline::{cycle, cycle_with, restart};
-pub use law::{application_is_local, only_pulls_and_plugs_change_modules, steps_make_runs};
+pub use law::{
+    answers_go_to_the_question, application_is_local, only_pulls_and_plugs_change_modules,
+    steps_make_runs,
+};
 pub use leaps::leaps_are_ticks;
 pub use sink::Sink;

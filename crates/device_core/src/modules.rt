@@ -205,7 +205,7 @@ impl<F: Flash<S>, const S: usize> Device<F, S> {
         self.change(&change, outbox)
     }
 
-    // What was pulled takes its diagnoses and its status with it, and the relation reports the change: its alarm is sent, and
+    // What was pulled takes its diagnoses, its status and what is asked of it with it, and the relation reports the change: its alarm is sent, and
     // after it the next ApplicationReady of a plug, if one was in the way.
     fn change(&mut self, change: &RealChange, outbox: &mut Outbox) -> Note
         requires empty { outbox.old.items ≡ [] }
@@ -218,6 +218,7 @@ impl<F: Flash<S>, const S: usize> Device<F, S> {
         let affected = change.affected();
         self.diagnoses.forget(affected);
         forget_statuses(&mut self.statuses, affected);
+        self.asked.drop_at(affected);
         let outgoing = self
             .relation
             .change_modules(&self.real, change, &self.diagnoses);

@@ -4,14 +4,15 @@ ghost use Rattle.arrayvec.specs.ArrayVec.{array_vec_len};
 ghost use Rattle.record_blocks.specs.declared.write_record.IodWriteReq.{IodWriteReq as Header};
 ghost use Rattle.records.specs.declared.status.operation.Operation.TheVariants as operation;
 ghost use Rattle.records.specs.writes.Answer.{answer_of, outcome_of, outcomes_of};
-ghost use Rattle.records.specs.writes.Handled.{handled_request};
 ghost use Rattle.relations.specs.RelationState.{uuid_of};
 ghost use Rattle.device_core.specs.Handled.{came_with, outcome_of as came_as};
-ghost use Rattle.device_core.specs.Several.{judged_each, texts_by, texts_in};
-ghost use Rattle.device_core.specs.Machine.{first_answer as first_of, link_behind, one_answers, one_link, one_outcome, statuses_of};
+ghost use Rattle.device_core.specs.Several.{judged_each, judged_entry, texts_by, texts_in, with_status};
+ghost use Rattle.device_core.specs.Machine.{effect_link, effect_outcome, first_answer as first_of, link_behind, one_answers, one_link};
+ghost use Rattle.device_core.specs.Machine.{one_status, statuses_of};
 
 use crate::calls::written_as;
 use arrayvec::ArrayVec;
+use asked_records::{NamedRecords, Unanswered, asked_name};
 use pn_values::{BlockError, Command, Real, SetItem};
 use records::{
     Blocks, CallFault, Effect, Entries, Entry, Operation, Write, done, judge_record,
@@ -23,24 +24,25 @@ use rpc_core::Status;
 /// Replaces a plan by the I&M texts among these records, in order.
 pub(crate) fn fill_texts(
     entries: &Entries<'_>,
-    relation: &Relation,
+    named: &NamedRecords,
     real: &Real,
+    relation: &Relation,
     plan: &mut ArrayVec<SetItem, 16>,
 )
     requires { length entries.now ≤ 16 }
-    ensures items { plan.new.items ≡ texts_in (judged_each (uuid_of relation.now) real.now entries.now) }
+    ensures items { plan.new.items ≡ texts_in (judged_each named.now (uuid_of relation.now) real.now entries.now) }
     ensures few { length plan.new.items ≤ 16 }
 {
     plan.clear();
     let mut left = entries.again();
     while let Some(entry) = left.next() {
-        let judged = judge(&entry, relation, real);
+        let judged = judge(&entry, named, real, relation);
         put_text(judged, plan);
     }
 }
 
 /// Appends the I&M text that a record asks for, if it is one that is accepted. There must be room.
-fn put_text(judged: Result<Write, CallFault>, plan: &mut ArrayVec<SetItem, 16>)
+fn put_text(judged: Result<Write, Status>, plan: &mut ArrayVec<SetItem, 16>)
     requires { array_vec_len plan.old + 1 ≤ 16 }
     ensures items { plan.new.items ≡ plan.old.items ++ texts_by judged }
     ensures few { array_vec_len plan.new ≤ array_vec_len plan.old + 1 }
@@ -50,21 +52,41 @@ fn put_text(judged: Result<Write, CallFault>, plan: &mut ArrayVec<SetItem, 16>)
             Effect::Stores(value) => plan.push(SetItem::Ask(Command::SetIm(value))),
             Effect::Keeps(_parameter) => {}
         },
-        Err(_fault) => {}
+        Err(_status) => {}
     }
 }
 
-/// What a record asks for, or why it is refused, while this relation is active.
-fn judge(entry: &Entry<'_>, relation: &Relation, real: &Real) -> Result<Write, CallFault>
-    ensures { result ≡ handled_request (uuid_of relation.now) real.now entry.now.request entry.now.octets.now }
+/// What a record asks for, or the PNIOStatus with which it is refused, while this relation is active. One that the application answers
+/// is not asked.
+fn judge(
+    entry: &Entry<'_>,
+    named: &NamedRecords,
+    real: &Real,
+    relation: &Relation,
+) -> Result<Write, Status>
+    ensures { result ≡ judged_entry named.now (uuid_of relation.now) real.now (entry.now.request, entry.now.octets.now) }
 {
-    judge_record(relation.uuid(), real, &entry.request, entry.octets)
+    if asked_name(named, real, &entry.request.header).is_some() {
+        return Err(Unanswered::InList.number(Operation::Write));
+    }
+    with_status(judge_record(relation.uuid(), real, &entry.request, entry.octets))
+}
+
+/// What a record asks for, or the PNIOStatus of its fault.
+fn with_status(judged: Result<Write, CallFault>) -> Result<Write, Status>
+    ensures { result ≡ with_status judged }
+{
+    match judged {
+        Ok(write) => Ok(write),
+        Err(fault) => Err(fault.number(Operation::Write)),
+    }
 }
 
 /// Keeps the parameter records among these, and appends the outcome of each record, in order. `answers` are those to the
 /// I&M texts among them. There must be room.
 pub(crate) fn put_outcomes(
     entries: &Entries<'_>,
+    named: &NamedRecords,
     real: &Real,
     answers: &[BlockError],
     relation: &mut Relation,
@@ -72,13 +94,13 @@ pub(crate) fn put_outcomes(
 )
     requires { array_vec_len blocks.old + 64 * length entries.now ≤ 1372 }
     ensures blocks { blocks.new.items ≡ blocks.old.items
-        ++ outcomes_of (statuses_of (judged_each (uuid_of relation.old) real.now entries.now) answers.now relation.old) }
-    ensures link { relation.new ≡ link_behind (judged_each (uuid_of relation.old) real.now entries.now) relation.old }
+        ++ outcomes_of (statuses_of (judged_each named.now (uuid_of relation.old) real.now entries.now) answers.now relation.old) }
+    ensures link { relation.new ≡ link_behind (judged_each named.now (uuid_of relation.old) real.now entries.now) relation.old }
 {
     let mut left = entries.again();
     let mut unused = answers;
     while let Some(entry) = left.next() {
-        unused = put_outcome(&entry, real, unused, relation, blocks);
+        unused = put_outcome(&entry, named, real, unused, relation, blocks);
     }
 }
 
@@ -86,31 +108,31 @@ pub(crate) fn put_outcomes(
 /// must be room.
 fn put_outcome<'a>(
     entry: &Entry<'_>,
+    named: &NamedRecords,
     real: &Real,
     answers: &'a [BlockError],
     relation: &mut Relation,
     blocks: &mut Blocks,
 ) -> &'a [BlockError]
     requires { array_vec_len blocks.old + 64 ≤ 1372 }
-    ensures blocks { blocks.new.items ≡ blocks.old.items ++ outcome_of entry.now.request (came_as operation.Write
-        (one_outcome entry.now.request (handled_request (uuid_of relation.old) real.now entry.now.request entry.now.octets.now) answers.now
-        relation.old)).0 }
+    ensures blocks { blocks.new.items ≡ blocks.old.items ++ outcome_of entry.now.request (one_status entry.now.request
+        (judged_entry named.now (uuid_of relation.old) real.now (entry.now.request, entry.now.octets.now)) answers.now relation.old) }
     ensures link { relation.new
-        ≡ one_link (handled_request (uuid_of relation.old) real.now entry.now.request entry.now.octets.now) relation.old }
+        ≡ one_link (judged_entry named.now (uuid_of relation.old) real.now (entry.now.request, entry.now.octets.now)) relation.old }
     ensures uuid { uuid_of relation.new ≡ uuid_of relation.old }
     ensures answers { result.now
-        ≡ one_answers (handled_request (uuid_of relation.old) real.now entry.now.request entry.now.octets.now) answers.now }
+        ≡ one_answers (judged_entry named.now (uuid_of relation.old) real.now (entry.now.request, entry.now.octets.now)) answers.now }
     ensures len { array_vec_len blocks.new ≡ array_vec_len blocks.old + 64 }
 {
-    let judged = judge(entry, relation, real);
+    let judged = judge(entry, named, real, relation);
     let left = rest_of(is_text(&judged), answers);
-    let came = carry(judged, first_answer(answers), relation);
-    put_write_outcome(blocks, &entry.request, status_of(came));
+    let status = carry(judged, first_answer(answers), relation);
+    put_write_outcome(blocks, &entry.request, status);
     left
 }
 
 /// Whether a record is an I&M text, which takes an answer.
-fn is_text(judged: &Result<Write, CallFault>) -> bool
+fn is_text(judged: &Result<Write, Status>) -> bool
     ensures { (answers : List BlockError) → one_answers judged.now answers ≡ (if result then drop 1 answers else answers) }
 {
     match judged {
@@ -139,18 +161,29 @@ fn rest_of(is_taken: bool, answers: &[BlockError]) -> &[BlockError]
     &answers[1..]
 }
 
-/// What becomes of a record: an I&M text had this answer, a parameter record is kept if there is room, and one that was
-/// refused stays so.
-fn carry(
-    judged: Result<Write, CallFault>,
+/// The PNIOStatus of a record: of what it asks for, or, if it was refused, that of its refusal.
+fn carry(judged: Result<Write, Status>, answer: BlockError, relation: &mut Relation) -> Status
+    ensures status { (header : Header) (answers : List BlockError) → first_of answers ≡ answer →
+        result ≡ one_status header judged answers relation.old }
+    ensures link { relation.new ≡ one_link judged relation.old }
+{
+    match judged {
+        Ok(write) => status_of(carry_effect(write.effect, answer, relation)),
+        Err(status) => status,
+    }
+}
+
+/// What becomes of a record that is accepted: an I&M text had this answer, and a parameter record is kept if there is room.
+fn carry_effect(
+    effect: Effect,
     answer: BlockError,
     relation: &mut Relation,
 ) -> Result<(), CallFault>
     ensures outcome { (header : Header) (answers : List BlockError) → first_of answers ≡ answer →
-        came_with result (answer_of header) ≡ one_outcome header judged answers relation.old }
-    ensures link { relation.new ≡ one_link judged relation.old }
+        came_with result (answer_of header) ≡ effect_outcome header effect answers relation.old }
+    ensures link { relation.new ≡ effect_link effect relation.old }
 {
-    match judged?.effect {
+    match effect {
         Effect::Stores(_value) => written_as(answer),
         Effect::Keeps(parameter) => relation.keep(parameter),
     }

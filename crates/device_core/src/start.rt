@@ -6,11 +6,12 @@ ghost use Rattle.pn_values.specs.declared.settings.Settings.{Settings};
 ghost use Rattle.settings_journal.specs.Commit.{HasBootCause};
 ghost use Rattle.settings_journal.specs.Image.{StartsWith, IsAmple, capacity, IsForeign, LeftByDevice};
 ghost use Rattle.device_core.specs.Cycle.{started};
-ghost use Rattle.device_core.specs.State.{at_start, with_rest};
+ghost use Rattle.device_core.specs.State.{at_start, station_named, station_with, with_rest};
 
 use crate::Device;
 use crate::calls::Answering;
 use arrayvec::ArrayVec;
+use asked_records::{AskedRecords, NamedRecords};
 use device_records::Log;
 use diagnosis::Diagnoses;
 use flash_model::Flash;
@@ -22,10 +23,25 @@ use rpc_core::CallCache;
 use settings_journal::{BootFault, Fill, Store};
 
 impl<F: Flash<S>, const S: usize> Device<F, S> {
-    /// A device that did not start: it stores nothing, and has read nothing yet.
+    /// A device that did not start: it stores nothing, and has read nothing yet. Its application answers no records.
     pub fn unstarted(identity: Identity, real: Real, options: DeviceOptions, flash: F) -> Self
         ensures flash { result.flash ≡ flash }
-        ensures station { result.station ≡ record { identity = identity; real = real; options = options } }
+        ensures station { result.station ≡ station_with identity real options }
+        ensures has_failed { result.live.values.has_failed ≡ true }
+    {
+        Device::unstarted_named(identity, real, options, NamedRecords::new(), flash)
+    }
+
+    /// The same, with an application that answers these records.
+    pub fn unstarted_named(
+        identity: Identity,
+        real: Real,
+        options: DeviceOptions,
+        named: NamedRecords,
+        flash: F,
+    ) -> Self
+        ensures flash { result.flash ≡ flash }
+        ensures station { result.station ≡ station_named identity real options named }
         ensures has_failed { result.live.values.has_failed ≡ true }
     {
         Device {
@@ -47,8 +63,18 @@ impl<F: Flash<S>, const S: usize> Device<F, S> {
             neighbour: None,
             diagnoses: Diagnoses::new(),
             made: 0,
+            named,
+            asked: AskedRecords::new(),
             plan: ArrayVec::new(),
         }
+    }
+
+    /// The records that the application of a device that stores nothing answers.
+    pub fn name_records(&mut self, named: NamedRecords)
+        requires { self.old.live.values.has_failed ≡ true }
+        ensures { self.new ≡ record self.old { station = record self.old.station { named = named } } }
+    {
+        self.named = named;
     }
 
     /// Fills the flash of a device that stores nothing.
@@ -112,6 +138,7 @@ impl<F: Flash<S>, const S: usize> Device<F, S> {
         self.neighbour = None;
         self.diagnoses = Diagnoses::new();
         self.made = 0;
+        self.asked = AskedRecords::new();
         // Nothing of what was pulled or plugged is stored.
         self.real.replace_by(&self.given);
         self.answers.kept = CallCache::new();

@@ -17,7 +17,8 @@ ghost use Rattle.device_core.specs.State.{Live, Station, counter_of, with_rest};
 ghost use Rattle.device_frames.specs.Sendable.{AreSendable};
 ghost use Rattle.device_frames.specs.Sent.{bytes_of};
 ghost use Rattle.device_core.specs.Handled.{handled_alarm, handled_message, handled_cyclic, handled_given, handled_local, handled_raised, handled_rated, handled_received};
-ghost use Rattle.device_core.specs.Handled.{handled_ready, handled_turned, ticked};
+ghost use Rattle.device_core.specs.Handled.{handled_ready, handled_turned, ticked, unit_rest, unit_sent};
+ghost use Rattle.device_core.specs.Asking.{ended_by, left_asked};
 ghost use Rattle.device_core.specs.Behind.{is_low_reply};
 ghost use Rattle.device_frames.specs.Relation.{farewells_in, inputs_of};
 ghost use Rattle.device_core.specs.Behind.{CanSend, behind, brought, calls_due, due_in, frames_of};
@@ -29,8 +30,10 @@ ghost use Rattle.device_core.specs.Leaps.{live_due_in};
 ghost use Rattle.device_core.specs.Steps.{Steps, Identifies, IsServed, IsAgain, IsExactStep, IsQuietStep, StaysReliable};
 ghost use Rattle.frame_codec.specs.Outbox.{boxed};
 
+use crate::asking::{ended_by, leave};
 use crate::logging::{log_err, log_fate, uuid_of};
 use crate::{Device, Event, Local, Note, Octets};
+use asked_records::Given;
 use cyclic_data::Received;
 use dcp_core::Service;
 use device_frames::{
@@ -172,6 +175,13 @@ impl<F: Flash<S>, const S: usize> Device<F, S> {
             ),
             Local::Ready => self.get_ready(outbox),
             Local::ProviderState(is_running) => self.turn(*is_running),
+            Local::Answer(number, octets) => {
+                self.answer(*number, &Given::Octets(octets.as_slice()), outbox)
+            }
+            Local::Written(number) => self.answer(*number, &Given::Done, outbox),
+            Local::Refuse(number, code1, code2) => {
+                self.answer(*number, &Given::Refused(*code1, *code2), outbox)
+            }
         }
     }
 
@@ -315,12 +325,25 @@ impl<F: Flash<S>, const S: usize> Device<F, S> {
         (self.units % 65_536) as u16
     }
 
-    // A unit of time is over: the timers advance. If a timeout ends the relation, nothing more is done.
+    // A unit of time is over, first for the relation, and then for what is asked of the application.
     pub(crate) fn tick(&mut self, outbox: &mut Outbox) -> Note
         requires empty { outbox.old.items ≡ [] }
-        ensures state { self.new ≡ behind self.old (ticked self.old.live) }
-        ensures frames { boxed outbox.new ≡ frames_of self.old (ticked self.old.live) }
-        ensures sendable { CanSend self.old (ticked self.old.live) }
+        ensures state { self.new ≡ behind self.old (ticked self.old.station self.old.live) }
+        ensures frames { boxed outbox.new ≡ frames_of self.old (ticked self.old.station self.old.live) }
+        ensures sendable { CanSend self.old (ticked self.old.station self.old.live) }
+        ensures note { result ≡ Note.Done }
+    {
+        let _ = self.pass_unit_of_relation(outbox);
+        self.count_asked(outbox)
+    }
+
+    // The timers advance. If a timeout ends the relation, nothing more is done.
+    #[inline(always)]
+    fn pass_unit_of_relation(&mut self, outbox: &mut Outbox) -> Note
+        requires empty { outbox.old.items ≡ [] }
+        ensures state { self.new ≡ with_rest self.old (unit_rest self.old.live) }
+        ensures frames { boxed outbox.new ≡ map (bytes_of self.old.station.identity) (unit_sent self.old.live) }
+        ensures sendable { AreSendable self.old.station.identity (unit_sent self.old.live) }
         ensures note { result ≡ Note.Done }
     {
         // The lamp's time and the units, of which CycleCounter is the end, continue when a relation ends: they belong to the
@@ -345,7 +368,10 @@ impl<F: Flash<S>, const S: usize> Device<F, S> {
         requires empty { outbox.old.items ≡ [] }
         requires apart { elapsed.is_ready ≡ true → elapsed.is_plug_ready ≡ false }
         ensures state { self.new ≡ with_rest self.old (with_log (err_log (farewell_for elapsed.tick.ending self.old.live.rest.link))
-            (record self.old.live.rest { link = left_behind elapsed.tick.ending self.old.live.rest.link })) }
+            (record self.old.live.rest {
+              link = left_behind elapsed.tick.ending self.old.live.rest.link;
+              asked = left_asked (ended_by (farewell_for elapsed.tick.ending self.old.live.rest.link)) self.old.live.rest.asked;
+            })) }
         ensures frames { boxed outbox.new ≡ map (bytes_of self.old.station.identity) (brought self.old elapsed) }
         ensures sendable { AreSendable self.old.station.identity (brought self.old elapsed) }
         ensures note { result ≡ Note.Done }
@@ -367,13 +393,17 @@ impl<F: Flash<S>, const S: usize> Device<F, S> {
     fn end(&mut self, reason: Abort, outbox: &mut Outbox)
         requires empty { outbox.old.items ≡ [] }
         ensures state { self.new ≡ with_rest self.old (with_log (err_log (option_map (farewell_of reason) self.old.live.rest.link))
-            (record self.old.live.rest { link = None })) }
+            (record self.old.live.rest {
+              link = None;
+              asked = left_asked (ended_by (option_map (farewell_of reason) self.old.live.rest.link)) self.old.live.rest.asked;
+            })) }
         ensures frames { boxed outbox.new
             ≡ map (bytes_of self.old.station.identity) (farewells_in (option_map (farewell_of reason) self.old.live.rest.link)) }
         ensures sendable { AreSendable self.old.station.identity (farewells_in (option_map (farewell_of reason) self.old.live.rest.link)) }
     {
         let ended = self.relation.end(reason);
         log_err(&mut self.log, self.units, &ended);
+        leave(&mut self.asked, &ended_by(&ended));
         if let Some(farewell) = ended {
             send_farewell(&self.identity, &farewell, outbox);
         }
@@ -577,7 +607,11 @@ impl<F: Flash<S>, const S: usize> Device<F, S> {
                 send_alarm_reply(&self.identity, taken, &self.relation, outbox);
                 Note::Done
             }
-            PduFate::Done | PduFate::Aborted(_) => Note::Done,
+            PduFate::Done => Note::Done,
+            PduFate::Aborted(_) => {
+                leave(&mut self.asked, &uuid);
+                Note::Done
+            }
             // A NACK, or an ACK of another number, is not an error, and changes nothing.
             PduFate::Ignored => Note::Filter,
         }

@@ -80,10 +80,7 @@ is_taken identity destination frame_id =
 -- An ACK under the FrameID of low priority is one of low priority, once the relation has sent data of low priority.
 abbrev pub heard_reply : Mac → Priority → Header → ToDevice → Heard
 heard_reply source Low header (message.Ack number) = LowReplies source header (message.Ack number)
-heard_reply source Low header (message.Data number ack) = Alarms source header (message.Data number ack)
-heard_reply source Low header message.Nack = Alarms source header message.Nack
-heard_reply source Low header (message.Abort status) = Alarms source header (message.Abort status)
-heard_reply source High header told = Alarms source header told
+heard_reply source priority header told = Alarms source header told
 
 -- Data has the priority of its block. Without a complete AlarmAck it cannot be read either, from any sender.
 abbrev pub heard_low : Mac → Result (Header × ToDevice) AlarmFault → Heard

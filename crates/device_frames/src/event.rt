@@ -110,4 +110,29 @@ impl<'a> Event<'a> {
     {
         Event::Application(Local::ProviderState(is_running))
     }
+
+    /// The application answers the question with this number by the octets of a record. Of more than 1,519 octets only the
+    /// first are given, which are refused in the same way.
+    #[inline(always)]
+    pub fn answer(number: u32, octets: &'a [u8]) -> Event<'a>
+        ensures { result ≡ Application (local.Answer number (record { items = take 1519 octets.now })) }
+    {
+        Event::Application(Local::Answer(number, Octets::of(octets)))
+    }
+
+    /// The application has written the record of the question with this number.
+    #[inline(always)]
+    pub fn written(number: u32) -> Event<'a>
+        ensures { result ≡ Application (local.Written number) }
+    {
+        Event::Application(Local::Written(number))
+    }
+
+    /// The application refuses the question with this number, with this ErrorCode1 and ErrorCode2.
+    #[inline(always)]
+    pub fn refuse(number: u32, code1: u8, code2: u8) -> Event<'a>
+        ensures { result ≡ Application (local.Refuse number code1 code2) }
+    {
+        Event::Application(Local::Refuse(number, code1, code2))
+    }
 }

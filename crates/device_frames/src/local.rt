@@ -30,4 +30,10 @@ pub enum Local<B> {
     /// Whether the application runs (`true`) or is stopped, with all its inputs: ProviderState in DataStatus of the frames that the
     /// device sends. It counts from now on, in each relation, until the device starts again.
     ProviderState(bool),
+    /// The octets of a record: the answer to the question with this number, which is a Read.
+    Answer(u32, B),
+    /// A record was written: the answer to the question with this number, which is a Write.
+    Written(u32),
+    /// The question with this number is refused with this ErrorCode1, 0xA0 to 0xAF, and this ErrorCode2.
+    Refuse(u32, u8, u8),
 }

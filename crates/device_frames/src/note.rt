@@ -19,8 +19,8 @@ pub enum Note {
     NoRelation = 5,
     /// A cyclic frame whose data is not valid, or whose CycleCounter is not newer.
     StaleCycle = 6,
-    /// An input of a submodule that has none of this length, or an alarm that may not be raised now or for this
-    /// submodule.
+    /// An input of a submodule that has none of this length, an alarm that may not be raised now or for this submodule, or an
+    /// answer that goes to no question.
     Refused = 7,
 }
 

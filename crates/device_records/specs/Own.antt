@@ -22,36 +22,18 @@ use Rattle.device_records.specs.Standing.{standing_with}
 
 -- The record of this kind that a device has without a relation too, and that anybody may read.
 abbrev pub public_with : Known → Listing → Option (List ℕ)
-public_with known listing.Identification = None
-public_with known listing.Apis = None
-public_with known listing.Diagnosis = None
-public_with known listing.Maintenance = None
-public_with known listing.Expected = None
-public_with known listing.Found = None
-public_with known listing.Input = None
-public_with known listing.Output = None
 public_with known listing.Relations = Some (ar_data known.units (parts_of known.link))
 public_with known listing.Log = Some (log_bytes known.units known.log)
-public_with known listing.Port = None
-public_with known listing.Interface = None
-public_with known listing.Network = None
+public_with known other = None
 
 -- The record of this kind of a relation with this Connect and this cyclic data, at a level, slot and subslot. The other kinds
 -- are no records of a relation.
 abbrev pub own_with : Request → Cyclic → Real → Level → ℕ → ℕ → Listing → Option (List ℕ)
-own_with request cyclic real level slot subslot listing.Identification = None
-own_with request cyclic real level slot subslot listing.Apis = None
-own_with request cyclic real level slot subslot listing.Diagnosis = None
-own_with request cyclic real level slot subslot listing.Maintenance = None
 own_with request cyclic real level slot subslot listing.Expected = Some (expected_bytes request.expected level slot subslot)
 own_with request cyclic real level slot subslot listing.Found = Some (found_bytes request.expected real)
 own_with request cyclic real level slot subslot listing.Input = input_of cyclic slot subslot
 own_with request cyclic real level slot subslot listing.Output = output_of cyclic slot subslot
-own_with request cyclic real level slot subslot listing.Relations = None
-own_with request cyclic real level slot subslot listing.Log = None
-own_with request cyclic real level slot subslot listing.Port = None
-own_with request cyclic real level slot subslot listing.Interface = None
-own_with request cyclic real level slot subslot listing.Network = None
+own_with request cyclic real level slot subslot other = None
 
 -- The record, if there is a relation.
 abbrev pub own_in : Option (Request × Cyclic × ℕ × StationState × ℕ) → Real → Level → ℕ → ℕ → Listing → Option (List ℕ)

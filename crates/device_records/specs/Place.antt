@@ -12,13 +12,4 @@ abbrev pub place_with : Known → Real → ℕ → ℕ → Listing → Option (L
 place_with known real slot subslot listing.Port = if slot == 0 && subslot == 0x8001 then Some (port_bytes known.peer) else None
 place_with known real slot subslot listing.Interface = if slot == 0 && subslot == 0x8000 then Some (interface_bytes known.identity known.settings) else None
 place_with known real slot subslot listing.Network = Some (network_bytes known.identity real known.settings known.peer)
-place_with known real slot subslot listing.Identification = None
-place_with known real slot subslot listing.Apis = None
-place_with known real slot subslot listing.Diagnosis = None
-place_with known real slot subslot listing.Maintenance = None
-place_with known real slot subslot listing.Expected = None
-place_with known real slot subslot listing.Found = None
-place_with known real slot subslot listing.Input = None
-place_with known real slot subslot listing.Output = None
-place_with known real slot subslot listing.Relations = None
-place_with known real slot subslot listing.Log = None
+place_with known real slot subslot other = None

@@ -22,15 +22,4 @@ is_about link Device asked_slot asked_subslot slot subslot = true
 abbrev pub standing_with : Known → Real → Level → ℕ → ℕ → Listing → Option (List ℕ)
 standing_with known real level slot subslot listing.Diagnosis =
     Some (record_bytes (is_about known.link level slot subslot) known.diagnoses real.modules.items)
-standing_with known real level slot subslot listing.Maintenance = None
-standing_with known real level slot subslot listing.Identification = None
-standing_with known real level slot subslot listing.Apis = None
-standing_with known real level slot subslot listing.Expected = None
-standing_with known real level slot subslot listing.Found = None
-standing_with known real level slot subslot listing.Input = None
-standing_with known real level slot subslot listing.Output = None
-standing_with known real level slot subslot listing.Relations = None
-standing_with known real level slot subslot listing.Log = None
-standing_with known real level slot subslot listing.Port = None
-standing_with known real level slot subslot listing.Interface = None
-standing_with known real level slot subslot listing.Network = None
+standing_with known real level slot subslot other = None

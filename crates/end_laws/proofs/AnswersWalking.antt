@@ -1,7 +1,8 @@
 -- What a device sends and stores in each step.
-use Rattle.std.proofs.Common.{◌≡◌, ◌&&◌, ℕ, Bool, true, false, List, [], ◌∷◌, ◌++◌, Option, Some, None, is_some, option_map, Result, Ok, Err, refl, sym, subst}
+use Rattle.std.proofs.Common.{◌≡◌, ◌&&◌, ℕ, Bool, true, false, List, [], ◌∷◌, ◌++◌, length, Option, Some, None, is_some, option_map, Result, Ok, Err, refl, sym, subst}
 use Rattle.std.specs.List.{AllByRecursion}
 use Rattle.std.proofs.lemmas.Bool.{cond_both}
+use Rattle.arrayvec.specs.ArrayVec.{ArrayVec}
 use Rattle.pn_values.specs.declared.mac.Mac.{Mac}
 use Rattle.pn_values.specs.declared.set_item.BlockError.{BlockError}
 use Rattle.settings_journal.specs.settings_store.Machine.{Outcome, carried}
@@ -29,6 +30,12 @@ use Rattle.relations.specs.exchange.Flow.{Flow}
 use Rattle.relations.specs.Exchanged.{heard_by, hearing, received_by, receiving}
 use Rattle.relations.specs.declared.hearing.ReadyAnswer.{ReadyAnswer}
 use Rattle.relations.specs.declared.hearing.ReadyAnswer.TheVariants as to_ready
+use Rattle.asked_records.specs.Answers.{Gives, gives_done, gives_octets, gives_refusal, answer_blocks, answer_status, judged, unanswered_status}
+use Rattle.asked_records.specs.Asked.{AskedState, asks, is_repeat}
+use Rattle.asked_records.specs.Questions.{call_of, operation_of as operation_asked}
+use Rattle.asked_records.specs.declared.answering.AnswerFault.{AnswerFault}
+use Rattle.asked_records.specs.declared.question.Question.{Question}
+use Rattle.asked_records.specs.declared.status.Unanswered.TheVariants.{Busy, Late}
 use Rattle.device_records.specs.Reading.{implicit_read, relation_read}
 use Rattle.relations.specs.Connect.{connect_answer, connect_within, making}
 use Rattle.relations.specs.Ready.{answer_of as ready_answer}
@@ -36,13 +43,15 @@ use Rattle.frame_codec.specs.declared.udp.Caller.{Caller}
 use Rattle.pn_alarms.specs.declared.pdu.Header.{Header}
 use Rattle.pn_alarms.specs.Message.{ToDevice}
 use Rattle.device_frames.specs.Heard.{Heard, Ticks, Unreadable, Elsewhere, Asks, Resolves, Reported, Cyclic, Alarms, LowReplies, LowConfirms, Applied, Met, Said, Calls, Responds, Garbled}
-use Rattle.device_core.specs.Local.{ApplicationIsLocal, IsOfRelation}
+use Rattle.device_frames.specs.declared.local.Local.{Local}
+use Rattle.device_frames.specs.declared.local.Local.TheVariants as local
+use Rattle.device_core.specs.Local.{ApplicationIsLocal, IsOfRelation, is_answer}
 use Rattle.device_core.specs.Several.{judged_each}
 use Rattle.pn_values.specs.declared.identity.Identity.{Identity}
 use Rattle.connect_blocks.specs.declared.control.ControlBlock.{ControlBlock}
 use Rattle.cyclic_data.specs.declared.exchange.route.Route.{Route}
 use Rattle.pn_alarms.specs.declared.receiver.Taken.{Taken}
-use Rattle.rpc_core.specs.Cache.{Reported as Looked, new, again, old, looked, kept_more}
+use Rattle.rpc_core.specs.Cache.{Reported as Looked, new, again, old, looked, behind_reported, kept_more}
 use Rattle.relations.specs.declared.farewell.Farewell.{Farewell}
 use Rattle.relations.specs.Timers.{Due, due_of}
 use Rattle.relations.specs.RelationState.{RelationState, uuid_of, flow_of, is_alarm_of, is_in_exchange}
@@ -52,19 +61,19 @@ use Rattle.relations.specs.Calls.{prm_end_of, prm_end_answer, release_answer}
 use Rattle.relations.specs.Diagnosed.{begin_one, beginning, has_sent_low, heard_low, hearing_low, report_one, reporting}
 use Rattle.relations.specs.Ready.{handled_by}
 use Rattle.device_frames.specs.Relation.{alarms_of, due_frames, farewells_in, frames_in, inputs_of, low_alarms_of, low_replies_of, plug_call_in, plug_calls, ready_calls, replies_of, where_due}
-use Rattle.device_frames.specs.Sendable.{AreSendable}
+use Rattle.device_frames.specs.Sendable.{AreSendable, IsSendable}
 use Rattle.device_frames.specs.Sent.{Sent, IdentifyAnswer, GetAnswer, SetAnswer, ArpReply, CallAnswer, Again, Ends}
+use Rattle.rpc_core.specs.declared.response.Status.{Status}
 use Rattle.rpc_core.specs.Response.{Answered, answer_to}
 use Rattle.expected_places.specs.declared.calls.PlugCall.{PlugCall}
 use Rattle.relations.specs.declared.plugging.PlugAnswer.{PlugAnswer}
 use Rattle.relations.specs.declared.plugging.PlugAnswer.TheVariants as to_plug
 use Rattle.relations.specs.Plugging.{calling_next, is_calling, is_plug_control, plug_answer_in, plug_answering, plug_end_answer, plug_end_in, plug_ending, ready_for}
 use Rattle.device_core.specs.State.{Station, Live, Rest, alias_in, counter_of, units_after}
-use Rattle.device_core.specs.Local.{ApplicationIsLocal, IsOfRelation}
-use Rattle.device_core.specs.Several.{judged_each}
+use Rattle.device_core.specs.Asking.{Asking, asking_of, is_new, kept_reply, late_calls, late_in, late_sent, reply_to}
 use Rattle.device_core.specs.Log.{but_rest, connect_log, with_log}
 use Rattle.device_core.specs.Modules.{call_after, next_call_sent}
-use Rattle.device_core.specs.Handled.{counted_by, number_now, starting_of, served as served_by, Handled, is_running, is_request, answer_from, kept_for, kept_answer, outcome_of, partner_of, ready_behind, handled_request, handled_effect, handled_next_call, handled_plug_answer, handled_plug_end, handled_prm_end, handled_write, handled_new, handled_looked, handled_blocks, handled_call, handled_answer, handled_said, handled_pdu, handled_received, handled, known_of, handled_alarm, handled_low, handled_low_pdu}
+use Rattle.device_core.specs.Handled.{counted_by, number_now, starting_of, served as served_by, Handled, is_running, is_request, answer_from, kept_for, kept_answer, outcome_of, partner_of, ready_behind, handled_request, handled_effect, handled_next_call, handled_plug_answer, handled_plug_end, handled_prm_end, handled_write, handled_asking, handled_judged, handled_looked, handled_own, handled_question, handled_blocks, handled_call, handled_answer, handled_said, handled_pdu, handled_received, handled, known_of, handled_alarm, handled_local, handled_low, handled_low_pdu, ticked, unit_rest, unit_sent}
 use Rattle.device_core.specs.Machine.{farewells_at, items_in, first_answer, resets, several_answer, written_as, finished, heard_step, handled_step}
 use Rattle.dcp_core.specs.Set.{plan_of}
 use Rattle.end_laws.specs.answers.Whole.{AreStoredWhole, IsAnsweredWhole, IsOneDatagram}
@@ -164,6 +173,15 @@ others_whole : (identity : Identity) (messages : List Sent) → AreOthers messag
 others_whole identity [] others = tt
 others_whole identity (message ∷ messages) others = (other_whole identity message others.0, others_whole identity messages others.1)
 
+-- what holds of each message of two lists
+all_both : (P : Sent → Type 0) (front back : List Sent) → AllByRecursion P front → AllByRecursion P back → AllByRecursion P (front ++ back)
+all_both P [] back first last = last
+all_both P (message ∷ front) back first last = (first.0, all_both P front back first.1 last)
+
+all_back : (P : Sent → Type 0) (front back : List Sent) → AllByRecursion P (front ++ back) → AllByRecursion P back
+all_back P [] back all = all
+all_back P (message ∷ front) back all = all_back P front back all.1
+
 relation_other : (message : Sent) → IsOfRelation message → IsOther message
 relation_other (CallAnswer caller address answer) is = absurd is
 relation_other (Again frame) is = absurd is
@@ -207,6 +225,56 @@ module _ (datagrams : DatagramsAreRead) (reads : ResponsesAreRead) (local_is : A
         each_more IsOneDatagram (kept_for station.identity call (answer_from live.values.running.suite.address caller call operation outcome)) live.rest.calls (answer, whole) stored,
       )
 
+  -- ---- the response to what is asked
+
+  abbrev reply : Question → Status → List ℕ → Sent
+  reply question status blocks = reply_to live.values.running.suite.address question status blocks
+
+  -- what the stored answers say of its call
+  abbrev of_call : Question → Looked
+  of_call question = looked question.header.activity question.header.sequence live.rest.calls
+
+  -- it is sent and stored, unless a later call of its activity was answered
+  replies_as : (question : Question) (status : Status) (blocks : List ℕ) (reported : Looked)
+      → AreSendable station.identity (where_due (is_new reported) (reply question status blocks ∷ [])) → AreStoredWhole live.rest.calls
+      → AllByRecursion (IsAnsweredWhole station.identity) (where_due (is_new reported) (reply question status blocks ∷ []))
+      × AreStoredWhole (behind_reported 4 (kept_reply station.identity question (reply question status blocks)) live.rest.calls reported)
+  replies_as question status blocks new can stored =
+      let answer = answer_to (call_of question) status blocks in
+      let whole = answer_whole datagrams reads station.identity question.caller live.values.running.suite.address answer can.0 in (
+        (whole, tt),
+        each_more IsOneDatagram (kept_reply station.identity question (reply question status blocks)) live.rest.calls (answer, whole) stored,
+      )
+  replies_as question status blocks (again frame) can stored = (tt, stored)
+  replies_as question status blocks old can stored = (tt, stored)
+
+  question_good : (question : Question) (asked : Option AskedState) → IsGood (handled_question station live question asked)
+  question_good question (Some asked) = silent
+  question_good question None = replies_as question (unanswered_status (operation_asked question.request) Busy) [] (of_call question)
+
+  judged_good : (given : Gives) (question : Result Question AnswerFault) → IsGood (handled_judged station live given question)
+  judged_good given (Ok question) = replies_as question (answer_status question.request given) (answer_blocks question.request given) (of_call question)
+  judged_good given (Err why) = silent
+
+  late_good : (found : Option Question) → AreSendable station.identity (late_sent live.values.running.suite.address found live.rest.calls)
+      → AreStoredWhole live.rest.calls
+      → AllByRecursion (IsAnsweredWhole station.identity) (late_sent live.values.running.suite.address found live.rest.calls)
+      × AreStoredWhole (late_calls station.identity live.values.running.suite.address found live.rest.calls)
+  late_good None can stored = (tt, stored)
+  late_good (Some question) can stored =
+      replies_as question (unanswered_status (operation_asked question.request) Late) [] (of_call question) can stored
+
+  ticked_good : IsGood (ticked station live)
+  ticked_good can stored =
+      let address = live.values.running.suite.address in
+      let sent = unit_sent live in
+      let found = late_in (length sent) (unit_rest live).asked in
+      let late = late_good found (all_back (IsSendable station.identity) sent (late_sent address found live.rest.calls) can) stored in
+      let others = unit_other address (counter_of (units_after 1 live.rest.units)) (due_of live.rest.link) (updated (passing live.rest.link) live.rest.link) in
+      (all_both (IsAnsweredWhole station.identity) sent (late_sent address found live.rest.calls) (others_whole station.identity sent others) late.0, late.1)
+
+  -- ---- requests and calls
+
   request_good : (asker : Mac) (asked : Service) (request : Asked) → IsGood (handled_request station live asker asked request)
   request_good asker service.Identify request =
       cond_both (matches station.identity live.values.running (alias_in live.rest.peer) request) _ _ IsGood
@@ -223,7 +291,8 @@ module _ (datagrams : DatagramsAreRead) (reads : ResponsesAreRead) (local_is : A
   write_good : (caller : Caller) (call : Called) (writing : Result Writing CallFault) → IsGood (handled_write station live caller call writing)
   write_good caller call (Ok (One write)) = effect_good caller call write.request write.effect
   write_good caller call (Ok (Each header entries)) =
-      served caller call Write (Ok (several_answer header (judged_each (uuid_of live.rest.link) live.rest.real entries) answers live.rest.link)) [] tt
+      let judged_so = judged_each station.named (uuid_of live.rest.link) live.rest.real entries in
+      served caller call Write (Ok (several_answer header judged_so answers live.rest.link)) [] tt
   write_good caller call (Err fault) = served caller call Write (Err fault) [] tt
 
   connect_good : (caller : Caller) (call : Called) (blocks : List ℕ) (answer : Result (List ℕ) CallFault) (link : Option RelationState)
@@ -246,22 +315,30 @@ module _ (datagrams : DatagramsAreRead) (reads : ResponsesAreRead) (local_is : A
       served caller call Control (plug_end_answer ended) (call_after ended live.values.running.suite.address link)
       (after_other ended live.values.running.suite.address link)
 
-  new_good : (caller : Caller) (call : Called) (blocks : List ℕ) (operation : Operation) → IsGood (handled_new station live caller call blocks operation)
-  new_good caller call blocks Connect =
+  own_good : (caller : Caller) (call : Called) (blocks : List ℕ) (operation : Operation) → IsGood (handled_own station live caller call blocks operation)
+  own_good caller call blocks Connect =
       connect_good caller call blocks (connect_answer station.identity live.rest.real station.options (number_now station live) caller.mac live.rest.link blocks)
       (updated (making live.rest.real (partner_of caller) station.options (starting_of station live) (connect_within station.options caller.mac live.rest.link blocks)) live.rest.link)
-  new_good caller call blocks Release = served caller call Release (release_answer live.rest.link blocks) [] tt
-  new_good caller call blocks Read =
+  own_good caller call blocks Release = served caller call Release (release_answer live.rest.link blocks) [] tt
+  own_good caller call blocks Read =
       served caller call Read (relation_read (known_of station live) station.identity live.rest.real live.values.running blocks) [] tt
-  new_good caller call blocks Write = write_good caller call (writing_of (uuid_of live.rest.link) live.rest.real blocks)
-  new_good caller call blocks Control =
+  own_good caller call blocks Write = write_good caller call (writing_of (uuid_of live.rest.link) live.rest.real blocks)
+  own_good caller call blocks Control =
       cond_both (is_plug_control blocks live.rest.link) _ _ IsGood (λ _. plug_good caller call blocks) (λ _. control_good caller call blocks)
-  new_good caller call blocks ReadImplicit =
+  own_good caller call blocks ReadImplicit =
       served caller call ReadImplicit (implicit_read (known_of station live) station.identity live.rest.real live.values.running blocks) [] tt
+
+  asking_good : (caller : Caller) (call : Called) (blocks : List ℕ) (operation : Operation) (asking : Result (Option Asking) CallFault)
+      → IsGood (handled_asking station live caller call blocks operation asking)
+  asking_good caller call blocks operation (Ok None) = own_good caller call blocks operation
+  asking_good caller call blocks operation (Ok (Some asking)) = question_good asking.0 (asks asking.0 asking.1 live.rest.asked)
+  asking_good caller call blocks operation (Err why) = served caller call operation (Err why) [] tt
 
   looked_good : (caller : Caller) (call : Called) (blocks : List ℕ) (operation : Operation) (reported : Looked)
       → looked call.header.activity call.header.sequence live.rest.calls ≡ reported → IsGood (handled_looked station live caller call blocks operation reported)
-  looked_good caller call blocks operation new is = new_good caller call blocks operation
+  looked_good caller call blocks operation new is =
+      cond_both (is_repeat call.header.activity call.header.sequence live.rest.asked) _ _ IsGood (λ _. silent)
+      (λ _. asking_good caller call blocks operation (asking_of live.rest.real station.named (uuid_of live.rest.link) caller call blocks operation))
   looked_good caller call blocks operation (again frame) is =
       λ can stored. ((each_again IsOneDatagram call.header.activity call.header.sequence live.rest.calls frame stored is, tt), stored)
   looked_good caller call blocks operation old is = silent
@@ -334,6 +411,19 @@ module _ (datagrams : DatagramsAreRead) (reads : ResponsesAreRead) (local_is : A
   received_good received.Stale link = silent
   received_good received.Taken link = silent
 
+  spoken_good : (said : Local (ArrayVec ℕ)) → is_answer said ≡ false → IsGood (handled_local station live said)
+  spoken_good said other = λ can stored.
+      let is = local_is station live said other in (
+        others_whole station.identity _ (relation_others _ (is.sends answers)),
+        subst (λ (rest : Rest). AreStoredWhole rest.calls) (sym (is.keeps answers)) stored,
+      )
+
+  local_good : (said : Local (ArrayVec ℕ)) → IsGood (handled_local station live said)
+  local_good (local.Answer number octets) = judged_good (gives_octets octets.items) (judged number (gives_octets octets.items) live.rest.asked)
+  local_good (local.Written number) = judged_good gives_done (judged number gives_done live.rest.asked)
+  local_good (local.Refuse number code1 code2) = judged_good (gives_refusal code1 code2) (judged number (gives_refusal code1 code2) live.rest.asked)
+  local_good said = spoken_good said refl
+
   handled_good : (heard : Heard) → IsGood (handled station live heard)
   handled_good (Asks asker request) = request_good asker request.service request
   handled_good (Resolves asker packet) =
@@ -347,16 +437,8 @@ module _ (datagrams : DatagramsAreRead) (reads : ResponsesAreRead) (local_is : A
   handled_good (Cyclic source frame_id body) =
       received_good (received_by source frame_id body live.rest.link) (updated (receiving source frame_id body live.rest.link) live.rest.link)
   handled_good (Met peer) = silent
-  handled_good (Applied local) = λ can stored.
-      let is = local_is station live local in (
-        others_whole station.identity _ (relation_others _ (is.sends answers)),
-        subst (λ (rest : Rest). AreStoredWhole rest.calls) (sym (is.keeps answers)) stored,
-      )
-  handled_good Ticks =
-      let due = due_of live.rest.link in
-      let link = updated (passing live.rest.link) live.rest.link in
-      let counter = counter_of (units_after 1 live.rest.units) in
-      quiet (due_frames live.values.running.suite.address counter due link) (unit_other live.values.running.suite.address counter due link)
+  handled_good (Applied said) = local_good said
+  handled_good Ticks = ticked_good
   handled_good Unreadable = silent
   handled_good Elsewhere = silent
 

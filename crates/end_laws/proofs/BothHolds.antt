@@ -97,7 +97,8 @@ module _ {T Q : Type 0} where
   Unconfirmed None = Unit {0}
   Unconfirmed (Some link) = link.phase ≡ Exchanging → ⊥
 
-  -- until the controller exchanges data: no frame is a call of the application, or confirms ApplicationReady
+  -- until the controller exchanges data: no frame is a call of the application, or confirms ApplicationReady, and nothing is asked of
+  -- the device's application
   pub record Holds (rules : Rules T Q) (Good : List ℕ → Type 0) (w : World T Q) : Type 0 where
     pub held : HoldsAt rules w.device.kept w.device.link
     pub kept : KeepsFine rules Good w.device.kept w.device.link w.device.kept
@@ -105,6 +106,7 @@ module _ {T Q : Type 0} where
     pub asked : AsksBehind rules w.device.kept w.device.link w.controller
     pub before : w.controller ≡ Exchanges → ⊥
     pub unconfirmed : Unconfirmed w.device.link
+    pub unasked : w.device.asked ≡ None
 
   -- a relation is the one that the Connect asks for
   abbrev pub MadeIn : Rules T Q → Option (RelationState T Q) → Type 0

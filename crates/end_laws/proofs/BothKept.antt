@@ -5,7 +5,7 @@ use Rattle.std.proofs.lemmas.Bool.{leb-true, leb-false}
 use Rattle.std.specs.List.{AllByRecursion}
 use Rattle.std.specs.Prelude.{nat_le, slice_get}
 use Rattle.end_laws.specs.both.Small.{Ask, Connects, Writes, Parameterized, Releases, Accesses, ToDevice, Call, Confirms, Idle, Answers, Readies, Nothing, Rules, Started, Awaiting, Exchanging, RelationState, Kept, Device}
-use Rattle.end_laws.specs.both.Steps.{IsNew, IsPart, made, records_before, records_of, TakesSome, IsParameterized, Partly, Comes, Forgets, IsReady, IsDull, IsAnswered, IsAgain, Rests, GoesBy, DeviceSteps}
+use Rattle.end_laws.specs.both.Steps.{IsNew, IsPart, IsSameOrNone, made, records_before, records_of, TakesSome, IsParameterized, Partly, Comes, Forgets, IsReady, IsDull, IsAnswered, IsAgain, IsQuestion, Rests, GoesBy, Replies, DeviceSteps}
 use Rattle.end_laws.proofs.BothEach.{none_is, part_all, part_both, part_few, part_front, part_whole}
 use Rattle.end_laws.proofs.BothHolds.{IsSomeKept, TookIn, Took, IsPast, HasPart, IsHeld, IsHeldIn, HoldsAt, Behind, IsCall, TellsDevice, TellsController, IsFine, AreFine, KeepsFine, Unconfirmed}
 use Rattle.end_laws.proofs.BothGoes.{Grows, are_fine_on, keeps_on, same_grows, fine_as, fine_at_most}
@@ -259,6 +259,20 @@ module _ {T Q : Type 0} (rules : Rules T Q) where
       pub kept : KeepsFine rules GoodNow after.kept after.link after.kept
       pub new : AreFine rules GoodNow after.kept after.link frames
       pub unconfirmed : Unconfirmed after.link
+      pub unasked : after.asked ≡ None
+
+    -- what is not asked is not asked later, unless it is asked now
+    still_unasked : (asked now : Option ℕ) → IsSameOrNone asked now → asked ≡ None → now ≡ None
+    still_unasked asked now (inl same) none = same ∙ none
+    still_unasked asked now (inr gone) none = gone
+
+    -- no call of a start-up is one of the application
+    never_asked : (sequence : ℕ) (ask : Ask) (kept : Option Kept) (link : Option (RelationState T Q)) → ask ≡ Accesses → IsCall rules sequence ask kept link → ⊥
+    never_asked sequence ask kept link accesses call = by_call (subst (λ (a : Ask). IsCall rules sequence a kept link) accesses call)
+      where
+        by_call : IsCall rules sequence Accesses kept link → ⊥
+        by_call (inl releases) = absurd cc
+        by_call (inr asked) = asked.0
 
     -- each ApplicationReady that is sent now is good from now on
     abbrev pub AreGood : Device T Q → List (List ℕ) → Type 0
@@ -313,7 +327,7 @@ module _ {T Q : Type 0} (rules : Rules T Q) where
     answer_tells sequence ask false kept link answer after frame call comes unconfirmed = tt
 
     module _ (before after : Device T Q) (frames : List (List ℕ)) (held : HoldsAt rules before.kept before.link)
-        (kept : KeepsFine rules Good before.kept before.link before.kept) (unconfirmed : Unconfirmed before.link) where
+        (kept : KeepsFine rules Good before.kept before.link before.kept) (unconfirmed : Unconfirmed before.link) (unasked : before.asked ≡ None) where
       answered_leaves : (sequence : ℕ) (ask : Ask) → IsCall rules sequence ask before.kept before.link → AreGood after frames → IsAnswered rules sequence ask before after frames
           → Leaves before after frames
       answered_leaves sequence ask call good answered =
@@ -337,6 +351,7 @@ module _ {T Q : Type 0} (rules : Rules T Q) where
               all_dull_fine after answered.others (good_behind after answered.frame answered.others behind) answered.readies,
             );
             unconfirmed = unconfirmed_by ask before.link after.link may unconfirmed;
+            unasked = still_unasked before.asked after.asked answered.asked unasked;
           }
 
       -- nothing changed, and what is sent was fine
@@ -347,6 +362,7 @@ module _ {T Q : Type 0} (rules : Rules T Q) where
         kept = keeps_on rules before.kept before.kept before.link before.link (same_grows rules before.kept before.link) Good GoodNow good_on before.kept kept;
         new = are_fine_on rules before.kept before.kept before.link before.link (same_grows rules before.kept before.link) Good GoodNow good_on frames fine;
         unconfirmed = unconfirmed;
+        unasked = unasked;
       })
 
       again_leaves : (sequence : ℕ) → IsAgain sequence before after frames → Leaves before after frames
@@ -359,10 +375,13 @@ module _ {T Q : Type 0} (rules : Rules T Q) where
       rests_leaves rests = same_leaves rests.0 (subst (λ (fs : List (List ℕ)). AreFine rules Good before.kept before.link fs) (sym rests.1) tt)
 
       call_leaves : (sequence : ℕ) (ask : Ask) → IsCall rules sequence ask before.kept before.link → AreGood after frames
-          → IsAnswered rules sequence ask before after frames ⊎ (IsAgain sequence before after frames ⊎ Rests before after frames) → Leaves before after frames
+          → IsAnswered rules sequence ask before after frames
+          ⊎ (IsAgain sequence before after frames ⊎ (Rests before after frames ⊎ IsQuestion sequence ask before after frames))
+          → Leaves before after frames
       call_leaves sequence ask call good (inl answered) = answered_leaves sequence ask call good answered
       call_leaves sequence ask call good (inr (inl again)) = again_leaves sequence again
-      call_leaves sequence ask call good (inr (inr rests)) = rests_leaves rests
+      call_leaves sequence ask call good (inr (inr (inl rests))) = rests_leaves rests
+      call_leaves sequence ask call good (inr (inr (inr question))) = absurd (never_asked sequence ask before.kept before.link question.accesses call)
 
       -- a move of the relation to another phase, or to its end, does not change what was accepted
       took_same : (link now : Option (RelationState T Q)) (count : ℕ) → (now ≡ link) ⊎ (now ≡ None) → TookIn count link → TookIn count now
@@ -396,10 +415,19 @@ module _ {T Q : Type 0} (rules : Rules T Q) where
                 (keeps_on rules before.kept after.kept before.link after.link grows Good GoodNow good_on before.kept kept);
             new = all_dull_fine after frames good goes.sent;
             unconfirmed = still_unconfirmed before.link after.link link unconfirmed;
+            unasked = still_unasked before.asked after.asked goes.asked unasked;
           }
+
+      -- nothing is asked that could be answered
+      never_replies : Replies rules before after frames → ⊥
+      never_replies replies = none_some replies.sequence (sym unasked ∙ replies.asked)
+        where
+          none_some : (sequence : ℕ) → None ≡ Some sequence → ⊥
+          none_some sequence e = absurd cc
 
       pub device_leaves : (heard : ToDevice) → TellsDevice rules before.kept before.link heard → AreGood after frames → DeviceSteps rules heard before after frames
           → Leaves before after frames
       device_leaves (Call sequence ask) tells good steps = call_leaves sequence ask tells good steps
       device_leaves Confirms tells good steps = absurd tells
-      device_leaves Idle tells good steps = by_leaves good steps
+      device_leaves Idle tells good (inl goes) = by_leaves good goes
+      device_leaves Idle tells good (inr replies) = absurd (never_replies replies)

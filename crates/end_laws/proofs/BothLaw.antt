@@ -82,7 +82,7 @@ module _ {T Q : Type 0} (rules : Rules T Q) where
     held_behind : (heard : ToDevice) → TellsDevice rules w.device.kept w.device.link heard → StepsAtDevice rules heard w v → HoldsAt rules v.device.kept v.device.link
     held_behind heard tells steps =
         let leaves = device_leaves rules Good (λ (frame : List ℕ). Unit {0}) (λ frame good. tt) w.device v.device steps.frames
-        holds.held (keeps_any w.device.kept holds.kept) holds.unconfirmed heard tells (λ number frame there ready. tt) steps.steps in
+        holds.held (keeps_any w.device.kept holds.kept) holds.unconfirmed holds.unasked heard tells (λ number frame there ready. tt) steps.steps in
         leaves.held
       where
         keeps_any : (answer : Option Kept) → KeepsFine rules Good w.device.kept w.device.link answer → KeepsFine rules Good w.device.kept w.device.link answer
@@ -93,7 +93,7 @@ module _ {T Q : Type 0} (rules : Rules T Q) where
     at_device by heard tells steps =
         let before = w.device in
         let after = v.device in
-        let leaves = device_leaves rules Good GoodNow passes.good_on before after steps.frames holds.held holds.kept holds.unconfirmed heard tells
+        let leaves = device_leaves rules Good GoodNow passes.good_on before after steps.frames holds.held holds.kept holds.unconfirmed holds.unasked heard tells
         (λ number frame there ready.
         let all = ready_is rules after.kept after.link ready.link ready.has ready.awaits (held_behind heard tells steps) in
         passes.good_now by steps.frames steps.behind steps.controller number frame there ready.link ready.has ready.awaits all.0 all.1 all.2) steps.steps in
@@ -107,6 +107,7 @@ module _ {T Q : Type 0} (rules : Rules T Q) where
               (asks_on rules before.kept after.kept before.link after.link leaves.grows w.controller holds.asked);
           before = λ exchanges. holds.before (sym steps.controller ∙ exchanges);
           unconfirmed = leaves.unconfirmed;
+          unasked = leaves.unasked;
         }
 
     -- a step of the controller after which it does not exchange data
@@ -131,6 +132,7 @@ module _ {T Q : Type 0} (rules : Rules T Q) where
           asked = subst (λ (d : Device T Q). AsksBehind rules d.kept d.link v.controller) (sym same) asks;
           before = before;
           unconfirmed = subst (λ (d : Device T Q). Unconfirmed d.link) (sym same) holds.unconfirmed;
+          unasked = ap (λ (d : Device T Q). d.asked) same ∙ holds.unasked;
         }
 
     -- the case that nothing steps
@@ -146,6 +148,7 @@ module _ {T Q : Type 0} (rules : Rules T Q) where
           asked = holds.asked;
           before = holds.before;
           unconfirmed = holds.unconfirmed;
+          unasked = holds.unasked;
         })
 
     at_device_or_rest : IsByDevice move → (v ≡ w) ⊎ StepsAtDevice rules Idle w v → Holds rules GoodNow v
@@ -247,15 +250,23 @@ module _ {T Q : Type 0} (rules : Rules T Q) where
   made_past link after (inr (inr forgets)) is_made =
       subst (λ (l : Option (RelationState T Q)). MadeIn rules l) (sym forgets.becomes) (subst (λ (l : Option (RelationState T Q)). MadeIn rules l) forgets.was is_made)
 
+  -- what is no call leaves the relation, or ends it, or makes it forget records
+  idle_link : (before after : Device T Q) (frames : List (List ℕ)) → DeviceSteps rules Idle before after frames
+      → (after.link ≡ before.link) ⊎ ((after.link ≡ None) ⊎ Forgets before.link after.link)
+  idle_link before after frames (inl goes) = goes.link
+  idle_link before after frames (inr replies) = replies.link
+
   made_on : (heard : ToDevice) (before after : Device T Q) (frames : List (List ℕ)) → DeviceSteps rules heard before after frames → MadeIn rules before.link → MadeIn rules after.link
   made_on (Call sequence ask) before after frames (inl answered) is_made =
       made_by ask before.link after.link (may_come rules ask answered.positive before.link after.link answered.does) is_made
   made_on (Call sequence ask) before after frames (inr (inl again)) is_made = subst (λ (d : Device T Q). MadeIn rules d.link) (sym again.unchanged) is_made
-  made_on (Call sequence ask) before after frames (inr (inr rests)) is_made = subst (λ (d : Device T Q). MadeIn rules d.link) (sym rests.0) is_made
+  made_on (Call sequence ask) before after frames (inr (inr (inl rests))) is_made = subst (λ (d : Device T Q). MadeIn rules d.link) (sym rests.0) is_made
+  made_on (Call sequence ask) before after frames (inr (inr (inr question))) is_made =
+      subst (λ (d : Device T Q). MadeIn rules d.link) (sym question.becomes) is_made
   made_on Confirms before after frames (inl confirms) is_made =
       subst (λ (d : Device T Q). MadeIn rules d.link) (sym confirms.becomes) (subst (λ (l : Option (RelationState T Q)). MadeIn rules l) confirms.was is_made)
   made_on Confirms before after frames (inr goes) is_made = made_past before.link after.link goes.link is_made
-  made_on Idle before after frames goes is_made = made_past before.link after.link goes.link is_made
+  made_on Idle before after frames idles is_made = made_past before.link after.link (idle_link before after frames idles) is_made
 
   module _ (Was WasNow Past PastNow Handed HandedNow : Type 0) (w : World T Q) (move : Move) (v : World T Q)
       (passes : PassesSince Was WasNow Past PastNow Handed HandedNow move) (holds : HoldsSince rules Was Past Handed w) where
@@ -300,7 +311,8 @@ module _ {T Q : Type 0} (rules : Rules T Q) where
 
     idles_since : (v ≡ w) ⊎ StepsAtDevice rules Idle w v → HoldsSince rules WasNow PastNow HandedNow v
     idles_since (inl same) = rests_since same
-    idles_since (inr steps) = device_since Idle steps (confirmed_by w.device.link v.device.link steps.steps.link holds.confirmed)
+    idles_since (inr steps) = device_since Idle steps (confirmed_by w.device.link v.device.link
+        (idle_link w.device v.device steps.frames steps.steps) holds.confirmed)
 
     answers_since : (number : ℕ) → (v ≡ w) ⊎ ComesToControllerAs rules number w v → HoldsSince rules WasNow PastNow HandedNow v
     answers_since number (inl same) = rests_since same
@@ -528,6 +540,7 @@ module _ {T Q : Type 0} (rules : Rules T Q) where
       asked = subst (λ (c : Controller). AsksBehind rules first.device.kept first.device.link c) (sym begins.seeking) tt;
       before = λ exchanges. not_seeking (sym begins.seeking ∙ exchanges);
       unconfirmed = subst (λ (l : Option (RelationState T Q)). Unconfirmed l) (sym begins.unrelated) tt;
+      unasked = begins.unasked;
     })
       where
         not_seeking : Seeking ≡ Exchanges → ⊥

@@ -12,8 +12,9 @@ use Rattle.dcp_core.specs.declared.request.Service.TheVariants as service
 use Rattle.dcp_core.specs.Request.{Asked}
 use Rattle.dcp_core.specs.Identify.{matches}
 use Rattle.dcp_core.specs.Set.{plan_of}
-use Rattle.rpc_core.specs.Cache.{Reported as Looked, new, again, old, looked}
+use Rattle.rpc_core.specs.Cache.{Kept, Reported as Looked, new, again, old, looked}
 use Rattle.rpc_core.specs.Call.{Asked as Call}
+use Rattle.rpc_core.specs.declared.response.Status.{Status}
 use Rattle.rpc_core.specs.Response.{Answered as Response, is_done}
 use Rattle.connect_blocks.specs.declared.control.ControlBlock.{ControlBlock}
 use Rattle.record_blocks.specs.declared.alarm_notification.AlarmNotification.{AlarmNotification}
@@ -30,6 +31,12 @@ use Rattle.records.specs.declared.writes.writing.Writing.{Writing}
 use Rattle.records.specs.declared.writes.writing.Writing.TheVariants.{One, Each}
 use Rattle.records.specs.writes.Asked.{writing_of}
 use Rattle.device_records.specs.Reading.{implicit_read, relation_read}
+use Rattle.asked_records.specs.Answers.{Gives, gives_done, gives_octets, gives_refusal, answer_blocks, answer_status, judged, unanswered_status}
+use Rattle.asked_records.specs.Asked.{AskedState, asks as asking_state, is_repeat}
+use Rattle.asked_records.specs.Questions.{operation_of as operation_asked}
+use Rattle.asked_records.specs.declared.answering.AnswerFault.{AnswerFault}
+use Rattle.asked_records.specs.declared.question.Question.{Question}
+use Rattle.asked_records.specs.declared.status.Unanswered.TheVariants.{Busy}
 use Rattle.pn_alarms.specs.declared.abort.Abort.{Abort}
 use Rattle.pn_alarms.specs.declared.device.PduFate.{PduFate}
 use Rattle.pn_alarms.specs.declared.device.PduFate.TheVariants as fate
@@ -58,7 +65,7 @@ use Rattle.cyclic_data.specs.declared.exchange.received.Received.TheVariants as 
 use Rattle.cyclic_data.specs.declared.exchange.route.Route.{Route}
 use Rattle.cyclic_data.specs.exchange.Cyclic.{Cyclic as CyclicEnd}
 use Rattle.cyclic_data.specs.Image.{Cell, cell_at, changed, has_size, with_value}
-use Rattle.cyclic_data.specs.Timing.{Hearing, Sending, held_on, unit_later}
+use Rattle.cyclic_data.specs.Timing.{Hearing, held_on, unit_later}
 use Rattle.cyclic_data.specs.declared.place.PlaceKind.TheVariants.{Data as at_data}
 use Rattle.connects.specs.declared.requests.parts.Ar.{Ar}
 use Rattle.connects.specs.requests.Pieces.{Piece, pieces_of}
@@ -98,7 +105,8 @@ use Rattle.device_frames.specs.declared.note.Note.{Note}
 use Rattle.device_frames.specs.declared.note.Note.TheVariants as note
 use Rattle.settings_journal.specs.settings_store.Machine.{Outcome, carried}
 use Rattle.device_core.specs.State.{Station, Live, alias_in}
-use Rattle.device_core.specs.Handled.{change_of, counted_by, number_now, Handled, Refuses, Sets, Moves, handled, handled_alarm, handled_answer, handled_blocks, handled_call, handled_change, handled_effect, handled_input, handled_looked, handled_low, handled_low_message, handled_low_pdu, handled_message, handled_modules, handled_new, handled_next_call, handled_notice, handled_pdu, handled_plug_answer, handled_plug_end, handled_prm_end, handled_received, handled_request, handled_said, handled_turned, handled_write, implicitly, is_request, is_running, kept_answer, kept_status, known_of, may_be_diagnosed, partner_of, ready_behind, served, starting_of, ticked}
+use Rattle.device_core.specs.Asking.{Asking, asking_of, is_new, late_reply, late_sent, left_asked, released_by, reply_to, source_of}
+use Rattle.device_core.specs.Handled.{change_of, counted_by, number_now, Handled, Refuses, Sets, Moves, handled, handled_alarm, handled_answer, handled_asking, handled_blocks, handled_call, handled_change, handled_effect, handled_input, handled_judged, handled_looked, handled_low, handled_low_message, handled_low_pdu, handled_message, handled_modules, handled_new, handled_next_call, handled_notice, handled_own, handled_pdu, handled_plug_answer, handled_plug_end, handled_prm_end, handled_question, handled_received, handled_request, handled_said, handled_turned, handled_write, implicitly, is_request, is_running, kept_answer, kept_status, known_of, may_be_diagnosed, partner_of, ready_behind, served, starting_of, ticked}
 use Rattle.device_core.specs.Modules.{call_after, calling_after, changed_rest, next_call_sent, outside, plug_of, pull_of, sent_after, slot_pull_of}
 use Rattle.device_core.specs.Several.{Judged, judged_each}
 use Rattle.device_core.specs.Machine.{Stepped, Finished, effect_link, farewells_at, finished, first_answer, handled_step, heard_step, items_in, link_after, link_behind, one_link, resets, written_as}
@@ -184,6 +192,15 @@ farewells_none : (ends : Bool) (link : Option RelationState) → sends_inputs (f
 farewells_none false link = refl
 farewells_none true None = refl
 farewells_none true (Some link) = refl
+
+-- a response to what is asked is no frame of inputs
+answer_none : (is_due : Bool) (answer : Sent) → is_inputs answer ≡ false → sends_inputs (where_due is_due (answer ∷ [])) ≡ false
+answer_none is_due answer none = none_due is_due (answer ∷ []) (neither (is_inputs answer) false none refl)
+
+pub late_none : (address : List ℕ) (found : Option Question) (calls : List Kept) → sends_inputs (late_sent address found calls) ≡ false
+late_none address None calls = refl
+late_none address (Some question) calls =
+    answer_none (is_new (looked question.header.activity question.header.sequence calls)) (late_reply address question) refl
 
 -- ---- a second Connect
 
@@ -385,13 +402,17 @@ module _ (station : Station) (before : Live) (link : RelationState) where
   calm_effect (Stores value) after is = is
   calm_effect (Keeps parameter) after is = calm_taking (keeping parameter after) after is
 
-  calm_one : (result : Result Write CallFault) (after : Option RelationState) → Calm after → Calm (one_link result after)
+  calm_one : (result : Result Write Status) (after : Option RelationState) → Calm after → Calm (one_link result after)
   calm_one (Ok write) after is = calm_effect write.effect after is
   calm_one (Err why) after is = is
 
   calm_each : (judged : List Judged) (after : Option RelationState) → Calm after → Calm (link_behind judged after)
   calm_each [] after is = is
   calm_each (one ∷ others) after is = calm_each others (one_link one.1 after) (calm_one one.1 after is)
+
+  calm_if : (source : Partner) (b : Bool) → Calm (updated (if b then Named source else Unmoved) live.rest.link)
+  calm_if source true = calm_named source live.rest.link calm_stands
+  calm_if source false = calm_stands
 
   calms : (heard : Heard) → IsQuiet live heard → (end : Finished) → Calm end.rest.link → sends_inputs end.sent ≡ false → Does live link heard end
   calms heard quiet end is silent = record {
@@ -458,10 +479,6 @@ module _ (station : Station) (before : Live) (link : RelationState) where
     connects blocks (Ok request) e = absurd (no_second blocks request e)
     connects blocks (Err why) e = calm_stands
 
-    names : (blocks : List ℕ) (b : Bool) → Calm (updated (if b then Named (partner_of caller) else Unmoved) live.rest.link)
-    names blocks true = calm_named (partner_of caller) live.rest.link calm_stands
-    names blocks false = calm_stands
-
     effects : (call : Call) (header : IodWriteReq) (effect : Effect) → Done now (handled_effect station live caller call header effect)
     effects call header (Stores value) = λ answers.
         calms now quiet_now _
@@ -475,7 +492,7 @@ module _ (station : Station) (before : Live) (link : RelationState) where
     writes : (call : Call) (writing : Result Writing CallFault) → Done now (handled_write station live caller call writing)
     writes call (Ok (One write)) = effects call write.request write.effect
     writes call (Ok (Each header entries)) = λ answers.
-        let judged = judged_each (uuid_of live.rest.link) live.rest.real entries in
+        let judged = judged_each station.named (uuid_of live.rest.link) live.rest.real entries in
         calms now quiet_now _ (calm_named (partner_of caller) (link_behind judged live.rest.link) (calm_each judged live.rest.link calm_stands)) refl
     writes call (Err why) = serves live call operation.Write (Err why) live.rest.link [] calm_stands refl
 
@@ -525,26 +542,49 @@ module _ (station : Station) (before : Live) (link : RelationState) where
     control call blocks true = plug_ends call blocks
     control call blocks false = prm_ends call blocks
 
-    new_call : (call : Call) (blocks : List ℕ) (which : Operation) → Done now (handled_new station live caller call blocks which)
-    new_call call blocks operation.Connect =
+    own_call : (call : Call) (blocks : List ℕ) (which : Operation) → Done now (handled_own station live caller call blocks which)
+    own_call call blocks operation.Connect =
         let answer = connect_answer station.identity live.rest.real station.options (number_now station live) caller.mac live.rest.link blocks in
         serves (but_rest live (counted_by answer (with_log (connect_log blocks answer) live.rest))) call operation.Connect answer _ []
         (connects blocks (connect_within station.options caller.mac live.rest.link blocks) refl) refl
-    new_call call blocks operation.Release =
-        serves (but_rest live (with_log (release_log (uuid_of live.rest.link) (release_answer live.rest.link blocks)) live.rest)) call operation.Release _ _ [] (calm_answered Ended (release_of live.rest.link blocks) live.rest.link calm_none calm_stands) refl
-    new_call call blocks operation.Read =
+    own_call call blocks operation.Release =
+        let answer = release_answer live.rest.link blocks in
+        let asked = left_asked (released_by answer (uuid_of live.rest.link)) live.rest.asked in
+        serves (but_rest live (record (with_log (release_log (uuid_of live.rest.link) answer) live.rest) { asked = asked })) call operation.Release answer _ []
+        (calm_answered Ended (release_of live.rest.link blocks) live.rest.link calm_none calm_stands) refl
+    own_call call blocks operation.Read =
         serves live call operation.Read _ _ []
         (calm_answered (Named (partner_of caller)) (relation_read (known_of station live) station.identity live.rest.real live.values.running blocks) live.rest.link
         (calm_named (partner_of caller) live.rest.link calm_stands) calm_stands) refl
-    new_call call blocks operation.Write = writes call (writing_of (uuid_of live.rest.link) live.rest.real blocks)
-    new_call call blocks operation.Control = control call blocks (is_plug_control blocks live.rest.link)
-    new_call call blocks operation.ReadImplicit =
+    own_call call blocks operation.Write = writes call (writing_of (uuid_of live.rest.link) live.rest.real blocks)
+    own_call call blocks operation.Control = control call blocks (is_plug_control blocks live.rest.link)
+    own_call call blocks operation.ReadImplicit =
         serves live call operation.ReadImplicit _ _ []
         (calm_answered (implicitly (partner_of caller) live.rest.link blocks) (implicit_read (known_of station live) station.identity live.rest.real live.values.running blocks) live.rest.link
-        (names blocks _) calm_stands) refl
+        (calm_if (partner_of caller) _) calm_stands) refl
+
+    -- a call that is asked of the application, or refused while another one is
+    question_call : (question : Question) (asked : Option AskedState) → Done now (handled_question station live question asked)
+    question_call question (Some asked) = λ answers. calms now quiet_now _ calm_stands refl
+    question_call question None = λ answers.
+        calms now quiet_now _ calm_stands
+        (answer_none (is_new (looked question.header.activity question.header.sequence live.rest.calls))
+        (reply_to live.values.running.suite.address question (unanswered_status (operation_asked question.request) Busy) []) refl)
+
+    asking_call : (call : Call) (blocks : List ℕ) (which : Operation) (asking : Result (Option Asking) CallFault)
+        → Done now (handled_asking station live caller call blocks which asking)
+    asking_call call blocks which (Ok None) = own_call call blocks which
+    asking_call call blocks which (Ok (Some asking)) = question_call asking.0 (asking_state asking.0 asking.1 live.rest.asked)
+    asking_call call blocks which (Err why) = serves live call which (Err why) live.rest.link [] calm_stands refl
+
+    unanswered_call : (call : Call) (blocks : List ℕ) (which : Operation) (b : Bool)
+        → Done now (if b then Moves live.rest [] else handled_new station live caller call blocks which)
+    unanswered_call call blocks which true = λ answers. calms now quiet_now _ calm_stands refl
+    unanswered_call call blocks which false =
+        asking_call call blocks which (asking_of live.rest.real station.named (uuid_of live.rest.link) caller call blocks which)
 
     looked_call : (call : Call) (blocks : List ℕ) (which : Operation) (found : Looked) → Done now (handled_looked station live caller call blocks which found)
-    looked_call call blocks which new = new_call call blocks which
+    looked_call call blocks which new = unanswered_call call blocks which (is_repeat call.header.activity call.header.sequence live.rest.asked)
     looked_call call blocks which (again frame) = λ answers. calms now quiet_now _ calm_stands refl
     looked_call call blocks which old = refuses now note.OldCall (calm live link now quiet_now)
 
@@ -820,6 +860,15 @@ module _ (station : Station) (before : Live) (link : RelationState) where
           by_phase false = refl
   readies false = refuses (Applied local.Ready) note.Refused (calm live link (Applied local.Ready) (record { unit = refl; value = λ s ss size. refl; made = refl }))
 
+  -- an answer of the application: the relation goes on, also if it is alive by it
+  module _ (heard : Heard) (quiet : IsQuiet live heard) where
+    answered_by : (given : Gives) (question : Result Question AnswerFault) → Done heard (handled_judged station live given question)
+    answered_by given (Ok question) = λ answers.
+        calms heard quiet _ (calm_if (source_of question) _)
+        (answer_none (is_new (looked question.header.activity question.header.sequence live.rest.calls))
+        (reply_to live.values.running.suite.address question (answer_status question.request given) (answer_blocks question.request given)) refl)
+    answered_by given (Err why) = refuses heard note.Refused (calm live link heard quiet)
+
   -- a unit
   passes_on : Follows live link Ticks (flow_later link.flow)
   passes_on = record { sends = refl; inputs = λ slot subslot paired. still slot subslot link.flow (flow_later link.flow) refl refl; hears = λ phase none. refl }
@@ -827,7 +876,7 @@ module _ (station : Station) (before : Live) (link : RelationState) where
   no_unit : true ≡ false → ⊥
   no_unit e = cc
 
-  ticks : (ending : Option Abort) → ending_of link ≡ ending → Done Ticks (ticked live)
+  ticks : (ending : Option Abort) → ending_of link ≡ ending → Done Ticks (ticked station live)
   ticks (Some because) is = λ answers.
       ends Ticks _ (ap (λ (o : Option Abort). updated (passing_by o) (Some link)) is) (λ unit. absurd (no_unit unit))
   ticks None is = λ answers.
@@ -862,6 +911,15 @@ module _ (station : Station) (before : Live) (link : RelationState) where
   does (Applied (local.ReadyAt slot subslot)) = readies_at slot subslot (is_readied_in slot subslot live.rest.link)
   does (Applied local.Ready) = readies (is_preparing (phase_of live.rest.link))
   does (Applied (local.ProviderState is_running)) = turns_so is_running
+  does (Applied (local.Answer number octets)) =
+      answered_by (Applied (local.Answer number octets)) (record { unit = refl; value = λ s ss size. refl; made = refl })
+      (gives_octets octets.items) (judged number (gives_octets octets.items) live.rest.asked)
+  does (Applied (local.Written number)) =
+      answered_by (Applied (local.Written number)) (record { unit = refl; value = λ s ss size. refl; made = refl })
+      gives_done (judged number gives_done live.rest.asked)
+  does (Applied (local.Refuse number code1 code2)) =
+      answered_by (Applied (local.Refuse number code1 code2)) (record { unit = refl; value = λ s ss size. refl; made = refl })
+      (gives_refusal code1 code2) (judged number (gives_refusal code1 code2) live.rest.asked)
   does Ticks = ticks (ending_of link) refl
   does Unreadable = refuses Unreadable note.Fault (calm live link Unreadable (record { unit = refl; value = λ s ss size. refl; made = refl }))
   does Elsewhere = refuses Elsewhere note.NotMine (calm live link Elsewhere (record { unit = refl; value = λ s ss size. refl; made = refl }))

@@ -1,6 +1,6 @@
 -- What a device exchanges over any events: a frame of inputs in each interval, with the values that were given, and the end of a
 -- relation that receives nothing.
-use Rattle.std.proofs.Common.{◌≡◌, ◌⊎◌, inl, inr, ap, ◌+◌, ◌%◌, ◌==◌, ◌&&◌, ℕ, zero, suc, Bool, true, false, List, [], ◌∷◌, ◌++◌, map, Option, Some, None, option_map, refl, sym, subst, ◌∙◌, arith}
+use Rattle.std.proofs.Common.{◌≡◌, ◌⊎◌, inl, inr, ap, ◌+◌, ◌%◌, ◌==◌, ◌&&◌, ℕ, zero, suc, Bool, true, false, List, [], ◌∷◌, ◌++◌, length, map, Option, Some, None, option_map, refl, sym, subst, ◌∙◌, arith}
 use Rattle.std.specs.Prelude.{◌||◌, if◌then◌else◌, is_some, nat_le, unwrap_or}
 use Rattle.std.specs.List.{AllByRecursion}
 use Rattle.pn_alarms.specs.declared.abort.Abort.{Abort}
@@ -39,10 +39,14 @@ use Rattle.device_frames.specs.Heard.{Heard, Ticks, heard_of}
 use Rattle.device_frames.specs.Relation.{alarms_of, due_frames, farewells_in, frames_in, inputs_of, low_alarms_of, plug_call_in, plug_calls, ready_calls, where_due}
 use Rattle.device_frames.specs.Sent.{Sent, IdentifyAnswer, GetAnswer, SetAnswer, ArpReply, Again, Ends, CallAnswer, Exchanges, PlugReadyCall, ReadyCall}
 use Rattle.settings_journal.specs.settings_store.Machine.{Outcome}
+use Rattle.asked_records.specs.declared.question.Question.{Question}
+use Rattle.rpc_core.specs.Cache.{Kept, looked}
 use Rattle.device_core.specs.State.{Live, Station, counter_of, units_after}
+use Rattle.device_core.specs.Asking.{is_new, late_in, late_reply, late_sent}
+use Rattle.device_core.specs.Handled.{unit_rest, unit_sent}
 use Rattle.device_core.specs.Machine.{handled_step, heard_step}
 use Rattle.end_laws.specs.device.Exchange.{AreTheLastGiven, AreUnaccepted, EndsWithoutData, GoesOnFor, Happening, IsUnaccepted, OfInputs, SendsEachInterval, SendsTheLastGiven, StaysExchanging, StaysRelated, affects, after_all, ends_for_data, given_then, given_with, is_end_of_data, is_inputs, is_unit, last_given, made_with, sends_inputs, stepped, units_in, value_of}
-use Rattle.end_laws.proofs.DeviceExchange.{Follows, alarms_none, both_none, hearing_of, low_alarms_none, none_due, plug_calls_none, ready_none, step_does, value_then, waiting_on}
+use Rattle.end_laws.proofs.DeviceExchange.{Follows, alarms_none, both_none, hearing_of, late_none, low_alarms_none, none_due, plug_calls_none, ready_none, step_does, value_then, waiting_on}
 use Rattle.end_laws.proofs.DeviceInputs.{IsPaired, paired_on, value, zeros_if}
 use Rattle.relations.proofs.ExchangeInputs.{cell_in, placed}
 
@@ -176,8 +180,21 @@ unended : (link : RelationState) → GoesOnFor (Some link) → ending_of link �
 unended link (inr none) e = none
 unended link (inl exchanges) e = sym (timed_by link.phase (is_over link) (tick_of link.flow).ending exchanges) ∙ e
 
+-- what is sent after the frames of the relation is no frame of inputs
+ends_there : (sent more : List Sent) → sends_inputs more ≡ false → sends_inputs (sent ++ more) ≡ sends_inputs sent
+ends_there [] more none = none
+ends_there (message ∷ sent) more none = ap (λ (b : Bool). is_inputs message || b) (ends_there sent more none)
+
+-- the refusal of a call that has no answer with this unit, if there is one
+abbrev late_after : Live → List Sent
+late_after live = late_sent live.values.running.suite.address (late_in (length (unit_sent live)) (unit_rest live).asked) live.rest.calls
+
 -- one unit of a device with this relation
 module _ (station : Station) (before : Live) (link : RelationState) where
+  -- a device with this relation
+  abbrev with_link : Live
+  with_link = record before { rest = record before.rest { link = Some link } }
+
   abbrev sent_by : Option Abort → List Sent
   sent_by ending = due_frames before.values.running.suite.address (counter_of (units_after 1 before.rest.units)) (due_by link ending) (updated (passing_by ending) (Some link))
 
@@ -194,7 +211,9 @@ module _ (station : Station) (before : Live) (link : RelationState) where
   tick_sends : (outcomes : List Outcome) → GoesOnFor (Some link) → is_some (heard_step outcomes station (record before { rest = record before.rest { link = Some link } }) Ticks).live.rest.link ≡ true
       → sends_inputs (heard_step outcomes station (record before { rest = record before.rest { link = Some link } }) Ticks).sent ≡ is_due link.flow.cyclic.sending
   unfolding heard_step handled_step
-  tick_sends outcomes goes_on related = unit_sends (ending_of link) refl goes_on related
+  tick_sends outcomes goes_on related =
+      ends_there (unit_sent with_link) (late_after with_link) (late_none before.values.running.suite.address _ before.rest.calls)
+      ∙ unit_sends (ending_of link) refl goes_on related
 
 -- the unit of any device with a relation
 tick_at : (station : Station) (outcomes : List Outcome) (live : Live) (link : RelationState) → live.rest.link ≡ Some link → GoesOnFor live.rest.link
@@ -315,7 +334,11 @@ module _ (station : Station) (Has : Shown → Type 0) where
     tick_has : (outcomes : List Outcome) → AllHave (heard_step outcomes station (record before { rest = record before.rest { link = Some link } }) Ticks).sent
     unfolding heard_step handled_step
     tick_has outcomes =
-        frames_have before.values.running.suite.address (counter_of (units_after 1 before.rest.units)) (due_in link) (updated (passing_by (ending_of link)) (Some link)) (later_given (ending_of link))
+        let live : Live = record before { rest = record before.rest { link = Some link } } in
+        let later = updated (passing_by (ending_of link)) (Some link) in
+        both_have (unit_sent live) (late_after live)
+        (frames_have before.values.running.suite.address (counter_of (units_after 1 before.rest.units)) (due_in link) later (later_given (ending_of link)))
+        (none_has (late_after live) (late_none before.values.running.suite.address _ before.rest.calls))
 
   pub any_has : (outcomes : List Outcome) (live : Live) (link : RelationState) (heard : Heard) → live.rest.link ≡ Some link → Has link.flow.cyclic.shown
       → AllHave (heard_step outcomes station live heard).sent
@@ -476,6 +499,16 @@ unending address counter due link none =
     (quiet_both (where_due due.is_plug_ready (plug_calls address link)) _ (quiet_due due.is_plug_ready (plug_calls address link) (quiet_plugs address link))
     (quiet_due due.is_cyclic (inputs_of counter (flow_of link)) (quiet_inputs counter (flow_of link)))))))
 
+-- a response to what is asked is no ERR
+quiet_late : (address : List ℕ) (found : Option Question) (calls : List Kept) → ends_for_data (late_sent address found calls) ≡ false
+quiet_late address None calls = refl
+quiet_late address (Some question) calls =
+    quiet_due (is_new (looked question.header.activity question.header.sequence calls)) (late_reply address question ∷ []) refl
+
+no_more_ends : (sent more : List Sent) → ends_for_data more ≡ false → ends_for_data (sent ++ more) ≡ ends_for_data sent
+no_more_ends [] more none = none
+no_more_ends (message ∷ sent) more none = ap (λ (b : Bool). is_end_of_data message || b) (no_more_ends sent more none)
+
 -- the end that a unit brings, if data is exchanged
 ending_so : (cyclic : CyclicEnd) (alarm : AlarmDue) (ending : Option Abort) → (tick_by cyclic alarm ending).ending ≡ ending
 ending_so cyclic alarm None = refl
@@ -515,7 +548,9 @@ module _ (station : Station) (before : Live) (link : RelationState) where
       × (is_cyclic_silent link.flow.cyclic ≡ true → (heard_step outcomes station (record before { rest = record before.rest { link = Some link } }) Ticks).live.rest.link ≡ None)
   unfolding heard_step handled_step
   tick_ends outcomes exchanges = (
-    ap (λ (o : Option Abort). ends_for_data (frames_at o)) (ending_now exchanges) ∙ says_by (is_cyclic_silent link.flow.cyclic),
+    let live : Live = record before { rest = record before.rest { link = Some link } } in
+        no_more_ends (unit_sent live) (late_after live) (quiet_late before.values.running.suite.address _ before.rest.calls)
+        ∙ (ap (λ (o : Option Abort). ends_for_data (frames_at o)) (ending_now exchanges) ∙ says_by (is_cyclic_silent link.flow.cyclic)),
     λ silent. ap (λ (o : Option Abort). updated (passing_by o) (Some link)) (ending_now exchanges) ∙ ends_by (is_cyclic_silent link.flow.cyclic) silent,
   )
 

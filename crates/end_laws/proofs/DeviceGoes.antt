@@ -15,6 +15,13 @@ use Rattle.rpc_core.specs.Cache.{Reported as Looked, new, again, old, looked}
 use Rattle.rpc_core.specs.Call.{Asked as Call}
 use Rattle.rpc_core.specs.Response.{Answered as Response}
 use Rattle.record_blocks.specs.declared.write_record.IodWriteReq.{IodWriteReq}
+use Rattle.rpc_core.specs.declared.response.Status.{Status}
+use Rattle.asked_records.specs.Answers.{Gives, gives_done, gives_octets, gives_refusal, is_refusal, judged}
+use Rattle.asked_records.specs.Asked.{AskedState, asks, is_repeat}
+use Rattle.asked_records.specs.Questions.{header_of}
+use Rattle.asked_records.specs.declared.answering.AnswerFault.{AnswerFault}
+use Rattle.asked_records.specs.declared.question.Question.{Question}
+use Rattle.records.specs.calls.Naming.{is_relation}
 use Rattle.records.specs.declared.status.call_fault.CallFault.{CallFault}
 use Rattle.records.specs.declared.status.operation.Operation.{Operation}
 use Rattle.records.specs.declared.status.operation.Operation.TheVariants as operation
@@ -75,7 +82,8 @@ use Rattle.device_frames.specs.declared.note.Note.{Note}
 use Rattle.device_frames.specs.declared.note.Note.TheVariants as note
 use Rattle.settings_journal.specs.settings_store.Machine.{Outcome, carried}
 use Rattle.device_core.specs.State.{Station, Live, alias_in}
-use Rattle.device_core.specs.Handled.{change_of, Handled, Refuses, Sets, Moves, handled, handled_alarm, handled_answer, handled_blocks, handled_call, handled_change, handled_effect, handled_input, handled_looked, handled_low, handled_low_message, handled_low_pdu, handled_message, handled_modules, handled_new, handled_next_call, handled_notice, handled_pdu, handled_plug_answer, handled_plug_end, handled_prm_end, handled_received, handled_request, handled_said, handled_turned, handled_write, implicitly, is_request, is_running, kept_status, known_of, may_be_diagnosed, partner_of, starting_of, ticked}
+use Rattle.device_core.specs.Asking.{Asking, asking_of, source_of}
+use Rattle.device_core.specs.Handled.{change_of, Handled, Refuses, Sets, Moves, handled, handled_alarm, handled_answer, handled_blocks, handled_call, handled_change, handled_asking, handled_effect, handled_gives, handled_input, handled_judged, handled_looked, handled_low, handled_low_message, handled_low_pdu, handled_message, handled_modules, handled_new, handled_next_call, handled_notice, handled_pdu, handled_plug_answer, handled_plug_end, handled_own, handled_prm_end, handled_question, handled_received, handled_request, handled_said, handled_turned, handled_write, implicitly, is_request, is_running, kept_status, known_of, may_be_diagnosed, partner_of, starting_of, ticked}
 use Rattle.device_core.specs.Modules.{calling_after, changed_rest, outside, plug_of, pull_of, sent_after, slot_pull_of}
 use Rattle.device_core.specs.Several.{Judged, judged_each}
 use Rattle.device_core.specs.Machine.{effect_link, finished, first_answer, handled_step, heard_step, items_in, link_after, link_behind, one_link, resets, written_as}
@@ -135,7 +143,7 @@ module _ (station : Station) (before : Live) (link : RelationState) where
   on_effect (Stores value) after on = on
   on_effect (Keeps parameter) after on = on_taking (keeping parameter after) after on
 
-  on_one : (result : Result Write CallFault) (after : Option RelationState) → OnTo after → OnTo (one_link result after)
+  on_one : (result : Result Write Status) (after : Option RelationState) → OnTo after → OnTo (one_link result after)
   on_one (Ok write) after on = on_effect write.effect after on
   on_one (Err why) after on = on
 
@@ -199,7 +207,7 @@ module _ (station : Station) (before : Live) (link : RelationState) where
     writes : (call : Call) (writing : Result Writing CallFault) → Done (handled_write station live caller call writing)
     writes call (Ok (One write)) = effects call write.request write.effect
     writes call (Ok (Each header entries)) = λ answers.
-        let judged = judged_each (uuid_of live.rest.link) live.rest.real entries in
+        let judged = judged_each station.named (uuid_of live.rest.link) live.rest.real entries in
         leads _ _ refl (on_named (partner_of caller) (link_behind judged live.rest.link) (on_each judged live.rest.link stands))
     writes call (Err why) = λ answers. leads _ _ refl stands
 
@@ -246,24 +254,42 @@ module _ (station : Station) (before : Live) (link : RelationState) where
     control call blocks true = plug_ends call blocks
     control call blocks false = prm_ends call blocks
 
-    new_call : (call : Call) (blocks : List ℕ) (which : Operation) → Done (handled_new station live caller call blocks which)
-    new_call call blocks operation.Connect =
+    own_call : (call : Call) (blocks : List ℕ) (which : Operation) → Done (handled_own station live caller call blocks which)
+    own_call call blocks operation.Connect =
         λ answers. leads _ _ refl (connects blocks (connect_within station.options caller.mac live.rest.link blocks) refl)
-    new_call call blocks operation.Release =
+    own_call call blocks operation.Release =
         λ answers. leads _ _ refl (on_answered Ended (release_of live.rest.link blocks) live.rest.link gone stands)
-    new_call call blocks operation.Read =
+    own_call call blocks operation.Read =
         λ answers. leads _ _ refl
         (on_answered (Named (partner_of caller)) (relation_read (known_of station live) station.identity live.rest.real live.values.running blocks) live.rest.link
         (on_named (partner_of caller) live.rest.link stands) stands)
-    new_call call blocks operation.Write = writes call (writing_of (uuid_of live.rest.link) live.rest.real blocks)
-    new_call call blocks operation.Control = control call blocks (is_plug_control blocks live.rest.link)
-    new_call call blocks operation.ReadImplicit =
+    own_call call blocks operation.Write = writes call (writing_of (uuid_of live.rest.link) live.rest.real blocks)
+    own_call call blocks operation.Control = control call blocks (is_plug_control blocks live.rest.link)
+    own_call call blocks operation.ReadImplicit =
         λ answers. leads _ _ refl
         (on_answered (implicitly (partner_of caller) live.rest.link blocks) (implicit_read (known_of station live) station.identity live.rest.real live.values.running blocks) live.rest.link
         (names blocks _) stands)
 
+    -- a call for a record of the application: it is asked, or refused while another one is
+    questions : (question : Question) (asked : Option AskedState) → Done (handled_question station live question asked)
+    questions question (Some asked) = λ answers. leads _ _ refl stands
+    questions question None = λ answers. leads _ _ refl stands
+
+    asking_as : (call : Call) (blocks : List ℕ) (which : Operation) (asking : Result (Option Asking) CallFault)
+        → Done (handled_asking station live caller call blocks which asking)
+    asking_as call blocks which (Ok None) = own_call call blocks which
+    asking_as call blocks which (Ok (Some asking)) = questions asking.0 (asks asking.0 asking.1 live.rest.asked)
+    asking_as call blocks which (Err why) = λ answers. leads _ _ refl stands
+
+    -- one that is asked already is dropped
+    unanswered : (call : Call) (blocks : List ℕ) (which : Operation) (b : Bool)
+        → Done (if b then Moves live.rest [] else handled_new station live caller call blocks which)
+    unanswered call blocks which true = λ answers. leads _ _ refl stands
+    unanswered call blocks which false =
+        asking_as call blocks which (asking_of live.rest.real station.named (uuid_of live.rest.link) caller call blocks which)
+
     looked_call : (call : Call) (blocks : List ℕ) (which : Operation) (found : Looked) → Done (handled_looked station live caller call blocks which found)
-    looked_call call blocks which new = new_call call blocks which
+    looked_call call blocks which new = unanswered call blocks which (is_repeat call.header.activity call.header.sequence live.rest.asked)
     looked_call call blocks which (again frame) = λ answers. leads _ _ refl stands
     looked_call call blocks which old = refuses note.OldCall
 
@@ -411,12 +437,25 @@ module _ (station : Station) (before : Live) (link : RelationState) where
   readies true = λ answers. leads _ _ refl (on_map (λ l. prepared_from l) prepared_on live.rest.link stands)
   readies false = refuses note.Refused
 
+  -- the application answers what is asked
+  moves_on : (source : Partner) (b : Bool) → OnTo (updated (if b then Named source else Unmoved) live.rest.link)
+  moves_on source true = on_named source live.rest.link stands
+  moves_on source false = stands
+
+  judges : (given : Gives) (judgement : Result Question AnswerFault) → Done (handled_judged station live given judgement)
+  judges given (Ok question) = λ answers.
+      leads _ _ refl (moves_on (source_of question) (is_relation (uuid_of live.rest.link) (header_of question.request).ar_uuid && not (is_refusal given)))
+  judges given (Err why) = refuses note.Refused
+
+  answers_so : (number : ℕ) (given : Gives) → Done (handled_gives station live number given)
+  answers_so number given = judges given (judged number given live.rest.asked)
+
   -- a unit
   ticks_by : (ending : Option Abort) → OnTo (updated (passing_by ending) (Some link))
   ticks_by (Some because) = gone
   ticks_by None = becomes (after_unit link) (passes_on link)
 
-  ticks : Done (ticked live)
+  ticks : Done (ticked station live)
   ticks = λ answers. leads _ _ refl (ticks_by (ending_of link))
 
   does : (heard : Heard) → Done (handled station live heard)
@@ -441,6 +480,9 @@ module _ (station : Station) (before : Live) (link : RelationState) where
   does (Applied (local.ReadyAt slot subslot)) = readies_at slot subslot (is_readied_in slot subslot live.rest.link)
   does (Applied local.Ready) = readies (is_preparing (phase_of live.rest.link))
   does (Applied (local.ProviderState is_running)) = turns_so is_running
+  does (Applied (local.Answer number octets)) = answers_so number (gives_octets octets.items)
+  does (Applied (local.Written number)) = answers_so number gives_done
+  does (Applied (local.Refuse number code1 code2)) = answers_so number (gives_refusal code1 code2)
   does Ticks = ticks
   does Unreadable = refuses note.Fault
   does Elsewhere = refuses note.NotMine

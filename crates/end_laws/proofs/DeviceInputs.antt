@@ -1,5 +1,5 @@
 -- What an event of an exchange leaves of the input of a submodule: its value, and zeros after a pull or a plug there.
-use Rattle.std.proofs.Common.{◌≡◌, ◌+◌, ◌-◌, ◌==◌, ◌&&◌, ◌||◌, ℕ, Bool, true, false, cond, List, [], ◌∷◌, length, map, Option, Some, None, option_map, unwrap_or, Result, Ok, Err, refl, sym, ap, subst, ◌∙◌}
+use Rattle.std.proofs.Common.{◌≡◌, ◌+◌, ◌-◌, ◌==◌, ◌&&◌, ◌||◌, ℕ, Bool, true, false, cond, List, [], ◌∷◌, length, map, Option, Some, None, option_map, unwrap_or, Result, Ok, Err, refl, sym, ap, ◌∙◌}
 use Rattle.std.specs.Prelude.{replicate}
 use Rattle.std.proofs.lemmas.Bool.{and_parts, eq-eqb, eqb-true, false≢true}
 use Rattle.pn_values.specs.declared.mac.Mac.{Mac}
@@ -12,15 +12,13 @@ use Rattle.cyclic_data.specs.declared.tail.ShortFrame.{ShortFrame}
 use Rattle.cyclic_data.specs.Image.{Cell, Shown, cell_at, changed_in, has_size, with_status, with_value}
 use Rattle.cyclic_data.specs.Layout.{is_of}
 use Rattle.cyclic_data.specs.Tail.{cyclic_of}
-use Rattle.cyclic_data.specs.Timing.{Sending}
 use Rattle.cyclic_data.specs.exchange.Cyclic.{Cyclic}
 use Rattle.cyclic_data.specs.exchange.Opening.{StatusOf, cleared, cleared_cell, stated_cell}
 use Rattle.cyclic_data.specs.exchange.Received.{behind_frame as cyclic_behind, behind_read, is_new, is_of_partner, taken_from}
 use Rattle.expected_places.specs.Machine.{PlugState}
 use Rattle.relations.specs.declared.exchange.marks.Mark.{Mark}
-use Rattle.relations.specs.exchange.Diagnosis.{with_low}
 use Rattle.relations.specs.exchange.Flow.{Flow}
-use Rattle.relations.specs.exchange.Marks.{awaits, change_by, iops_of, mark_at, marked}
+use Rattle.relations.specs.exchange.Marks.{awaits, change_by, mark_at, marked}
 use Rattle.relations.specs.exchange.Modules.{all_cleared, cleared_at, renewed, renewed_mark, renewed_marks, restated_flow, restated_mark, stated_of, restated_marks}
 use Rattle.relations.specs.exchange.Process.{given_at, rated_at, remarked, with_cyclic, with_input}
 use Rattle.relations.proofs.ExchangeInputs.{cell_in, cells_changed, is_same, mark_in, of_parts, placed}

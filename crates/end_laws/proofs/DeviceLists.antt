@@ -1,6 +1,8 @@
 -- The several records of one Write of a start-up: those that the relation accepts are some of them, in order, and all if
 -- the response says so.
-use Rattle.std.proofs.Common.{◌≡◌, ◌⊎◌, inl, inr, ℕ, Bool, true, false, cond, List, [], ◌∷◌, ◌++◌, Option, Some, None, Result, Ok, Err, refl, sym, ap, subst, ◌∙◌, append_assoc}
+use Rattle.std.specs.List.{AllByRecursion}
+use Rattle.std.specs.Prelude.{is_some}
+use Rattle.std.proofs.Common.{◌≡◌, ◌⊎◌, inl, inr, ℕ, Bool, true, false, cond, List, [], ◌∷◌, ◌++◌, Option, Some, None, Result, Ok, Err, refl, sym, ap, subst, ◌∙◌, append_assoc, arith}
 use Rattle.std.proofs.lemmas.Bool.{false≢true}
 use Rattle.std.proofs.lemmas.List.{append-nil}
 use Rattle.wire.specs.Checks.{or_fault}
@@ -8,6 +10,12 @@ use Rattle.wire.specs.Codec.{◌>>=◌}
 use Rattle.pn_values.specs.declared.real.Real.{Real}
 use Rattle.pn_values.specs.declared.set_item.BlockError.{BlockError}
 use Rattle.rpc_core.specs.Response.{is_done}
+use Rattle.rpc_core.specs.Sendable.{IsStatus}
+use Rattle.rpc_core.specs.declared.response.Status.{Status}
+use Rattle.asked_records.specs.Answers.{unanswered_status}
+use Rattle.asked_records.specs.Judging.{asked_name}
+use Rattle.asked_records.specs.declared.names.RecordName.{RecordName}
+use Rattle.asked_records.specs.declared.status.Unanswered.TheVariants.{InList}
 use Rattle.block_codec.specs.declared.block_type.BlockType.TheVariants as kind
 use Rattle.block_codec.specs.Block.{in_iod_write_req}
 use Rattle.record_blocks.specs.declared.write_record.IodWriteReq.{IodWriteReq}
@@ -32,12 +40,12 @@ use Rattle.relations.specs.Passed.{PassedOn}
 use Rattle.relations.specs.RelationState.{RelationState, passes_on}
 use Rattle.relations.specs.Phases.{Records, keeping, taking, updated, with_records}
 use Rattle.device_core.specs.Handled.{kept_answer, outcome_of}
-use Rattle.device_core.specs.Several.{Judged, judged_each}
-use Rattle.device_core.specs.Machine.{first_answer, link_behind, one_answers, one_link, one_outcome, statuses_of}
+use Rattle.device_core.specs.Several.{Judged, judged_each, judged_entry, with_status}
+use Rattle.device_core.specs.Machine.{effect_outcome, first_answer, link_behind, one_answers, one_link, one_status, statuses_of}
 use Rattle.end_laws.specs.both.Steps.{IsPart}
 use Rattle.end_laws.specs.device.Small.{AreDone, AreKeeping, AreOutcomesOf}
 use Rattle.end_laws.proofs.BothEach.{part_more}
-use Rattle.end_laws.proofs.DeviceOwing.{IsPlainIn, bind_ok, keeping_plain, kept_plain, outcome_sized, request_plain, stored_plain}
+use Rattle.end_laws.proofs.DeviceOwing.{IsPlainIn, bind_ok, keeping_plain, kept_plain, outcome_sized, request_plain, status_sized, stored_plain}
 use Rattle.end_laws.proofs.DeviceWalk.{holding, keeping_is}
 
 -- ---- without a relation no list is accepted
@@ -75,22 +83,42 @@ none_listed real blocks header entries e =
 
 -- ---- the outcomes of the records
 
-outcome_plain : (header : IodWriteReq) (one : Result Write CallFault) (answers : List BlockError) (link : Option RelationState) → IsPlainIn one → IsPlainIn (one_outcome header one answers link)
-outcome_plain header (Err why) answers link plain = plain
-outcome_plain header (Ok write) answers link plain = by_effect write.effect
-  where
-    by_effect : (effect : Effect) → IsPlainIn (one_outcome header (Ok (record write { effect = effect })) answers link)
-    by_effect (Stores value) = stored_plain header (first_answer answers)
-    by_effect (Keeps value) = kept_plain header (keeping value link) (keeping_plain value link)
+-- a record that is refused, is refused with a status of four octets
+abbrev IsSizedIn : Result Write Status → Type 0
+IsSizedIn (Ok write) = Unit {0}
+IsSizedIn (Err status) = IsStatus status
 
-pub outcomes_are : (standing : Option (List ℕ)) (real : Real) (entries : List Entry) (answers : List BlockError) (link : Option RelationState)
-    → AreOutcomesOf entries (statuses_of (judged_each standing real entries) answers link)
-outcomes_are standing real [] answers link = tt
-outcomes_are standing real (entry ∷ entries) answers link =
-    let one = handled_request standing real entry.0 entry.1 in (
+effect_plain : (header : IodWriteReq) (effect : Effect) (answers : List BlockError) (link : Option RelationState)
+    → IsPlainIn (effect_outcome header effect answers link)
+effect_plain header (Stores value) answers link = stored_plain header (first_answer answers)
+effect_plain header (Keeps value) answers link = kept_plain header (keeping value link) (keeping_plain value link)
+
+one_sized : (header : IodWriteReq) (one : Result Write Status) (answers : List BlockError) (link : Option RelationState) → IsSizedIn one
+    → IsStatus (one_status header one answers link)
+one_sized header (Err status) answers link sized = sized
+one_sized header (Ok write) answers link sized =
+    outcome_sized operation.Write (effect_outcome header write.effect answers link) (effect_plain header write.effect answers link)
+
+with_sized : (judged : Result Write CallFault) → IsPlainIn judged → IsSizedIn (with_status judged)
+with_sized (Ok write) plain = tt
+with_sized (Err why) plain = status_sized operation.Write why plain
+
+entry_sized : (named : List RecordName) (standing : Option (List ℕ)) (real : Real) (entry : Entry) → IsSizedIn (judged_entry named standing real entry)
+entry_sized named standing real entry = by_name (is_some (asked_name real named entry.0.header))
+  where
+    by_name : (b : Bool) → IsSizedIn (cond b (Err (unanswered_status operation.Write InList)) (with_status (handled_request standing real entry.0 entry.1)))
+    by_name true = record { code = omega arith; decode = omega arith; code1 = omega arith; code2 = omega arith }
+    by_name false = with_sized (handled_request standing real entry.0 entry.1) (request_plain standing real entry.0 entry.1)
+
+pub outcomes_are : (named : List RecordName) (standing : Option (List ℕ)) (real : Real) (entries : List Entry) (answers : List BlockError)
+    (link : Option RelationState)
+    → AreOutcomesOf entries (statuses_of (judged_each named standing real entries) answers link)
+outcomes_are named standing real [] answers link = tt
+outcomes_are named standing real (entry ∷ entries) answers link =
+    let one = judged_entry named standing real entry in (
       refl,
-      outcome_sized operation.Write (one_outcome entry.0 one answers link) (outcome_plain entry.0 one answers link (request_plain standing real entry.0 entry.1)),
-      outcomes_are standing real entries (one_answers one answers) (one_link one link),
+      one_sized entry.0 one answers link (entry_sized named standing real entry),
+      outcomes_are named standing real entries (one_answers one answers) (one_link one link),
     )
 
 -- ---- what the relation accepts
@@ -104,6 +132,15 @@ pub record TakesOf (judged : List Judged) (group : List TakenRecord) (answers : 
   pub whole : passes_on link ≡ false → AreDone (statuses_of judged answers (Some link)) → values ≡ group
   pub none : passes_on link ≡ true → values ≡ []
 
+-- a record that is refused is not done
+abbrev IsUndoneIn : Result Write Status → Type 0
+IsUndoneIn (Ok write) = Unit {0}
+IsUndoneIn (Err status) = is_done status ≡ false
+
+-- each of them
+abbrev pub AreUndone : List Judged → Type 0
+AreUndone judged = AllByRecursion (λ (one : Judged). IsUndoneIn one.1) judged
+
 not_both : (b : Bool) → b ≡ false → b ≡ true → ⊥
 not_both true is other = cc is
 not_both false is other = cc other
@@ -111,15 +148,16 @@ not_both false is other = cc other
 module _ (refusals_are_not_done : (operation_is : Operation) (why : CallFault) → is_done (status_of operation_is why) ≡ false) where
   module _ (header : IodWriteReq) (others : List Judged) (value : TakenRecord) (values : List TakenRecord)
       (later : (answers : List BlockError) (next : RelationState) → TakesOf others values answers next) where
-    refused_take : (why : CallFault) (answers : List BlockError) (link : RelationState) → TakesOf ((header, Err why) ∷ others) (value ∷ values) answers link
-    refused_take why answers link =
+    refused_take : (status : Status) → is_done status ≡ false → (answers : List BlockError) (link : RelationState)
+        → TakesOf ((header, Err status) ∷ others) (value ∷ values) answers link
+    refused_take status undone answers link =
         let there = later answers link in
         record {
           values = there.values;
           passed = there.passed;
           becomes = there.becomes;
           part = part_more there.values value values there.part;
-          whole = λ keeps done. absurd (false≢true (sym (refusals_are_not_done operation.Write why) ∙ done.0));
+          whole = λ keeps done. absurd (false≢true (sym undone ∙ done.0));
           none = there.none;
         }
 
@@ -170,14 +208,17 @@ module _ (refusals_are_not_done : (operation_is : Operation) (why : CallFault) �
             }
         by_keeping (Ok more) is = by_kind more is (keeping_is value link more is)
 
-    one_take : (one : Result Write CallFault) → ((write : Write) → one ≡ Ok write → write.effect ≡ Keeps value) → (answers : List BlockError) (link : RelationState)
+    one_take : (one : Result Write Status) → IsUndoneIn one → ((write : Write) → one ≡ Ok write → write.effect ≡ Keeps value)
+        → (answers : List BlockError) (link : RelationState)
         → TakesOf ((header, one) ∷ others) (value ∷ values) answers link
-    one_take (Err why) keeps answers link = refused_take why answers link
-    one_take (Ok write) keeps answers link =
+    one_take (Err status) undone keeps answers link = refused_take status undone answers link
+    one_take (Ok write) undone keeps answers link =
         subst (λ (effect : Effect). TakesOf ((header, Ok (record write { effect = effect })) ∷ others) (value ∷ values) answers link) (sym (keeps write refl)) (keeps_one write answers link)
 
-  pub keeps_take : (judged : List Judged) (group : List TakenRecord) → AreKeeping judged group → (answers : List BlockError) (link : RelationState) → TakesOf judged group answers link
-  keeps_take [] [] keeps answers link = record {
+  pub keeps_take : (judged : List Judged) (group : List TakenRecord) → AreUndone judged → AreKeeping judged group
+      → (answers : List BlockError) (link : RelationState)
+      → TakesOf judged group answers link
+  keeps_take [] [] undone keeps answers link = record {
     values = [];
     passed = link.passed;
     becomes = ap (λ (taken : List TakenRecord). Some (holding taken link.passed link)) (sym (append-nil link.taken));
@@ -185,6 +226,24 @@ module _ (refusals_are_not_done : (operation_is : Operation) (why : CallFault) �
     whole = λ keeps done. refl;
     none = λ passes. refl;
   }
-  keeps_take [] (value ∷ values) keeps answers link = absurd keeps
-  keeps_take (one ∷ others) [] keeps answers link = absurd keeps
-  keeps_take (one ∷ others) (value ∷ values) keeps answers link = one_take one.0 others value values (keeps_take others values keeps.1) one.1 keeps.0 answers link
+  keeps_take [] (value ∷ values) undone keeps answers link = absurd keeps
+  keeps_take (one ∷ others) [] undone keeps answers link = absurd keeps
+  keeps_take (one ∷ others) (value ∷ values) undone keeps answers link =
+      one_take one.0 others value values (keeps_take others values undone.1 keeps.1) one.1 undone.0 keeps.0 answers link
+
+  -- so it is of the records of each list
+  with_undone : (judged : Result Write CallFault) → IsUndoneIn (with_status judged)
+  with_undone (Ok write) = tt
+  with_undone (Err why) = refusals_are_not_done operation.Write why
+
+  entry_undone : (named : List RecordName) (standing : Option (List ℕ)) (real : Real) (entry : Entry) → IsUndoneIn (judged_entry named standing real entry)
+  entry_undone named standing real entry = by_name (is_some (asked_name real named entry.0.header))
+    where
+      by_name : (b : Bool) → IsUndoneIn (cond b (Err (unanswered_status operation.Write InList)) (with_status (handled_request standing real entry.0 entry.1)))
+      by_name true = refl
+      by_name false = with_undone (handled_request standing real entry.0 entry.1)
+
+  pub each_undone : (named : List RecordName) (standing : Option (List ℕ)) (real : Real) (entries : List Entry)
+      → AreUndone (judged_each named standing real entries)
+  each_undone named standing real [] = tt
+  each_undone named standing real (entry ∷ entries) = (entry_undone named standing real entry, each_undone named standing real entries)

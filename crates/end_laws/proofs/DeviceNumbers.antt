@@ -1,6 +1,6 @@
 -- The number of a relation that begins.
 use Rattle.std.specs.Prelude.{◌≡◌, ℕ, List, Option, Some, None, option_map, Result, Ok, Err}
-use Rattle.std.proofs.Common.{refl, sym, ap, subst, ◌∙◌, ◌⊎◌, inl, inr, arith}
+use Rattle.std.proofs.Common.{refl, sym, ap, subst, ◌∙◌, inl, inr, arith}
 use Rattle.frame_codec.specs.declared.udp.Caller.{Caller}
 use Rattle.records.specs.declared.status.call_fault.CallFault.{CallFault}
 use Rattle.records.specs.declared.status.operation.Operation.{Operation}
@@ -66,17 +66,25 @@ effect_numbered station real caller blocks (Ok octets) operation.Release before 
 effect_numbered station real caller blocks (Ok octets) operation.Read before after it = from_none station.options before after (restarted it.0) it.1
 effect_numbered station real caller blocks (Ok octets) operation.ReadImplicit before after it = absurd it
 
-pub does_numbered : (station : Station) (live : Live) (heard : Heard) (after : Rest) (sent : List Sent) → Does station live heard after sent
-    → BeginsNumbered station.options live.rest.link after.link
-does_numbered station live heard after sent (inl it) = same station.options live.rest.link after.link (ap (λ (r : Rest). r.link) it.same)
-does_numbered station live heard after sent (inr (inl it)) = λ link none some. by_link link none some it.link
+-- a relation that is kept, or ends, does not begin
+kept_numbered : (options : DeviceOptions) (before after : Option RelationState) → IsKeptOr before after → BeginsNumbered options before after
+kept_numbered options before after kept = λ link none some. by_link link none some kept
   where
-    by_link : (link : RelationState) → live.rest.link ≡ None → after.link ≡ Some link
-        → IsKeptOr live.rest.link after.link → IsNumbered station.options link
+    by_link : (link : RelationState) → before ≡ None → after ≡ Some link → IsKeptOr before after → IsNumbered options link
     by_link link none some (inl e) = absurd (some_none (link_of link) (sym (ap (λ (l : Option RelationState). option_map link_of l) some) ∙ (e ∙ ap (λ (l : Option RelationState). option_map link_of l) none)))
     by_link link none some (inr (inl e)) = absurd (some_none (link_of link) (sym (ap (λ (l : Option RelationState). option_map link_of l) some) ∙ e))
     by_link link none some (inr (inr it)) = absurd (some_none it.link (sym it.was ∙ none))
+
+pub does_numbered : (station : Station) (live : Live) (heard : Heard) (after : Rest) (sent : List Sent) → Does station live heard after sent
+    → BeginsNumbered station.options live.rest.link after.link
+does_numbered station live heard after sent (inl it) = same station.options live.rest.link after.link (ap (λ (r : Rest). r.link) it.same)
+does_numbered station live heard after sent (inr (inl it)) = kept_numbered station.options live.rest.link after.link it.link
 does_numbered station live heard after sent (inr (inr (inl it))) = there_was station.options live.rest.link after.link it.link it.was
 does_numbered station live heard after sent (inr (inr (inr (inl it)))) = same station.options live.rest.link after.link (ap (λ (r : Rest). r.link) it.same)
-does_numbered station live heard after sent (inr (inr (inr (inr it)))) =
+does_numbered station live heard after sent (inr (inr (inr (inr (inl it))))) =
     effect_numbered station live.rest.real it.caller it.blocks it.outcome it.which live.rest.link after.link it.effect
+does_numbered station live heard after sent (inr (inr (inr (inr (inr (inl it)))))) = same station.options live.rest.link after.link
+    (ap (λ (r : Rest). r.link) it.becomes)
+does_numbered station live heard after sent (inr (inr (inr (inr (inr (inr (inl it))))))) = same station.options live.rest.link after.link
+    (ap (λ (r : Rest). r.link) it.becomes)
+does_numbered station live heard after sent (inr (inr (inr (inr (inr (inr (inr it))))))) = kept_numbered station.options live.rest.link after.link it.link

@@ -1,8 +1,7 @@
 -- What alarms of low priority, pulls, plugs and units of time leave of a relation: some of its records, and its order.
-use Rattle.std.proofs.Common.{◌≡◌, ◌⊎◌, inl, inr, ◌+◌, ◌<◌, ◌==◌, ◌&&◌, ℕ, Bool, true, false, cond, not, List, [], ◌∷◌, Option, Some, None, option_map, refl, sym, ap, subst, ◌∙◌, arith}
+use Rattle.std.proofs.Common.{◌≡◌, inl, inr, ◌+◌, ◌<◌, ◌==◌, ◌&&◌, ℕ, Bool, true, false, cond, not, List, [], ◌∷◌, Option, Some, None, option_map, refl, sym, ap, subst, ◌∙◌, arith}
 use Rattle.std.specs.Prelude.{is_some, nat_lt, unwrap_or}
 use Rattle.std.proofs.lemmas.Bool.{false≢true, eq-eqb, ltb-true, ltb-false}
-use Rattle.pn_values.specs.declared.mac.Mac.{Mac}
 use Rattle.pn_values.specs.declared.real.RealModule.{RealModule}
 use Rattle.wire.specs.blocks.modules.Lists.{Listed}
 use Rattle.connect_blocks.specs.declared.module_diff.DiffModule.{DiffModule}
@@ -47,9 +46,9 @@ use Rattle.relations.specs.RelationState.{RelationState, is_exchanging}
 use Rattle.relations.specs.Diagnosed.{diagnosing}
 use Rattle.relations.specs.Phases.{restarted, updated}
 use Rattle.relations.specs.Plugging.{answered_with, calling_next, changed_by, first_sent, flow_reported, flow_then, forgotten_there, is_low_sent, is_sent_then, kept_records, low_changed, modules_changing, places_then, plugs_after, plugs_changed, plugs_then, plugs_told, ready_for, reported_as, rows_now, sent_then, taken_after, taken_told}
-use Rattle.relations.specs.Timers.{is_timed, plugs_later, unit_later}
+use Rattle.relations.specs.Timers.{is_timed, unit_later}
 use Rattle.end_laws.specs.both.Steps.{IsPart}
-use Rattle.end_laws.specs.device.Does.{Forgets, IsKeptOr}
+use Rattle.end_laws.specs.device.Does.{IsKeptOr}
 use Rattle.end_laws.specs.device.Orderly.{AreNumbered, IsEarly, IsNumberedCall, IsOrderly, IsOrderlyIn, keys_of}
 use Rattle.end_laws.specs.device.Owed.{IsOfPlug}
 use Rattle.end_laws.specs.device.Small.{link_of}

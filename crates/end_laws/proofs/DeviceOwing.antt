@@ -1,5 +1,5 @@
 -- The status of each response in a start-up has four octets.
-use Rattle.std.proofs.Common.{◌≡◌, ◌<◌, ℕ, Bool, true, false, not, cond, List, [], ◌∷◌, ◌++◌, length, take, Option, Some, None, Result, Ok, Err, refl, sym, subst, ◌∙◌, arith}
+use Rattle.std.proofs.Common.{◌≡◌, ◌<◌, ℕ, Bool, true, false, not, cond, List, [], ◌∷◌, ◌++◌, length, take, Option, Some, None, option_map, Result, Ok, Err, refl, sym, subst, ◌∙◌, arith}
 use Rattle.std.specs.Prelude.{◌==◌, ◌||◌, ◌&&◌, is_some, nat_lt, nat_eq}
 use Rattle.std.specs.List.{AllByRecursion}
 use Rattle.std.specs.Cmp.Lexicographic.{pointwise}
@@ -7,7 +7,17 @@ use Rattle.wire.specs.Codec.{◌>>=◌}
 use Rattle.wire.specs.Checks.{or_fault}
 use Rattle.wire.specs.Formats.{big_number}
 use Rattle.pn_values.specs.declared.real.Real.{Real}
+use Rattle.frame_codec.specs.declared.udp.Caller.{Caller}
+use Rattle.rpc_core.specs.Call.{Asked as Call}
+use Rattle.rpc_core.specs.Response.{is_done}
 use Rattle.rpc_core.specs.Sendable.{IsStatus}
+use Rattle.asked_records.specs.Answers.{unanswered_status}
+use Rattle.asked_records.specs.Judging.{asked_name, asked_place, asked_read, asked_write, read_found, write_found}
+use Rattle.asked_records.specs.declared.names.RecordName.{RecordName}
+use Rattle.asked_records.specs.declared.question.Request.{Request as Wanted}
+use Rattle.asked_records.specs.declared.question.Request.TheVariants as wanted
+use Rattle.asked_records.specs.declared.status.Unanswered.TheVariants.{Busy}
+use Rattle.device_core.specs.Asking.{asking_of, asking_read, asking_write, question_of, write_within}
 use Rattle.wire.specs.declared.blocks.fault.BlockFault.{BlockFault}
 use Rattle.connect_blocks.specs.declared.control.ControlBlock.{ControlBlock}
 use Rattle.block_codec.specs.declared.block_type.BlockType.{BlockType}
@@ -77,11 +87,11 @@ IsPlain (fault.ExpectedField field) = ⊥
 IsPlain (fault.AlarmCrField field) = ⊥
 IsPlain why = Unit {0}
 
-code_small : (which : Operation) → code_of which < 256
+pub code_small : (which : Operation) → code_of which < 256
 code_small operation.Connect = omega arith
 code_small which = omega arith
 
-status_sized : (which : Operation) (why : CallFault) → IsPlain why → IsStatus (status_of which why)
+pub status_sized : (which : Operation) (why : CallFault) → IsPlain why → IsStatus (status_of which why)
 unfolding status_of
 status_sized which (fault.ArField field) plain = record { code = code_small which; decode = omega arith; code1 = omega arith; code2 = plain }
 status_sized which (fault.IocrField field) plain = record { code = code_small which; decode = omega arith; code1 = omega arith; code2 = plain }
@@ -314,6 +324,73 @@ read_plain known identity real running blocks =
     bind_plain (read_within (uuid_of known.link) blocks)
     (λ request. read_served true real (own_of true known real request) request (record_within (differing_in real.modules.items known.link) request identity real running)) (within_request_plain (uuid_of known.link) blocks)
     (λ request. served_plain true real (own_of true known real request) request (record_within (differing_in real.modules.items known.link) request identity real running))
+
+-- ---- a call for a record of the application
+
+found_read_plain : (real : Real) (request : IodReadReq) (found : Option RecordName) → IsPlainIn (read_found real request found)
+found_read_plain real request None = tt
+found_read_plain real request (Some name) =
+    bind_plain (asked_place real request.header) (λ _. in_order ((not name.is_readable, fault.Access) ∷ []) (Ok (Some name)))
+    (placed_plain real request.header.api request.header.slot_number request.header.subslot_number request.header.index)
+    (λ _. handled_plain ((not name.is_readable, fault.Access) ∷ []) (Ok (Some name)) (tt, tt) tt)
+
+found_write_plain : (real : Real) (request : IodWriteReq) (octets : List ℕ) (found : Option RecordName) → IsPlainIn (write_found real request octets found)
+found_write_plain real request octets None = tt
+found_write_plain real request octets (Some name) =
+    let checks =
+    (not name.is_writable, fault.Access)
+    ∷ (nat_lt (length octets) request.header.record_data_length || nat_lt name.greatest_length request.header.record_data_length, fault.WriteLength)
+    ∷ [] in
+    bind_plain (asked_place real request.header) (λ _. in_order checks (Ok (Some name)))
+    (placed_plain real request.header.api request.header.slot_number request.header.subslot_number request.header.index)
+    (λ _. handled_plain checks (Ok (Some name)) (tt, (tt, tt)) tt)
+
+asked_read_plain : (real : Real) (named : List RecordName) (request : IodReadReq) → IsPlainIn (asked_read real named request)
+unfolding asked_read
+asked_read_plain real named request = found_read_plain real request (asked_name real named request.header)
+
+asked_write_plain : (real : Real) (named : List RecordName) (request : IodWriteReq) (octets : List ℕ) → IsPlainIn (asked_write real named request octets)
+unfolding asked_write
+asked_write_plain real named request octets = found_write_plain real request octets (asked_name real named request.header)
+
+read_asking_plain : (real : Real) (named : List RecordName) (request : IodReadReq → Wanted) (caller : Caller) (call : Call) (read : Result IodReadReq CallFault)
+    → IsPlainIn (asking_read real named request caller call read)
+read_asking_plain real named request caller call (Err why) = tt
+read_asking_plain real named request caller call (Ok read) =
+    bind_plain (asked_read real named read) (λ (found : Option RecordName). Ok
+    (option_map (λ (name : RecordName). (question_of caller call (request read) name, [])) found))
+    (asked_read_plain real named read) (λ found. tt)
+
+write_asking_plain : (real : Real) (named : List RecordName) (caller : Caller) (call : Call) (write : Result (IodWriteReq × List ℕ) CallFault)
+    → IsPlainIn (asking_write real named caller call write)
+write_asking_plain real named caller call (Err why) = tt
+write_asking_plain real named caller call (Ok x) =
+    bind_plain (asked_write real named x.0 x.1)
+    (λ (found : Option RecordName). Ok (option_map (λ (name : RecordName).
+    (question_of caller call (wanted.Write x.0) name, take x.0.header.record_data_length x.1)) found))
+    (asked_write_plain real named x.0 x.1) (λ found. tt)
+
+pub asking_plain : (real : Real) (named : List RecordName) (standing : Option (List ℕ)) (caller : Caller) (call : Call) (blocks : List ℕ) (which : Operation)
+    → IsPlainIn (asking_of real named standing caller call blocks which)
+asking_plain real named standing caller call blocks operation.Connect = tt
+asking_plain real named standing caller call blocks operation.Release = tt
+asking_plain real named standing caller call blocks operation.Control = tt
+asking_plain real named standing caller call blocks operation.Read = read_asking_plain real named wanted.Read caller call (read_within standing blocks)
+asking_plain real named standing caller call blocks operation.Write = write_asking_plain real named caller call (write_within standing blocks)
+asking_plain real named standing caller call blocks operation.ReadImplicit = read_asking_plain real named wanted.ReadImplicit caller call
+    (read_request_of blocks)
+
+-- a call that is refused while another one is asked
+pub busy_sized : (which : Operation) → IsStatus (unanswered_status which Busy)
+busy_sized which = record { code = code_small which; decode = omega arith; code1 = omega arith; code2 = omega arith }
+
+pub busy_undone : (which : Operation) → is_done (unanswered_status which Busy) ≡ false
+busy_undone operation.Connect = refl
+busy_undone operation.Release = refl
+busy_undone operation.Read = refl
+busy_undone operation.Write = refl
+busy_undone operation.Control = refl
+busy_undone operation.ReadImplicit = refl
 
 -- ---- a Write whose record the settings store
 

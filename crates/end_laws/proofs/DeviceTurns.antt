@@ -1,5 +1,6 @@
 -- Each turn of a device, as far as a start-up is concerned: drawn from what the turn does.
 use Rattle.std.proofs.Common.{◌≡◌, ◌⊎◌, inl, inr, ◌-◌, ◌<◌, ◌==◌, ℕ, Bool, true, false, cond, List, [], ◌∷◌, ◌++◌, map, take, Option, Some, None, option_map, Result, Ok, Err, refl, sym, ap, subst, ◌∙◌, append-nil, arith}
+use Rattle.std.proofs.lemmas.List.{map-append}
 use Rattle.std.specs.Prelude.{◌&&◌, nat_lt, nat_eq, unwrap_or}
 use Rattle.std.specs.List.{AllByRecursion}
 use Rattle.std.specs.Cmp.Lexicographic.{pointwise, other_text}
@@ -7,7 +8,8 @@ use Rattle.std.proofs.lemmas.Bool.{false≢true, eq-eqb, ltb-true, ltb-false}
 use Rattle.frame_codec.specs.declared.udp.Caller.{Caller}
 use Rattle.rpc_core.specs.Cache.{Kept as Answer, new, again, old, kept_of, reported_by, looked, without, kept_more}
 use Rattle.rpc_core.specs.Call.{Asked as Call}
-use Rattle.rpc_core.specs.Response.{is_done}
+use Rattle.rpc_core.specs.Response.{answer_to, is_done}
+use Rattle.rpc_core.specs.declared.header.CallHeader.{CallHeader}
 use Rattle.records.specs.declared.status.call_fault.CallFault.{CallFault}
 use Rattle.records.specs.declared.status.operation.Operation.{Operation}
 use Rattle.records.specs.declared.status.operation.Operation.TheVariants as operation
@@ -17,6 +19,13 @@ use Rattle.connects.specs.requests.Request.{Request}
 use Rattle.records.specs.declared.writes.taken.TakenRecord.{TakenRecord}
 use Rattle.records.specs.declared.writes.write.Effect.TheVariants.{Stores, Keeps}
 use Rattle.records.specs.declared.writes.writing.Writing.TheVariants.{One, Each}
+use Rattle.record_blocks.specs.declared.write_record.IodWriteReq.{IodWriteReq}
+use Rattle.asked_records.specs.Asked.{AskedState, question_in}
+use Rattle.asked_records.specs.Judging.{asked_name, asked_write, write_found}
+use Rattle.asked_records.specs.Questions.{call_of}
+use Rattle.asked_records.specs.declared.names.RecordName.{RecordName}
+use Rattle.asked_records.specs.declared.question.Question.{Question}
+use Rattle.asked_records.specs.declared.question.Request.TheVariants as wanted
 use Rattle.relations.specs.declared.ready.Ready.{Ready}
 use Rattle.relations.specs.declared.phase.Partner.{Partner}
 use Rattle.relations.specs.declared.phase.Phase.{Phase}
@@ -30,21 +39,27 @@ use Rattle.settings_journal.specs.settings_store.Machine.{Outcome}
 use Rattle.device_core.specs.State.{Station, Rest, Live}
 use Rattle.device_core.specs.Machine.{handled_step, heard_step, statuses_of}
 use Rattle.device_core.specs.Several.{judged_each}
+use Rattle.device_core.specs.Asking.{Asking, asking_of, asking_write, kept_reply, question_of, reply_to, write_within}
 use Rattle.device_core.specs.Handled.{outcome_of, answer_from, kept_for}
 use Rattle.end_laws.specs.both.Small as small
 use Rattle.end_laws.specs.both.Small.{Rules, ToDevice}
-use Rattle.end_laws.specs.both.Steps.{IsNew, Carries, Comes, Forgets, GoesBy as SmallGoesBy, PassesOn, TakesAny, TakesRecords, SaysAtMost, IsReady, IsDull, DeviceSteps}
+use Rattle.end_laws.specs.both.Steps.{IsNew, IsSameOrNone, Carries, Comes, Forgets, GoesBy as SmallGoesBy, PassesOn, TakesAny, TakesRecords, SaysAtMost, IsReady, IsDull, DeviceSteps}
 use Rattle.relations.specs.Phases.{Named, parameterized_from, restarted, updated}
-use Rattle.end_laws.specs.device.Small.{AreDone, Planned, phase_in, link_of, kept_in, small_of, written_by, asked_by, heard_as, IsPlannedAs, IsPlannedCall, IsPlanned, IsHeardAs, IsWritingOf}
-use Rattle.end_laws.specs.device.Does.{AreReadied, Confirms, Does, Following, GoesBy, IsEffect, IsExchange, IsKeptOr, IsOther, IsReadied, IsUncalled, Plugging, Readying, Repeats, Rests, Serves, Stored, Written, WrittenEach, readied_from, with_more}
+use Rattle.end_laws.specs.device.Small.{AreDone, IsAskedOwn, Planned, asked_in, phase_in, link_of, kept_in, small_of, written_by, asked_by, heard_as, is_positive, IsPlannedAs, IsPlannedCall, IsPlanned, IsHeardAs, IsWritingOf}
+use Rattle.end_laws.specs.device.Does.{AreReadied, Confirms, Declines, Does, Following, GoesBy, IsEffect, IsExchange, IsKeptOr, IsOther, IsReadied, IsUncalled, Plugging, Questions, Readying, Repeats, Replies, Rests, Serves, Stored, Written, WrittenEach, readied_from, with_more}
 use Rattle.end_laws.specs.device.Orderly.{IsOrderlyIn}
+use Rattle.end_laws.specs.device.Owed.{IsAskedLater, IsAsking}
 use Rattle.end_laws.proofs.BothKept.{may_come}
-use Rattle.end_laws.proofs.DeviceLists.{TakesOf, keeps_take, none_listed, outcomes_are}
-use Rattle.end_laws.proofs.DeviceOwing.{same_request}
+use Rattle.end_laws.proofs.DeviceLists.{TakesOf, each_undone, keeps_take, none_listed, outcomes_are}
+use Rattle.end_laws.proofs.DeviceOwing.{bind_ok, same_request}
 use Rattle.end_laws.proofs.DeviceWalk.{keeping_is}
 
 some_is : {A : Type 0} (x y : A) → Some x ≡ Some y → x ≡ y
 some_is x y e = cc
+
+each_parts : (P : Sent → Type 0) (sent more : List Sent) → AllByRecursion P (sent ++ more) → AllByRecursion P sent × AllByRecursion P more
+each_parts P [] more all = (tt, all)
+each_parts P (message ∷ sent) more all = let there = each_parts P sent more all.1 in ((all.0, there.0), there.1)
 
 -- ---- the response that is stored
 
@@ -97,9 +112,11 @@ ask_of planned sequence blocks _ = small.Releases
 
 -- ---- turns
 
-module _ (refusals_are_not_done : RefusalsAreNotDone) (rules : Rules TakenRecord Request) (activity : List ℕ) (station : Station) (live : Live) (orderly : IsOrderlyIn live.rest.link) where
+module _ (refusals_are_not_done : RefusalsAreNotDone) (rules : Rules TakenRecord Request) (activity : List ℕ) (station : Station) (live : Live)
+    (orderly : IsOrderlyIn live.rest.link)
+    (own : IsAskedOwn activity live.rest.asked) where
   abbrev small_in : Rest → small.Device TakenRecord Request
-  small_in rest = record { kept = option_map kept_in (kept_of activity rest.calls); link = option_map link_of rest.link }
+  small_in rest = record { kept = option_map kept_in (kept_of activity rest.calls); link = option_map link_of rest.link; asked = asked_in rest.asked }
 
   abbrev AreHeard : List Sent → Type 0
   AreHeard sent = AllByRecursion (IsHeardAs rules station.identity) sent
@@ -112,9 +129,19 @@ module _ (refusals_are_not_done : RefusalsAreNotDone) (rules : Rules TakenRecord
   Goes heard after sent = DeviceSteps rules heard (small_in live.rest) (small_in after) (frames_of sent)
 
   rests_steps : (heard : ToDevice) → Goes heard live.rest []
-  rests_steps (small.Call sequence ask) = inr (inr (refl, refl))
-  rests_steps small.Confirms = inr (record { keeps = refl; link = inl refl; sent = tt })
-  rests_steps small.Idle = record { keeps = refl; link = inl refl; sent = tt }
+  rests_steps (small.Call sequence ask) = inr (inr (inl (refl, refl)))
+  rests_steps small.Confirms = inr (record { keeps = refl; link = inl refl; sent = tt; asked = inl refl })
+  rests_steps small.Idle = inl (record { keeps = refl; link = inl refl; sent = tt; asked = inl refl })
+
+  -- ---- what is asked
+
+  -- the sequence number of what is asked
+  abbrev number_of : Option Question → Option ℕ
+  number_of question = option_map (λ (q : Question). q.header.sequence) question
+
+  still_asked : (before after : AskedState) → IsSameOrNone (question_in before) (question_in after) → IsSameOrNone (asked_in before) (asked_in after)
+  still_asked before after (inl same) = inl (ap number_of same)
+  still_asked before after (inr none) = inr (ap number_of none)
 
   -- ---- messages
 
@@ -186,13 +213,14 @@ module _ (refusals_are_not_done : RefusalsAreNotDone) (rules : Rules TakenRecord
   says_done which sequence (Ok octets) = refl
   says_done which sequence (Err why) = ap (λ (b : Bool). b && rules.grants sequence []) (refusals_are_not_done which why)
 
-  module _ (heard : Heard) (planned : IsPlanned rules activity live.rest.real heard) (after : Rest) (sent : List Sent) (all : AreHeard sent) where
+  module _ (heard : Heard) (planned : IsPlanned rules activity station.named live.rest.real heard) (after : Rest) (sent : List Sent) (all : AreHeard sent) where
     -- ---- calls
 
-    planned_call : (caller : Caller) (address : List ℕ) (call : Call) → heard ≡ Reported caller address (Calls call) → IsPlannedCall rules activity live.rest.real call
-    planned_call caller address call is = subst (λ (h : Heard). IsPlanned rules activity live.rest.real h) is planned
+    planned_call : (caller : Caller) (address : List ℕ) (call : Call) → heard ≡ Reported caller address (Calls call)
+        → IsPlannedCall rules activity station.named live.rest.real call
+    planned_call caller address call is = subst (λ (h : Heard). IsPlanned rules activity station.named live.rest.real h) is planned
 
-    call_heard : (sequence : ℕ) (blocks : List ℕ) (which : Option Operation) → IsPlannedAs rules live.rest.real sequence blocks which
+    call_heard : (sequence : ℕ) (blocks : List ℕ) (which : Option Operation) → IsPlannedAs rules station.named live.rest.real sequence blocks which
         → asked_by rules.is_planned sequence blocks which ≡ small.Call sequence (ask_of rules.is_planned sequence blocks which)
     call_heard sequence blocks (Some operation.ReadImplicit) plan = absurd plan
     call_heard sequence blocks None plan = absurd plan
@@ -208,8 +236,8 @@ module _ (refusals_are_not_done : RefusalsAreNotDone) (rules : Rules TakenRecord
     hears_call caller address call blocks is counted goes =
         let plan = planned_call caller address call is in
         let same : plan.blocks ≡ blocks = some_is plan.blocks blocks (sym plan.counted ∙ counted) in
-        let asks : IsPlannedAs rules live.rest.real call.header.sequence blocks (operation_of call.header.operation) =
-        subst (λ (b : List ℕ). IsPlannedAs rules live.rest.real call.header.sequence b (operation_of call.header.operation)) same plan.asks in
+        let asks : IsPlannedAs rules station.named live.rest.real call.header.sequence blocks (operation_of call.header.operation) =
+        subst (λ (b : List ℕ). IsPlannedAs rules station.named live.rest.real call.header.sequence b (operation_of call.header.operation)) same plan.asks in
         let now : heard_as rules.is_planned heard ≡ asked_by rules.is_planned call.header.sequence blocks (operation_of call.header.operation) =
         ap (heard_as rules.is_planned) is ∙ ap (λ (b : Option (List ℕ)). asked_by rules.is_planned call.header.sequence (unwrap_or b []) (operation_of call.header.operation)) counted in
         subst (λ (h : ToDevice). Goes h after sent) (sym (now ∙ call_heard call.header.sequence blocks (operation_of call.header.operation) asks)) goes
@@ -258,20 +286,23 @@ module _ (refusals_are_not_done : RefusalsAreNotDone) (rules : Rules TakenRecord
     taking_now link taken = Some (record (link_of link) { taken = taken })
 
     -- the records of a Write of the start-up
-    each_comes : (before now : Option RelationState) (sequence number : ℕ) (blocks octets : List ℕ) (it : WrittenEach live.rest.real blocks octets before now)
-        → IsWritingOf rules live.rest.real (uuid_of before) sequence (rules.group number) (Each it.header it.entries)
+    each_comes : (before now : Option RelationState) (sequence number : ℕ) (blocks octets : List ℕ)
+        (it : WrittenEach station.named live.rest.real blocks octets before now)
+        → IsWritingOf rules station.named live.rest.real (uuid_of before) sequence (rules.group number) (Each it.header it.entries)
         → (granted : Bool) → rules.grants sequence octets ≡ granted → Comes rules granted (small.Writes number) (option_map link_of before) (option_map link_of now)
     each_comes None now sequence number blocks octets it keeps granted e = absurd (none_listed live.rest.real blocks it.header it.entries it.judged)
     each_comes (Some link) now sequence number blocks octets it keeps granted e = by_granted granted e
       where
-        takes : TakesOf (judged_each (uuid_of (Some link)) live.rest.real it.entries) (rules.group number) it.answers link
-        takes = keeps_take refusals_are_not_done (judged_each (uuid_of (Some link)) live.rest.real it.entries) (rules.group number) keeps.0 it.answers link
+        takes : TakesOf (judged_each station.named (uuid_of (Some link)) live.rest.real it.entries) (rules.group number) it.answers link
+        takes = keeps_take refusals_are_not_done (judged_each station.named (uuid_of (Some link)) live.rest.real it.entries) (rules.group number)
+            (each_undone refusals_are_not_done station.named (uuid_of (Some link)) live.rest.real it.entries) keeps.0 it.answers link
 
         behind : option_map link_of now ≡ taking_now link (link.taken ++ takes.values)
         behind = ap (λ (l : Option RelationState). option_map link_of l) (it.carried ∙ ap (updated (Named it.source)) takes.becomes)
 
         -- they are kept, or passed on
-        by_option : (b : Bool) → passes_on link ≡ b → AreDone (statuses_of (judged_each (uuid_of (Some link)) live.rest.real it.entries) it.answers (Some link))
+        by_option : (b : Bool) → passes_on link ≡ b
+            → AreDone (statuses_of (judged_each station.named (uuid_of (Some link)) live.rest.real it.entries) it.answers (Some link))
             → TakesRecords rules number (Some (link_of link)) (option_map link_of now) ⊎ PassesOn (Some (link_of link)) (option_map link_of now)
         by_option false keeps done =
             let all = takes.whole keeps done in
@@ -287,9 +318,10 @@ module _ (refusals_are_not_done : RefusalsAreNotDone) (rules : Rules TakenRecord
 
         by_granted : (b : Bool) → rules.grants sequence octets ≡ b → Comes rules b (small.Writes number) (Some (link_of link)) (option_map link_of now)
         by_granted true f =
-            let judged = judged_each (uuid_of (Some link)) live.rest.real it.entries in
+            let judged = judged_each station.named (uuid_of (Some link)) live.rest.real it.entries in
             let says = sym (ap (λ (o : List ℕ). rules.grants sequence o) it.tells) ∙ f in
-            let done = keeps.1 (statuses_of judged it.answers (Some link)) (outcomes_are (uuid_of (Some link)) live.rest.real it.entries it.answers (Some link)) says in
+            let done = keeps.1 (statuses_of judged it.answers (Some link))
+            (outcomes_are station.named (uuid_of (Some link)) live.rest.real it.entries it.answers (Some link)) says in
             by_option (passes_on link) refl done
         by_granted false f = inr (record { link = link_of link; values = takes.values; was = refl; part = takes.part; becomes = behind })
 
@@ -335,8 +367,10 @@ module _ (refusals_are_not_done : RefusalsAreNotDone) (rules : Rules TakenRecord
         by_kind (inr passed) = inl (behind ∙ (ap (taking_now it.link) passed.1 ∙ sym was))
 
     -- what a Write does, which is one of the start-up or not
-    writes : (sequence : ℕ) (blocks octets : List ℕ) (b : Bool) → rules.is_planned sequence blocks ≡ b → IsPlannedAs rules live.rest.real sequence blocks (Some operation.Write)
-        → Written live.rest.real blocks live.rest.link after.link ⊎ (Stored live.rest.real blocks live.rest.link after.link ⊎ WrittenEach live.rest.real blocks octets live.rest.link after.link)
+    writes : (sequence : ℕ) (blocks octets : List ℕ) (b : Bool) → rules.is_planned sequence blocks ≡ b
+        → IsPlannedAs rules station.named live.rest.real sequence blocks (Some operation.Write)
+        → Written live.rest.real blocks live.rest.link after.link
+        ⊎ (Stored live.rest.real blocks live.rest.link after.link ⊎ WrittenEach station.named live.rest.real blocks octets live.rest.link after.link)
         → (granted : Bool) → rules.grants sequence octets ≡ granted → Comes rules granted (written_ask b sequence) (option_map link_of live.rest.link) (option_map link_of after.link)
     writes sequence blocks octets true e asks (inl it) granted g =
         let plan = asks e in
@@ -367,7 +401,8 @@ module _ (refusals_are_not_done : RefusalsAreNotDone) (rules : Rules TakenRecord
         (subst (λ (l : Option RelationState). Comes rules true small.Accesses (option_map link_of live.rest.link) (option_map link_of l)) (sym it.becomes) taken)
 
     -- what a call does to the relation, as the small machine does it
-    comes : (caller : Caller) (sequence : ℕ) (blocks : List ℕ) (outcome : Result (List ℕ) CallFault) (which : Operation) → IsPlannedAs rules live.rest.real sequence blocks (Some which)
+    comes : (caller : Caller) (sequence : ℕ) (blocks : List ℕ) (outcome : Result (List ℕ) CallFault) (which : Operation)
+        → IsPlannedAs rules station.named live.rest.real sequence blocks (Some which)
         → IsEffect station live.rest.real caller blocks outcome which live.rest.link after.link
         → Comes rules (positive_of sequence outcome) (ask_of rules.is_planned sequence blocks (Some which)) (option_map link_of live.rest.link) (option_map link_of after.link)
     comes caller sequence blocks (Err why) which plan same = inl (ap (λ (l : Option RelationState). option_map link_of l) same)
@@ -410,12 +445,13 @@ module _ (refusals_are_not_done : RefusalsAreNotDone) (rules : Rules TakenRecord
       abbrev answer : Sent
       answer = answer_from from it.caller it.call it.which it.outcome
 
-      plan : IsPlannedCall rules activity live.rest.real it.call
+      plan : IsPlannedCall rules activity station.named live.rest.real it.call
       plan = planned_call it.caller it.address it.call it.is
 
-      asks : IsPlannedAs rules live.rest.real sequence it.blocks (Some it.which)
-      asks = subst (λ (o : Option Operation). IsPlannedAs rules live.rest.real sequence it.blocks o) it.asks
-          (subst (λ (b : List ℕ). IsPlannedAs rules live.rest.real sequence b (operation_of it.call.header.operation)) (some_is plan.blocks it.blocks (sym plan.counted ∙ it.counted)) plan.asks)
+      asks : IsPlannedAs rules station.named live.rest.real sequence it.blocks (Some it.which)
+      asks = subst (λ (o : Option Operation). IsPlannedAs rules station.named live.rest.real sequence it.blocks o) it.asks
+          (subst (λ (b : List ℕ). IsPlannedAs rules station.named live.rest.real sequence b (operation_of it.call.header.operation))
+          (some_is plan.blocks it.blocks (sym plan.counted ∙ it.counted)) plan.asks)
 
       all_heard : AreHeard (answer ∷ readied_from from it.ready)
       all_heard = subst (λ (messages : List Sent). AreHeard messages) it.sends all
@@ -433,6 +469,7 @@ module _ (refusals_are_not_done : RefusalsAreNotDone) (rules : Rules TakenRecord
         others = frames_of (readied_from from it.ready);
         sent = ap frames_of it.sends;
         readies = all_ready after from it.ready it.readied all_heard.1;
+        asked = still_asked live.rest.asked after.asked it.asked;
       }))
 
     repeats : Repeats live heard after sent → Goes (heard_as rules.is_planned heard) after sent
@@ -453,13 +490,14 @@ module _ (refusals_are_not_done : RefusalsAreNotDone) (rules : Rules TakenRecord
     goes_at : (h : ToDevice) → IsUncalled h → SmallGoesBy rules (small_in live.rest) (small_in after) (frames_of sent) → Goes h after sent
     goes_at (small.Call sequence ask) uncalled goes = absurd uncalled
     goes_at small.Confirms uncalled goes = inr goes
-    goes_at small.Idle uncalled goes = goes
+    goes_at small.Idle uncalled goes = inl goes
 
     goes_by : GoesBy live heard after sent → Goes (heard_as rules.is_planned heard) after sent
     goes_by it = goes_at (heard_as rules.is_planned heard) (it.uncalled rules.is_planned) (record {
       keeps = ap (λ (c : List Answer). option_map kept_in (kept_of activity c)) it.calls;
       link = link_small live.rest.link after.link orderly it.link;
       sent = all_other after sent it.others all;
+      asked = still_asked live.rest.asked after.asked it.asked;
     })
 
     confirms : Confirms live heard after sent → Goes (heard_as rules.is_planned heard) after sent
@@ -473,17 +511,170 @@ module _ (refusals_are_not_done : RefusalsAreNotDone) (rules : Rules TakenRecord
       dull = all_dull sent it.others all;
     }))
 
+    -- ---- what is asked of the application
+
+    asks_nothing : (asking : Asking) → ◌≡◌ {A = Result (Option Asking) CallFault} (Ok None) (Ok (Some asking)) → ⊥
+    asks_nothing asking e = absurd cc
+
+    -- no Write of the start-up is asked
+    found_none : (request : IodWriteReq) (octets : List ℕ) (found : Option RecordName) → asked_name live.rest.real station.named request.header ≡ None
+        → asked_write live.rest.real station.named request octets ≡ Ok found → found ≡ None
+    unfolding asked_write
+    found_none request octets found none e =
+        same_found found (subst (λ (n : Option RecordName). write_found live.rest.real request octets n ≡ Ok found) none e)
+      where
+        same_found : (x : Option RecordName) → ◌≡◌ {A = Result (Option RecordName) CallFault} (Ok None) (Ok x) → x ≡ None
+        same_found x f = cc
+
+    -- what a Write asks for this record, if it is one of the application
+    abbrev asking_for : Caller → Call → IodWriteReq × List ℕ → Option RecordName → Result (Option Asking) CallFault
+    asking_for caller call x found =
+        Ok (option_map (λ (name : RecordName). (question_of caller call (wanted.Write x.0) name, take x.0.header.record_data_length x.1)) found)
+
+    never_asked : (caller : Caller) (call : Call) (asking : Asking) (read : Result (IodWriteReq × List ℕ) CallFault)
+        → ((write : IodWriteReq × List ℕ) → read ≡ Ok write → asked_name live.rest.real station.named write.0.header ≡ None)
+        → asking_write live.rest.real station.named caller call read ≡ Ok (Some asking) → ⊥
+    never_asked caller call asking (Err why) unasked e = asks_nothing asking e
+    never_asked caller call asking (Ok x) unasked e =
+        let there = bind_ok (asked_write live.rest.real station.named x.0 x.1) (asking_for caller call x) (Some asking) e in
+        let none = found_none x.0 x.1 there.0 (unasked x refl) there.1 in
+        asks_nothing asking (subst (λ (found : Option RecordName). asking_for caller call x found ≡ Ok (Some asking)) none there.2)
+
+    -- only a call of the controller's application is asked
+    asks_access : (caller : Caller) (call : Call) (number : ℕ) (blocks : List ℕ) (asking : Asking) (which : Operation)
+        → IsPlannedAs rules station.named live.rest.real number blocks (Some which)
+        → asking_of live.rest.real station.named (uuid_of live.rest.link) caller call blocks which ≡ Ok (Some asking)
+        → ask_of rules.is_planned number blocks (Some which) ≡ small.Accesses
+    asks_access caller call number blocks asking operation.Connect own_plan e = absurd (asks_nothing asking e)
+    asks_access caller call number blocks asking operation.Release own_plan e = absurd (asks_nothing asking e)
+    asks_access caller call number blocks asking operation.Control own_plan e = absurd (asks_nothing asking e)
+    asks_access caller call number blocks asking operation.Read own_plan e = refl
+    asks_access caller call number blocks asking operation.ReadImplicit own_plan e = absurd own_plan
+    asks_access caller call number blocks asking operation.Write own_plan e = by_plan (rules.is_planned number blocks) refl
+      where
+        by_plan : (b : Bool) → rules.is_planned number blocks ≡ b → written_ask b number ≡ small.Accesses
+        by_plan false is = refl
+        by_plan true is =
+            absurd (never_asked caller call asking (write_within (uuid_of live.rest.link) blocks) ((own_plan is).unasked (uuid_of live.rest.link)) e)
+
+    -- a call with these blocks that is heard
+    plan_of : (caller : Caller) (address : List ℕ) (call : Call) (blocks : List ℕ) (which : Operation) → heard ≡ Reported caller address (Calls call)
+        → call.blocks ≡ Some blocks
+        → operation_of call.header.operation ≡ Some which → IsPlannedAs rules station.named live.rest.real call.header.sequence blocks (Some which)
+    plan_of caller address call blocks which is counted operation_is =
+        let plan = planned_call caller address call is in
+        subst (λ (o : Option Operation). IsPlannedAs rules station.named live.rest.real call.header.sequence blocks o) operation_is
+        (subst (λ (b : List ℕ). IsPlannedAs rules station.named live.rest.real call.header.sequence b (operation_of call.header.operation))
+        (some_is plan.blocks blocks (sym plan.counted ∙ counted)) plan.asks)
+
+    -- a call that was not answered is new
+    fresh_new : (call : Call) → call.header.activity ≡ activity → looked call.header.activity call.header.sequence live.rest.calls ≡ new
+        → IsNew call.header.sequence (option_map kept_in (kept_of activity live.rest.calls))
+    fresh_new call is fresh =
+        new_is call.header.sequence (kept_of activity live.rest.calls) (sym (ap (λ (a : List ℕ). looked a call.header.sequence live.rest.calls) is) ∙ fresh)
+
+    questions : Questions station live heard after sent → Goes (heard_as rules.is_planned heard) after sent
+    questions it =
+        let one = it.new_call in
+        let call = one.call in
+        let own_call = planned_call one.caller one.address call one.is in
+        let same : it.asking.0.header.sequence ≡ call.header.sequence = ap (λ (q : Question). q.header.sequence) one.of_call in
+        let plan = plan_of one.caller one.address call one.blocks one.which one.is one.counted one.operation_is in
+        hears_call one.caller one.address call one.blocks one.is one.counted (inr (inr (inr (record {
+          accesses = ap (λ (o : Option Operation). ask_of rules.is_planned call.header.sequence one.blocks o) one.operation_is
+              ∙ asks_access one.caller call call.header.sequence one.blocks it.asking one.which plan one.asks;
+          new = fresh_new call own_call.own one.fresh;
+          free = ap number_of it.free;
+          becomes = ap small_in it.becomes
+              ∙ ap (λ (s : ℕ). let d : small.Device TakenRecord Request = record (small_in live.rest) { asked = Some s } in d) same;
+          silent = ap frames_of it.silent;
+        }))))
+
+    declines : Declines station live heard after sent → Goes (heard_as rules.is_planned heard) after sent
+    declines it =
+        let one = it.new_call in
+        let call = one.call in
+        let own_call = planned_call one.caller one.address call one.is in
+        let message = CallAnswer one.caller live.values.running.suite.address (answer_to call it.status []) in
+        let all_heard : AreHeard (message ∷ []) = subst (λ (messages : List Sent). AreHeard messages) it.sends all in
+        let refused : (is_done it.status && rules.grants call.header.sequence []) ≡ false = ap
+        (λ (b : Bool). b && rules.grants call.header.sequence []) it.undone in
+        hears_call one.caller one.address call one.blocks one.is one.counted (inl (record {
+          new = fresh_new call own_call.own one.fresh;
+          positive = false;
+          frame = bytes_of station.identity message;
+          keeps = ap (λ (r : Rest). option_map kept_in (kept_of activity r.calls)) it.becomes
+              ∙ ap (λ (k : Option Answer). option_map kept_in k) (kept_last activity (kept_for station.identity call message) live.rest.calls own_call.own);
+          does = inl (ap (λ (r : Rest). option_map link_of r.link) it.becomes);
+          to_device = all_heard.0.0;
+          to_controller = subst (λ (b : Bool). SaysAtMost rules (small.Answers call.header.sequence b)
+              (bytes_of station.identity message)) refused all_heard.0.1;
+          others = [];
+          sent = ap frames_of it.sends;
+          readies = tt;
+          asked = inl (ap (λ (r : Rest). asked_in r.asked) it.becomes);
+        }))
+
+    replies : Replies station live heard after sent → Goes (heard_as rules.is_planned heard) after sent
+    replies it =
+        let question = it.question in
+        let message = reply_to live.values.running.suite.address question it.status it.blocks in
+        let parts = each_parts (IsHeardAs rules station.identity) it.first (message ∷ []) (subst (λ (messages : List Sent). AreHeard messages) it.sends all) in
+        let sequence = question.header.sequence in
+        let of_activity = own question it.asked in
+        subst (λ (h : ToDevice). Goes h after sent) (sym (it.idle rules.is_planned)) (inr (record {
+          sequence = sequence;
+          asked = ap number_of it.asked;
+          settled = ap number_of it.settled;
+          new = new_is sequence (kept_of activity live.rest.calls) (sym (ap (λ (a : List ℕ). looked a sequence live.rest.calls) of_activity) ∙ it.fresh);
+          positive = is_positive rules (answer_to (call_of question) it.status it.blocks);
+          frame = bytes_of station.identity message;
+          keeps = ap (λ (c : List Answer). option_map kept_in (kept_of activity c)) it.keeps
+              ∙ ap (λ (k : Option Answer). option_map kept_in k)
+              (kept_last activity (kept_reply station.identity question message) live.rest.calls of_activity);
+          link = link_small live.rest.link after.link orderly it.link;
+          to_device = parts.1.0.0;
+          to_controller = parts.1.0.1;
+          others = frames_of it.first;
+          dull = all_other after it.first it.others parts.0;
+          sent = ap frames_of it.sends ∙ map-append (bytes_of station.identity) it.first (message ∷ []);
+        }))
+
     pub turn_goes : Does station live heard after sent → DeviceSteps rules (heard_as rules.is_planned heard) (small_in live.rest) (small_in after) (frames_of sent)
     turn_goes (inl it) = rests it
     turn_goes (inr (inl it)) = goes_by it
     turn_goes (inr (inr (inl it))) = confirms it
     turn_goes (inr (inr (inr (inl it)))) = repeats it
-    turn_goes (inr (inr (inr (inr it)))) = serves it
+    turn_goes (inr (inr (inr (inr (inl it))))) = serves it
+    turn_goes (inr (inr (inr (inr (inr (inl it)))))) = questions it
+    turn_goes (inr (inr (inr (inr (inr (inr (inl it))))))) = declines it
+    turn_goes (inr (inr (inr (inr (inr (inr (inr it))))))) = replies it
+
+-- what is asked is a call of this activity, also after a turn
+own_later : (rules : Rules TakenRecord Request) (activity : List ℕ) (station : Station) (live : Live) (heard : Heard) (after : AskedState)
+    → IsPlanned rules activity station.named live.rest.real heard → IsAskedLater heard live.rest.asked after → IsAskedOwn activity live.rest.asked
+    → IsAskedOwn activity after
+own_later rules activity station live heard after planned later own = λ question e. by_later question (later question e)
+  where
+    by_later : (question : Question) → (question_in live.rest.asked ≡ Some question) ⊎ IsAsking heard question → question.header.activity ≡ activity
+    by_later question (inl was) = own question was
+    by_later question (inr asks) =
+        let plan : IsPlannedCall rules activity station.named live.rest.real asks.call = subst
+        (λ (h : Heard). IsPlanned rules activity station.named live.rest.real h) asks.is planned in
+        ap (λ (h : CallHeader). h.activity) asks.header ∙ plan.own
+
+pub step_own : (rules : Rules TakenRecord Request) (activity : List ℕ) (outcomes : List Outcome) (station : Station) (live : Live) (heard : Heard)
+    → IsPlanned rules activity station.named live.rest.real heard → IsAskedLater heard live.rest.asked (heard_step outcomes station live heard).live.rest.asked
+    → IsAskedOwn activity live.rest.asked → IsAskedOwn activity (heard_step outcomes station live heard).live.rest.asked
+step_own rules activity outcomes station live heard planned later own =
+    own_later rules activity station live heard (heard_step outcomes station live heard).live.rest.asked planned later own
 
 pub step_goes : RefusalsAreNotDone → (rules : Rules TakenRecord Request) (activity : List ℕ) (outcomes : List Outcome) (station : Station) (live : Live) (heard : Heard)
-    → IsOrderlyIn live.rest.link → Does station live heard (heard_step outcomes station live heard).live.rest (heard_step outcomes station live heard).sent
-    → IsPlanned rules activity live.rest.real heard → AllByRecursion (IsHeardAs rules station.identity) (heard_step outcomes station live heard).sent
+    → IsOrderlyIn live.rest.link → IsAskedOwn activity live.rest.asked
+    → Does station live heard (heard_step outcomes station live heard).live.rest (heard_step outcomes station live heard).sent
+    → IsPlanned rules activity station.named live.rest.real heard
+    → AllByRecursion (IsHeardAs rules station.identity) (heard_step outcomes station live heard).sent
     → DeviceSteps rules (heard_as rules.is_planned heard) (small_of activity live) (small_of activity (heard_step outcomes station live heard).live) (heard_step outcomes station live heard).frames
 unfolding heard_step handled_step
-step_goes refusals_are_not_done rules activity outcomes station live heard orderly does planned sent =
-    turn_goes refusals_are_not_done rules activity station live orderly heard planned _ _ sent does
+step_goes refusals_are_not_done rules activity outcomes station live heard orderly own does planned sent =
+    turn_goes refusals_are_not_done rules activity station live orderly own heard planned _ _ sent does

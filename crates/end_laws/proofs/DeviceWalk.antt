@@ -1,6 +1,6 @@
 -- One turn of a device: what it does, what becomes of its relation and of the responses that it stores, and where its
 -- messages come from.
-use Rattle.std.proofs.Common.{◌≡◌, ◌⊎◌, inl, inr, ap, arith, ◌<◌, ◌+◌, ◌-◌, ℕ, Bool, true, false, cond, List, [], ◌∷◌, ◌++◌, length, Option, Some, None, option_map, Result, Ok, Err, refl, sym, subst, not, ◌∙◌, append_assoc}
+use Rattle.std.proofs.Common.{◌≡◌, ◌⊎◌, inl, inr, ap, arith, ◌+◌, ◌-◌, ℕ, Bool, true, false, cond, List, [], ◌∷◌, ◌++◌, length, Option, Some, None, option_map, Result, Ok, Err, refl, sym, subst, not, ◌∙◌, append_assoc}
 use Rattle.std.specs.Prelude.{◌&&◌, is_some, nat_eq, nat_lt, ◌==◌}
 use Rattle.std.specs.List.{AllByRecursion}
 use Rattle.lldp.specs.Peer.{Peer}
@@ -16,6 +16,12 @@ use Rattle.dcp_core.specs.Request.{Asked}
 use Rattle.dcp_core.specs.Identify.{matches}
 use Rattle.dcp_core.specs.Set.{plan_of}
 use Rattle.rpc_core.specs.Call.{Asked as Call}
+use Rattle.asked_records.specs.Answers.{Gives, answer_blocks, answer_status, gives_done, gives_octets, gives_refusal, judged, unanswered_status}
+use Rattle.asked_records.specs.Asked.{AskedState, Standing as AskedStanding, asked_with, asks_beside, is_repeat, question_in, settled}
+use Rattle.asked_records.specs.Questions.{call_of, is_of_relation, operation_of as operation_asked}
+use Rattle.asked_records.specs.declared.answering.AnswerFault.{AnswerFault}
+use Rattle.asked_records.specs.declared.question.Question.{Question}
+use Rattle.asked_records.specs.declared.status.Unanswered.TheVariants.{Busy, Late}
 use Rattle.connect_blocks.specs.declared.control.ControlBlock.{ControlBlock}
 use Rattle.block_codec.specs.declared.block.Block.TheVariants as variant
 use Rattle.block_codec.specs.Block.{block_bytes, block_of as read_block}
@@ -24,6 +30,9 @@ use Rattle.records.specs.declared.status.operation.Operation.{Operation}
 use Rattle.records.specs.declared.status.operation.Operation.TheVariants as operation
 use Rattle.records.specs.status.Operation.{operation_of}
 use Rattle.connects.specs.requests.Request.{Request}
+use Rattle.connects.specs.declared.requests.parts.Ar.{Ar}
+use Rattle.connects.specs.requests.Handled.{admitted, ar_in, request_behind, request_in, request_of}
+use Rattle.connects.specs.requests.Pieces.{Piece, pieces_of}
 use Rattle.record_blocks.specs.declared.write_record.IodWriteReq.{IodWriteReq}
 use Rattle.records.specs.declared.writes.taken.TakenRecord.{TakenRecord}
 use Rattle.records.specs.declared.writes.write.Effect.{Effect}
@@ -31,6 +40,7 @@ use Rattle.records.specs.declared.writes.write.Effect.TheVariants.{Stores, Keeps
 use Rattle.records.specs.declared.writes.write.Write.{Write}
 use Rattle.records.specs.declared.writes.writing.Writing.{Writing}
 use Rattle.records.specs.declared.writes.writing.Writing.TheVariants.{One, Each}
+use Rattle.records.specs.reads.Within.{request_within}
 use Rattle.records.specs.writes.Asked.{writing_of}
 use Rattle.records.specs.writes.Entry.{Entry}
 use Rattle.device_records.specs.Reading.{relation_read}
@@ -51,8 +61,9 @@ use Rattle.connect_blocks.specs.declared.plug_control.PlugControlBlock.{PlugCont
 use Rattle.connect_blocks.specs.PlugControl.{plug_control}
 use Rattle.relations.specs.declared.plugging.PlugAnswer.{PlugAnswer}
 use Rattle.relations.specs.declared.plugging.PlugAnswer.TheVariants as to_plug
-use Rattle.relations.specs.Plugging.{begins_as_plug_end, calling_next, changed_by, ended_by, first_sent, is_called_by, is_calling, is_alarmed_by, is_crowded, is_plug_control, is_readied_in, modules_changing, plug_answer_in, plug_answering, plug_done, plug_end_answer, plug_end_in, plug_ended, plug_ending, plugs_after, ready_for, readying_at, rows_now, taken_after}
+use Rattle.relations.specs.Plugging.{begins_as_plug_end, calling_next, changed_by, ended_by, first_sent, is_called_by, is_calling, is_alarmed_by, is_crowded, is_plug_control, is_readied_in, modules_changing, plug_answer_in, plug_answering, plug_done, plug_end_answer, plug_end_in, plugs_after, ready_for, readying_at, rows_now, taken_after}
 use Rattle.relations.specs.exchange.Frames.{Frame, alarm_frame, low_alarm_frame}
+use Rattle.relations.specs.declared.farewell.Farewell.{Farewell}
 use Rattle.relations.specs.declared.hearing.ReadyAnswer.{ReadyAnswer}
 use Rattle.relations.specs.declared.hearing.ReadyAnswer.TheVariants as to_ready
 use Rattle.relations.specs.RelationState.{RelationState, flow_of, is_alarm_of, uuid_of, is_started, is_awaiting, is_exchanging, is_in_exchange, is_preparing, passes_on, phase_of}
@@ -60,10 +71,10 @@ use Rattle.relations.specs.declared.phase.Partner.{Partner}
 use Rattle.relations.specs.Passed.{PassedOn, none_passed, passed_more}
 use Rattle.relations.specs.Phases.{Ended, Exchanged, Named, Parameterized, Prepared, Records, answered, keeping, kept_in, parameterized_from, updated, passing, passing_by, taking, Confirmed, exchanging_from, made_of, with_flow, restarted, with_records}
 use Rattle.relations.specs.Calls.{done_of, prm_end_of, release_of, control_block, in_started, named_of}
-use Rattle.relations.specs.Connect.{connect_blocks, connect_within, differing_of, making, rows_of}
-use Rattle.relations.specs.Diagnosed.{beginning, diagnose_one, diagnosing, has_sent_low, heard_low, hearing_low, is_full_in, reporting}
+use Rattle.relations.specs.Connect.{connect_blocks, connect_of, connect_within, differing_of, making, rows_of}
+use Rattle.relations.specs.Diagnosed.{diagnose_one, diagnosing, has_sent_low, heard_low, hearing_low, is_full_in}
 use Rattle.relations.specs.Ready.{answer_of as ready_answer, confirmed_block, confirmed_by, is_wanted, is_answer_to, ready_of}
-use Rattle.relations.specs.Timers.{due_by, due_of, ending_of, is_again, is_plug_again, is_timed, plugs_later, unit_later}
+use Rattle.relations.specs.Timers.{due_by, due_of, ending_of, is_again, is_plug_again, unit_later}
 use Rattle.relations.specs.Exchanged.{given_to, heard_by, hearing, raised_to, rating, received_by, receiving, turning, hearing_as, receiving_as}
 use Rattle.device_frames.specs.declared.local.Local.TheVariants as local
 use Rattle.device_frames.specs.Heard.{Heard, Ticks, Unreadable, Elsewhere, Asks, Resolves, Reported, Cyclic, Alarms, LowReplies, LowConfirms, Applied, Met, Said, Calls, Responds, Garbled}
@@ -73,18 +84,21 @@ use Rattle.device_frames.specs.declared.note.Note.{Note}
 use Rattle.device_frames.specs.declared.note.Note.TheVariants as note
 use Rattle.settings_journal.specs.settings_store.Machine.{Outcome, carried}
 use Rattle.device_core.specs.State.{Station, Live, Rest, alias_in, counter_of, units_after}
-use Rattle.device_core.specs.Handled.{change_of, Handled, Refuses, Sets, Moves, is_running, is_request, outcome_of, served, ready_behind, partner_of, kept_answer, handled_effect, handled_write, handled_new, handled_looked, handled_blocks, handled_call, handled_alarm, handled_answer, handled_beginning, handled_change, handled_low, handled_low_message, handled_low_pdu, handled_modules, handled_next_call, handled_plug_answer, handled_plug_end, handled_prm_end, handled_ready_at, handled_response, handled_said, handled_received, handled_input, handled_met, handled_notice, handled_pdu, handled_message, handled_request, handled_turned, goes_on_with, kept_status, starting_of, number_now, counted_by, handled, known_of}
+use Rattle.device_core.specs.Asking.{Asking, answered_link, asked_later, asking_of, ended_by as ended_uuid, is_new as is_new_call, kept_reply, late_calls, late_in, late_sent, left_asked, question_of, question_replies, released_by, reply_to, write_within}
+use Rattle.device_core.specs.Handled.{change_of, Handled, Refuses, Sets, Moves, counted_rest, counted_sent, is_running, is_request, outcome_of, served, ready_behind, partner_of, kept_answer, kept_for, handled_asking, handled_effect, handled_gives, handled_judged, handled_own, handled_question, handled_write, handled_new, handled_looked, handled_blocks, handled_call, handled_alarm, handled_answer, handled_beginning, handled_change, handled_low, handled_low_message, handled_low_pdu, handled_modules, handled_next_call, handled_plug_answer, handled_plug_end, handled_prm_end, handled_said, handled_received, handled_input, handled_met, handled_notice, handled_pdu, handled_message, handled_request, handled_turned, goes_on_with, kept_status, starting_of, number_now, counted_by, handled, known_of}
 use Rattle.device_core.specs.Modules.{call_after, calling_after, changed_rest, next_call_sent, outside, plug_of, pull_of, sent_after, slot_pull_of}
 use Rattle.device_core.specs.Several.{Judged, judged_each}
-use Rattle.device_core.specs.Machine.{effect_link, first_answer, link_behind, one_link, several_answer, resets, farewells_at, finished, items_in, handled_step, heard_step, link_after, written_as}
+use Rattle.rpc_core.specs.declared.response.Status.{Status}
+use Rattle.device_core.specs.Machine.{effect_link, farewell_at, first_answer, link_behind, one_link, several_answer, resets, farewells_at, finished, items_in, handled_step, heard_step, link_after, written_as}
 use Rattle.device_records.specs.declared.log_data.entry.LogEntry.{LogEntry}
 use Rattle.device_core.specs.Log.{but_rest, connect_log, end_log, err_log, release_log}
 use Rattle.end_laws.specs.both.Small.{Rules}
 use Rattle.end_laws.specs.device.Orderly.{AreNumbered, IsEarly, IsNumberedCall, IsOrderly, IsOrderlyIn}
-use Rattle.end_laws.specs.device.Owed.{IsOwed}
+use Rattle.end_laws.specs.device.Owed.{IsAskedOf, IsOwed}
+use Rattle.end_laws.proofs.DeviceQuestions.{IsAskedBy, IsStill, answered_orderly, answered_same, answered_small, dropped_still, judged_is, late_asked, later_still, left_none, left_still, nothing_related, read_asks, same_uuid, still_later, still_related, still_then, still_was, unrelated_asks, write_asks}
 use Rattle.end_laws.proofs.DeviceConnects.{unlimited}
-use Rattle.end_laws.proofs.DeviceOrderly.{AreBeside, IsKept, answered_beside, beside_ended, beside_kept, calls_told, changed_numbered, changing_kept, changing_orderly, diagnosing_kept, diagnosing_orderly, ended_keys, ended_numbered, ended_told, exchanges_sent, exchanges_told, exchanging_is, late, next_beside, numbered_next, part_told, plug_of_relation, ready_beside, same_beside, told_kept, unit_numbered, unit_orderly}
-use Rattle.end_laws.proofs.DeviceOwing.{IsPlainIn, connect_plain, keeping_plain, outcome_sized, plug_plain, prm_plain, read_plain, release_plain, stored_plain, writing_plain, IsPlain, bind_ok}
+use Rattle.end_laws.proofs.DeviceOrderly.{AreBeside, IsKept, answered_beside, beside_ended, beside_kept, calls_told, changed_numbered, changing_kept, changing_orderly, diagnosing_kept, diagnosing_orderly, ended_keys, ended_numbered, exchanges_sent, exchanges_told, exchanging_is, late, next_beside, numbered_next, part_told, plug_of_relation, ready_beside, told_kept, unit_numbered, unit_orderly}
+use Rattle.end_laws.proofs.DeviceOwing.{IsPlainIn, asking_plain, busy_sized, busy_undone, connect_plain, keeping_plain, outcome_sized, plug_plain, prm_plain, read_plain, release_plain, stored_plain, writing_plain, IsPlain, bind_ok}
 use Rattle.rpc_core.specs.Response.{Answered as Response, answer_to, is_done}
 use Rattle.relations.specs.Farewells.{farewell_of}
 use Rattle.relations.specs.Numbers.{made_after}
@@ -108,7 +122,6 @@ use Rattle.pn_alarms.specs.Sender.{notice_of}
 use Rattle.cyclic_data.specs.declared.tail.CyclicTail.{CyclicTail}
 use Rattle.cyclic_data.specs.declared.tail.ShortFrame.{ShortFrame}
 use Rattle.cyclic_data.specs.Tail.{cyclic_of}
-use Rattle.cyclic_data.specs.exchange.Cyclic.{Cyclic as CyclicEnd}
 use Rattle.cyclic_data.specs.exchange.Received.{behind_read, is_new, is_of_partner, taken_from}
 use Rattle.pn_values.specs.declared.real.RealModule.{RealModule}
 use Rattle.module_diff.specs.Plugged.{module_ident, submodule_ident}
@@ -116,8 +129,7 @@ use Rattle.diagnosis.specs.Existing.{changed as changed_list}
 use Rattle.diagnosis.specs.declared.diagnosis.Change.{Change}
 use Rattle.diagnosis.specs.declared.diagnosis.Diagnosis.{Diagnosis}
 use Rattle.diagnosis.specs.Queue.{is_next}
-use Rattle.pn_values.specs.declared.real.RealSubmodule.{RealSubmodule}
-use Rattle.rpc_core.specs.Cache.{Kept as Answer, Reported as Looked, new, again, old, kept_of, reported_by, looked}
+use Rattle.rpc_core.specs.Cache.{Kept as Answer, Reported as Looked, new, again, old, behind_reported, kept_more, kept_of, reported_by, looked}
 use Rattle.std.proofs.lemmas.Bool.{eqb-true}
 use Rattle.std.proofs.lemmas.List.{append-nil}
 use Rattle.block_codec.specs.declared.block_type.BlockType.TheVariants as kind
@@ -126,11 +138,10 @@ use Rattle.records.specs.writes.Taken.{keep_of}
 use Rattle.records.specs.writes.Answer.{answer_of}
 use Rattle.relations.specs.declared.phase.Phase.{Phase}
 use Rattle.relations.specs.declared.phase.Phase.TheVariants.{Started, Preparing, Awaiting, Exchanging}
-use Rattle.relations.specs.declared.ready.Ready.{Ready}
 use Rattle.end_laws.specs.both.Small as small
 use Rattle.end_laws.specs.device.Small.{IsPlanned, IsPlannedAs, IsPlannedIn, Planned, confirms, heard_as, link_of, names_own, phase_in}
-use Rattle.end_laws.specs.device.Does.{AreReadied, Following, GoesBy, IsEffect, IsExchange, IsKeptOr, IsOther, IsRestarted, IsUncalled, Plugging, Readying, readied_from, with_more}
-use Rattle.end_laws.specs.device.Turn.{AreCalm, BeginsNumbered, Changes, Diagnoses, IsCalm, IsHigh, IsLow, IsRaise, IsSameOr, IsTurn, Raises, Standing, Turn, alarm_heard, change_by, change_heard, heard_low_in, input_heard, modules_after, standing_of}
+use Rattle.end_laws.specs.device.Does.{AreReadied, Following, GoesBy, IsForRecord, IsEffect, IsExchange, IsKeptOr, IsOther, IsRestarted, IsUncalled, Plugging, Readying, readied_from, with_more}
+use Rattle.end_laws.specs.device.Turn.{AreCalm, BeginsNumbered, Changes, Diagnoses, IsCalm, IsHigh, IsLow, IsRaise, IsTurn, Raises, Standing, Turn, alarm_heard, change_by, change_heard, heard_low_in, input_heard, modules_after, standing_of}
 
 -- ---- what is sent
 
@@ -169,6 +180,54 @@ some_is x y e = cc
 reset_keeps : (b : Bool) (link : Option RelationState) → IsKept link (link_after b link)
 reset_keeps true link = (inr refl, inr (inl refl), λ orderly. tt)
 reset_keeps false link = (inl refl, inl refl, λ orderly. orderly)
+
+-- none of these changes the ARUUID
+exchanged_uuid : (link : Option RelationState) (flow : Flow) → uuid_of (updated (Exchanged flow) link) ≡ uuid_of link
+exchanged_uuid None flow = refl
+exchanged_uuid (Some link) flow = refl
+
+rated_uuid : (slot subslot : ℕ) (is_good : Bool) (link : Option RelationState) → uuid_of (updated (rating slot subslot is_good link) link) ≡ uuid_of link
+rated_uuid slot subslot is_good None = refl
+rated_uuid slot subslot is_good (Some link) = refl
+
+turned_uuid : (is_running : Bool) (link : Option RelationState) → uuid_of (updated (turning is_running link) link) ≡ uuid_of link
+turned_uuid is_running None = refl
+turned_uuid is_running (Some link) = refl
+
+diagnosing_uuid : (real : List RealModule) (change : Change) (later : List Diagnosis) (link : Option RelationState)
+    → uuid_of (updated (diagnosing real change later link) link) ≡ uuid_of link
+diagnosing_uuid real change later None = refl
+diagnosing_uuid real change later (Some link) = refl
+
+changing_uuid : (now : List RealModule) (made : RealChange) (later : List Diagnosis) (link : Option RelationState)
+    → uuid_of (modules_changing now made later link) ≡ uuid_of link
+changing_uuid now made later None = refl
+changing_uuid now made later (Some link) = refl
+
+named_uuid : (source : Partner) (link : Option RelationState) → uuid_of (option_map (restarted source) link) ≡ uuid_of link
+named_uuid source None = refl
+named_uuid source (Some link) = refl
+
+parameterized_uuid : (source : Partner) (by_application : Bool) (link : RelationState)
+    → uuid_of (Some (restarted source (parameterized_from by_application link))) ≡ uuid_of (Some link)
+parameterized_uuid source true link = refl
+parameterized_uuid source false link = refl
+
+more_uuid : (source : Partner) (passed : PassedOn) (values : List TakenRecord) (link : Option RelationState)
+    → uuid_of (option_map (with_more source passed values) link) ≡ uuid_of link
+more_uuid source passed values None = refl
+more_uuid source passed values (Some link) = refl
+
+beside_uuid : (past next : Option RelationState) → AreBeside past next → uuid_of (calling_next next) ≡ uuid_of past
+beside_uuid None None beside = refl
+beside_uuid None (Some next) beside = absurd beside
+beside_uuid (Some past) None beside = absurd beside
+beside_uuid (Some past) (Some next) beside = ap (λ (r : Request). let o : Option (List ℕ) = Some r.ar.uuid in o) beside.request
+
+-- that of the relation that a reset ends
+reset_uuid : (link : Option RelationState) → ended_uuid (farewell_at true link) ≡ uuid_of link
+reset_uuid None = refl
+reset_uuid (Some link) = refl
 
 exchanged_same : (link : Option RelationState) (flow : Flow) → option_map link_of (updated (Exchanged flow) link) ≡ option_map link_of link
 exchanged_same None flow = refl
@@ -307,6 +366,23 @@ prm_started link blocks block e =
     let third = bind_ok (in_started link) (λ _. Ok first.0) block second.2 in
     started_is link (started_by link third.0 (is_started (phase_of link)) refl third.1)
 
+-- a Connect is accepted if there is no relation
+never_pieces : (uuid : List ℕ) (pieces : List Piece) (request : Request) → request_in (Some uuid) pieces ≡ Ok request → ⊥
+unfolding request_in
+never_pieces uuid [] request e = absurd cc
+never_pieces uuid (piece ∷ pieces) request e = by_first (ar_in piece) e
+  where
+    by_first : (first : Result Ar CallFault) → (first >>= λ ar. admitted (Some uuid) ar >>= λ _. request_behind ar pieces) ≡ Ok request → ⊥
+    by_first (Ok ar) f = absurd cc
+    by_first (Err why) f = absurd cc
+
+never_connected : (uuid blocks : List ℕ) (request : Request) → request_of (Some uuid) blocks ≡ Ok request → ⊥
+unfolding request_of
+never_connected uuid blocks request e = never_pieces uuid (pieces_of blocks) request e
+
+never_err : (octets : List ℕ) (why : CallFault) → ◌≡◌ {A = Result (List ℕ) CallFault} (Ok octets) (Err why) → ⊥
+never_err octets why e = absurd cc
+
 -- a Release is accepted for a relation that exists
 never_released : (blocks : List ℕ) (block : ControlBlock) → release_of None blocks ≡ Ok block → ⊥
 unfolding release_of
@@ -351,7 +427,8 @@ abbrev Takes : List Judged → Option RelationState → RelationState → Type 0
 Takes judged after link = (values : List TakenRecord) × (passed : PassedOn) × (link_behind judged after ≡ Some (holding (link.taken ++ values) passed link))
 
 -- the records that were accepted after one, or after none
-one_takes : (others : List Judged) (link : RelationState) → ((next : RelationState) → Takes others (Some next) next) → (one : Result Write CallFault) → Takes others (one_link one (Some link)) link
+one_takes : (others : List Judged) (link : RelationState) → ((next : RelationState) → Takes others (Some next) next) → (one : Result Write Status)
+    → Takes others (one_link one (Some link)) link
 one_takes others link later (Err why) = later link
 one_takes others link later (Ok write) = by_effect write.effect
   where
@@ -379,7 +456,7 @@ link_takes : (judged : List Judged) (link : RelationState) → Takes judged (Som
 link_takes [] link = ([], link.passed, ap (λ (taken : List TakenRecord). Some (holding taken link.passed link)) (sym (append-nil link.taken)))
 link_takes (one ∷ others) link = one_takes others link (link_takes others) one.1
 
-one_none : (one : Result Write CallFault) → one_link one None ≡ None
+one_none : (one : Result Write Status) → one_link one None ≡ None
 one_none (Err why) = refl
 one_none (Ok write) = by_effect write.effect
   where
@@ -548,8 +625,9 @@ module _ (rules : Rules TakenRecord Request) (activity : List ℕ) (station : St
     -- something that is no call
     goes : (after : Rest) (sent : List Sent) → after.diagnoses ≡ live.rest.diagnoses → after.real ≡ live.rest.real
         → IsTurn real after.real.modules.items live.rest.calls live.rest.diagnoses after.diagnoses before heard after.link sent
-        → (IsOrderlyIn before → IsOrderlyIn after.link) → GoesBy live heard after sent → Turn station live heard after sent
-    goes after sent same plugged is orderly by = record {
+        → (IsOrderlyIn before → IsOrderlyIn after.link) → (IsAskedOf before live.rest.asked → IsAskedOf after.link after.asked)
+        → GoesBy live heard after sent → Turn station live heard after sent
+    goes after sent same plugged is orderly related by = record {
       does = inr (inl by);
       is = is;
       diagnoses = inl same;
@@ -557,51 +635,150 @@ module _ (rules : Rules TakenRecord Request) (activity : List ℕ) (station : St
       answers = inl by.calls;
       orderly = orderly;
       owed = other_owed after.link sent by.others;
+      asked = still_later heard live.rest.asked after.asked by.asked;
+      related = related;
     }
 
-    refuses : (why : Note) → Comes_to heard (Refuses why)
-    refuses why answers = record {
-      does = inl (record { same = refl; silent = refl });
-      is = inl (record { link = inl refl; calm = tt });
+    -- what is asked is asked by the same relation
+    alike : (after : Option RelationState) → uuid_of after ≡ uuid_of before → IsAskedOf before live.rest.asked → IsAskedOf after live.rest.asked
+    alike after same = still_related before after live.rest.asked live.rest.asked same (inl refl)
+
+    nothing_asked : (what : List Sent) → what ≡ [] → Turn station live heard live.rest what
+    nothing_asked what is = record {
+      does = inl (record { same = refl; silent = is });
+      is = inl (record { link = inl refl; calm = subst (λ (s : List Sent). AreCalm before s) (sym is) tt });
       diagnoses = inl refl;
       modules = inl refl;
       answers = inl refl;
       orderly = λ orderly. orderly;
-      owed = tt;
+      owed = subst (λ (s : List Sent). AllByRecursion (IsOwed heard live) s) (sym is) tt;
+      asked = still_later heard live.rest.asked live.rest.asked (inl refl);
+      related = λ related. related;
     }
+
+    refuses : (why : Note) → Comes_to heard (Refuses why)
+    refuses why answers = nothing_asked [] refl
+
+    -- a call that is asked already is dropped
+    drops : Comes_to heard (Moves live.rest [])
+    drops answers = nothing_asked [] refl
+
+    -- The call that is asked is answered, after these messages: the rest without what is stored is this, and nothing is asked any more.
+    module _ (idle : (planned : Planned) → heard_as planned heard ≡ small.Idle) (question : Question) (asked : question_in live.rest.asked ≡ Some question)
+        (status : Status) (blocks : List ℕ) (link : Option RelationState) (after : AskedState) (lamp units : ℕ) (log : List LogEntry) (first : List Sent) where
+      abbrev reply : Sent
+      reply = reply_to from question status blocks
+
+      abbrev rest_with : List Answer → Rest
+      rest_with calls = record live.rest { lamp = lamp; calls = calls; link = link; units = units; log = log; asked = after }
+
+      abbrev IsTurnWith : List Sent → Type 0
+      IsTurnWith sent = IsTurn real real live.rest.calls live.rest.diagnoses live.rest.diagnoses before heard link sent
+
+      uncalled_idle : (planned : Planned) → IsUncalled (heard_as planned heard)
+      uncalled_idle planned = subst (λ (h : small.ToDevice). IsUncalled h) (sym (idle planned)) tt
+
+      replies : question_in after ≡ None → IsKeptOr before link → AreOthers link first → ((more : List Sent) → AreCalm before more → IsTurnWith (first ++ more))
+          → (IsOrderlyIn before → IsOrderlyIn link)
+          → Turn station live heard (rest_with (behind_reported 4 (kept_reply station.identity question reply) live.rest.calls
+          (looked question.header.activity question.header.sequence live.rest.calls)))
+          (first ++ question_replies question reply live.rest.calls)
+      replies settled kept others is orderly = by_looked (looked question.header.activity question.header.sequence live.rest.calls) refl
+        where
+          related : IsAskedOf before live.rest.asked → IsAskedOf link after
+          related was = nothing_related link after settled
+
+          -- a later call of its activity was answered meanwhile
+          passes : Turn station live heard (rest_with live.rest.calls) (first ++ [])
+          passes = goes (rest_with live.rest.calls) (first ++ []) refl refl (is [] tt) orderly related (record {
+            uncalled = uncalled_idle;
+            calls = refl;
+            link = kept;
+            others = each_behind (IsOther live link) first [] others tt;
+            asked = inr settled;
+          })
+
+          by_looked : (reported : Looked) → looked question.header.activity question.header.sequence live.rest.calls ≡ reported
+              → Turn station live heard (rest_with (behind_reported 4 (kept_reply station.identity question reply) live.rest.calls reported))
+              (first ++ where_due (is_new_call reported) (reply ∷ []))
+          by_looked new fresh = record {
+            does = inr (inr (inr (inr (inr (inr (inr (record {
+              idle = idle;
+              question = question;
+              asked = asked;
+              settled = settled;
+              fresh = fresh;
+              link = kept;
+              status = status;
+              blocks = blocks;
+              keeps = refl;
+              first = first;
+              others = others;
+              sends = refl;
+            })))))));
+            is = is (reply ∷ []) (tt, tt);
+            diagnoses = inl refl;
+            modules = inl refl;
+            answers = inr (record {
+              call = call_of question;
+              caller = question.caller;
+              address = from;
+              answer = answer_to (call_of question) status blocks;
+              first = first;
+              others = [];
+              keeps = refl;
+              sends = refl;
+            });
+            orderly = orderly;
+            owed = each_behind (IsOwed heard live) first (reply ∷ []) (other_owed link first others)
+                (inr (record { question = question; is = asked; own = refl; header = refl; maximum = refl }), tt);
+            asked = still_later heard live.rest.asked after (inr settled);
+            related = related;
+          }
+          by_looked (again frame) fresh = passes
+          by_looked old fresh = passes
 
     module _ (idle : (planned : Planned) → IsUncalled (heard_as planned heard)) where
       stays : (after : Rest) (sent : List Sent) → after.calls ≡ live.rest.calls → after.diagnoses ≡ live.rest.diagnoses → after.real ≡ live.rest.real
-          → IsKept before after.link → AreCalm before sent → AreOthers after.link sent → Turn station live heard after sent
-      stays after sent calls same plugged kept calm others =
-          goes after sent same plugged (inl (record { link = kept.0; calm = calm })) kept.2 (record { uncalled = idle; calls = calls; link = kept.1; others = others })
+          → IsKept before after.link → AreCalm before sent → AreOthers after.link sent
+          → IsStill live.rest.asked after.asked → (IsAskedOf before live.rest.asked → IsAskedOf after.link after.asked) → Turn station live heard after sent
+      stays after sent calls same plugged kept calm others still related =
+          goes after sent same plugged (inl (record { link = kept.0; calm = calm })) kept.2 related
+          (record { uncalled = idle; calls = calls; link = kept.1; others = others; asked = still })
 
       tells : (message : Sent) → IsCalm before message → IsOther live before message → Comes_to heard (Moves live.rest (message ∷ []))
       tells message calm other answers = stays live.rest (message ∷ []) refl refl refl (inl refl, inl refl, λ orderly. orderly) (calm, tt) (other, tt)
+          (inl refl) (λ related. related)
 
       -- the relation became this
       becomes_as : (link : Option RelationState) (sent : List Sent) → IsTurn real real live.rest.calls live.rest.diagnoses live.rest.diagnoses before heard link sent
-          → (IsOrderlyIn before → IsOrderlyIn link) → IsKeptOr before link → AreOthers link sent → Comes_to heard (Moves (record live.rest { link = link }) sent)
-      becomes_as link sent is orderly kept others answers =
-          goes (record live.rest { link = link }) sent refl refl is orderly (record { uncalled = idle; calls = refl; link = kept; others = others })
+          → (IsOrderlyIn before → IsOrderlyIn link) → IsKeptOr before link → uuid_of link ≡ uuid_of before → AreOthers link sent
+          → Comes_to heard (Moves (record live.rest { link = link }) sent)
+      becomes_as link sent is orderly kept same others answers =
+          goes (record live.rest { link = link }) sent refl refl is orderly (alike link same)
+          (record { uncalled = idle; calls = refl; link = kept; others = others; asked = inl refl })
 
       becomes : (link : Option RelationState) (sent : List Sent) → IsTurn real real live.rest.calls live.rest.diagnoses live.rest.diagnoses before heard link sent
           → (IsOrderlyIn before → IsOrderlyIn link) → option_map link_of link ≡ option_map link_of before → AreOthers link sent
           → Comes_to heard (Moves (record live.rest { link = link }) sent)
-      becomes link sent is orderly same others answers = becomes_as link sent is orderly (inl same) others answers
+      becomes link sent is orderly same others answers = becomes_as link sent is orderly (inl same) (same_uuid before link same) others answers
 
-      -- the relation ended
-      ends : (lamp units : ℕ) (log : List LogEntry) (sent : List Sent) → AreCalm before sent → AreOthers None sent
-          → Comes_to heard (Moves (record live.rest { lamp = lamp; link = None; units = units; log = log }) sent)
-      ends lamp units log sent calm others answers =
-          stays (record live.rest { lamp = lamp; link = None; units = units; log = log }) sent refl refl refl (inr refl, inr (inl refl), λ orderly. tt) calm others
+      -- the relation with this ARUUID ended
+      ends : (log : List LogEntry) (uuid : Option (List ℕ)) → uuid ≡ uuid_of before → (sent : List Sent) → AreCalm before sent → AreOthers None sent
+          → Comes_to heard (Moves (record live.rest { link = None; log = log; asked = left_asked uuid live.rest.asked }) sent)
+      ends log uuid is sent calm others answers =
+          stays (record live.rest { link = None; log = log; asked = left_asked uuid live.rest.asked }) sent refl refl refl
+          (inr refl, inr (inl refl), λ orderly. tt) calm others
+          (left_still uuid live.rest.asked)
+          (λ related. nothing_related None (left_asked uuid live.rest.asked)
+          (ap (λ (u : Option (List ℕ)). question_in (left_asked u live.rest.asked)) is ∙ left_none before live.rest.asked related))
 
       -- the next call of a plug may become active
       calls_next : (link : Option RelationState) → AreBeside before link → Comes_to heard (handled_next_call live link)
       calls_next link beside answers =
           let kept = beside_kept before (calling_next link) (next_beside before link beside) in
           stays (record live.rest { link = calling_next link }) (next_call_sent from link) refl refl refl kept (next_calm link)
-          (next_other (calling_next link) before link refl beside)
+          (next_other (calling_next link) before link refl beside) (inl refl) (alike (calling_next link) (beside_uuid before link beside))
 
   -- ---- DCP and ARP
 
@@ -613,6 +790,13 @@ module _ (rules : Rules TakenRecord Request) (activity : List ℕ) (station : St
       stays (Asks asker asked) (λ planned. tt) end.rest end.sent refl refl refl (reset_keeps reset before)
       (each_behind (IsCalm before) (farewells_at reset before) answer (farewells_calm reset before) (tt, tt))
       (each_behind (IsOther live end.rest.link) (farewells_at reset before) answer (farewells_other end.rest.link reset before) (tt, tt))
+      (left_still (ended_uuid (farewell_at reset before)) live.rest.asked) (reset_related reset)
+    where
+      reset_related : (b : Bool) → IsAskedOf before live.rest.asked
+          → IsAskedOf (link_after b before) (left_asked (ended_uuid (farewell_at b before)) live.rest.asked)
+      reset_related true related = nothing_related None (left_asked (ended_uuid (farewell_at true before)) live.rest.asked)
+          (ap (λ (u : Option (List ℕ)). question_in (left_asked u live.rest.asked)) (reset_uuid before) ∙ left_none before live.rest.asked related)
+      reset_related false related = related
 
   identifies : (asker : Mac) (request : Asked) (b : Bool)
       → Comes_to (Asks asker request) (cond b (Moves live.rest (IdentifyAnswer asker live.values.running request.xid ∷ [])) (Refuses note.Filter))
@@ -652,19 +836,24 @@ module _ (rules : Rules TakenRecord Request) (activity : List ℕ) (station : St
   gives : (slot subslot : ℕ) (value : List ℕ) (flow : Option Flow) → given_to slot subslot value before ≡ flow → Comes_to (input_heard slot subslot value) (handled_input live flow)
   gives slot subslot value (Some flow) is = λ answers.
       stays (input_heard slot subslot value) (λ planned. tt) (record live.rest { link = updated (Exchanged flow) before }) [] refl refl refl (given_keeps slot subslot value before flow is) tt tt
+      (inl refl) (alike (input_heard slot subslot value) (updated (Exchanged flow) before) (exchanged_uuid before flow))
   gives slot subslot value None is = refuses (input_heard slot subslot value) note.Refused
 
   rates : (slot subslot : ℕ) (is_good : Bool) (statuses : Option (List InputStatus)) → Comes_to (Applied (local.Status slot subslot is_good)) (kept_status live slot subslot is_good statuses)
   rates slot subslot is_good (Some statuses) = λ answers.
       stays (Applied (local.Status slot subslot is_good)) (λ planned. tt) (record live.rest { link = updated (rating slot subslot is_good before) before; statuses = statuses }) [] refl refl refl (rated_keeps slot subslot is_good before) tt tt
+      (inl refl) (alike (Applied (local.Status slot subslot is_good)) (updated (rating slot subslot is_good before) before)
+      (rated_uuid slot subslot is_good before))
   rates slot subslot is_good None = refuses (Applied (local.Status slot subslot is_good)) note.Refused
 
   turns_so : (is_running : Bool) → Comes_to (Applied (local.ProviderState is_running)) (handled_turned live is_running)
   turns_so is_running = λ answers.
       stays (Applied (local.ProviderState is_running)) (λ planned. tt) (record live.rest { link = updated (turning is_running before) before; is_running = is_running }) [] refl refl refl (turned_keeps is_running before) tt tt
+      (inl refl) (alike (Applied (local.ProviderState is_running)) (updated (turning is_running before) before) (turned_uuid is_running before))
 
   meets : (peer : Option Peer) → Comes_to (Met peer) (handled_met live peer)
   meets peer = λ answers. stays (Met peer) (λ planned. tt) (record live.rest { peer = peer }) [] refl refl refl (inl refl, inl refl, λ orderly. orderly) tt tt
+      (inl refl) (λ related. related)
 
   -- ---- the application is ready
 
@@ -723,7 +912,8 @@ module _ (rules : Rules TakenRecord Request) (activity : List ℕ) (station : St
         (λ orderly. subst (λ (l : Option RelationState). IsOrderlyIn l) was orderly) (flows link flow was) (tt, tt)
     pdus (notice.Ack number) (Some link) is was = acks number link (is_last link.flow.alarms.sender.sending.last number) is was
     pdus notice.Nack (Some link) is was = refuses heard note.Filter
-    pdus (notice.Abort status) (Some link) is was = ends heard idle live.rest.lamp live.rest.units (end_log (uuid_of before) status live.rest.units live.rest.log) [] tt tt
+    pdus (notice.Abort status) (Some link) is was = ends heard idle (end_log (uuid_of before) status live.rest.units live.rest.log)
+        (uuid_of before) refl [] tt tt
 
     alarms : (message : Message) (b : Bool) → IsHigh heard source header message → Comes_to heard (cond b (handled_message live message) (Refuses note.NoRelation))
     alarms message true is = pdus message before is refl
@@ -778,6 +968,7 @@ module _ (rules : Rules TakenRecord Request) (activity : List ℕ) (station : St
         (subst (λ (l : Option RelationState). IsKeptOr l (Some after)) (sym was)
         (told_kept link next.low link.plugs.places plugs next (is_next flow.low)
         (λ told own. exchanges_sent link own (subst (λ (l : Option RelationState). has_sent_low l ≡ true) was has))))
+        (sym (ap uuid_of was))
         (tt, low_other (Some after) (is_next flow.low) next)
     lows (notice.Ack number) (Some link) is was = low_acks number link (is_last link.flow.low.alarms.sender.sending.last number) is was
     lows notice.Nack (Some link) is was = refuses heard note.Filter
@@ -812,13 +1003,21 @@ module _ (rules : Rules TakenRecord Request) (activity : List ℕ) (station : St
       record { change = change; is = refl; open_room = room; changes = is; becomes = refl; sends = refl } in
       let others = lows_other link (diagnose_one real change later before) link in
       record {
-        does = inr (inl (record { uncalled = λ planned. tt; calls = refl; link = diagnosing_kept real change later before; others = others }));
+        does = inr (inl (record {
+          uncalled = λ planned. tt;
+          calls = refl;
+          link = diagnosing_kept real change later before;
+          others = others;
+          asked = inl refl;
+        }));
         is = inr (inr (inr (inr (inr (inr (inr (inr (inr (inr (inl how))))))))));
         diagnoses = inr (inl how);
         modules = inl refl;
         answers = inl refl;
         orderly = diagnosing_orderly real change later before;
         owed = other_owed (change_heard change) link sent others;
+        asked = still_later (change_heard change) live.rest.asked live.rest.asked (inl refl);
+        related = alike (change_heard change) link (diagnosing_uuid real change later before);
       }
 
   diagnoses_as : (change : Change) (b c : Bool) → is_full_in before ≡ c
@@ -860,13 +1059,22 @@ module _ (rules : Rules TakenRecord Request) (activity : List ℕ) (station : St
         let others = each_behind (IsOther live rest.link) alarm calls
         (lows_other rest.link (is_alarmed_by now made rest.diagnoses before) rest.link) (changed_other now made rest.diagnoses before refl) in
         record {
-          does = inr (inl (record { uncalled = idle; calls = refl; link = changing_kept now made rest.diagnoses before; others = others }));
+          does = inr (inl (record {
+            uncalled = idle;
+            calls = refl;
+            link = changing_kept now made rest.diagnoses before;
+            others = others;
+            asked = dropped_still (affected_by made) live.rest.asked;
+          }));
           is = inr (inr (inr (inr (inr (inr (inr (inr (inr (inr (inr how))))))))));
           diagnoses = inr (inr how);
           modules = inr how;
           answers = inl refl;
           orderly = changing_orderly now made rest.diagnoses before;
           owed = other_owed heard rest.link (alarm ++ calls) others;
+          asked = still_later heard live.rest.asked rest.asked (dropped_still (affected_by made) live.rest.asked);
+          related = still_related before rest.link live.rest.asked rest.asked (changing_uuid now made rest.diagnoses before)
+              (dropped_still (affected_by made) live.rest.asked);
         }
 
     modules_as : (now : Option (List RealModule)) → modules_after real heard ≡ now → Comes_to heard (handled_modules live made now)
@@ -881,11 +1089,77 @@ module _ (rules : Rules TakenRecord Request) (activity : List ℕ) (station : St
       (ready_beside before (readied_plugs slot subslot) (λ plugs. refl) (λ plugs numbered. numbered) (λ plugs. refl))
   readied_as slot subslot false = refuses (Applied (local.ReadyAt slot subslot)) note.Refused
 
+  -- ---- the application answers what is asked
+
+  gives_answer : (heard : Heard) → ((planned : Planned) → heard_as planned heard ≡ small.Idle) → (given : Gives) (judgement : Result Question AnswerFault)
+      → ((question : Question) → judgement ≡ Ok question → question_in live.rest.asked ≡ Some question)
+      → Comes_to heard (handled_judged station live given judgement)
+  gives_answer heard idle given (Err why) asked = refuses heard note.Refused
+  gives_answer heard idle given (Ok question) asked = λ answers.
+      replies heard idle question (asked question refl) (answer_status question.request given) (answer_blocks question.request given)
+      (answered_link question given before) (settled live.rest.asked) live.rest.lamp live.rest.units live.rest.log [] refl
+      (inl (answered_small question given before)) tt
+      (λ more calm. inl (record { link = inl (answered_same question given before); calm = calm }))
+      (answered_orderly question given before)
+
+  answers_so : (heard : Heard) → ((planned : Planned) → heard_as planned heard ≡ small.Idle) → (number : ℕ) (given : Gives)
+      → Comes_to heard (handled_gives station live number given)
+  answers_so heard idle number given =
+      gives_answer heard idle given (judged number given live.rest.asked) (λ question is. judged_is number given live.rest.asked question is)
+
   -- ---- units
 
+  -- The relation after a unit of time, before what is asked is counted: then a call that has no answer in time is refused.
+  module _ (lamp units : ℕ) (log : List LogEntry) (link : Option RelationState) (asked : AskedState) (count : ℕ) (sent : List Sent) where
+    abbrev unit_rest : Rest
+    unit_rest = record live.rest { lamp = lamp; link = link; units = units; log = log; asked = asked }
+
+    counts : IsKeptOr before link → AreOthers link sent
+        → ((more : List Sent) → AreCalm before more → IsTurn real real live.rest.calls live.rest.diagnoses live.rest.diagnoses before Ticks link (sent ++ more))
+        → (IsOrderlyIn before → IsOrderlyIn link) → IsStill live.rest.asked asked → (IsAskedOf before live.rest.asked → IsAskedOf link asked)
+        → Turn station live Ticks (counted_rest station.identity from count unit_rest) (sent ++ counted_sent from count unit_rest)
+    counts kept others is orderly still related = by_late (late_in count asked) refl
+      where
+        after : AskedState
+        after = asked_later count asked
+
+        by_late : (late : Option Question) → late_in count asked ≡ late
+            → Turn station live Ticks (record unit_rest { asked = asked_later count asked; calls = late_calls station.identity from late live.rest.calls })
+            (sent ++ late_sent from late live.rest.calls)
+        by_late None e = goes Ticks (record unit_rest { asked = asked_later count asked }) (sent ++ []) refl refl (is [] tt) orderly
+            (λ was. still_related link link asked (asked_later count asked) refl (later_still count asked) (related was))
+            (record {
+              uncalled = λ planned. tt;
+              calls = refl;
+              link = kept;
+              others = each_behind (IsOther live link) sent [] others tt;
+              asked = still_then live.rest.asked asked (asked_later count asked) still (later_still count asked);
+            })
+        by_late (Some question) e =
+            let there = late_asked count asked question e in
+            replies Ticks (λ planned. refl) question (still_was live.rest.asked asked question still there.0)
+            (unanswered_status (operation_asked question.request) Late) []
+            link (asked_later count asked) lamp units log sent there.1 kept others is orderly
+
+  -- the rest after a unit of time, before what is asked is counted, and what is done with that
+  abbrev unit_from : ℕ → ℕ → List LogEntry → Option RelationState → Option Farewell → Rest
+  unit_from lamp units log link farewell =
+      record live.rest { lamp = lamp; link = link; units = units; log = log; asked = left_asked (ended_uuid farewell) live.rest.asked }
+
+  abbrev Counts_to : Rest → List Sent → Type 0
+  Counts_to rest sent = Comes_to Ticks (Moves (counted_rest station.identity from (length sent) rest) (sent ++ counted_sent from (length sent) rest))
+
   ticks_as : (lamp units : ℕ) (log : List LogEntry) (link : RelationState) (ending : Option Abort) → before ≡ Some link
-      → Comes_to Ticks (Moves (record live.rest { lamp = lamp; link = updated (passing_by ending) (Some link); units = units; log = log }) (due_frames from (counter_of units) (due_by link ending) (updated (passing_by ending) (Some link))))
-  ticks_as lamp units log link (Some reason) was = ends Ticks (λ planned. tt) lamp units log _ ((reason, link, was, refl), tt) (tt, tt)
+      → Counts_to (unit_from lamp units log (updated (passing_by ending) (Some link)) (due_by link ending).farewell)
+      (due_frames from (counter_of units) (due_by link ending) (updated (passing_by ending) (Some link)))
+  ticks_as lamp units log link (Some reason) was = λ answers.
+      let sent = due_frames from (counter_of units) (due_by link (Some reason)) None in
+      let asked = left_asked (Some link.request.ar.uuid) live.rest.asked in
+      counts lamp units log None asked (length sent) sent (inr (inl refl)) (tt, tt)
+      (λ more calm. inl (record { link = inr refl; calm = ((reason, link, was, refl), calm) })) (λ orderly. tt)
+      (left_still (Some link.request.ar.uuid) live.rest.asked)
+      (λ related. nothing_related None asked
+      (ap (λ (u : Option (List ℕ)). question_in (left_asked u live.rest.asked)) (sym (ap uuid_of was)) ∙ left_none before live.rest.asked related))
   ticks_as lamp units log link None was = λ answers.
       let tick = tick_of link.flow in
       let again = repeated_of link.flow in
@@ -896,35 +1170,38 @@ module _ (rules : Rules TakenRecord Request) (activity : List ℕ) (station : St
       let plugs = where_due (is_plug_again link) (plug_calls from later) in
       let cyclic = where_due tick.is_cyclic (inputs_of (counter_of units) (Some (flow_later link.flow))) in
       let inputs = plugs ++ cyclic in
-      goes Ticks (record live.rest { lamp = lamp; link = later; units = units; log = log }) (alarm ++ (low ++ (ready ++ inputs))) refl refl
-      (inr (inr (inr (inr (inr (inl (record {
+      let sent = alarm ++ (low ++ (ready ++ inputs)) in
+      counts lamp units log later live.rest.asked (length sent) sent
+      (inl (sym (ap (λ (l : Option RelationState). option_map link_of l) was)))
+      (each_behind (IsOther live later) alarm (low ++ (ready ++ inputs))
+      (due_each (IsOther live later) (tick.is_alarm && again.high) _ (alarms_other later (Some (flow_later link.flow))))
+      (each_behind (IsOther live later) low (ready ++ inputs) (low_other later (tick.is_alarm && again.low) (flow_later link.flow))
+      (each_behind (IsOther live later) ready inputs (again_other link (is_again link) was refl)
+      (each_behind (IsOther live later) plugs cyclic
+      (due_each (IsOther live later) (is_plug_again link) _
+      (plugs_other later link (unit_later link) was refl (unit_numbered link)))
+      (due_each (IsOther live later) tick.is_cyclic _ (tt, tt))))))
+      (λ more calm. inr (inr (inr (inr (inr (inl (record {
         is = refl;
         link = link;
         was = was;
         becomes = refl;
-        others = ready ++ inputs;
-        sends = refl;
-        calm = each_behind (IsCalm before) ready inputs (due_each (IsCalm before) (is_again link) _ (tt, tt))
+        others = (ready ++ inputs) ++ more;
+        sends = append_assoc alarm (low ++ (ready ++ inputs)) more ∙ ap (λ (s : List Sent). alarm ++ s) (append_assoc low (ready ++ inputs) more);
+        calm = each_behind (IsCalm before) (ready ++ inputs) more
+            (each_behind (IsCalm before) ready inputs (due_each (IsCalm before) (is_again link) _ (tt, tt))
             (each_behind (IsCalm before) plugs cyclic (due_each (IsCalm before) (is_plug_again link) _ (called_calm before from later))
-            (due_each (IsCalm before) tick.is_cyclic _ ((link, was, refl), tt)));
+            (due_each (IsCalm before) tick.is_cyclic _ ((link, was, refl), tt)))) calm;
       })))))))
       (λ orderly. unit_orderly link (subst (λ (l : Option RelationState). IsOrderlyIn l) was orderly))
-      (record {
-        uncalled = λ planned. tt;
-        calls = refl;
-        link = inl (sym (ap (λ (l : Option RelationState). option_map link_of l) was));
-        others = each_behind (IsOther live later) alarm (low ++ (ready ++ inputs)) (due_each (IsOther live later) (tick.is_alarm && again.high) _ (alarms_other later (Some (flow_later link.flow))))
-            (each_behind (IsOther live later) low (ready ++ inputs) (low_other later (tick.is_alarm && again.low) (flow_later link.flow))
-            (each_behind (IsOther live later) ready inputs (again_other link (is_again link) was refl)
-            (each_behind (IsOther live later) plugs cyclic
-            (due_each (IsOther live later) (is_plug_again link) _
-            (plugs_other later link (unit_later link) was refl (unit_numbered link)))
-            (due_each (IsOther live later) tick.is_cyclic _ (tt, tt)))));
-      })
+      (inl refl) (alike Ticks later (sym (ap uuid_of was)))
 
   ticks_with : (lamp units : ℕ) (log : List LogEntry) (link : Option RelationState) → before ≡ link
-      → Comes_to Ticks (Moves (record live.rest { lamp = lamp; link = updated (passing link) link; units = units; log = log }) (due_frames from (counter_of units) (due_of link) (updated (passing link) link)))
-  ticks_with lamp units log None was = ends Ticks (λ planned. tt) lamp units log [] tt tt
+      → Counts_to (unit_from lamp units log (updated (passing link) link) (due_of link).farewell)
+      (due_frames from (counter_of units) (due_of link) (updated (passing link) link))
+  ticks_with lamp units log None was = λ answers.
+      counts lamp units log None live.rest.asked 0 [] (inr (inl refl)) tt (λ more calm. inl (record { link = inr refl; calm = calm })) (λ orderly. tt)
+      (inl refl) (alike Ticks None (sym (ap uuid_of was)))
   ticks_with lamp units log (Some link) was = ticks_as lamp units log link (ending_of link) was
 
   -- ---- the response to ApplicationReady
@@ -960,6 +1237,8 @@ module _ (rules : Rules TakenRecord Request) (activity : List ℕ) (station : St
           subst AreNumbered (sym (calls_told first flow.low.waiting link.plugs)) (subst (λ (l : Option RelationState). IsOrderlyIn l) was orderly).1,
         );
         owed = other_owed heard (Some next) sent (low_other (Some next) one flow);
+        asked = still_later heard live.rest.asked live.rest.asked (inl refl);
+        related = alike heard (Some next) (sym (ap uuid_of was));
       }
     where
       exchanges_in : (route : Route) (frame : Option Frame) → AllByRecursion IsExchange (frames_in route frame)
@@ -979,7 +1258,9 @@ module _ (rules : Rules TakenRecord Request) (activity : List ℕ) (station : St
       subst (λ (l : Option RelationState). Comes_to (Reported caller address (Responds response)) (handled_beginning station live (updated Confirmed l))) (sym is.1)
       (begins_as (Reported caller address (Responds response)) response is.0 (λ planned. refl) is.1 is.2 is.3)
   answers_as caller address response (to_ready.Refused farewell) is =
-      ends (Reported caller address (Responds response)) (λ planned. uncalled_by (confirms response)) live.rest.lamp live.rest.units (err_log (Some farewell) live.rest.units live.rest.log) (Ends farewell ∷ [])
+      ends (Reported caller address (Responds response)) (λ planned. uncalled_by (confirms response)) (err_log (Some farewell) live.rest.units live.rest.log)
+      (Some farewell.uuid)
+      (ap (λ (f : Farewell). let o : Option (List ℕ) = Some f.uuid in o) is.2 ∙ sym (ap uuid_of is.1)) (Ends farewell ∷ [])
       ((Other, is.0, is.1, is.2), tt) (tt, tt)
 
   -- the response to ApplicationReady of a plug, while data is exchanged
@@ -1121,14 +1402,18 @@ module _ (rules : Rules TakenRecord Request) (activity : List ℕ) (station : St
       abbrev logging : List LogEntry → Live
       logging log = but_rest live (record live.rest { log = log })
 
-      -- and this many relations were made
-      abbrev counting : ℕ → List LogEntry → Live
-      counting made log = but_rest live (record live.rest { log = log; made = made })
+      -- this many relations were made, and this is asked
+      abbrev counting : ℕ → List LogEntry → AskedState → Live
+      counting made log asked = but_rest live (record live.rest { log = log; made = made; asked = asked })
 
-      serves_with : (made : ℕ) (log : List LogEntry) (which : Operation) (outcome : Result (List ℕ) CallFault) (link : Option RelationState) (ready : Option Following) → operation_of call.header.operation ≡ Some which → IsPlainIn outcome
-          → IsEffect station live.rest.real caller blocks outcome which before link → AreReadied live link ready → Comes_to heard (served station (counting made log) caller call which outcome link (readied_from from ready))
-      serves_with made log which outcome link ready asks plain effect readied = λ answers. record {
-        does = inr (inr (inr (inr (record {
+      serves_with : (made : ℕ) (log : List LogEntry) (asked : AskedState) (which : Operation) (outcome : Result (List ℕ) CallFault)
+          (link : Option RelationState) (ready : Option Following)
+          → operation_of call.header.operation ≡ Some which → IsPlainIn outcome
+          → IsEffect station live.rest.real caller blocks outcome which before link → AreReadied live link ready
+          → IsStill live.rest.asked asked → (IsAskedOf before live.rest.asked → IsAskedOf link asked)
+          → Comes_to heard (served station (counting made log asked) caller call which outcome link (readied_from from ready))
+      serves_with made log asked which outcome link ready asks plain effect readied still related = λ answers. record {
+        does = inr (inr (inr (inr (inl (record {
           caller = caller;
           address = address;
           call = call;
@@ -1145,7 +1430,8 @@ module _ (rules : Rules TakenRecord Request) (activity : List ℕ) (station : St
           readied = readied;
           keeps = refl;
           sends = refl;
-        }))));
+          asked = still;
+        })))));
         is = effect_turns blocks outcome which link _ asks counted fresh effect (tt, readied_calm before from ready);
         diagnoses = inl refl;
         modules = inl refl;
@@ -1155,20 +1441,57 @@ module _ (rules : Rules TakenRecord Request) (activity : List ℕ) (station : St
           caller = caller;
           address = from;
           answer = answer_to call (outcome_of which outcome).0 (outcome_of which outcome).1;
+          first = [];
           others = readied_from from ready;
           keeps = refl;
           sends = refl;
         });
-        owed = (record { address = address; call = call; is = refl; header = refl; maximum = refl; status = outcome_sized which outcome plain }, readied_owed link ready readied);
+        owed = (
+          inl (record { address = address; call = call; is = refl; header = refl; maximum = refl; status = outcome_sized which outcome plain }),
+          readied_owed link ready readied,
+        );
+        asked = still_later heard live.rest.asked asked still;
+        related = related;
       }
 
+      -- a relation is made where none was, so nothing is asked; else it is the same, but for a Release
+      connected_related : (blocks : List ℕ) (request : Request) (past link : Option RelationState) → connect_of past blocks ≡ Ok request
+          → IsAskedOf past live.rest.asked → IsAskedOf link live.rest.asked
+      connected_related blocks request None link read related = unrelated_asks link live.rest.asked related
+      connected_related blocks request (Some past) link read related = absurd (never_connected past.request.ar.uuid blocks request read)
+
+      abbrev IsUnreleased : Operation → Type 0
+      IsUnreleased operation.Release = ⊥
+      IsUnreleased which = Unit {0}
+
+      effect_related : (outcome : Result (List ℕ) CallFault) (which : Operation) (link : Option RelationState)
+          → IsUnreleased which ⊎ ((why : CallFault) × (outcome ≡ Err why))
+          → IsEffect station live.rest.real caller blocks outcome which before link → IsAskedOf before live.rest.asked → IsAskedOf link live.rest.asked
+      effect_related (Err why) which link kind same = alike heard link (ap uuid_of same)
+      effect_related (Ok octets) which link (inr never) it = absurd (never_err octets never.0 never.1)
+      effect_related (Ok octets) operation.Release link (inl never) it = absurd never
+      effect_related (Ok octets) operation.Connect link (inl kind) it = connected_related blocks it.request before link it.read
+      effect_related (Ok octets) operation.Read link (inl kind) it = alike heard link (ap uuid_of it.1 ∙ named_uuid it.0 before)
+      effect_related (Ok octets) operation.ReadImplicit link (inl kind) it = absurd it
+      effect_related (Ok octets) operation.Write link (inl kind) (inl it) = alike heard link (ap uuid_of it.becomes ∙ sym (ap uuid_of it.was))
+      effect_related (Ok octets) operation.Write link (inl kind) (inr (inl it)) = alike heard link (ap uuid_of it.same.1 ∙ named_uuid it.same.0 before)
+      effect_related (Ok octets) operation.Write link (inl kind) (inr (inr it)) = alike heard link
+          (ap uuid_of it.becomes ∙ more_uuid it.source it.passed it.values before)
+      effect_related (Ok octets) operation.Control link (inl kind) (inl it) =
+          alike heard link (ap uuid_of it.becomes ∙ (parameterized_uuid it.source it.by_application it.link ∙ sym (ap uuid_of it.was)))
+      effect_related (Ok octets) operation.Control link (inl kind) (inr it) = alike heard link (ap uuid_of it.becomes ∙ sym (ap uuid_of it.was))
+
       serves : (log : List LogEntry) (which : Operation) (outcome : Result (List ℕ) CallFault) (link : Option RelationState) (ready : Option Following) → operation_of call.header.operation ≡ Some which → IsPlainIn outcome
-          → IsEffect station live.rest.real caller blocks outcome which before link → AreReadied live link ready → Comes_to heard (served station (logging log) caller call which outcome link (readied_from from ready))
-      serves = serves_with live.rest.made
+          → IsEffect station live.rest.real caller blocks outcome which before link → AreReadied live link ready
+          → IsUnreleased which ⊎ ((why : CallFault) × (outcome ≡ Err why))
+          → Comes_to heard (served station (logging log) caller call which outcome link (readied_from from ready))
+      serves log which outcome link ready asks plain effect readied kind =
+          serves_with live.rest.made log live.rest.asked which outcome link ready asks plain effect readied (inl refl)
+          (effect_related outcome which link kind effect)
 
       fails : (log : List LogEntry) (which : Operation) (why : CallFault) (link : Option RelationState) → operation_of call.header.operation ≡ Some which → IsPlain why → before ≡ link
           → Comes_to heard (served station (logging log) caller call which (Err why) link [])
-      fails log which why link asks plain was = serves log which (Err why) link None asks plain (sym was) tt
+      fails log which why link asks plain was = serves log which (Err why) link None asks plain (sym was) tt (inr (why, refl))
 
       -- the call is answered, and then the next call of a plug may be sent
       following : (link : RelationState) → before ≡ Some link → operation_of call.header.operation ≡ Some operation.Control → (outcome : Result (List ℕ) CallFault) (next : Option RelationState)
@@ -1185,14 +1508,14 @@ module _ (rules : Rules TakenRecord Request) (activity : List ℕ) (station : St
 
           by_standing : (standing : Option PlugCall) → (AreNumbered link.plugs.calls → IsNumberedCall standing)
               → Comes_to heard (served station live caller call operation.Control outcome (Some called) (plug_call_in from (option_map (ready_for called) standing)))
-          by_standing None small = serves live.rest.log operation.Control outcome (Some called) None asks plain effect tt
+          by_standing None small = serves live.rest.log operation.Control outcome (Some called) None asks plain effect tt (inl tt)
           by_standing (Some one) small =
               serves live.rest.log operation.Control outcome (Some called) (Some (Plugging (ready_for called one))) asks plain effect
-              (plug_of_relation before link called one was beside.request small)
+              (plug_of_relation before link called one was beside.request small) (inl tt)
 
           by_called : (b : Bool) → Comes_to heard (served station live caller call operation.Control outcome (Some called) (where_due b (plug_calls from (Some called))))
           by_called true = by_standing called.plugs.calls.standing (λ calls. (numbered calls).1)
-          by_called false = serves live.rest.log operation.Control outcome (Some called) None asks plain effect tt
+          by_called false = serves live.rest.log operation.Control outcome (Some called) None asks plain effect tt (inl tt)
 
       -- what is not logged
       abbrev unlogged : List LogEntry
@@ -1205,8 +1528,12 @@ module _ (rules : Rules TakenRecord Request) (activity : List ℕ) (station : St
           → Comes_to heard (served station (but_rest live (counted_by (answer_for request) (record live.rest { log = connect_log blocks (answer_for request) live.rest.units live.rest.log }))) caller call operation.Connect (answer_for request)
           (updated (making live.rest.real (partner_of caller) station.options (starting_of station live) request) before) [])
       connects_as (Ok request) asks read plain =
-          serves_with (made_after live.rest.made) unlogged operation.Connect (answer_for (Ok request)) (Some (made_of request (partner_of caller) (rows_of request live.rest.real) station.options (starting_of station live))) None asks tt
+          serves_with (made_after live.rest.made) unlogged live.rest.asked operation.Connect (answer_for (Ok request))
+          (Some (made_of request (partner_of caller) (rows_of request live.rest.real) station.options (starting_of station live))) None asks tt
           (record { request = request; options = station.options; starting = starting_of station live; read = unlimited station.options caller.mac before blocks request read; made = refl; numbered = number_now_is station live; answer = refl }) tt
+          (inl refl) (connected_related blocks request before
+          (Some (made_of request (partner_of caller) (rows_of request live.rest.real) station.options (starting_of station live)))
+          (unlimited station.options caller.mac before blocks request read))
       connects_as (Err why) asks read plain = fails (connect_log {A = List ℕ} blocks (Err why) live.rest.units live.rest.log) operation.Connect why before asks plain refl
 
       keeps_as : (header : IodWriteReq) (write : Write) (value : TakenRecord) (link : Option RelationState) (kept : Result Records CallFault) → operation_of call.header.operation ≡ Some operation.Write
@@ -1226,7 +1553,7 @@ module _ (rules : Rules TakenRecord Request) (activity : List ℕ) (station : St
             more = more;
             kept = is;
             becomes = refl;
-          })) tt
+          })) tt (inl tt)
 
       -- a record that the settings store, or do not
       stores_as : (write : Write) (value : ImValue) (outcome : Result (List ℕ) CallFault) → operation_of call.header.operation ≡ Some operation.Write
@@ -1234,7 +1561,7 @@ module _ (rules : Rules TakenRecord Request) (activity : List ℕ) (station : St
           → Comes_to heard (served station live caller call operation.Write outcome (updated (answered (Named (partner_of caller)) outcome) before) [])
       stores_as write value (Ok octets) asks judged is plain =
           serves unlogged operation.Write (Ok octets) (updated (Named (partner_of caller)) before) None asks tt
-          (inr (inl (record { write = write; judged = judged; value = value; stores = is; same = (partner_of caller, refl) }))) tt
+          (inr (inl (record { write = write; judged = judged; value = value; stores = is; same = (partner_of caller, refl) }))) tt (inl tt)
       stores_as write value (Err why) asks judged is plain = fails unlogged operation.Write why before asks plain refl
 
       effect_as : (write : Write) (effect : Effect) → operation_of call.header.operation ≡ Some operation.Write → writing_of (uuid_of before) live.rest.real blocks ≡ Ok (One write)
@@ -1248,10 +1575,21 @@ module _ (rules : Rules TakenRecord Request) (activity : List ℕ) (station : St
       each_as : (header : IodWriteReq) (entries : List Entry) → operation_of call.header.operation ≡ Some operation.Write
           → writing_of (uuid_of before) live.rest.real blocks ≡ Ok (Each header entries) → Comes_to heard (handled_write station live caller call (Ok (Each header entries)))
       each_as header entries asks judged = λ answers.
-          let each = judged_each (uuid_of before) live.rest.real entries in
+          let each = judged_each station.named (uuid_of before) live.rest.real entries in
           let takes = each_takes (partner_of caller) each before in
           serves unlogged operation.Write (Ok (several_answer header each answers before)) (updated (Named (partner_of caller)) (link_behind each before)) None asks tt
-          (inr (inr (record { header = header; entries = entries; judged = judged; answers = answers; tells = refl; source = partner_of caller; carried = refl; passed = takes.1; values = takes.0; becomes = takes.2 }))) tt answers
+          (inr (inr (record {
+            header = header;
+            entries = entries;
+            judged = judged;
+            answers = answers;
+            tells = refl;
+            source = partner_of caller;
+            carried = refl;
+            passed = takes.1;
+            values = takes.0;
+            becomes = takes.2;
+          }))) tt (inl tt) answers
 
       writes_as : (writing : Result Writing CallFault) → operation_of call.header.operation ≡ Some operation.Write → writing_of (uuid_of before) live.rest.real blocks ≡ writing → IsPlainIn writing
           → Comes_to heard (handled_write station live caller call writing)
@@ -1261,7 +1599,8 @@ module _ (rules : Rules TakenRecord Request) (activity : List ℕ) (station : St
 
       reads_as : (read : Result (List ℕ) CallFault) → operation_of call.header.operation ≡ Some operation.Read → IsPlainIn read
           → Comes_to heard (served station live caller call operation.Read read (updated (answered (Named (partner_of caller)) read) before) [])
-      reads_as (Ok octets) asks plain = serves unlogged operation.Read (Ok octets) (updated (Named (partner_of caller)) before) None asks tt (partner_of caller, refl) tt
+      reads_as (Ok octets) asks plain = serves unlogged operation.Read (Ok octets) (updated (Named (partner_of caller)) before) None asks tt
+          (partner_of caller, refl) tt (inl tt)
       reads_as (Err why) asks plain = fails unlogged operation.Read why before asks plain refl
 
       -- a relation after PrmEnd
@@ -1275,12 +1614,19 @@ module _ (rules : Rules TakenRecord Request) (activity : List ℕ) (station : St
       controls_as by_application None (Ok block) asks was is plain = absurd (prm_started None blocks block is)
       controls_as true (Some link) (Ok block) asks was is plain =
           serves unlogged operation.Control (Ok (block_bytes (variant.PrmEndRes (done_of block)))) (Some (restarted (partner_of caller) (parameterized_from true link))) None asks tt
-          (inl (record { link = link; was = was; started = prm_started (Some link) blocks block is; by_application = true; source = partner_of caller; becomes = refl })) tt
+          (inl (record {
+            link = link;
+            was = was;
+            started = prm_started (Some link) blocks block is;
+            by_application = true;
+            source = partner_of caller;
+            becomes = refl;
+          })) tt (inl tt)
       controls_as false (Some link) (Ok block) asks was is plain =
           let after = restarted (partner_of caller) (parameterized_from false link) in
           serves unlogged operation.Control (Ok (block_bytes (variant.PrmEndRes (done_of block)))) (Some after) (Some (Readying (ready_of after))) asks tt
           (inl (record { link = link; was = was; started = prm_started (Some link) blocks block is; by_application = false; source = partner_of caller; becomes = refl }))
-          (record { link = link; is = was; header = refl; block = refl }, record { link = after; is = refl; awaits = refl })
+          (record { link = link; is = was; header = refl; block = refl }, record { link = after; is = refl; awaits = refl }) (inl tt)
 
       -- a PrmEnd after a plug
       plugged_as : (link : RelationState) → before ≡ Some link → link.plugs.has_told ≡ true → operation_of call.header.operation ≡ Some operation.Control
@@ -1318,23 +1664,167 @@ module _ (rules : Rules TakenRecord Request) (activity : List ℕ) (station : St
       controls true is asks = plug_controls before refl is asks station.options.ready_by_application (plug_end_in blocks before) (plug_plain before blocks)
       controls false is asks = controls_as station.options.ready_by_application before (prm_end_of before blocks) asks refl refl (prm_plain before blocks)
 
+      -- a relation that is released drops what it asked
+      abbrev releasing : Result (List ℕ) CallFault → Live
+      releasing answer =
+          but_rest live (record live.rest {
+            log = release_log (uuid_of before) answer live.rest.units live.rest.log;
+            asked = left_asked (released_by answer (uuid_of before)) live.rest.asked;
+          })
+
       releases_as : (link : Option RelationState) (ended : Result ControlBlock CallFault) → operation_of call.header.operation ≡ Some operation.Release → before ≡ link → release_of link blocks ≡ ended → IsPlainIn ended
-          → Comes_to heard (served station (logging (release_log (uuid_of before) (ended >>= λ block. Ok (block_bytes (variant.ReleaseRes (done_of block)))) live.rest.units live.rest.log)) caller call operation.Release (ended >>= λ block. Ok (block_bytes (variant.ReleaseRes (done_of block)))) (updated (answered Ended ended) link) [])
+          → Comes_to heard (served station (releasing (ended >>= λ block. Ok (block_bytes (variant.ReleaseRes (done_of block))))) caller call operation.Release
+          (ended >>= λ block. Ok (block_bytes (variant.ReleaseRes (done_of block)))) (updated (answered Ended ended) link) [])
       releases_as link (Err why) asks was is plain = fails unlogged operation.Release why link asks plain was
       releases_as None (Ok block) asks was is plain = absurd (never_released blocks block is)
       releases_as (Some link) (Ok block) asks was is plain =
-          serves (release_log (uuid_of before) (Ok block) live.rest.units live.rest.log) operation.Release (Ok (block_bytes (variant.ReleaseRes (done_of block)))) None None asks tt (record { link = link; was = was; gone = refl }) tt
+          serves_with live.rest.made (release_log (uuid_of before) (Ok block) live.rest.units live.rest.log)
+          (left_asked (uuid_of before) live.rest.asked) operation.Release
+          (Ok (block_bytes (variant.ReleaseRes (done_of block)))) None None asks tt (record { link = link; was = was; gone = refl }) tt
+          (left_still (uuid_of before) live.rest.asked)
+          (λ related. nothing_related None (left_asked (uuid_of before) live.rest.asked) (left_none before live.rest.asked related))
 
-      new_call : (which : Operation) → operation_of call.header.operation ≡ Some which → IsPlannedAs rules live.rest.real call.header.sequence blocks (Some which)
-          → Comes_to heard (handled_new station live caller call blocks which)
-      new_call operation.Connect asks plan = connects_as (connect_within station.options caller.mac before blocks) asks refl
+      own_call : (which : Operation) → operation_of call.header.operation ≡ Some which
+          → IsPlannedAs rules station.named live.rest.real call.header.sequence blocks (Some which)
+          → Comes_to heard (handled_own station live caller call blocks which)
+      own_call operation.Connect asks plan = connects_as (connect_within station.options caller.mac before blocks) asks refl
           (connect_plain station.options caller.mac before blocks rules.request plan)
-      new_call operation.Release asks plan = releases_as before (release_of before blocks) asks refl refl (release_plain before blocks)
-      new_call operation.Write asks plan = writes_as (writing_of (uuid_of before) live.rest.real blocks) asks refl (writing_plain (uuid_of before) live.rest.real blocks)
-      new_call operation.Control asks plan = controls (is_plug_control blocks before) refl asks
-      new_call operation.Read asks plan =
+      own_call operation.Release asks plan = releases_as before (release_of before blocks) asks refl refl (release_plain before blocks)
+      own_call operation.Write asks plan = writes_as (writing_of (uuid_of before) live.rest.real blocks) asks refl
+          (writing_plain (uuid_of before) live.rest.real blocks)
+      own_call operation.Control asks plan = controls (is_plug_control blocks before) refl asks
+      own_call operation.Read asks plan =
           reads_as (relation_read (known_of station live) station.identity live.rest.real live.values.running blocks) asks
           (read_plain (known_of station live) station.identity live.rest.real live.values.running blocks)
+      own_call operation.ReadImplicit asks plan = absurd plan
+
+      -- ---- a call for a record of the application
+
+      module _ (which : Operation) (asks : operation_of call.header.operation ≡ Some which) (asking : Asking)
+          (asking_is : asking_of live.rest.real station.named (uuid_of before) caller call blocks which ≡ Ok (Some asking))
+          (by : IsAskedBy (uuid_of before) caller call which asking) where
+        abbrev for_record : IsForRecord station live heard asking
+        for_record = record {
+          caller = caller;
+          address = address;
+          call = call;
+          is = refl;
+          blocks = blocks;
+          counted = counted;
+          fresh = fresh;
+          which = which;
+          operation_is = asks;
+          asks = asking_is;
+          wanted = by.wanted;
+          name = by.name;
+          of_call = by.of_call;
+        }
+
+        -- it is asked
+        puts : question_in live.rest.asked ≡ None → Comes_to heard (Moves (record live.rest { asked = asked_with asking.0 asking.1 live.rest.asked }) [])
+        puts free = λ answers. record {
+          does = inr (inr (inr (inr (inr (inl (record { asking = asking; new_call = for_record; free = free; becomes = refl; silent = refl }))))));
+          is = inl (record { link = inl refl; calm = tt });
+          diagnoses = inl refl;
+          modules = inl refl;
+          answers = inl refl;
+          orderly = λ orderly. orderly;
+          owed = tt;
+          asked = λ question e. inr (record {
+            address = address;
+            call = call;
+            is = ap (λ (c : Caller). Reported c address (Calls call)) (sym (ap (λ (q : Question). q.caller) (same question e)));
+            header = ap (λ (q : Question). q.header) (same question e);
+            maximum = ap (λ (q : Question). q.args_maximum) (same question e);
+            asks = asks ∙ ap (λ (o : Operation). let x : Option Operation = Some o in x)
+                (sym (ap (λ (q : Question). operation_asked q.request) (same question e) ∙ by.operation_is));
+          });
+          related = λ related question e. (by.uuid, by.in_one, ap (λ (q : Question). is_of_relation by.uuid q.request) (same question e) ∙ by.own);
+        }
+          where
+            same : (question : Question) → Some asking.0 ≡ Some question → question ≡ question_of caller call by.wanted by.name
+            same question e = sym (some_is asking.0 question e) ∙ by.of_call
+
+        -- another one is asked, so this one is refused
+        abbrev busy_answer : Sent
+        busy_answer = CallAnswer caller from (answer_to call (unanswered_status which Busy) [])
+
+        declines : (other : Question) → question_in live.rest.asked ≡ Some other
+            → Comes_to heard (Moves (record live.rest { calls = kept_more 4 (kept_for station.identity call busy_answer) live.rest.calls }) (busy_answer ∷ []))
+        declines other is = λ answers. record {
+          does = inr (inr (inr (inr (inr (inr (inl (record {
+            asking = asking;
+            new_call = for_record;
+            other = other;
+            busy = is;
+            status = unanswered_status which Busy;
+            is_busy = refl;
+            sized = busy_sized which;
+            undone = busy_undone which;
+            becomes = refl;
+            sends = refl;
+          })))))));
+          is = inl (record { link = inl refl; calm = (tt, tt) });
+          diagnoses = inl refl;
+          modules = inl refl;
+          answers = inr (record {
+            call = call;
+            caller = caller;
+            address = from;
+            answer = answer_to call (unanswered_status which Busy) [];
+            first = [];
+            others = [];
+            keeps = refl;
+            sends = refl;
+          });
+          orderly = λ orderly. orderly;
+          owed = (inl (record { address = address; call = call; is = refl; header = refl; maximum = refl; status = busy_sized which }), tt);
+          asked = still_later heard live.rest.asked live.rest.asked (inl refl);
+          related = λ related. related;
+        }
+
+        -- the response with the status of an operation, by what the cache says
+        abbrev reply_with : Operation → Looked → Handled
+        reply_with one reported =
+            let answer = CallAnswer caller from (answer_to call (unanswered_status one Busy) []) in
+            Moves (record live.rest { calls = behind_reported 4 (kept_for station.identity call answer) live.rest.calls reported })
+            (where_due (is_new_call reported) (answer ∷ []))
+
+        declined_as : (other : Question) → question_in live.rest.asked ≡ Some other → Comes_to heard (handled_question station live asking.0 None)
+        declined_as other is =
+            subst (λ (q : Question). Comes_to heard (handled_question station live q None)) (sym by.of_call)
+            (subst (λ (o : Operation). Comes_to heard (reply_with o (looked call.header.activity call.header.sequence live.rest.calls))) (sym by.operation_is)
+            (subst (λ (reported : Looked). Comes_to heard (reply_with which reported)) (sym fresh) (declines other is)))
+
+        asks_as : (standing : Option AskedStanding) → live.rest.asked.standing ≡ standing
+            → Comes_to heard (handled_question station live asking.0 (asks_beside asking.0 asking.1 live.rest.asked standing))
+        asks_as None is = puts (ap (λ (s : Option AskedStanding). option_map (λ (t : AskedStanding). t.question) s) is)
+        asks_as (Some standing) is = declined_as standing.question (ap (λ (s : Option AskedStanding). option_map (λ (t : AskedStanding). t.question) s) is)
+
+      -- a Read or a Write, by what it asks
+      asking_as : (which : Operation) (asking : Result (Option Asking) CallFault) → operation_of call.header.operation ≡ Some which
+          → asking_of live.rest.real station.named (uuid_of before) caller call blocks which ≡ asking → IsPlainIn asking
+          → ((some : Asking) → asking ≡ Ok (Some some) → IsAskedBy (uuid_of before) caller call which some)
+          → IsPlannedAs rules station.named live.rest.real call.header.sequence blocks (Some which)
+          → Comes_to heard (handled_asking station live caller call blocks which asking)
+      asking_as which (Ok None) asks is plain by plan = own_call which asks plan
+      asking_as which (Ok (Some asking)) asks is plain by plan = asks_as which asks asking is (by asking refl) live.rest.asked.standing refl
+      asking_as which (Err why) asks is plain by plan = fails unlogged which why before asks plain refl
+
+      new_call : (which : Operation) → operation_of call.header.operation ≡ Some which
+          → IsPlannedAs rules station.named live.rest.real call.header.sequence blocks (Some which)
+          → Comes_to heard (handled_new station live caller call blocks which)
+      new_call operation.Connect asks plan = own_call operation.Connect asks plan
+      new_call operation.Release asks plan = own_call operation.Release asks plan
+      new_call operation.Control asks plan = own_call operation.Control asks plan
+      new_call operation.Write asks plan =
+          asking_as operation.Write (asking_of live.rest.real station.named (uuid_of before) caller call blocks operation.Write) asks refl
+          (asking_plain live.rest.real station.named (uuid_of before) caller call blocks operation.Write)
+          (λ asking is. write_asks live.rest.real station.named (uuid_of before) caller call asking blocks (write_within (uuid_of before) blocks) refl is) plan
+      new_call operation.Read asks plan =
+          asking_as operation.Read (asking_of live.rest.real station.named (uuid_of before) caller call blocks operation.Read) asks refl
+          (asking_plain live.rest.real station.named (uuid_of before) caller call blocks operation.Read)
+          (λ asking is. read_asks live.rest.real station.named (uuid_of before) caller call asking blocks (request_within (uuid_of before) blocks) refl is) plan
       new_call operation.ReadImplicit asks plan = absurd plan
 
     repeats : (frame : List ℕ) → looked call.header.activity call.header.sequence live.rest.calls ≡ again frame → Comes_to heard (Moves live.rest (Again frame ∷ []))
@@ -1358,39 +1848,47 @@ module _ (rules : Rules TakenRecord Request) (activity : List ℕ) (station : St
           answers = inl refl;
           orderly = λ orderly. orderly;
           owed = (record { caller = caller; address = address; call = call; is = refl; kept = there.0; there = there.1; same = there.3 }, tt);
+          asked = still_later heard live.rest.asked live.rest.asked (inl refl);
+          related = λ related. related;
         }
 
     looked_call : (blocks : List ℕ) (which : Operation) (reported : Looked) → operation_of call.header.operation ≡ Some which → call.blocks ≡ Some blocks
         → looked call.header.activity call.header.sequence live.rest.calls ≡ reported
-        → IsPlannedAs rules live.rest.real call.header.sequence blocks (Some which) → Comes_to heard (handled_looked station live caller call blocks which reported)
-    looked_call blocks which new asks counted reported plan = new_call blocks counted reported which asks plan
+        → IsPlannedAs rules station.named live.rest.real call.header.sequence blocks (Some which)
+        → Comes_to heard (handled_looked station live caller call blocks which reported)
+    looked_call blocks which new asks counted reported plan = by_repeat (is_repeat call.header.activity call.header.sequence live.rest.asked)
+      where
+        by_repeat : (b : Bool) → Comes_to heard (cond b (Moves live.rest []) (handled_new station live caller call blocks which))
+        by_repeat true = drops heard
+        by_repeat false = new_call blocks counted reported which asks plan
     looked_call blocks which (again frame) asks counted reported plan = repeats frame reported
     looked_call blocks which old asks counted reported plan = refuses heard note.OldCall
 
     counted_call : (which : Operation) (counted : Option (List ℕ)) (blocks : List ℕ) → operation_of call.header.operation ≡ Some which → call.blocks ≡ counted → counted ≡ Some blocks
-        → IsPlannedAs rules live.rest.real call.header.sequence blocks (Some which) → Comes_to heard (handled_blocks station live caller call which counted)
+        → IsPlannedAs rules station.named live.rest.real call.header.sequence blocks (Some which)
+        → Comes_to heard (handled_blocks station live caller call which counted)
     counted_call which None blocks asks counted there plan = absurd cc
     counted_call which (Some found) blocks asks counted there plan =
         looked_call found which (looked call.header.activity call.header.sequence live.rest.calls) asks counted refl
-        (subst (λ (b : List ℕ). IsPlannedAs rules live.rest.real call.header.sequence b (Some which)) (sym (some_is found blocks there)) plan)
+        (subst (λ (b : List ℕ). IsPlannedAs rules station.named live.rest.real call.header.sequence b (Some which)) (sym (some_is found blocks there)) plan)
 
     called : (which : Option Operation) (blocks : List ℕ) → operation_of call.header.operation ≡ which → call.blocks ≡ Some blocks
-        → IsPlannedAs rules live.rest.real call.header.sequence blocks which → Comes_to heard (handled_call station live caller call which)
+        → IsPlannedAs rules station.named live.rest.real call.header.sequence blocks which → Comes_to heard (handled_call station live caller call which)
     called None blocks asks there plan = absurd plan
     called (Some which) blocks asks there plan = counted_call which call.blocks blocks asks refl there plan
 
-  says : (caller : Caller) (address : List ℕ) (said : Said) → IsPlannedIn rules activity live.rest.real said
+  says : (caller : Caller) (address : List ℕ) (said : Said) → IsPlannedIn rules activity station.named live.rest.real said
       → Comes_to (Reported caller address said) (handled_said station live caller said)
   says caller address (Calls call) plan = called caller address call (operation_of call.header.operation) plan.blocks refl plan.counted plan.asks
   says caller address (Responds response) plan = responds caller address response (is_in_exchange before)
   says caller address Garbled plan = refuses (Reported caller address Garbled) note.Fault
 
-  reported : (caller : Caller) (address : List ℕ) (said : Said) (b : Bool) → IsPlannedIn rules activity live.rest.real said
+  reported : (caller : Caller) (address : List ℕ) (said : Said) (b : Bool) → IsPlannedIn rules activity station.named live.rest.real said
       → Comes_to (Reported caller address said) (cond b (handled_said station live caller said) (Refuses note.NotMine))
   reported caller address said true plan = says caller address said plan
   reported caller address said false plan = refuses (Reported caller address said) note.NotMine
 
-  turns : (heard : Heard) → IsPlanned rules activity live.rest.real heard → Comes_to heard (handled station live heard)
+  turns : (heard : Heard) → IsPlanned rules activity station.named live.rest.real heard → Comes_to heard (handled station live heard)
   turns (Asks asker request) plan = requests asker request.service request
   turns (Resolves asker packet) plan = resolves asker packet (is_request packet.operation && is_running live.values.running packet.target.address)
   turns (Reported caller address said) plan = reported caller address said (is_running live.values.running address) plan
@@ -1413,6 +1911,10 @@ module _ (rules : Rules TakenRecord Request) (activity : List ℕ) (station : St
   turns (Applied (local.Plug slot ident part)) plan =
       modules_as (Applied (local.Plug slot ident part)) (λ planned. tt) (plug_of slot ident part) refl (plugged_with slot ident part real) refl
   turns (Applied (local.ReadyAt slot subslot)) plan = readied_as slot subslot (is_readied_in slot subslot before)
+  turns (Applied (local.Answer number octets)) plan = answers_so (Applied (local.Answer number octets)) (λ planned. refl) number (gives_octets octets.items)
+  turns (Applied (local.Written number)) plan = answers_so (Applied (local.Written number)) (λ planned. refl) number gives_done
+  turns (Applied (local.Refuse number code1 code2)) plan = answers_so (Applied (local.Refuse number code1 code2)) (λ planned. refl) number
+      (gives_refusal code1 code2)
   turns (Met peer) plan = meets peer
   turns (Applied local.Ready) plan = readies before refl
   turns (Applied (local.ProviderState is_running)) plan = turns_so is_running
@@ -1423,13 +1925,15 @@ module _ (rules : Rules TakenRecord Request) (activity : List ℕ) (station : St
 
 -- a step, whatever the flash did
 pub step_turns : (rules : Rules TakenRecord Request) (activity : List ℕ) (outcomes : List Outcome) (station : Station) (live : Live) (heard : Heard)
-    → IsPlanned rules activity live.rest.real heard → Turn station live heard (heard_step outcomes station live heard).live.rest (heard_step outcomes station live heard).sent
+    → IsPlanned rules activity station.named live.rest.real heard
+    → Turn station live heard (heard_step outcomes station live heard).live.rest (heard_step outcomes station live heard).sent
 unfolding heard_step handled_step
 step_turns rules activity outcomes station live heard plan =
     turns rules activity station live heard plan (carried outcomes live.values (items_in (handled station live heard))).answers
 
 pub step_numbers : (rules : Rules TakenRecord Request) (activity : List ℕ) (outcomes : List Outcome) (station : Station) (live : Live) (heard : Heard)
-    → IsPlanned rules activity live.rest.real heard → BeginsNumbered station.options live.rest.link (heard_step outcomes station live heard).live.rest.link
+    → IsPlanned rules activity station.named live.rest.real heard
+    → BeginsNumbered station.options live.rest.link (heard_step outcomes station live heard).live.rest.link
 step_numbers rules activity outcomes station live heard plan =
     does_numbered station live heard (heard_step outcomes station live heard).live.rest (heard_step outcomes station live heard).sent
     (step_turns rules activity outcomes station live heard plan).does

@@ -27,6 +27,7 @@ pub mod BothGiven
 pub mod DeviceTurns
 mod DeviceConnects
 pub mod DeviceOrderly
+pub mod DeviceQuestions
 pub mod DeviceInputs
 pub mod DeviceOwing
 pub mod DeviceLists

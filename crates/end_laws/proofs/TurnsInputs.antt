@@ -68,7 +68,7 @@ use Rattle.end_laws.specs.turns.Beside.{IsBeside, MayFollow, flow_begun}
 use Rattle.end_laws.specs.turns.Inputs.{AreZeros, Brings, ComeFromOne, ShowsWhatCame, ShowsNothingWithout, no_inputs}
 use Rattle.end_laws.specs.turns.Runs.{behind_all}
 use Rattle.end_laws.specs.turns.Turns.{Came, Hears, Passes, Gets, GetsStatus, AsksRead, AsksWrite, Halts, came_by, turn_for}
-use Rattle.end_laws.proofs.TurnsBeside.{begins, begun_beside, flows, follows, gone_is, rejected_now, rejected_step, replied_step, unit_begun}
+use Rattle.end_laws.proofs.TurnsBeside.{begins, begun_beside, flows, follows, gone_is, rejected_step, replied_step, unit_begun}
 use Rattle.end_laws.proofs.TurnsCauses.{turn_by_event}
 
 module _ (setup : Setup) (live : Live) where

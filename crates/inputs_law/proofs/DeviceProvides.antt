@@ -14,6 +14,7 @@ use Rattle.dcp_core.specs.Set.{plan_of}
 use Rattle.rpc_core.specs.Cache.{Reported as Looked, new, again, old, looked}
 use Rattle.rpc_core.specs.Call.{Asked as Call}
 use Rattle.rpc_core.specs.Response.{Answered}
+use Rattle.rpc_core.specs.declared.response.Status.{Status}
 use Rattle.connect_blocks.specs.declared.plug_control.PlugControlBlock.{PlugControlBlock}
 use Rattle.record_blocks.specs.declared.write_record.IodWriteReq.{IodWriteReq}
 use Rattle.records.specs.declared.status.call_fault.CallFault.{CallFault}
@@ -27,7 +28,13 @@ use Rattle.records.specs.declared.writes.write.Write.{Write}
 use Rattle.records.specs.declared.writes.writing.Writing.{Writing}
 use Rattle.records.specs.declared.writes.writing.Writing.TheVariants.{One, Each}
 use Rattle.records.specs.writes.Asked.{writing_of}
+use Rattle.records.specs.calls.Naming.{is_relation}
 use Rattle.device_records.specs.Reading.{implicit_read, relation_read}
+use Rattle.asked_records.specs.Answers.{Gives as GivesAnswer, gives_octets, gives_done, gives_refusal, is_refusal, judged}
+use Rattle.asked_records.specs.Asked.{AskedState, asks, is_repeat}
+use Rattle.asked_records.specs.Questions.{header_of}
+use Rattle.asked_records.specs.declared.answering.AnswerFault.{AnswerFault}
+use Rattle.asked_records.specs.declared.question.Question.{Question}
 use Rattle.pn_alarms.specs.declared.abort.Abort.{Abort}
 use Rattle.pn_alarms.specs.declared.device.PduFate.{PduFate}
 use Rattle.pn_alarms.specs.declared.device.PduFate.TheVariants as fate
@@ -89,7 +96,8 @@ use Rattle.device_frames.specs.declared.note.Note.TheVariants as note
 use Rattle.settings_journal.specs.settings_store.Machine.{Outcome, carried}
 use Rattle.device_core.specs.State.{Station, Live, Rest, alias_in}
 use Rattle.device_core.specs.Modules.{calling_after, changed_rest, outside, plug_of, pull_of, sent_after, slot_pull_of}
-use Rattle.device_core.specs.Handled.{change_of, Handled, Refuses, Moves, handled, handled_alarm, handled_answer, handled_blocks, handled_call, handled_change, handled_effect, handled_input, handled_looked, handled_low, handled_low_message, handled_low_pdu, handled_message, handled_modules, handled_new, handled_next_call, handled_notice, handled_pdu, handled_plug_answer, handled_plug_end, handled_prm_end, handled_received, handled_request, handled_said, handled_write, implicitly, is_request, is_running, kept_status, known_of, may_be_diagnosed, partner_of, starting_of, ticked}
+use Rattle.device_core.specs.Handled.{change_of, handled, Handled, handled_alarm, handled_answer, handled_asking, handled_blocks, handled_call, handled_change, handled_effect, handled_input, handled_judged, handled_looked, handled_low, handled_low_message, handled_low_pdu, handled_message, handled_modules, handled_new, handled_next_call, handled_notice, handled_own, handled_pdu, handled_plug_answer, handled_plug_end, handled_prm_end, handled_question, handled_received, handled_request, handled_said, handled_unanswered, handled_write, implicitly, is_request, is_running, kept_status, known_of, may_be_diagnosed, Moves, partner_of, Refuses, starting_of, ticked}
+use Rattle.device_core.specs.Asking.{Asking, asking_of, source_of}
 use Rattle.device_core.specs.Several.{Judged, judged_each}
 use Rattle.device_core.specs.Machine.{Finished, effect_link, finished, first_answer, handled_step, heard_step, items_in, link_after, link_behind, one_link, resets, written_as}
 use Rattle.relations.specs.declared.options.DeviceOptions.{DeviceOptions}
@@ -171,17 +179,32 @@ module _ (station : Station) (live : Live) where
   write_said caller call (Ok (Each header entries)) = λ answers. refl
   write_said caller call (Err why) = λ answers. refl
 
-  new_said : (caller : Caller) (call : Call) (blocks : List ℕ) (which : Operation) → KeepsSaid (handled_new station live caller call blocks which)
-  new_said caller call blocks operation.Connect = λ answers. refl
-  new_said caller call blocks operation.Release = λ answers. refl
-  new_said caller call blocks operation.Read = λ answers. refl
-  new_said caller call blocks operation.Write = write_said caller call (writing_of (uuid_of live.rest.link) live.rest.real blocks)
-  new_said caller call blocks operation.Control =
+  own_said : (caller : Caller) (call : Call) (blocks : List ℕ) (which : Operation) → KeepsSaid (handled_own station live caller call blocks which)
+  own_said caller call blocks operation.Connect = λ answers. refl
+  own_said caller call blocks operation.Release = λ answers. refl
+  own_said caller call blocks operation.Read = λ answers. refl
+  own_said caller call blocks operation.Write = write_said caller call (writing_of (uuid_of live.rest.link) live.rest.real blocks)
+  own_said caller call blocks operation.Control =
       kept_if (is_plug_control blocks live.rest.link) _ _ (λ answers. refl) (λ answers. refl)
-  new_said caller call blocks operation.ReadImplicit = λ answers. refl
+  own_said caller call blocks operation.ReadImplicit = λ answers. refl
+
+  question_said : (question : Question) (asked : Option AskedState) → KeepsSaid (handled_question station live question asked)
+  question_said question (Some asked) = λ answers. refl
+  question_said question None = λ answers. refl
+
+  asking_said : (caller : Caller) (call : Call) (blocks : List ℕ) (which : Operation) (asking : Result (Option Asking) CallFault)
+      → KeepsSaid (handled_asking station live caller call blocks which asking)
+  asking_said caller call blocks which (Ok None) = own_said caller call blocks which
+  asking_said caller call blocks which (Ok (Some asking)) = question_said asking.0 (asks asking.0 asking.1 live.rest.asked)
+  asking_said caller call blocks which (Err why) = λ answers. refl
+
+  unanswered_said : (caller : Caller) (call : Call) (blocks : List ℕ) (which : Operation) → KeepsSaid (handled_unanswered station live caller call blocks which)
+  unanswered_said caller call blocks which =
+      kept_if (is_repeat call.header.activity call.header.sequence live.rest.asked) _ _ (λ answers. refl)
+      (asking_said caller call blocks which (asking_of live.rest.real station.named (uuid_of live.rest.link) caller call blocks which))
 
   looked_said : (caller : Caller) (call : Call) (blocks : List ℕ) (which : Operation) (found : Looked) → KeepsSaid (handled_looked station live caller call blocks which found)
-  looked_said caller call blocks which new = new_said caller call blocks which
+  looked_said caller call blocks which new = unanswered_said caller call blocks which
   looked_said caller call blocks which (again frame) = λ answers. refl
   looked_said caller call blocks which old = λ answers. refl
 
@@ -253,6 +276,11 @@ module _ (station : Station) (live : Live) where
   rated_said slot subslot is_good (Some statuses) answers = refl
   rated_said slot subslot is_good None answers = refl
 
+  -- the application answers what is asked, or that is refused
+  judged_said : (given : GivesAnswer) (found : Result Question AnswerFault) → KeepsSaid (handled_judged station live given found)
+  judged_said given (Ok question) = λ answers. refl
+  judged_said given (Err why) = λ answers. refl
+
   -- something is pulled or plugged, or that is refused
   modules_said : (made : RealChange) (found : Option (List RealModule)) (answers : List BlockError)
       → (finished station.identity live.rest (handled_modules live made found) answers).rest.statuses ≡ left_statuses (carried_out live.rest made found) live.rest.statuses
@@ -289,6 +317,10 @@ module _ (station : Station) (live : Live) where
   all_said (Applied (local.ReadyAt slot subslot)) = kept_if (is_readied_in slot subslot live.rest.link) _ _ (λ answers. refl) (λ answers. refl)
   all_said (Applied local.Ready) = kept_if (is_preparing (phase_of live.rest.link)) _ _ (λ answers. refl) (λ answers. refl)
   all_said (Applied (local.ProviderState is_running)) = λ answers. refl
+  all_said (Applied (local.Answer number octets)) = judged_said (gives_octets octets.items) (judged number (gives_octets octets.items) live.rest.asked)
+  all_said (Applied (local.Written number)) = judged_said gives_done (judged number gives_done live.rest.asked)
+  all_said (Applied (local.Refuse number code1 code2)) =
+      judged_said (gives_refusal code1 code2) (judged number (gives_refusal code1 code2) live.rest.asked)
   all_said Ticks = λ answers. refl
   all_said Unreadable = λ answers. refl
   all_said Elsewhere = λ answers. refl
@@ -412,7 +444,7 @@ module _ (station : Station) (before : Live) (link : RelationState) where
   calm_effect (Stores value) after is = is
   calm_effect (Keeps parameter) after is = calm_taking (keeping parameter after) after is
 
-  calm_one : (result : Result Write CallFault) (after : Option RelationState) → Calm after → Calm (one_link result after)
+  calm_one : (result : Result Write Status) (after : Option RelationState) → Calm after → Calm (one_link result after)
   calm_one (Ok write) after is = calm_effect write.effect after is
   calm_one (Err why) after is = is
 
@@ -442,15 +474,15 @@ module _ (station : Station) (before : Live) (link : RelationState) where
 
   -- ---- calls
 
+  alive : (source : Partner) (b : Bool) → Calm (updated (if b then Named source else Unmoved) live.rest.link)
+  alive source true = calm_named source live.rest.link calm_stands
+  alive source false = calm_stands
+
   module _ (caller : Caller) where
     connects : (blocks : List ℕ) (read : Result Request CallFault) → connect_within station.options caller.mac live.rest.link blocks ≡ read
         → Calm (updated (making live.rest.real (partner_of caller) station.options (starting_of station live) read) live.rest.link)
     connects blocks (Ok request) e = absurd (second_refused link station.options caller.mac blocks request e)
     connects blocks (Err why) e = calm_stands
-
-    names : (b : Bool) → Calm (updated (if b then Named (partner_of caller) else Unmoved) live.rest.link)
-    names true = calm_named (partner_of caller) live.rest.link calm_stands
-    names false = calm_stands
 
     named : {A : Type 0} (result : Result A CallFault) → Calm (updated (answered (Named (partner_of caller)) result) live.rest.link)
     named result = calm_answered (Named (partner_of caller)) result live.rest.link (calm_named (partner_of caller) live.rest.link calm_stands) calm_stands
@@ -465,7 +497,7 @@ module _ (station : Station) (before : Live) (link : RelationState) where
     writes : (call : Call) (writing : Result Writing CallFault) → Stays (handled_write station live caller call writing)
     writes call (Ok (One write)) = effects call write.request write.effect
     writes call (Ok (Each header entries)) = λ answers.
-        let judged = judged_each (uuid_of live.rest.link) live.rest.real entries in
+        let judged = judged_each station.named (uuid_of live.rest.link) live.rest.real entries in
         calm_named (partner_of caller) (link_behind judged live.rest.link) (calm_each judged live.rest.link calm_stands)
     writes call (Err why) = λ answers. calm_stands
 
@@ -496,20 +528,36 @@ module _ (station : Station) (before : Live) (link : RelationState) where
         calls_next _ (calm_named (partner_of caller) (ended_by station.options.ready_by_application (Ok block) live.rest.link) ended)
     plug_ends blocks (Err why) = calm_stands
 
-    new_call : (call : Call) (blocks : List ℕ) (which : Operation) → Stays (handled_new station live caller call blocks which)
-    new_call call blocks operation.Connect = λ answers. connects blocks (connect_within station.options caller.mac live.rest.link blocks) refl
-    new_call call blocks operation.Release = λ answers. calm_answered Ended (release_of live.rest.link blocks) live.rest.link calm_none calm_stands
-    new_call call blocks operation.Read = λ answers. named (relation_read (known_of station live) station.identity live.rest.real live.values.running blocks)
-    new_call call blocks operation.Write = writes call (writing_of (uuid_of live.rest.link) live.rest.real blocks)
-    new_call call blocks operation.Control =
+    own_call : (call : Call) (blocks : List ℕ) (which : Operation) → Stays (handled_own station live caller call blocks which)
+    own_call call blocks operation.Connect = λ answers. connects blocks (connect_within station.options caller.mac live.rest.link blocks) refl
+    own_call call blocks operation.Release = λ answers. calm_answered Ended (release_of live.rest.link blocks) live.rest.link calm_none calm_stands
+    own_call call blocks operation.Read = λ answers. named (relation_read (known_of station live) station.identity live.rest.real live.values.running blocks)
+    own_call call blocks operation.Write = writes call (writing_of (uuid_of live.rest.link) live.rest.real blocks)
+    own_call call blocks operation.Control =
         stays_if (is_plug_control blocks live.rest.link) (handled_plug_end station live caller call blocks) (handled_prm_end station live caller call blocks)
         (λ answers. plug_ends blocks (plug_end_in blocks live.rest.link)) (λ answers. controls blocks)
-    new_call call blocks operation.ReadImplicit = λ answers.
+    own_call call blocks operation.ReadImplicit = λ answers.
         calm_answered (implicitly (partner_of caller) live.rest.link blocks) (implicit_read (known_of station live) station.identity live.rest.real live.values.running blocks) live.rest.link
-        (names _) calm_stands
+        (alive (partner_of caller) _) calm_stands
+
+    -- what it asks of the application
+    question_call : (question : Question) (asked : Option AskedState) → Stays (handled_question station live question asked)
+    question_call question (Some asked) = λ answers. calm_stands
+    question_call question None = λ answers. calm_stands
+
+    asking_call : (call : Call) (blocks : List ℕ) (which : Operation) (asking : Result (Option Asking) CallFault)
+        → Stays (handled_asking station live caller call blocks which asking)
+    asking_call call blocks which (Ok None) = own_call call blocks which
+    asking_call call blocks which (Ok (Some asking)) = question_call asking.0 (asks asking.0 asking.1 live.rest.asked)
+    asking_call call blocks which (Err why) = λ answers. calm_stands
+
+    unanswered_call : (call : Call) (blocks : List ℕ) (which : Operation) → Stays (handled_unanswered station live caller call blocks which)
+    unanswered_call call blocks which =
+        stays_if (is_repeat call.header.activity call.header.sequence live.rest.asked) (Moves live.rest []) (handled_new station live caller call blocks which)
+        (λ answers. calm_stands) (asking_call call blocks which (asking_of live.rest.real station.named (uuid_of live.rest.link) caller call blocks which))
 
     looked_call : (call : Call) (blocks : List ℕ) (which : Operation) (found : Looked) → Stays (handled_looked station live caller call blocks which found)
-    looked_call call blocks which new = new_call call blocks which
+    looked_call call blocks which new = unanswered_call call blocks which
     looked_call call blocks which (again frame) = λ answers. calm_stands
     looked_call call blocks which old = refuses note.OldCall
 
@@ -708,8 +756,14 @@ module _ (station : Station) (before : Live) (link : RelationState) where
             values = values;
           }))
 
+  -- the application answers what is asked
+  answered_call : (given : GivesAnswer) (found : Result Question AnswerFault) → Stays (handled_judged station live given found)
+  answered_call given (Ok question) = λ answers.
+      alive (source_of question) (is_relation (uuid_of live.rest.link) (header_of question.request).ar_uuid && not (is_refusal given))
+  answered_call given (Err why) = refuses note.Refused
+
   -- a unit
-  ticks : (ending : Option Abort) → ending_of link ≡ ending → Stays (ticked live)
+  ticks : (ending : Option Abort) → ending_of link ≡ ending → Stays (ticked station live)
   ticks (Some because) is = λ answers. subst (λ (l : Option RelationState). Calm l) (sym (ap (λ (o : Option Abort). updated (passing_by o) (Some link)) is)) calm_none
   ticks None is = λ answers. subst (λ (l : Option RelationState). Calm l) (sym (ap (λ (o : Option Abort). updated (passing_by o) (Some link)) is)) (calm_as (unit_later link) (plain link (unit_later link) refl refl (later_places (is_timed link.phase))))
     where
@@ -770,6 +824,14 @@ module _ (station : Station) (before : Live) (link : RelationState) where
       )
   provides (Applied (local.ProviderState is_running)) =
       calm_heard (Applied (local.ProviderState is_running)) (λ now. refl) refl (λ answers. calm_flow (turned link.flow is_running) refl)
+  provides (Applied (local.Answer number octets)) =
+      calm_heard (Applied (local.Answer number octets)) (λ now. refl) refl
+      (answered_call (gives_octets octets.items) (judged number (gives_octets octets.items) live.rest.asked))
+  provides (Applied (local.Written number)) =
+      calm_heard (Applied (local.Written number)) (λ now. refl) refl (answered_call gives_done (judged number gives_done live.rest.asked))
+  provides (Applied (local.Refuse number code1 code2)) =
+      calm_heard (Applied (local.Refuse number code1 code2)) (λ now. refl) refl
+      (answered_call (gives_refusal code1 code2) (judged number (gives_refusal code1 code2) live.rest.asked))
   provides Ticks = calm_heard Ticks (λ now. refl) refl (ticks (ending_of link) refl)
   provides Unreadable = calm_heard Unreadable (λ now. refl) refl (refuses note.Fault)
   provides Elsewhere = calm_heard Elsewhere (λ now. refl) refl (refuses note.NotMine)

@@ -1,5 +1,5 @@
 -- The inputs that a device sends: those of its relation, with a unit; and those with which a relation begins.
-use Rattle.std.proofs.Common.{◌≡◌, ◌⊎◌, inl, inr, ◌||◌, ◌++◌, ℕ, Bool, true, false, List, [], ◌∷◌, Option, Some, None, option_map, Result, Ok, Err, refl, sym, ap, subst, ◌∙◌}
+use Rattle.std.proofs.Common.{◌≡◌, ◌⊎◌, inl, inr, ◌||◌, ◌++◌, ℕ, Bool, true, false, List, [], ◌∷◌, length, Option, Some, None, option_map, Result, Ok, Err, refl, sym, ap, subst, ◌∙◌}
 use Rattle.std.specs.Prelude.{if◌then◌else◌}
 use Rattle.std.specs.List.{AllByRecursion}
 use Rattle.pn_values.specs.declared.real.RealModule.{RealModule}
@@ -36,7 +36,10 @@ use Rattle.device_frames.specs.Sent.{Sent, Exchanges}
 use Rattle.device_frames.specs.declared.note.Note.TheVariants as note
 use Rattle.settings_journal.specs.settings_store.Machine.{Outcome, carried}
 use Rattle.device_core.specs.State.{Station, Live, counter_of, units_after}
-use Rattle.device_core.specs.Handled.{Handled, Refuses, handled, handled_blocks, handled_call, handled_looked, handled_new, is_running, partner_of, starting_of}
+use Rattle.device_core.specs.Handled.{counted_sent, handled, Handled, handled_blocks, handled_call, handled_looked, handled_new, handled_unanswered, is_running, Moves, partner_of, Refuses, starting_of, unit_rest, unit_sent}
+use Rattle.device_core.specs.Asking.{is_new, late_in, late_reply, late_sent}
+use Rattle.asked_records.specs.Asked.{is_repeat}
+use Rattle.asked_records.specs.declared.question.Question.{Question}
 use Rattle.device_core.specs.Machine.{Stepped, finished, handled_step, heard_step, items_in}
 use Rattle.end_laws.specs.device.Exchange.{is_inputs, sends_inputs}
 use Rattle.end_laws.specs.device.Turn.{AreCalm, Changes, Diagnoses, IsCalm, IsTurn, Makes, Stays, standing_of}
@@ -135,13 +138,26 @@ module _ (none : Image) (address : List ℕ) (counter : ℕ) (link : RelationSta
 
 -- ---- a device with a relation
 
+-- a call that has no answer in time is refused: that is no frame of inputs
+late_silent : (shown : Image) (address : List ℕ) (found : Option Question) (calls : List Answer) → AreOfImage shown (late_sent address found calls)
+late_silent shown address None calls = tt
+late_silent shown address (Some question) calls =
+    if_due shown (is_new (looked question.header.activity question.header.sequence calls)) (late_reply address question ∷ []) (tt, tt)
+
 module _ (none : Image) (outcomes : List Outcome) (station : Station) where
   abbrev AreSent : Stepped → Type 0
   AreSent step = AreOfImage (image_in none step.live.rest.link) step.sent
 
   ticks_of_link : (live : Live) (link : RelationState) → AreSent (heard_step outcomes station (record live { rest = record live.rest { link = Some link } }) Ticks)
   unfolding heard_step handled_step
-  ticks_of_link live link = unit_by none live.values.running.suite.address (counter_of (units_after 1 live.rest.units)) link (ending_of link)
+  ticks_of_link before link =
+      let live : Live = record before { rest = record before.rest { link = Some link } } in
+      let address = live.values.running.suite.address in
+      let shown = image_in none (updated (passing_by (ending_of link)) (Some link)) in
+      let later = unit_rest live in
+      both shown (unit_sent live) (counted_sent address (length (unit_sent live)) later)
+      (unit_by none address (counter_of (units_after 1 live.rest.units)) link (ending_of link))
+      (late_silent shown address (late_in (length (unit_sent live)) later.asked) later.calls)
 
   ticks_sent : (live : Live) (link : RelationState) → live.rest.link ≡ Some link → AreSent (heard_step outcomes station live Ticks)
   ticks_sent live link is =
@@ -246,15 +262,21 @@ module _ (station : Station) (live : Live) (unrelated : live.rest.link ≡ None)
     abbrev linked : Handled → Option RelationState
     linked what = (finished station.identity live.rest what answers).rest.link
 
-    call_is : handled_call station live caller call (operation_of call.header.operation) ≡ handled_new station live caller call blocks operation.Connect
+    call_is : handled_call station live caller call (operation_of call.header.operation) ≡ handled_unanswered station live caller call blocks operation.Connect
     call_is =
         ap (λ (o : Option Operation). handled_call station live caller call o) connects
         ∙ (ap (λ (b : Option (List ℕ)). handled_blocks station live caller call operation.Connect b) counted
         ∙ ap (λ (f : _). handled_looked station live caller call blocks operation.Connect f) fresh)
 
+    -- a repeat of what is asked makes no relation
+    opens_fresh : (b : Bool) → linked (if b then Moves live.rest [] else handled_new station live caller call blocks operation.Connect) ≡ Some next
+        → IsOpened station live next
+    opens_fresh true e = none_some next (sym unrelated ∙ e)
+    opens_fresh false e = opens_as caller (connect_within station.options caller.mac live.rest.link blocks) e
+
     opens_by : (b : Bool) → linked (if b then handled_call station live caller call (operation_of call.header.operation) else Refuses note.NotMine) ≡ Some next → IsOpened station live next
     opens_by true e =
-        opens_as caller (connect_within station.options caller.mac live.rest.link blocks) (ap linked (sym call_is) ∙ e)
+        opens_fresh (is_repeat call.header.activity call.header.sequence live.rest.asked) (ap linked (sym call_is) ∙ e)
     opens_by false e = none_some next (sym unrelated ∙ e)
 
   opens_at : (outcomes : List Outcome) (heard : Heard) (after : Option RelationState) (sent : List Sent) → (heard_step outcomes station live heard).live.rest.link ≡ Some next

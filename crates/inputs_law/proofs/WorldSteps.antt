@@ -46,7 +46,7 @@ use Rattle.device_frames.specs.declared.event.Event.TheVariants.{Frame}
 use Rattle.device_frames.specs.declared.local.Local.TheVariants as local
 use Rattle.device_frames.specs.Heard.{Heard, Ticks, Applied, Met, Elsewhere, Resolves, Reported, Calls, Cyclic, broadcast, heard_alarm, heard_content, heard_frame, heard_of, heard_request, is_own, is_taken}
 use Rattle.device_frames.specs.Sent.{Sent, CallAnswer, Again, Exchanges, bytes_of as bytes_sent}
-use Rattle.device_frames.specs.Sendable.{AreSendable}
+use Rattle.device_frames.specs.Sendable.{AreSendable, IsSendable}
 use Rattle.device_core.specs.State.{Live, Rest, Station}
 use Rattle.device_core.specs.Handled.{kept_for, starting_of}
 use Rattle.device_core.specs.Machine.{handled_step, heard_step}
@@ -70,6 +70,7 @@ use Rattle.end_laws.specs.turns.Turns.{came_by}
 use Rattle.both_ends.specs.startup.request.Request.{expected_of, request_for}
 use Rattle.both_ends.specs.startup.View.{IsMeant, IsMeantAtDevice, move_of, rules_of}
 use Rattle.both_ends.specs.exchange.Told.{IsSizedMove}
+use Rattle.both_ends.proofs.StartupEach.{each_of}
 use Rattle.both_ends.proofs.ExchangeHeardAlarm.{alarm_holds}
 use Rattle.both_ends.proofs.ExchangeLaw.{DeviceSo, FollowsAt, one_follows}
 use Rattle.both_ends.proofs.ExchangeLists.{holds_if}
@@ -270,7 +271,7 @@ module _ (setup : Setup) (station : Station) where
 
 module _ (sound : IsSound ethernet) (setup : Setup) (station : Station) (there : ArePlaced setup) where
   module _ (live : Live) (values : Values) (provides : Provides setup station values live.rest) (heard : Heard)
-      (planned : IsPlanned (rules_of setup station) setup.activity live.rest.real heard) (outcomes : List Outcome)
+      (planned : IsPlanned (rules_of setup station) setup.activity station.named live.rest.real heard) (outcomes : List Outcome)
       (turn : Turn station live heard (heard_step outcomes station live heard).live.rest (heard_step outcomes station live heard).sent) where
     abbrev after : Rest
     after = (heard_step outcomes station live heard).live.rest
@@ -338,10 +339,10 @@ module _ (sound : IsSound ethernet) (setup : Setup) (station : Station) (there :
     -- a relation that begins is that of the plan
     asked_of : Makes live.rest.calls live.rest.link heard after.link sent → live.rest.link ≡ None → (next : RelationState) → after.link ≡ Some next → next.request ≡ request_for setup.plan setup.ar
     asked_of makes none next is =
-        let plan : IsPlannedCall (rules_of setup station) setup.activity live.rest.real makes.call =
-        subst (λ (h : Heard). IsPlanned (rules_of setup station) setup.activity live.rest.real h) makes.is planned in
-        let asks : IsPlannedAs (rules_of setup station) live.rest.real makes.call.header.sequence plan.blocks (Some operation.Connect) =
-        subst (λ (o : Option Operation). IsPlannedAs (rules_of setup station) live.rest.real makes.call.header.sequence plan.blocks o) makes.connects plan.asks in
+        let plan : IsPlannedCall (rules_of setup station) setup.activity station.named live.rest.real makes.call =
+        subst (λ (h : Heard). IsPlanned (rules_of setup station) setup.activity station.named live.rest.real h) makes.is planned in
+        let asks : IsPlannedAs (rules_of setup station) station.named live.rest.real makes.call.header.sequence plan.blocks (Some operation.Connect) =
+        subst (λ (o : Option Operation). IsPlannedAs (rules_of setup station) station.named live.rest.real makes.call.header.sequence plan.blocks o) makes.connects plan.asks in
         let same : plan.blocks ≡ makes.blocks = some_is plan.blocks makes.blocks (sym plan.counted ∙ makes.counted) in
         ap (λ (l : RelationState). l.request) (sym (some_is _ next (sym makes.made ∙ is)))
         ∙ same_ok makes.request (request_for setup.plan setup.ar)
@@ -411,8 +412,8 @@ module _ (sound : IsSound ethernet) (setup : Setup) (station : Station) (there :
     one_known : AreKeptSilent setup station live.rest.calls → (shown : Image) (message : Sent) → IsOfImage shown message → IsOwed heard live message → IsKnown setup station.identity sound shown message
     one_known silent shown (Exchanges route (Inputs state inputs counter)) is owed = is
     one_known silent shown (Again frame) is owed =
-        let plan : IsPlannedCall (rules_of setup station) setup.activity live.rest.real owed.call =
-        subst (λ (h : Heard). IsPlanned (rules_of setup station) setup.activity live.rest.real h) owed.is planned in
+        let plan : IsPlannedCall (rules_of setup station) setup.activity station.named live.rest.real owed.call =
+        subst (λ (h : Heard). IsPlanned (rules_of setup station) setup.activity station.named live.rest.real h) owed.is planned in
         subst (λ (f : List ℕ). BringsNothing setup station f) owed.same
         (kept_at (BringsNothing setup station) setup.activity live.rest.calls silent owed.kept (ap (λ (a : List ℕ). kept_of a live.rest.calls) (sym plan.own) ∙ owed.there))
     one_known silent shown (Exchanges route (Notifies header alarm)) is owed = tt
@@ -439,9 +440,12 @@ module _ (sound : IsSound ethernet) (setup : Setup) (station : Station) (there :
         by_answers (inl same) = subst (λ (c : List Answer). AreKeptSilent setup station c) (sym same) silent
         by_answers (inr answers) =
             let answer = CallAnswer answers.caller answers.address answers.answer in
-            let first : AreSendable station.identity (answer ∷ answers.others) = subst (λ (messages : List Sent). AreSendable station.identity messages) answers.sends can in
+            let one : IsSendable station.identity answer =
+            each_of (IsSendable station.identity) answers.first answer answers.others
+            (subst (λ (messages : List Sent). AreSendable station.identity messages) answers.sends can) in
             subst (λ (c : List Answer). AreKeptSilent setup station c) (sym answers.keeps)
-            (more_kept (BringsNothing setup station) setup.activity (kept_for station.identity answers.call answer) live.rest.calls (λ own. answer_silent setup station.identity sound answers.caller answers.address answers.answer first.0) silent)
+            (more_kept (BringsNothing setup station) setup.activity (kept_for station.identity answers.call answer) live.rest.calls
+            (λ own. answer_silent setup station.identity sound answers.caller answers.address answers.answer one) silent)
 
 -- ---- worlds
 

@@ -200,6 +200,9 @@ fn borrowed(local: &Local<Bytes>) -> Local<Octets<'_, 1519>>
         Local::ReadyAt(slot, subslot) => Local::ReadyAt(*slot, *subslot),
         Local::Ready => Local::Ready,
         Local::ProviderState(is_running) => Local::ProviderState(*is_running),
+        Local::Answer(number, octets) => Local::Answer(*number, Octets::of(octets.as_slice())),
+        Local::Written(number) => Local::Written(*number),
+        Local::Refuse(number, code1, code2) => Local::Refuse(*number, *code1, *code2),
     }
 }
 

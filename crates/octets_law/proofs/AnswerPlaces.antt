@@ -24,7 +24,8 @@ use Rattle.rpc_core.specs.Sendable.{CanBeAnswered, IsStatus}
 use Rattle.records.specs.writes.Answer.{number_of}
 use Rattle.device_frames.specs.Sent.{CallAnswer, bytes_of}
 use Rattle.device_frames.specs.Sendable.{IsSendable}
-use Rattle.octets_law.specs.Octets.{args_of, name_of, number, statuses, statuses_in}
+use Rattle.octets_law.specs.Headline.{is_response}
+use Rattle.octets_law.specs.Octets.{activity_of, args_of, in_order, name_of, number, statuses, statuses_in}
 use Rattle.octets_law.proofs.CallPlaces.{args_placed, name_for, name_placed, skip}
 use Rattle.octets_law.proofs.SetFrames.{number_front, six, take_front}
 use Rattle.octets_law.proofs.Repeats.{itself_octets}
@@ -71,6 +72,8 @@ pub record IsAnswerRead (bytes : List ℕ) (answer : Answered) : Type 0 where
   pub name : name_of bytes ≡ name_for answer.header.activity answer.header.sequence
   pub status : number 80 4 bytes ≡ number_of answer.status
   pub blocks : args_of bytes ≡ answer.blocks
+  pub activity : activity_of bytes ≡ answer.header.activity
+  pub sequence : in_order 64 4 bytes ≡ answer.header.sequence
 
 number_whole : (size value : ℕ) → value < 256 ^ size → big_number size (big_bytes size value) ≡ value
 number_whole size value small = ap (big_number size) (sym (append-nil (big_bytes size value))) ∙ number_front size value [] small
@@ -111,6 +114,13 @@ response_placed answer more can =
           (0 ∷ 0 ∷ 0 ∷ 0 ∷ []) (big_bytes 4 (length answer.blocks)) answer.blocks more
           can.header.object can.header.interface can.header.activity refl refl refl refl refl refl refl refl refl (omega (arith, sized))
           ∙ ap (λ n. take n answer.blocks) sized ∙ take_whole answer.blocks;
+      activity =
+          ap (take 16) (skip 16 16 object _ can.header.object ∙ skip 0 16 interface _ can.header.interface)
+          ∙ subst (λ n. take n (activity ++ behind_activity answer (body_octets answer ++ more)) ≡ activity) can.header.activity (take_front activity _);
+      sequence =
+          ap (big_number 4) (skip (16 + (16 + 8)) 16 object _ can.header.object ∙ skip (16 + 8) 16 interface _ can.header.interface
+          ∙ skip 8 16 activity (behind_activity answer (body_octets answer ++ more)) can.header.activity)
+          ∙ number_front 4 answer.header.sequence (operation ++ (ending answer ++ (body_octets answer ++ more))) (omega (arith, can.header.sequence));
     })
 
 -- ---- a datagram
@@ -130,12 +140,13 @@ unfolding frame_bytes layers ethernet mac tag_and_type
 datagram_octets source destination from to body = refl
 
 -- What is read of a frame with a datagram: its EtherType, and its body.
-record IsDatagramRead (frame body : List ℕ) : Type 0 where
-  type : number 12 2 frame ≡ 0x0800
-  more : List ℕ
-  is : drop 42 frame ≡ body ++ more
+pub record IsDatagramRead (frame body : List ℕ) : Type 0 where
+  pub type : number 12 2 frame ≡ 0x0800
+  pub more : List ℕ
+  pub is : drop 42 frame ≡ body ++ more
 
-datagram_read : (source destination : Mac) (from to : Endpoint) (body : List ℕ) → length source.octets ≡ 6 → length destination.octets ≡ 6 → length from.address ≡ 4 → length to.address ≡ 4
+pub datagram_read : (source destination : Mac) (from to : Endpoint) (body : List ℕ) → length source.octets ≡ 6 → length destination.octets ≡ 6
+    → length from.address ≡ 4 → length to.address ≡ 4
     → IsDatagramRead (frame_bytes (carrying destination source None (UdpDatagram from to body))) body
 datagram_read source destination from to body s d f t =
     let inside : List ℕ = datagram.write (UdpDatagram from to body) in
@@ -164,10 +175,33 @@ pub answer_statuses : (identity : Identity) (caller : Caller) (address : List �
 answer_statuses identity caller address answer call can name =
     let frame : List ℕ = bytes_of identity (CallAnswer caller address answer) in
     let sent = can.0 in
-    let datagram = datagram_read identity.mac caller.mac (calls_at address) caller.endpoint (response_bytes answer) sent.source sent.destination sent.content.0.0 sent.content.1.0 in
+    let datagram =
+    datagram_read identity.mac caller.mac (calls_at address) caller.endpoint
+    (response_bytes answer) sent.source sent.destination sent.content.0.0 sent.content.1.0 in
     let it : IsAnswerRead (drop 42 frame) answer = subst (λ l. IsAnswerRead l answer) (sym datagram.is) (response_placed answer datagram.more can.1) in
     let named : pointwise nat_eq (name_of (drop 42 frame)) (name_of call) ≡ true =
     ap (pointwise nat_eq (name_of (drop 42 frame))) (name ∙ sym it.name) ∙ itself_octets (name_of (drop 42 frame)) in
     cond-true (number 12 2 frame == 0x0800 && (number 0 2 (drop 42 frame) == 0x0402 && pointwise nat_eq (name_of (drop 42 frame)) (name_of call))) _ _
     (and_from _ _ (holds _ 0x0800 datagram.type) (and_from _ _ (holds _ 0x0402 it.kind) named))
     ∙ same_statuses _ _ _ _ it.status it.blocks
+
+-- The frame of an answer is a response, and names the call that it answers.
+pub record IsReply (frame : List ℕ) (answer : Answered) : Type 0 where
+  pub is : is_response frame ≡ true
+  pub activity : activity_of (drop 42 frame) ≡ answer.header.activity
+  pub sequence : in_order 64 4 (drop 42 frame) ≡ answer.header.sequence
+
+pub answer_found : (identity : Identity) (caller : Caller) (address : List ℕ) (answer : Answered) → IsSendable identity (CallAnswer caller address answer)
+    → IsReply (bytes_of identity (CallAnswer caller address answer)) answer
+answer_found identity caller address answer can =
+    let frame : List ℕ = bytes_of identity (CallAnswer caller address answer) in
+    let sent = can.0 in
+    let datagram =
+    datagram_read identity.mac caller.mac (calls_at address) caller.endpoint
+    (response_bytes answer) sent.source sent.destination sent.content.0.0 sent.content.1.0 in
+    let it : IsAnswerRead (drop 42 frame) answer = subst (λ l. IsAnswerRead l answer) (sym datagram.is) (response_placed answer datagram.more can.1) in
+    record {
+      is = and_from _ _ (holds _ 0x0800 datagram.type) (holds _ 0x0402 it.kind);
+      activity = it.activity;
+      sequence = it.sequence;
+    }

@@ -13,7 +13,7 @@ use Rattle.device_frames.specs.declared.event.Event.{Event}
 use Rattle.device_frames.specs.declared.note.Note.TheVariants as note
 use Rattle.device_frames.specs.Heard.{Calls, Reported, heard_of}
 use Rattle.device_core.specs.State.{Live, Station}
-use Rattle.device_core.specs.Handled.{Handled, Refuses, handled, handled_blocks, handled_call, handled_looked, handled_new, is_running}
+use Rattle.device_core.specs.Handled.{Handled, Refuses, handled, handled_blocks, handled_call, handled_looked, handled_own, handled_unanswered, is_running}
 use Rattle.device_core.specs.Machine.{handled_step, heard_step, step_of}
 use Rattle.octets_law.specs.Bridge.{Bridges, repeats}
 use Rattle.octets_law.specs.Octets.{Call, asking_of, calling, commands_in, in_order, number}
@@ -21,7 +21,7 @@ use Rattle.octets_law.proofs.CallPlaces.{IsCallRead}
 use Rattle.octets_law.proofs.CallReads.{tested}
 use Rattle.octets_law.proofs.CallCounts.{IsCallCounted}
 use Rattle.octets_law.proofs.FrameSteps.{IsSaid, silent_said, still_bridged}
-use Rattle.octets_law.proofs.Items.{IsStill, control_still}
+use Rattle.octets_law.proofs.Items.{IsStill, control_still, unanswered_still}
 use Rattle.octets_law.proofs.Quiet.{again_bridged, asks_nothing}
 use Rattle.octets_law.proofs.Tracks.{Tracks, again_tracked, new_tracked, uncounted_tracked}
 
@@ -37,7 +37,7 @@ module _ (names : List (List ℕ)) (outcomes : List Outcome) (station : Station)
       → (call.blocks ≡ None → handled station live (heard_of station.identity event) ≡ handled_blocks station live caller call Write None
       → Bridges station.identity.mac names event live.values (step_of outcomes station live event))
       × ((blocks : List ℕ) → call.blocks ≡ Some blocks → looked call.header.activity call.header.sequence live.rest.calls ≡ new
-      → handled station live (heard_of station.identity event) ≡ handled_new station live caller call blocks Write
+      → handled station live (heard_of station.identity event) ≡ handled_unanswered station live caller call blocks Write
       → Bridges station.identity.mac names event live.values (step_of outcomes station live event))
 
 module _ (names : List (List ℕ)) (outcomes : List Outcome) (station : Station) (live : Live) (event : Event) (octets : List ℕ)
@@ -81,7 +81,8 @@ module _ (names : List (List ℕ)) (outcomes : List Outcome) (station : Station)
   by_looked : (operation : Operation) (blocks : List ℕ) (reported : Looked) → call.blocks ≡ Some blocks → looked call.header.activity call.header.sequence live.rest.calls ≡ reported
       → handled station live (heard_of station.identity event) ≡ handled_looked station live caller call blocks operation reported
       → (looked call.header.activity call.header.sequence live.rest.calls ≡ new
-      → handled station live (heard_of station.identity event) ≡ handled_new station live caller call blocks operation → IsBridged) → IsSaid names outcomes station live event
+      → handled station live (heard_of station.identity event) ≡ handled_unanswered station live caller call blocks operation → IsBridged)
+      → IsSaid names outcomes station live event
   by_looked operation blocks new some found what fresh =
       (fresh found what, tracked _ what (new_tracked station.identity.mac event outcomes station live octets caller call asked counted blocks operation some found))
   by_looked operation blocks (again frame) some found what fresh = (
@@ -91,7 +92,7 @@ module _ (names : List (List ℕ)) (outcomes : List Outcome) (station : Station)
   by_looked operation blocks old some found what fresh = silent_said names outcomes station live event _ what
 
   no_write : (operation : Operation) → operation_of call.header.operation ≡ Some operation → (Some Write ≡ Some operation → ⊥)
-      → ((blocks : List ℕ) → IsStill (handled_new station live caller call blocks operation)) → (blocks : Option (List ℕ)) → call.blocks ≡ blocks
+      → ((blocks : List ℕ) → IsStill (handled_own station live caller call blocks operation)) → (blocks : Option (List ℕ)) → call.blocks ≡ blocks
       → handled station live (heard_of station.identity event) ≡ handled_blocks station live caller call operation blocks → IsSaid names outcomes station live event
   no_write operation is other stays None none what = (
     still (handled_blocks station live caller call operation None) what refl (nothing operation is other),
@@ -99,7 +100,9 @@ module _ (names : List (List ℕ)) (outcomes : List Outcome) (station : Station)
   )
   no_write operation is other stays (Some blocks) some what =
       by_looked operation blocks (looked call.header.activity call.header.sequence live.rest.calls) some refl what
-      (λ _ fresh. still (handled_new station live caller call blocks operation) fresh (stays blocks) (nothing operation is other))
+      (λ _ fresh. still (handled_unanswered station live caller call blocks operation) fresh
+      (unanswered_still station live caller call blocks operation (stays blocks))
+      (nothing operation is other))
 
   write : WritesAreBridged names outcomes station live event octets asks caller address call read heard → operation_of call.header.operation ≡ Some Write → (blocks : Option (List ℕ)) → call.blocks ≡ blocks
       → handled station live (heard_of station.identity event) ≡ handled_blocks station live caller call Write blocks → IsSaid names outcomes station live event

@@ -98,9 +98,10 @@ module _ (names : List (List ℕ)) (outcomes : List Outcome) (station : Station)
 
   -- What is said in these octets, with more after them.
   said_step : (event : Event) (body more : List ℕ) (caller : Caller) (address : List ℕ) → asking_of station.identity.mac event ≡ calling (body ++ more)
-      → heard_of station.identity event ≡ Reported caller address (said_by body) → Writes event → IsNamed event → Goal event
+      → heard_of station.identity event ≡ Reported caller address (said_by body) → AreSendable station.identity (step_of outcomes station live event).sent
+      → Writes event → IsNamed event → Goal event
   unfolding said_by
-  said_step event body more caller address asks heard writes named = by_call (call_of Device body) refl heard
+  said_step event body more caller address asks heard can writes named = by_call (call_of Device body) refl heard
     where
       garbled : heard_of station.identity event ≡ Reported caller address Garbled → Goal event
       garbled heard = by_running (is_running live.values.running address) (ap (handled station live) heard)
@@ -114,7 +115,8 @@ module _ (names : List (List ℕ)) (outcomes : List Outcome) (station : Station)
       by_response (Ok response) is heard =
           nothing_said names outcomes station live event (Reported caller address (Responds response)) heard
           (cond_both (is_running live.values.running address) _ _ IsStill (λ _. response_still station live response) (λ _. refl)) tt
-          (asks ∙ response_nothing (body ++ more) (response_kind (body ++ more) response (response_behind body more response (response_takes body response is))))
+          (asks ∙ response_nothing (body ++ more) (response_kind (body ++ more) response
+          (response_behind body more response (response_takes body response is)))) can
 
       by_call : (read : Result Called RpcFault) → call_of Device body ≡ read → heard_of station.identity event ≡ Reported caller address (said_first read (response_of body)) → Goal event
       by_call (Err fault) is heard = by_response (response_of body) refl heard
@@ -151,8 +153,8 @@ module _ (names : List (List ℕ)) (outcomes : List Outcome) (station : Station)
         let type = frame_type bytes meaning bare ∙ arp_type (big_number 2 bare.type) bare.rest meaning.content packet is (kind_under (big_number 2 bare.type) bare.rest meaning.content bare.content) in
         let none = unasked 0x0806 type refl refl in
         cond_both (is_own station.identity meaning.destination || pointwise nat_eq meaning.destination.octets broadcast) _ _ (λ h. heard_of station.identity event ≡ h → Goal event)
-        (λ _ heard. other_said names outcomes station live event (Resolves meaning.source packet) heard tt none)
-        (λ _ heard. other_said names outcomes station live event Elsewhere heard tt none) heard
+        (λ _ heard. other_said names outcomes station live event (Resolves meaning.source packet) heard tt none can)
+        (λ _ heard. other_said names outcomes station live event Elsewhere heard tt none can) heard
     by_content (UdpDatagram from to body) is heard =
         let typed = datagram_type (big_number 2 bare.type) bare.rest meaning.content from to body is (kind_under (big_number 2 bare.type) bare.rest meaning.content bare.content) in
         let type = frame_type bytes meaning bare ∙ typed.0 in
@@ -160,7 +162,7 @@ module _ (names : List (List ℕ)) (outcomes : List Outcome) (station : Station)
         let at : drop 42 (untagged bytes) ≡ body ++ behind.more = frame_behind bytes meaning bare 28 ∙ behind.is in
         cond_both (is_own station.identity meaning.destination && to.port == call_port) _ _ (λ h. heard_of station.identity event ≡ h → Goal event)
         (λ taken heard. said_step event body behind.more (record { mac = meaning.source; endpoint = from }) to.address
-        (asks ∙ datagram_asked (own_is ∙ (and_parts _ _ taken).0) type ∙ ap calling at) heard writes named)
+        (asks ∙ datagram_asked (own_is ∙ (and_parts _ _ taken).0) type ∙ ap calling at) heard can writes named)
         (λ _ heard. silent_said names outcomes station live event note.NotMine (ap (handled station live) heard)) heard
 
   -- A frame, read or not.
@@ -177,10 +179,10 @@ module _ (names : List (List ℕ)) (outcomes : List Outcome) (station : Station)
   unfolding heard_of
   event_step (Frame frame) can small writes named = frame_step (Frame frame) frame.items refl can small writes named (frame_of frame.items) refl refl
   event_step (Joined caller address octets) can small writes named =
-      said_step (Joined caller address octets) octets.items [] caller address (ap calling (sym (append-nil octets.items))) refl writes named
-  event_step Tick can small writes named = other_said names outcomes station live Tick _ refl tt refl
-  event_step (Application local) can small writes named = other_said names outcomes station live (Application local) _ refl tt refl
-  event_step (Neighbour neighbour) can small writes named = other_said names outcomes station live (Neighbour neighbour) _ refl tt refl
+      said_step (Joined caller address octets) octets.items [] caller address (ap calling (sym (append-nil octets.items))) refl can writes named
+  event_step Tick can small writes named = other_said names outcomes station live Tick _ refl tt refl can
+  event_step (Application local) can small writes named = other_said names outcomes station live (Application local) _ refl tt refl can
+  event_step (Neighbour neighbour) can small writes named = other_said names outcomes station live (Neighbour neighbour) _ refl tt refl can
 
   -- The same, if what the device sends at it can be sent.
   pub any_step : (event : Event) → AreSendable station.identity (step_of outcomes station live event).sent → IsSmall event → IsNamed event → Goal event

@@ -27,20 +27,20 @@ use Rattle.diagnosis.specs.reports.Priority.{priority_of}
 use Rattle.diagnosis.specs.reports.Message.{low_message_of}
 use Rattle.device_frames.specs.Sendable.{AreSendable}
 use Rattle.device_core.specs.State.{Live, Station}
-use Rattle.device_core.specs.Handled.{Refuses, handled, handled_request}
+use Rattle.device_core.specs.Handled.{Refuses, Sets, handled, handled_request}
 use Rattle.device_core.specs.Machine.{handled_step, heard_step, step_of}
 use Rattle.octets_law.specs.Bridge.{Bridges}
-use Rattle.octets_law.specs.Octets.{Asking, Nothing, Set, asking_in, asking_of, commands_in, is_dcp, number, untagged}
+use Rattle.octets_law.specs.Octets.{Nothing, Set, asking_in, asking_of, commands_in, is_dcp, number, untagged}
 use Rattle.octets_law.proofs.Bare.{IsBare}
 use Rattle.octets_law.proofs.CallReads.{tested}
 use Rattle.octets_law.proofs.Datagrams.{IsArp, IsInternet, IsRealTime, Kind, kind_under}
 use Rattle.octets_law.proofs.Items.{IsOther, IsStill, identify_still, other_still}
-use Rattle.octets_law.proofs.KeptNames.{NoCall}
+use Rattle.octets_law.proofs.Later.{NoCall}
 use Rattle.octets_law.proofs.Quiet.{moved_bridged, refused_bridged}
 use Rattle.octets_law.proofs.SetFrames.{take_front}
 use Rattle.octets_law.proofs.SetHeard.{IsTimely, KindOf, set_read, timely}
 use Rattle.octets_law.proofs.SetSteps.{set_step}
-use Rattle.octets_law.proofs.Tracks.{IsUncalled, Tracks, refused_tracked, uncalled_tracked}
+use Rattle.octets_law.proofs.Tracks.{Tracks, nothing_tracked, refused_tracked, set_tracked}
 
 -- ---- what is heard, and its step
 
@@ -71,15 +71,14 @@ silent_said names outcomes station live event why is = (
   subst (λ what. Tracks station.identity.mac event live (handled_step outcomes station live what)) (sym is) (refused_tracked station.identity.mac event outcomes station live why),
 )
 
-nothing_uncalled : (asking : Asking) → asking ≡ Nothing → IsUncalled asking
-nothing_uncalled asking is = subst IsUncalled (sym is) tt
-
 -- What is heard asks nothing of the settings and is no call, and the octets ask for nothing.
 pub nothing_said : (names : List (List ℕ)) (outcomes : List Outcome) (station : Station) (live : Live) (event : Event) (heard : Heard) → heard_of station.identity event ≡ heard
-    → IsStill (handled station live heard) → NoCall heard → asking_of station.identity.mac event ≡ Nothing → IsSaid names outcomes station live event
-nothing_said names outcomes station live event heard is stays none nothing = (
+    → IsStill (handled station live heard) → NoCall heard → asking_of station.identity.mac event ≡ Nothing
+    → AreSendable station.identity (step_of outcomes station live event).sent
+    → IsSaid names outcomes station live event
+nothing_said names outcomes station live event heard is stays none nothing can = (
   still_bridged station.identity.mac names outcomes station live event (subst (λ h. IsStill (handled station live h)) (sym is) stays) (ap commands_in nothing),
-  uncalled_tracked station.identity.mac outcomes station live event (subst NoCall (sym is) none) (nothing_uncalled (asking_of station.identity.mac event) nothing),
+  nothing_tracked station.identity.mac outcomes station live event (subst NoCall (sym is) none) nothing can,
 )
 
 pub other_no_call : (station : Station) (live : Live) (heard : Heard) → IsOther station live heard → NoCall heard
@@ -98,9 +97,10 @@ other_no_call station live Elsewhere other = tt
 
 -- The same of what is neither a DCP request nor in a datagram.
 pub other_said : (names : List (List ℕ)) (outcomes : List Outcome) (station : Station) (live : Live) (event : Event) (heard : Heard) → heard_of station.identity event ≡ heard
-    → IsOther station live heard → asking_of station.identity.mac event ≡ Nothing → IsSaid names outcomes station live event
-other_said names outcomes station live event heard is other nothing =
-    nothing_said names outcomes station live event heard is (other_still station live heard other) (other_no_call station live heard other) nothing
+    → IsOther station live heard → asking_of station.identity.mac event ≡ Nothing → AreSendable station.identity (step_of outcomes station live event).sent
+    → IsSaid names outcomes station live event
+other_said names outcomes station live event heard is other nothing can =
+    nothing_said names outcomes station live event heard is (other_still station live heard other) (other_no_call station live heard other) nothing can
 
 -- ---- a frame of real time
 
@@ -201,6 +201,13 @@ module _ (names : List (List ℕ)) (outcomes : List Outcome) (station : Station)
   unfolding heard_step
   handled_can = can
 
+  set_said : (request : Asked) → handled station live (heard_of station.identity event) ≡ Sets source request (is_some live.rest.link)
+      → asking_of station.identity.mac event ≡ Set (untagged bytes) → Tracks station.identity.mac event live (step_of outcomes station live event)
+  unfolding heard_step
+  set_said request what set =
+      subst (λ what. Tracks station.identity.mac event live (handled_step outcomes station live what)) (sym what)
+      (set_tracked station.identity.mac outcomes station live event (untagged bytes) source request (is_some live.rest.link) set)
+
   -- A request of DCP that was read.
   request_step : (request : Asked) → heard_of station.identity event ≡ Asks source request → is_taken station.identity destination id ≡ true → IsRequest id body request → Goal
   request_step request heard taken spells = by_service request.service refl (set_read (untagged bytes) body id request it spells)
@@ -212,7 +219,7 @@ module _ (names : List (List ℕ)) (outcomes : List Outcome) (station : Station)
           → (is_dcp 0xFEFD 4 0 (untagged bytes) ≡ true → ⊥) → Goal
       other s is stays never =
           nothing_said names outcomes station live event (Asks source request) heard (subst IsStill (sym (ap (λ s. handled_request station live source s request) is)) stays) tt
-          (nothing (λ _. false_from_ne_true (is_dcp 0xFEFD 4 0 (untagged bytes)) never))
+          (nothing (λ _. false_from_ne_true (is_dcp 0xFEFD 4 0 (untagged bytes)) never)) can
 
       by_service : (s : Service) → request.service ≡ s → KindOf id (untagged bytes) s request → Goal
       by_service service.Get is kind = other service.Get is refl (λ dcp. let e = (dcp_id 0xFEFD 4 0 (untagged bytes) dcp).1 in let k = kind in omega arith)
@@ -224,7 +231,7 @@ module _ (names : List (List ℕ)) (outcomes : List Outcome) (station : Station)
             set_step station.identity.mac names outcomes station live event source request (is_some live.rest.link) (untagged bytes) (outcome service.Set is)
                 set kind.1 (subst (λ n. n < 2 ^ 32) kind.1.xid small)
                 (subst (λ what. AreSendable station.identity (handled_step outcomes station live what).sent) (outcome service.Set is) handled_can),
-            uncalled_tracked station.identity.mac outcomes station live event (subst NoCall (sym heard) tt) (subst IsUncalled (sym set) tt),
+            set_said request (outcome service.Set is) set,
           )
 
   -- A frame of real time.
@@ -232,10 +239,10 @@ module _ (names : List (List ℕ)) (outcomes : List Outcome) (station : Station)
   real_step =
       cond_both (is_taken station.identity destination id) _ _ (λ h. heard_of station.identity event ≡ h → Goal) (λ taken heard. by_request (request_of id body) refl taken heard)
       (λ not. cond_both (is_own station.identity destination && is_alarm id) _ _ (λ h. heard_of station.identity event ≡ h → Goal)
-      (λ _ heard. other_said names outcomes station live event _ heard (alarm_other station live source id body (message_of body)) (untaken not))
+      (λ _ heard. other_said names outcomes station live event _ heard (alarm_other station live source id body (message_of body)) (untaken not) can)
       (λ _. cond_both (is_own station.identity destination && is_cyclic id) _ _ (λ h. heard_of station.identity event ≡ h → Goal)
-      (λ _ heard. other_said names outcomes station live event (Cyclic source id body) heard tt (untaken not))
-      (λ _ heard. other_said names outcomes station live event Elsewhere heard tt (untaken not))))
+      (λ _ heard. other_said names outcomes station live event (Cyclic source id body) heard tt (untaken not) can)
+      (λ _ heard. other_said names outcomes station live event Elsewhere heard tt (untaken not) can)))
     where
       by_request : (read : Result Asked DcpFault) → request_of id body ≡ read → is_taken station.identity destination id ≡ true → heard_of station.identity event ≡ heard_request source read → Goal
       by_request (Ok request) is taken heard = request_step request heard taken (request_takes id body request is)

@@ -1,5 +1,5 @@
 -- Nothing is asked of the settings but by a Set and by a Write.
-use Rattle.std.proofs.Common.{◌≡◌, ◌&&◌, ℕ, List, [], Option, refl}
+use Rattle.std.proofs.Common.{◌≡◌, ◌&&◌, ℕ, List, [], Option, Some, None, Result, Ok, Err, refl}
 use Rattle.std.proofs.lemmas.Bool.{cond_both}
 use Rattle.dcp_core.specs.declared.request.Service.TheVariants as service
 use Rattle.dcp_core.specs.Request.{Asked}
@@ -8,6 +8,8 @@ use Rattle.pn_values.specs.declared.mac.Mac.{Mac}
 use Rattle.frame_codec.specs.declared.udp.Caller.{Caller}
 use Rattle.rpc_core.specs.Call.{Asked as Called}
 use Rattle.rpc_core.specs.Response.{Answered}
+use Rattle.records.specs.declared.status.call_fault.CallFault.{CallFault}
+use Rattle.records.specs.declared.status.operation.Operation.{Operation}
 use Rattle.records.specs.declared.status.operation.Operation.TheVariants.{Control}
 use Rattle.pn_alarms.specs.declared.device.PduFate.{PduFate}
 use Rattle.pn_alarms.specs.declared.device.PduFate.TheVariants as fate
@@ -23,13 +25,20 @@ use Rattle.relations.specs.declared.plugging.PlugAnswer.TheVariants as to_plug
 use Rattle.relations.specs.Plugging.{is_plug_control, plug_answer_in}
 use Rattle.relations.specs.Ready.{answer_of as ready_answer}
 use Rattle.device_frames.specs.Heard.{Heard, Ticks, Unreadable, Elsewhere, Asks, Resolves, Reported, Cyclic, Alarms, LowReplies, LowConfirms, Met, Applied}
-use Rattle.relations.specs.RelationState.{RelationState, is_alarm_of, is_in_exchange}
+use Rattle.relations.specs.RelationState.{RelationState, is_alarm_of, is_in_exchange, uuid_of}
 use Rattle.relations.specs.Phases.{updated}
 use Rattle.relations.specs.Diagnosed.{has_sent_low, heard_low, hearing_low}
+use Rattle.arrayvec.specs.ArrayVec.{ArrayVec}
+use Rattle.asked_records.specs.Answers.{Gives, judged}
+use Rattle.asked_records.specs.Asked.{AskedState, asks, is_repeat}
+use Rattle.asked_records.specs.declared.answering.AnswerFault.{AnswerFault}
+use Rattle.asked_records.specs.declared.question.Question.{Question}
+use Rattle.device_frames.specs.declared.local.Local.{Local}
+use Rattle.device_core.specs.Asking.{Asking, asking_of}
 use Rattle.device_core.specs.State.{Station, Live, alias_in}
-use Rattle.device_core.specs.Handled.{Handled, is_running, is_request, handled_request, handled_answer, handled_new, handled_pdu, handled_plug_answer, handled_received, handled_response, handled, handled_alarm, handled_low, handled_low_pdu}
+use Rattle.device_core.specs.Handled.{Handled, is_running, is_request, handled_request, handled_answer, handled_asking, handled_judged, handled_local, handled_own, handled_pdu, handled_plug_answer, handled_question, handled_received, handled_response, handled_unanswered, handled, handled_alarm, handled_low, handled_low_pdu}
 use Rattle.device_core.specs.Machine.{items_in}
-use Rattle.device_core.proofs.Applied.{local_is}
+use Rattle.octets_law.proofs.Locals.{by_local}
 
 abbrev pub IsStill : Handled → Type 0
 IsStill what = items_in what ≡ []
@@ -53,8 +62,34 @@ module _ (station : Station) (live : Live) where
       (λ _. answer_still (ready_answer response live.rest.link))
 
   -- A PrmEnd, also one after a plug.
-  pub control_still : (caller : Caller) (call : Called) (blocks : List ℕ) → IsStill (handled_new station live caller call blocks Control)
+  pub control_still : (caller : Caller) (call : Called) (blocks : List ℕ) → IsStill (handled_own station live caller call blocks Control)
   control_still caller call blocks = cond_both (is_plug_control blocks live.rest.link) _ _ IsStill (λ _. refl) (λ _. refl)
+
+  -- A call for a record of the application, and one that the device answers by itself.
+  pub question_still : (question : Question) (asked : Option AskedState) → IsStill (handled_question station live question asked)
+  question_still question (Some asked) = refl
+  question_still question None = refl
+
+  asking_still : (caller : Caller) (call : Called) (blocks : List ℕ) (operation : Operation) (asking : Result (Option Asking) CallFault)
+      → IsStill (handled_own station live caller call blocks operation) → IsStill (handled_asking station live caller call blocks operation asking)
+  asking_still caller call blocks operation (Ok None) own = own
+  asking_still caller call blocks operation (Ok (Some asking)) own = question_still asking.0 (asks asking.0 asking.1 live.rest.asked)
+  asking_still caller call blocks operation (Err why) own = refl
+
+  -- A call that was not answered, if the device's own answer to it asks for nothing.
+  pub unanswered_still : (caller : Caller) (call : Called) (blocks : List ℕ) (operation : Operation)
+      → IsStill (handled_own station live caller call blocks operation) → IsStill (handled_unanswered station live caller call blocks operation)
+  unanswered_still caller call blocks operation own =
+      cond_both (is_repeat call.header.activity call.header.sequence live.rest.asked) _ _ IsStill (λ _. refl)
+      (λ _. asking_still caller call blocks operation (asking_of live.rest.real station.named (uuid_of live.rest.link) caller call blocks operation) own)
+
+  -- An answer of the application, and all else that it says.
+  judged_still : (given : Gives) (judged : Result Question AnswerFault) → IsStill (handled_judged station live given judged)
+  judged_still given (Ok question) = refl
+  judged_still given (Err why) = refl
+
+  applied_still : (said : Local (ArrayVec ℕ)) → IsStill (handled_local station live said)
+  applied_still said = by_local station live IsStill said (λ made what it. it.asks) (λ number given. judged_still given (judged number given live.rest.asked))
 
   pdu_still : (came : PduFate) (link : Option RelationState) → IsStill (handled_pdu live came link)
   pdu_still (fate.Data taken) link = refl
@@ -105,7 +140,7 @@ module _ (station : Station) (live : Live) where
   other_still (Cyclic source frame_id body) other =
       received_still (received_by source frame_id body live.rest.link) (updated (receiving source frame_id body live.rest.link) live.rest.link)
   other_still (Met peer) other = refl
-  other_still (Applied local) other = (local_is station live local).asks
+  other_still (Applied said) other = applied_still said
   other_still Ticks other = refl
   other_still Unreadable other = refl
   other_still Elsewhere other = refl

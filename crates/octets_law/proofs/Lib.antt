@@ -14,7 +14,10 @@ pub mod Responses
 pub mod Items
 pub mod SetHeard
 pub mod SetSteps
-pub mod KeptNames
+pub mod Questions
+pub mod Later
+pub mod Asked
+pub mod Locals
 pub mod Repeats
 pub mod FrameSteps
 pub mod CallSteps

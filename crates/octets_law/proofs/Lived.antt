@@ -3,6 +3,8 @@ use Rattle.std.proofs.Common.{◌≡◌, ◌++◌, ℕ, true, false, List, [], �
 use Rattle.std.proofs.lemmas.List.{append-nil}
 use Rattle.flash_model.specs.Image.{Image}
 use Rattle.flash_model.specs.declared.flash.Flash.{Ghosts as Flash}
+use Rattle.pn_values.specs.declared.identity.Identity.{Identity}
+use Rattle.pn_values.specs.declared.real.Real.{Real}
 use Rattle.pn_values.specs.declared.settings.Settings.{Settings}
 use Rattle.pn_values.specs.Settings.{factory_settings}
 use Rattle.settings_journal.specs.declared.journal.BootFault.{BootFault}
@@ -10,10 +12,12 @@ use Rattle.settings_journal.specs.declared.journal.BootFault.TheVariants.{FlashF
 use Rattle.settings_journal.specs.Image.{LeftByDevice, StartsWith}
 use Rattle.settings_journal.specs.settings_store.Legal.{LegalEnd, made_of}
 use Rattle.settings_journal.specs.settings_store.Machine.{Accepted, Outcome}
+use Rattle.asked_records.specs.declared.names.RecordName.{RecordName}
+use Rattle.relations.specs.declared.options.DeviceOptions.{DeviceOptions}
 use Rattle.device_frames.specs.declared.event.Event.{Event}
 use Rattle.device_core.specs.Cycle.{IsMadeOf, started}
 use Rattle.device_core.specs.Machine.{run_of}
-use Rattle.device_core.specs.State.{Live, State, Station}
+use Rattle.device_core.specs.State.{Live, State, Station, station_named}
 use Rattle.octets_law.specs.Headline.{AreCycles, IsCycle, IsLife, Told}
 use Rattle.octets_law.specs.Turns.{AreSent, HasLived, IsReady, Lives, TurnsAll, told_of}
 use Rattle.octets_law.proofs.Exact.{all_exact}
@@ -98,6 +102,12 @@ lives_if as_flash station begun ran flash first events before now (Err refused) 
 pub map_more : {A B : Type 0} (f : A → B) (front : List A) (last : A) → map f (front ++ last ∷ []) ≡ map f front ++ f last ∷ []
 map_more f [] last = refl
 map_more f (one ∷ front) last = ap (λ l. f one ∷ l) (map_more f front last)
+
+-- A station, by what it is made of.
+pub same_station : (identity same_identity : Identity) (real same_real : Real) (options : DeviceOptions) (named same_named : List RecordName)
+    → identity ≡ same_identity → real ≡ same_real → named ≡ same_named
+    → station_named identity real options named ≡ station_named same_identity same_real options same_named
+same_station identity same_identity real same_real options named same_named i r n = cc
 
 -- A device that starts on a blank chip.
 pub ready_blank : {F : Type 0} {S : ℕ} (as_flash : Flash F S) (made station : Station) (device : State F) (image : Image) (room : ℕ) → device.station ≡ made → made ≡ station

@@ -5,8 +5,8 @@ use Rattle.pn_values.specs.declared.command.Command.{Command}
 use Rattle.settings_journal.specs.settings_store.Machine.{Outcome, carried, commands_of}
 use Rattle.device_frames.specs.declared.event.Event.{Event}
 use Rattle.device_frames.specs.declared.note.Note.{Note}
-use Rattle.device_core.specs.State.{Live, Station}
-use Rattle.device_core.specs.Handled.{Handled, Refuses}
+use Rattle.device_core.specs.State.{Live, Rest, Station}
+use Rattle.device_core.specs.Handled.{Handled, Moves, Refuses}
 use Rattle.device_core.specs.Machine.{Stepped, handled_step, items_in}
 use Rattle.octets_law.specs.Octets.{Asking, answers_in, asking_of, commands_in, confirmed, faulted}
 use Rattle.octets_law.specs.Bridge.{Bridges, done_in, repeats}
@@ -69,6 +69,14 @@ pub refused_bridged : (mac : Mac) (names : List (List ℕ)) (event : Event) (out
 unfolding handled_step
 refused_bridged mac names event outcomes station live why =
     quiet_bridged mac names event live (handled_step outcomes station live (Refuses why)) refl
+    (unanswered_confirmed (asking_of mac event) [] refl) (unanswered_faulted (asking_of mac event) [] refl)
+
+-- An event at which nothing is sent, and nothing is asked of the settings.
+pub dropped_bridged : (mac : Mac) (names : List (List ℕ)) (event : Event) (outcomes : List Outcome) (station : Station) (live : Live) (rest : Rest)
+    → Bridges mac names event live.values (handled_step outcomes station live (Moves rest []))
+unfolding handled_step
+dropped_bridged mac names event outcomes station live rest =
+    quiet_bridged mac names event live (handled_step outcomes station live (Moves rest [])) refl
     (unanswered_confirmed (asking_of mac event) [] refl) (unanswered_faulted (asking_of mac event) [] refl)
 
 -- An event that asks for nothing, and whose outcome is a move.

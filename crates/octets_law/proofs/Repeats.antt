@@ -87,7 +87,13 @@ take_view zero (kept ∷ calls) = refl
 take_view (suc n) [] = refl
 take_view (suc n) (kept ∷ calls) = ap (λ l. (kept.sequence ∷ kept.activity, kept.frame) ∷ l) (take_view n calls)
 
--- Without a frame nothing more is stored, and at what is no call.
+-- One more stored answer.
+pub kept_view : (activity frame : List ℕ) (sequence : ℕ) (calls : List Kept)
+    → (sequence ∷ activity, frame) ∷ take 3 (without activity (view calls)) ≡ view
+    (kept_more 4 (record { activity = activity; sequence = sequence; frame = frame }) calls)
+kept_view activity frame sequence calls = ap (λ l. (sequence ∷ activity, frame) ∷ l) (ap (take 3) (but_view activity calls) ∙ take_view 3 (but activity calls))
+
+-- Without a frame nothing more is stored.
 pub stored_none : (asking : Asking) (stored : List Stored) → stored_after asking [] stored ≡ stored
 stored_none (Set set) stored = refl
 stored_none (Call call) stored = refl
@@ -106,7 +112,7 @@ stored_more octets activity frame sequence behind calls a s counted fresh =
     cond-true _ _ _ (and_from (is_counted octets) (not (is_again (Call octets) (view calls))) counted (ap not fresh))
     ∙ ap (λ l. (in_order 64 4 octets ∷ l, frame) ∷ take 3 (without l (view calls))) a
     ∙ ap (λ n. (n ∷ activity, frame) ∷ take 3 (without activity (view calls))) s
-    ∙ ap (λ l. (sequence ∷ activity, frame) ∷ l) (ap (take 3) (but_view activity calls) ∙ take_view 3 (but activity calls))
+    ∙ kept_view activity frame sequence calls
 
 -- ---- names
 

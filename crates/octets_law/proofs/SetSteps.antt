@@ -40,7 +40,7 @@ use Rattle.octets_law.proofs.SetFrames.{set_answer_read, six}
 -- ---- a farewell is no answer to a Set
 
 -- the octets of a frame of real time with a tag
-tagged_octets : (source destination : Mac) (tag id : ℕ) (body : List ℕ) →
+pub tagged_octets : (source destination : Mac) (tag id : ℕ) (body : List ℕ) →
     tagged_frame source destination tag (RealTime id body)
     ≡ (destination.octets ++ (source.octets ++ (0x81 ∷ 0 ∷ (big_bytes 2 tag ++ (0x88 ∷ 0x92 ∷ (big_bytes 2 id ++ body)))))) ++ padding_of (carrying destination source (Some tag) (RealTime id body))
 unfolding frame_bytes layers ethernet mac tag_and_type real_time

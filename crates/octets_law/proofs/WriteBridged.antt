@@ -1,5 +1,5 @@
 -- A step of a Write is bridged.
-use Rattle.std.proofs.Common.{◌≡◌, ◌==◌, ℕ, List, [], ◌∷◌, drop, flat_map, Option, Some, None, Result, Ok, Err, refl, sym, ap, subst, ◌∙◌}
+use Rattle.std.proofs.Common.{◌≡◌, ◌==◌, ℕ, Bool, true, false, List, [], ◌∷◌, drop, flat_map, Option, Some, None, Result, Ok, Err, refl, sym, ap, subst, ◌∙◌, if◌then◌else◌}
 use Rattle.std.proofs.lemmas.Bool.{cond_both, cond-true}
 use Rattle.std.proofs.lemmas.List.{append-nil}
 use Rattle.pn_values.specs.declared.command.Command.TheVariants.{SetIm}
@@ -7,6 +7,8 @@ use Rattle.pn_values.specs.declared.set_item.BlockError.{BlockError}
 use Rattle.pn_values.specs.declared.set_item.SetItem.TheVariants.{Ask}
 use Rattle.frame_codec.specs.declared.udp.Caller.{Caller}
 use Rattle.rpc_core.specs.declared.response.Status.{Status}
+use Rattle.rpc_core.specs.declared.header.CallHeader.{CallHeader}
+use Rattle.rpc_core.specs.Cache.{Kept, Reported as Looked, again, behind_reported, looked, new, old}
 use Rattle.rpc_core.specs.Call.{Asked as Called}
 use Rattle.rpc_core.specs.Response.{answer_to}
 use Rattle.records.specs.declared.status.call_fault.CallFault.{CallFault}
@@ -28,22 +30,34 @@ use Rattle.settings_journal.specs.settings_store.Machine.{Outcome, carried}
 use Rattle.device_frames.specs.declared.event.Event.{Event}
 use Rattle.device_frames.specs.Heard.{Calls, Reported, heard_of}
 use Rattle.device_frames.specs.Sendable.{AreSendable, IsSendable}
-use Rattle.device_frames.specs.Sent.{CallAnswer, bytes_of}
-use Rattle.device_core.specs.State.{Live, Station}
+use Rattle.device_frames.specs.Relation.{where_due}
+use Rattle.device_frames.specs.Sent.{CallAnswer, Sent, bytes_of}
+use Rattle.asked_records.specs.Answers.{unanswered_status}
+use Rattle.asked_records.specs.Asked.{AskedState, asks as asks_now, is_repeat}
+use Rattle.asked_records.specs.Questions.{call_of, operation_of as operation_asked}
+use Rattle.asked_records.specs.declared.question.Question.{Question}
+use Rattle.asked_records.specs.declared.question.Request.{Request}
+use Rattle.asked_records.specs.declared.question.Request.TheVariants as request
+use Rattle.asked_records.specs.declared.status.Unanswered.TheVariants.{Busy}
+use Rattle.device_core.specs.Asking.{Asking as Asked, asking_of, is_new, kept_reply, reply_to}
+use Rattle.device_core.specs.State.{Live, Rest, Station}
 use Rattle.device_core.specs.Several.{Judged, judged_each, texts_in}
-use Rattle.device_core.specs.Handled.{Handled, WritesEach, handled, handled_blocks, handled_effect, handled_write, kept_answer, outcome_of}
+use Rattle.device_core.specs.Handled.{Handled, Moves, WritesEach, handled, handled_asking, handled_blocks, handled_effect, handled_new, handled_question, handled_write, kept_answer, outcome_of, replied}
 use Rattle.device_core.specs.Machine.{first_answer, handled_step, heard_step, several_answer, step_of, written_as}
 use Rattle.octets_law.specs.Bridge.{Bridges}
-use Rattle.octets_law.specs.Octets.{Call, answers_in, asking_of, calling, commands_in, in_order, number, statuses_in, written_by}
+use Rattle.octets_law.specs.Octets.{Call, answers_in, asking_of as asks_of, calling, commands_in, in_order, number, statuses_in, written_by}
 use Rattle.octets_law.proofs.AnswerPlaces.{answer_statuses}
-use Rattle.octets_law.proofs.CallPlaces.{IsCallRead}
+use Rattle.octets_law.proofs.CallPlaces.{IsCallRead, name_for}
 use Rattle.octets_law.proofs.CallReads.{tested}
 use Rattle.octets_law.proofs.CallSteps.{WritesAreBridged, holds}
+use Rattle.octets_law.proofs.Questions.{IsOwn, asking_own, write_plain}
+use Rattle.octets_law.proofs.Quiet.{dropped_bridged}
+use Rattle.octets_law.proofs.WriteFaults.{IsPlainIn, plain_not}
 use Rattle.octets_law.proofs.WriteAnswers.{several_read}
 use Rattle.octets_law.proofs.WriteEach.{each_asked}
 use Rattle.octets_law.proofs.WriteHeard.{kept_step, refused_step, write_step}
 use Rattle.octets_law.proofs.WriteJudged.{each_listed}
-use Rattle.octets_law.proofs.WriteMarks.{other_fault}
+use Rattle.octets_law.proofs.WriteMarks.{IsOther, other_fault}
 use Rattle.octets_law.proofs.WriteSteps.{refused_write, written_each}
 
 -- The operation of a Write is 3.
@@ -56,8 +70,14 @@ operation_three n =
     P : Option Operation → Type 0
     P r = r ≡ Some Writing → n ≡ 3
 
+-- Busy is neither done nor a fault of the flash.
+busy_other : (wanted : Request) → IsOther (number_of (unanswered_status (operation_asked wanted) Busy))
+busy_other (request.Read read) = record { no_zero = refl; no_five = refl }
+busy_other (request.ReadImplicit read) = record { no_zero = refl; no_five = refl }
+busy_other (request.Write write) = record { no_zero = refl; no_five = refl }
+
 module _ (names : List (List ℕ)) (outcomes : List Outcome) (station : Station) (live : Live) (event : Event) (octets : List ℕ)
-    (asks : asking_of station.identity.mac event ≡ calling octets) (caller : Caller) (address : List ℕ) (call : Called) (read : IsCallRead octets call)
+    (asks : asks_of station.identity.mac event ≡ calling octets) (caller : Caller) (address : List ℕ) (call : Called) (read : IsCallRead octets call)
     (heard : heard_of station.identity event ≡ Reported caller address (Calls call))
     (can : AreSendable station.identity (step_of outcomes station live event).sent) where
   abbrev Goal : Type 0
@@ -73,12 +93,12 @@ module _ (names : List (List ℕ)) (outcomes : List Outcome) (station : Station)
   stepped what is step =
       subst Step (sym is) (step (subst (λ what. AreSendable station.identity (handled_step outcomes station live what).sent) is can))
 
-  asked : asking_of station.identity.mac event ≡ Call octets
+  asked : asks_of station.identity.mac event ≡ Call octets
   asked = asks ∙ cond-true (number 0 2 octets == 0x0400) _ _ (holds _ 0x0400 read.kind)
 
   -- The statuses of the answer.
   told : (came : Status × List ℕ) → IsSendable station.identity (CallAnswer caller live.values.running.suite.address (answer_to call came.0 came.1))
-      → flat_map (answers_in (asking_of station.identity.mac event))
+      → flat_map (answers_in (asks_of station.identity.mac event))
       (bytes_of station.identity (CallAnswer caller live.values.running.suite.address (answer_to call came.0 came.1)) ∷ [])
       ≡ number_of came.0 ∷ statuses_in 16 (drop 64 came.1)
   told came sent =
@@ -95,7 +115,7 @@ module _ (names : List (List ℕ)) (outcomes : List Outcome) (station : Station)
       refl (other_fault Arguments (λ e. absurd cc)) (told (outcome_of Writing (Err Arguments)) sent.0))
 
   module _ (blocks : List ℕ) (counted : call.blocks ≡ Some blocks) (is_write : operation_of call.header.operation ≡ Some Writing) where
-    reads : commands_in (asking_of station.identity.mac event) ≡ written_by blocks
+    reads : commands_in (asks_of station.identity.mac event) ≡ written_by blocks
     reads =
         ap commands_in asked ∙ cond-true (in_order 68 2 octets == 3) _ _ (holds _ 3 (read.operation ∙ operation_three call.header.operation is_write)) ∙ ap written_by (read.blocks blocks counted)
 
@@ -120,10 +140,10 @@ module _ (names : List (List ℕ)) (outcomes : List Outcome) (station : Station)
     by_writing (Ok (One write)) is what = by_effect write write.effect refl is what
     by_writing (Ok (Each header entries)) is what =
         let address : List ℕ = live.values.running.suite.address in
-        let judged : List Judged = judged_each (uuid_of live.rest.link) live.rest.real entries in
+        let judged : List Judged = judged_each station.named (uuid_of live.rest.link) live.rest.real entries in
         let answers : List BlockError = (carried outcomes live.values (texts_in judged)).answers in
-        let it = each_asked (uuid_of live.rest.link) live.rest.real blocks header entries is in
-        let list = each_listed (uuid_of live.rest.link) live.rest.real blocks header entries is in
+        let it = each_asked station.named (uuid_of live.rest.link) live.rest.real blocks header entries is in
+        let list = each_listed station.named (uuid_of live.rest.link) live.rest.real blocks header entries is in
         stepped (WritesEach caller address call header judged) what (λ sent.
         written_each station.identity.mac names outcomes station live event caller address call header judged it.0 (reads ∙ it.1) it.2
         (told (outcome_of Writing (Ok (several_answer header judged answers live.rest.link))) sent.0
@@ -134,9 +154,66 @@ module _ (names : List (List ℕ)) (outcomes : List Outcome) (station : Station)
         refused_step station.identity.mac names event live (handled_step outcomes station live refused) (uuid_of live.rest.link) live.rest.real blocks why is refl
         (told (outcome_of Writing (Err why)) sent.0))
 
+    -- Nothing is sent: the application is asked, or was asked this call.
+    by_silence : (rest : Rest) → handled station live (heard_of station.identity event) ≡ Moves rest [] → Goal
+    by_silence rest what = stepped (Moves rest []) what (λ _. dropped_bridged station.identity.mac names event outcomes station live rest)
+
+    -- It is refused, since the application is asked another call.
+    by_busy : (question : Question) (status : Status) → question.header ≡ call.header → IsOther (number_of status)
+        → handled station live (heard_of station.identity event) ≡ replied station live live.rest question status [] → Goal
+    unfolding handled_step
+    by_busy question status same other what =
+        stepped (replied station live live.rest question status []) what (by_looked (looked question.header.activity question.header.sequence live.rest.calls))
+      where
+        answer : Sent
+        answer = reply_to live.values.running.suite.address question status []
+
+        calls : Looked → List Kept
+        calls found = behind_reported 4 (kept_reply station.identity question answer) live.rest.calls found
+
+        by_looked : (found : Looked)
+            → AreSendable station.identity (handled_step outcomes station live
+            (Moves (record live.rest { calls = calls found }) (where_due (is_new found) (answer ∷ [])))).sent
+            → Step (Moves (record live.rest { calls = calls found }) (where_due (is_new found) (answer ∷ [])))
+        by_looked (again frame) sent = dropped_bridged station.identity.mac names event outcomes station live _
+        by_looked old sent = dropped_bridged station.identity.mac names event outcomes station live _
+        by_looked new sent =
+            refused_write station.identity.mac names event live
+            (handled_step outcomes station live (Moves (record live.rest { calls = calls new }) (answer ∷ []))) (number_of status) refl other
+            (ap (λ a. flat_map (answers_in a) (bytes_of station.identity answer ∷ [])) asked ∙ append-nil _
+            ∙ answer_statuses station.identity question.caller live.values.running.suite.address (answer_to (call_of question) status []) octets sent.0
+            (read.name ∙ sym (ap (λ (h : CallHeader). name_for h.activity h.sequence) same)))
+
+    by_question : (question : Question) (asked : Option AskedState) → question.header ≡ call.header
+        → handled station live (heard_of station.identity event) ≡ handled_question station live question asked → Goal
+    by_question question (Some asked) same what = by_silence (record live.rest { asked = asked }) what
+    by_question question None same what =
+        by_busy question (unanswered_status (operation_asked question.request) Busy) same (busy_other question.request) what
+
+    by_asking : (asking : Result (Option Asked) CallFault) → IsOwn live.rest.real station.named (uuid_of live.rest.link) caller call asking → IsPlainIn asking
+        → handled station live (heard_of station.identity event) ≡ handled_asking station live caller call blocks Writing asking → Goal
+    unfolding handled_step
+    by_asking (Ok None) own plain what = by_writing (writing_of (uuid_of live.rest.link) live.rest.real blocks) refl what
+    by_asking (Ok (Some asking)) own plain what = by_question asking.0 (asks_now asking.0 asking.1 live.rest.asked) own what
+    by_asking (Err why) own plain what =
+        let refused : Handled = handled_asking station live caller call blocks Writing (Err why) in
+        stepped refused what (λ sent.
+        refused_write station.identity.mac names event live (handled_step outcomes station live refused) (number_of (status_of Writing why)) refl
+        (other_fault why (plain_not why plain)) (told (outcome_of Writing (Err why)) sent.0))
+
+    by_repeat : (is : Bool)
+        → handled station live (heard_of station.identity event) ≡ (if is then Moves live.rest [] else handled_new station live caller call blocks Writing)
+        → Goal
+    by_repeat true what = by_silence live.rest what
+    by_repeat false what =
+        let standing = uuid_of live.rest.link in
+        by_asking (asking_of live.rest.real station.named standing caller call blocks Writing)
+        (asking_own live.rest.real station.named standing caller call blocks Writing)
+        (write_plain live.rest.real station.named standing caller call blocks) what
+
   -- A Write is bridged, if what the device sends at it can be sent.
   pub writes_bridged : WritesAreBridged names outcomes station live event octets asks caller address call read heard
   writes_bridged is = (
     λ _ what. by_none what,
-    λ blocks counted _ what. by_writing blocks counted is (writing_of (uuid_of live.rest.link) live.rest.real blocks) refl what,
+    λ blocks counted _ what. by_repeat blocks counted is (is_repeat call.header.activity call.header.sequence live.rest.asked) what,
   )

@@ -53,7 +53,7 @@ formed_ok : (came : Result (Block × List ℕ) BlockFault) (x : Block × List �
 formed_ok (Ok value) x e = cc
 formed_ok (Err why) x e = absurd cc
 
-single_ok : (blocks : List ℕ) (x : Block × List ℕ) → single_of kind.IodWriteReq blocks ≡ Ok x → block_of blocks ≡ Ok x
+pub single_ok : (blocks : List ℕ) (x : Block × List ℕ) → single_of kind.IodWriteReq blocks ≡ Ok x → block_of blocks ≡ Ok x
 unfolding single_of
 single_ok blocks x e = formed_ok (block_of blocks) x (ordered_ok
     ((length blocks == 0, fault.BlockMissing) ∷ (nat_lt (length blocks) 4, fault.BlockHeader) ∷ (not (big_number 2 blocks == number_of kind.IodWriteReq), fault.BlockType) ∷ []) (formed (block_of blocks)) x e)

@@ -15,6 +15,7 @@ use Rattle.records.specs.writes.Asked.{handled_writing, several_of, writing_of}
 use Rattle.records.specs.writes.Entry.{Entry}
 use Rattle.records.specs.writes.Handled.{handled_request}
 use Rattle.records.specs.writes.Several.{entries_in, is_list, is_several, list_behind, most_entries}
+use Rattle.asked_records.specs.declared.names.RecordName.{RecordName}
 use Rattle.device_core.specs.Several.{judged_each}
 use Rattle.octets_law.specs.Octets.{number, texts_in, written_by}
 use Rattle.octets_law.proofs.WriteCalls.{bind_ok, fault_ok, write_read}
@@ -71,14 +72,16 @@ each_inside standing real request rest header entries =
     (λ _ e. let t = bind_ok (handled_request standing real request rest) (λ write. Ok (One write)) (Each header entries) e in absurd (one_each t.0 header entries t.2))
 
 -- What is read of a list: nothing for its header, and then its records.
-pub each_asked : (standing : Option (List ℕ)) (real : Real) (blocks : List ℕ) (header : IodWriteReq) (entries : List Entry) → writing_of standing real blocks ≡ Ok (Each header entries)
-    → (texts : List (Option Command)) × (written_by blocks ≡ None ∷ texts) × AreWritten (judged_each standing real entries) texts
-each_asked standing real blocks header entries e =
+pub each_asked : (named : List RecordName) (standing : Option (List ℕ)) (real : Real) (blocks : List ℕ) (header : IodWriteReq) (entries : List Entry)
+    → writing_of standing real blocks ≡ Ok (Each header entries)
+    → (texts : List (Option Command)) × (written_by blocks ≡ None ∷ texts) × AreWritten (judged_each named standing real entries) texts
+each_asked named standing real blocks header entries e =
     let it = write_read standing real blocks (Each header entries) e in
     let of = each_inside standing real it.request it.rest header entries it.asked in
     let listed : (number 34 2 blocks == 0xE040) ≡ true = ap (λ n. n == 0xE040) it.header.index ∙ (and_parts (it.request.header.index == 0xE040) _ of.several).0 in (
       texts_in 16 (drop 64 blocks),
       cond-true (number 34 2 blocks == 0xE040) _ _ listed,
-      subst (λ l. AreWritten (judged_each standing real entries) (texts_in 16 l)) (sym (it.header.behind 0 ∙ of.parts))
-          (subst (λ l. AreWritten (judged_each standing real l) (texts_in 16 (of.octets ++ of.extra))) of.entries_are (texts_listed standing real 16 of.octets of.extra of.list)),
+      subst (λ l. AreWritten (judged_each named standing real entries) (texts_in 16 l)) (sym (it.header.behind 0 ∙ of.parts))
+          (subst (λ l. AreWritten (judged_each named standing real l) (texts_in 16 (of.octets ++ of.extra))) of.entries_are
+          (texts_listed named standing real 16 of.octets of.extra of.list)),
     )

@@ -23,6 +23,7 @@ use Rattle.records.specs.declared.writes.write.Effect.{Effect}
 use Rattle.records.specs.declared.writes.write.Effect.TheVariants.{Stores, Keeps}
 use Rattle.records.specs.declared.writes.write.Write.{Write}
 use Rattle.records.specs.status.Status.{status_of}
+use Rattle.rpc_core.specs.declared.response.Status.{Status}
 use Rattle.records.specs.calls.Handled.{handled as in_order}
 use Rattle.records.specs.calls.Naming.{in_relation, is_relation}
 use Rattle.records.specs.calls.Single.{formed, single_of}
@@ -38,7 +39,7 @@ use Rattle.relations.specs.RelationState.{RelationState, passes_on}
 use Rattle.relations.specs.Phases.{Records, keeping, kept_in}
 use Rattle.relations.specs.Passed.{passed_more}
 use Rattle.device_core.specs.Handled.{outcome_of, kept_answer}
-use Rattle.device_core.specs.Machine.{effect_outcome, first_answer, one_outcome, written_as}
+use Rattle.device_core.specs.Machine.{effect_outcome, first_answer, one_status, written_as}
 
 -- A fault that is neither one of the flash nor names a field of a block.
 abbrev pub IsPlain : CallFault → Type 0
@@ -75,7 +76,8 @@ fault_plain : {A : Type 0} (why : CallFault) (value : Option A) → IsPlain why 
 fault_plain why (Some value) plain = tt
 fault_plain why None plain = plain
 
-handled_plain : {A : Type 0} (judgements : List (Bool × CallFault)) (otherwise : Result A CallFault) → AllByRecursion (λ (one : Bool × CallFault). IsPlain one.1) judgements → IsPlainIn otherwise
+pub handled_plain : {A : Type 0} (judgements : List (Bool × CallFault)) (otherwise : Result A CallFault)
+    → AllByRecursion (λ (one : Bool × CallFault). IsPlain one.1) judgements → IsPlainIn otherwise
     → IsPlainIn (in_order judgements otherwise)
 handled_plain [] otherwise plain other = other
 handled_plain {A} (judgement ∷ others) otherwise plain other = by_test judgement.0 (handled_plain others otherwise plain.1 other)
@@ -103,7 +105,7 @@ related_plain : (standing : Option (List ℕ)) (uuid : List ℕ) → IsPlainIn (
 unfolding in_relation
 related_plain standing uuid = handled_plain ((not (is_relation standing uuid), fault.UnknownRelation) ∷ []) (Ok tt) (tt, tt) tt
 
-placed_plain : (real : Real) (api slot subslot index : ℕ) → IsPlainIn (placed real api slot subslot index)
+pub placed_plain : (real : Real) (api slot subslot index : ℕ) → IsPlainIn (placed real api slot subslot index)
 unfolding placed
 placed_plain real api slot subslot index = handled_plain
     ((not (api == 0), fault.Api)
@@ -194,7 +196,12 @@ effect_small : (header : IodWriteReq) (effect : Effect) (answers : List BlockErr
 effect_small header (Stores value) answers link = text_small header (first_answer answers)
 effect_small header (Keeps parameter) answers link = kept_small header (keeping parameter link) (keeping_plain parameter link)
 
-pub one_small : (header : IodWriteReq) (one : Result Write CallFault) (answers : List BlockError) (link : Option RelationState) → IsPlainIn one
-    → status_number (outcome_of Writing (one_outcome header one answers link)).0 < 256 ^ 4
-one_small header (Ok write) answers link plain = effect_small header write.effect answers link
-one_small header (Err why) answers link plain = plain_small why plain
+-- A record that is refused has a status of four octets.
+abbrev pub IsSmallIn : Result Write Status → Type 0
+IsSmallIn (Ok write) = Unit {0}
+IsSmallIn (Err status) = status_number status < 256 ^ 4
+
+pub one_small : (header : IodWriteReq) (one : Result Write Status) (answers : List BlockError) (link : Option RelationState) → IsSmallIn one
+    → status_number (one_status header one answers link) < 256 ^ 4
+one_small header (Ok write) answers link small = effect_small header write.effect answers link
+one_small header (Err status) answers link small = small

@@ -1,5 +1,5 @@
 -- The records of a list, read at fixed places.
-use Rattle.std.proofs.Common.{◌≡◌, ◌≤◌, ◌+◌, ◌-◌, ◌*◌, ◌/◌, ℕ, zero, suc, true, false, List, [], ◌∷◌, ◌++◌, length, drop, take, nat_lt, Option, Some, None, Result, Ok, Err, refl, sym, ap, subst, ◌∙◌, arith}
+use Rattle.std.proofs.Common.{◌≡◌, ◌≤◌, ◌+◌, ◌-◌, ◌*◌, ◌/◌, ℕ, zero, suc, true, false, List, [], ◌∷◌, ◌++◌, length, drop, take, nat_lt, is_some, Option, Some, None, Result, Ok, Err, refl, sym, ap, subst, ◌∙◌, arith}
 use Rattle.std.proofs.lemmas.Bool.{cond_both}
 use Rattle.std.proofs.lemmas.Bool.Decides.{nat_tests}
 use Rattle.pn_values.specs.declared.real.Real.{Real}
@@ -14,12 +14,14 @@ use Rattle.records.specs.declared.writes.write.Write.{Write}
 use Rattle.records.specs.writes.Entry.{Entry}
 use Rattle.records.specs.writes.Handled.{effect_of, handled_request}
 use Rattle.records.specs.writes.Several.{entries_in, entries_then, entry_behind, entry_in, entry_of, is_list, is_then, padded}
-use Rattle.device_core.specs.Several.{judged_each}
+use Rattle.asked_records.specs.Judging.{asked_name}
+use Rattle.asked_records.specs.declared.names.RecordName.{RecordName}
+use Rattle.device_core.specs.Several.{judged_each, judged_entry, with_status}
 use Rattle.octets_law.specs.Octets.{text_in, texts_in}
 use Rattle.octets_law.proofs.CallPlaces.{take_within}
 use Rattle.octets_law.proofs.WriteCalls.{request_in, request_ok}
 use Rattle.octets_law.proofs.WriteFaults.{IsPlainIn, plain_not, request_plain}
-use Rattle.octets_law.proofs.WriteMarks.{AreWritten, IsWritten}
+use Rattle.octets_law.proofs.WriteMarks.{AreWritten, IsWritten, other_fault}
 use Rattle.octets_law.proofs.WriteReads.{IsHeaderRead, header_read}
 use Rattle.octets_law.proofs.WriteTexts.{text_read}
 
@@ -77,38 +79,42 @@ take_twice zero octets = refl
 take_twice (suc n) [] = refl
 take_twice (suc n) (x ∷ octets) = ap (λ l. x ∷ l) (take_twice n octets)
 
--- A record of a list is read as what it asks for.
-entry_written : (standing : Option (List ℕ)) (real : Real) (octets extra : List ℕ) (x : Entry × List ℕ) (it : IsEntry octets x) → IsHeaderRead (octets ++ extra) x.0.0 (it.behind ++ extra)
-    → IsWritten (handled_request standing real x.0.0 x.0.1) (text_in (octets ++ extra))
-entry_written standing real octets extra x it header = by_came (handled_request standing real x.0.0 x.0.1) refl
+-- A record of a list is read as what it asks for; one of the application is refused there.
+entry_written : (named : List RecordName) (standing : Option (List ℕ)) (real : Real) (octets extra : List ℕ) (x : Entry × List ℕ) (it : IsEntry octets x)
+    → IsHeaderRead (octets ++ extra) x.0.0 (it.behind ++ extra) → IsWritten (judged_entry named standing real x.0) (text_in (octets ++ extra))
+entry_written named standing real octets extra x it header =
+    cond_both (is_some (asked_name real named x.0.0.header)) _ _ (λ r. IsWritten r (text_in (octets ++ extra))) (λ _. record { no_zero = refl; no_five = refl })
+    (λ _. by_came (handled_request standing real x.0.0 x.0.1) refl)
   where
     n : ℕ
     n = x.0.0.header.record_data_length
 
-    by_came : (came : Result Write CallFault) → handled_request standing real x.0.0 x.0.1 ≡ came → IsWritten came (text_in (octets ++ extra))
+    by_came : (came : Result Write CallFault) → handled_request standing real x.0.0 x.0.1 ≡ came → IsWritten (with_status came) (text_in (octets ++ extra))
     by_came (Ok write) is =
         text_read real (octets ++ extra) x.0.0 (it.behind ++ extra) write.effect header
         (ap (effect_of real x.0.0) (take_within n it.behind extra it.whole ∙ sym (take_twice n it.behind) ∙ ap (take n) (sym it.octets_are))
         ∙ request_ok standing real x.0.0 x.0.1 write is)
-    by_came (Err why) is = plain_not why (subst IsPlainIn is (request_plain standing real x.0.0 x.0.1))
+    by_came (Err why) is = other_fault why (plain_not why (subst IsPlainIn is (request_plain standing real x.0.0 x.0.1)))
 
 no_entry : entry_of [] ≡ None
 unfolding entry_of block_of block
 no_entry = refl
 
 -- The records of a list are read as what each asks for, whatever follows the list.
-pub texts_listed : (standing : Option (List ℕ)) (real : Real) (most : ℕ) (octets extra : List ℕ) → is_list most octets ≡ true
-    → AreWritten (judged_each standing real (entries_in most octets)) (texts_in most (octets ++ extra))
+pub texts_listed : (named : List RecordName) (standing : Option (List ℕ)) (real : Real) (most : ℕ) (octets extra : List ℕ) → is_list most octets ≡ true
+    → AreWritten (judged_each named standing real (entries_in most octets)) (texts_in most (octets ++ extra))
 unfolding entries_in is_list
-texts_listed standing real zero [] extra is = tt
-texts_listed standing real zero (one ∷ others) extra is = absurd cc
-texts_listed standing real (suc most) [] extra is =
-    subst (λ (e : Option (Entry × List ℕ)). AreWritten (judged_each standing real (entries_then e (entries_in most))) (texts_in (suc most) extra)) (sym no_entry) tt
-texts_listed standing real (suc most) (one ∷ others) extra whole = by_entry (texts_listed standing real most) (entry_of (one ∷ others)) refl whole
+texts_listed named standing real zero [] extra is = tt
+texts_listed named standing real zero (one ∷ others) extra is = absurd cc
+texts_listed named standing real (suc most) [] extra is =
+    subst (λ (e : Option (Entry × List ℕ)). AreWritten (judged_each named standing real (entries_then e (entries_in most))) (texts_in (suc most) extra))
+    (sym no_entry) tt
+texts_listed named standing real (suc most) (one ∷ others) extra whole = by_entry (texts_listed named standing real most) (entry_of (one ∷ others)) refl whole
   where
-    by_entry : ((octets extra : List ℕ) → is_list most octets ≡ true → AreWritten (judged_each standing real (entries_in most octets)) (texts_in most (octets ++ extra)))
+    by_entry : ((octets extra : List ℕ) → is_list most octets ≡ true
+        → AreWritten (judged_each named standing real (entries_in most octets)) (texts_in most (octets ++ extra)))
         → (found : Option (Entry × List ℕ)) → entry_of (one ∷ others) ≡ found → is_then found (is_list most) ≡ true
-        → AreWritten (judged_each standing real (entries_then found (entries_in most))) (texts_in (suc most) (one ∷ (others ++ extra)))
+        → AreWritten (judged_each named standing real (entries_then found (entries_in most))) (texts_in (suc most) (one ∷ (others ++ extra)))
     by_entry again None there listed = absurd cc
     by_entry again (Some x) there listed =
         let it = entry_facts (one ∷ others) x there in
@@ -116,6 +122,7 @@ texts_listed standing real (suc most) (one ∷ others) extra whole = by_entry (t
         let header = header_read ((one ∷ others) ++ extra) x.0.0 (it.behind ++ extra) (block_behind (one ∷ others) (is.IodWriteReq x.0.0) it.behind extra it.spelled) in
         let next = ap (λ k. drop (64 + (k + 3) / 4 * 4) ((one ∷ others) ++ extra)) header.count ∙ header.behind (padded n) ∙ drop_append (padded n) it.behind extra
         ∙ ap (λ l. l ++ drop (padded n - length it.behind) extra) (sym it.next) in (
-          entry_written standing real (one ∷ others) extra x it header,
-          subst (λ l. AreWritten (judged_each standing real (entries_in most x.1)) (texts_in most l)) (sym next) (again x.1 (drop (padded n - length it.behind) extra) listed),
+          entry_written named standing real (one ∷ others) extra x it header,
+          subst (λ l. AreWritten (judged_each named standing real (entries_in most x.1)) (texts_in most l)) (sym next)
+              (again x.1 (drop (padded n - length it.behind) extra) listed),
         )

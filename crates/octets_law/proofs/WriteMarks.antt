@@ -23,7 +23,7 @@ use Rattle.settings_journal.specs.settings_store.State.{Values}
 use Rattle.settings_journal.specs.settings_store.Machine.{Outcome, Pass, Fault, Carried, accepted, carried, first_of, rest_of}
 use Rattle.device_core.specs.Several.{Judged, text_of, texts_by, texts_in}
 use Rattle.device_core.specs.Handled.{outcome_of}
-use Rattle.device_core.specs.Machine.{effect_answers, effect_link, effect_outcome, one_answers, one_link, one_outcome, statuses_of}
+use Rattle.device_core.specs.Machine.{effect_answers, effect_link, effect_outcome, one_answers, one_link, one_status, statuses_of}
 use Rattle.octets_law.specs.Headline.{AreAmong}
 use Rattle.octets_law.proofs.CallReads.{tested}
 use Rattle.octets_law.proofs.Marks.{AreMatched, fives, marks, zeros}
@@ -115,14 +115,15 @@ none_fives number behind =
 
 -- ---- records, and what is read of them
 
--- A record that is read as this: an I&M text as its command, and a parameter as none. Of a record that is refused the fault is not one of the flash.
+-- A record that is read as this: an I&M text as its command, and a parameter as none. A record that is refused has the status of another
+-- fault than one of the flash.
 abbrev pub IsTaken : Effect → Option Command → Type 0
 IsTaken (Stores value) read = read ≡ Some (SetIm value)
 IsTaken (Keeps parameter) read = read ≡ None
 
-abbrev pub IsWritten : Result Write CallFault → Option Command → Type 0
+abbrev pub IsWritten : Result Write Status → Option Command → Type 0
 IsWritten (Ok write) read = IsTaken write.effect read
-IsWritten (Err why) read = why ≢ fault.FlashFault
+IsWritten (Err status) read = IsOther (number_of status)
 
 abbrev pub AreWritten : List Judged → List (Option Command) → Type 0
 AreWritten [] reads = Unit {0}
@@ -185,9 +186,9 @@ texts_stored outcomes values (one ∷ others) = by_one (λ o v. texts_stored o v
     by_text again (Keeps parameter) = again outcomes values
     by_text again (Stores value) = text_stored outcomes values others value (again (rest_of outcomes))
 
-    by_one : ((o : List Outcome) → StoredBehind others o) → (came : Result Write CallFault) → P (texts_by came ++ texts_in others)
+    by_one : ((o : List Outcome) → StoredBehind others o) → (came : Result Write Status) → P (texts_by came ++ texts_in others)
     by_one again (Ok write) = by_text again write.effect
-    by_one again (Err why) = again outcomes values
+    by_one again (Err status) = again outcomes values
 
 -- The texts are matched by their commands.
 pub texts_matched : (judged : List Judged) → AreMatched (texts_in judged) (asked_in (texts_in judged))
@@ -198,9 +199,10 @@ texts_matched (one ∷ others) = by_one (texts_matched others) one.1
     by_text again (Keeps parameter) = again
     by_text again (Stores value) = (refl, again)
 
-    by_one : AreMatched (texts_in others) (asked_in (texts_in others)) → (came : Result Write CallFault) → AreMatched (texts_by came ++ texts_in others) (asked_in (texts_by came ++ texts_in others))
+    by_one : AreMatched (texts_in others) (asked_in (texts_in others)) → (came : Result Write Status)
+        → AreMatched (texts_by came ++ texts_in others) (asked_in (texts_by came ++ texts_in others))
     by_one again (Ok write) = by_text again write.effect
-    by_one again (Err why) = again
+    by_one again (Err status) = again
 
 -- ---- the numbers of the records and of the texts among them
 
@@ -252,11 +254,11 @@ counted count it (one ∷ others) (read ∷ reads) answers link written stored =
         ∷ fates_of reads others answers (effect_link (Keeps parameter) link))) is
         ∙ it.silent _ _ ∙ again answers (effect_link (Keeps parameter) link) stored
 
-    by_one : CountedBehind count others reads → (came : Result Write CallFault) → IsWritten came read → AreStored (texts_by came ++ texts_in others) answers
-        → count ((read, number_of (outcome_of Writing (one_outcome one.0 came answers link)).0) ∷ fates_of reads others (one_answers came answers) (one_link came link))
+    by_one : CountedBehind count others reads → (came : Result Write Status) → IsWritten came read → AreStored (texts_by came ++ texts_in others) answers
+        → count ((read, number_of (one_status one.0 came answers link)) ∷ fates_of reads others (one_answers came answers) (one_link came link))
         ≡ count (marks (asked_in (texts_by came ++ texts_in others)) answers)
     by_one again (Ok write) is stored = by_effect again write.effect is stored
-    by_one again (Err why) is stored = it.other read _ _ (other_fault why is) ∙ again answers link stored
+    by_one again (Err status) is stored = it.other read _ _ is ∙ again answers link stored
 
 kept_zeros : (read : Option Command) (one other : List (Option Command × ℕ)) → zeros one ≡ zeros other → zeros ((read, 0) ∷ one) ≡ zeros ((read, 0) ∷ other)
 kept_zeros None one other same = same
@@ -315,7 +317,8 @@ among_written (one ∷ others) (read ∷ reads) written some among = by_one (amo
     by_effect again (Stores value) is among = subst (λ r. AreAmong some (filter_map (λ read. read) (r ∷ reads))) (sym is) (by_command again (SetIm value) among)
     by_effect again (Keeps parameter) is among = among_more some read reads (again some among)
 
-    by_one : AmongBehind others reads → (came : Result Write CallFault) → IsWritten came read → AreAmong some (filter_map (λ read. read) (asked_in (texts_by came ++ texts_in others)))
+    by_one : AmongBehind others reads → (came : Result Write Status) → IsWritten came read
+        → AreAmong some (filter_map (λ read. read) (asked_in (texts_by came ++ texts_in others)))
         → AreAmong some (filter_map (λ read. read) (read ∷ reads))
     by_one again (Ok write) is among = by_effect again write.effect is among
-    by_one again (Err why) is among = among_more some read reads (again some among)
+    by_one again (Err status) is among = among_more some read reads (again some among)

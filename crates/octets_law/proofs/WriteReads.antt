@@ -53,6 +53,8 @@ written_fields (Some kind.AlarmAck) inside request spells = let e = spells.1 in 
 pub record IsHeaderRead (bytes : List ℕ) (request : IodWriteReq) (rest : List ℕ) : Type 0 where
   pub uuid : length request.header.ar_uuid ≡ 16
   pub slots : number 28 4 bytes ≡ request.header.slot_number * 65536 + request.header.subslot_number
+  pub slot : number 28 2 bytes ≡ request.header.slot_number
+  pub subslot : number 30 2 bytes ≡ request.header.subslot_number
   pub index : number 34 2 bytes ≡ request.header.index
   pub count : number 36 4 bytes ≡ request.header.record_data_length
   pub behind : (n : ℕ) → drop (64 + n) bytes ≡ drop n rest
@@ -119,6 +121,9 @@ header_read bytes request rest spells =
       slots = ap (big_number 4) (at 0) ∙ front_slots _ slot.0 _ subslot.0 _ rest slot.2 subslot.2 slot.1 subslot.1
           ∙ ap (λ n. n * 65536 + big_number 2 subslot.0) (sym slot.3 ∙ ap (λ h. h.slot_number) named)
           ∙ ap (λ n. request.header.slot_number * 65536 + n) (sym subslot.3 ∙ ap (λ h. h.subslot_number) named);
+      slot = ap (big_number 2) (at 0) ∙ front_two _ slot.0 _ rest slot.2 slot.1 ∙ sym slot.3 ∙ ap (λ h. h.slot_number) named;
+      subslot = ap (big_number 2) (at 2 ∙ within 0 2 _ slot.0 _ rest slot.2 slot.1)
+          ∙ front_two _ subslot.0 _ rest subslot.2 subslot.1 ∙ sym subslot.3 ∙ ap (λ h. h.subslot_number) named;
       index = ap (big_number 2) (at 6 ∙ within 4 2 _ slot.0 _ rest slot.2 slot.1 ∙ within 2 2 _ subslot.0 _ rest subslot.2 subslot.1 ∙ within 0 2 _ blank.0 _ rest blank.2.1 blank.2.0)
           ∙ front_two _ index.0 _ rest index.2 index.1 ∙ sym index.3 ∙ ap (λ h. h.index) named;
       count = ap (big_number 4) (at 8 ∙ within 6 2 _ slot.0 _ rest slot.2 slot.1 ∙ within 4 2 _ subslot.0 _ rest subslot.2 subslot.1 ∙ within 2 2 _ blank.0 _ rest blank.2.1 blank.2.0

@@ -9,7 +9,7 @@ use Rattle.pn_values.specs.Command.{fold_of}
 use Rattle.pn_values.specs.Settings.{factory_settings}
 use Rattle.device_frames.specs.declared.event.Event.{Event}
 use Rattle.device_frames.specs.declared.event.Event.TheVariants.{Frame}
-use Rattle.octets_law.specs.Octets.{Asking, Set, Call, Nothing, activity_of, asking_of, block_errors, called, commands_in, confirmed, faulted, is_counted, is_dcp, is_whole, part, dcp_blocks, untagged}
+use Rattle.octets_law.specs.Octets.{Asking, Set, Call, Nothing, activity_of, asking_of, block_errors, called, commands_in, confirmed, faulted, is_counted, is_dcp, is_whole, number, part, dcp_blocks, untagged}
 
 -- An event, and the frames that were sent at it.
 abbrev pub Told : Type 0
@@ -28,8 +28,7 @@ Stored = List ℕ × List ℕ
 -- The frame that is sent again for a call: that of the stored answer of its activity, if it has the call's sequence number.
 abbrev pub again_for : Asking → List Stored → List (List ℕ)
 again_for (Call call) (one ∷ others) =
-    if pointwise nat_eq (drop 1 one.0) (activity_of call)
-    then (if pointwise nat_eq (called call) one.0 then one.1 ∷ [] else [])
+    if pointwise nat_eq (drop 1 one.0) (activity_of call) then (if pointwise nat_eq (called call) one.0 then one.1 ∷ [] else [])
     else again_for (Call call) others
 again_for asking stored = []
 
@@ -42,11 +41,25 @@ abbrev pub without : List ℕ → List Stored → List Stored
 without activity [] = []
 without activity (one ∷ others) = if pointwise nat_eq (drop 1 one.0) activity then others else one ∷ without activity others
 
+-- Whether a frame is a response to a call: version 4 and packet type 2 in a datagram.
+abbrev pub is_response : List ℕ → Bool
+is_response frame = number 12 2 frame == 0x0800 && number 0 2 (drop 42 frame) == 0x0402
+
+-- With one more frame, which answers the call that these octets name.
+abbrev pub with_answer : List ℕ → List ℕ → List Stored → List Stored
+with_answer call frame stored = (called call, frame) ∷ take 3 (without (activity_of call) stored)
+
+-- What is stored after frames that are sent at no call: each response among them answers an earlier call, which the application
+-- was asked, and which it names.
+abbrev pub stored_later : List (List ℕ) → List Stored → List Stored
+stored_later [] stored = stored
+stored_later (frame ∷ behind) stored = stored_later behind (if is_response frame then with_answer (drop 42 frame) frame stored else stored)
+
 -- What is stored after an event: the last answer of each of the last four activities. No answer to a call with wrong counts
--- is stored, and none that is sent again.
+-- is stored, and none that is sent again. A response that is sent at another event answers an earlier call, and is stored too.
 abbrev pub stored_after : Asking → List (List ℕ) → List Stored → List Stored
-stored_after (Call call) (frame ∷ behind) stored =
-    if is_counted call && not (is_again (Call call) stored) then (called call, frame) ∷ take 3 (without (activity_of call) stored) else stored
+stored_after (Call call) (frame ∷ behind) stored = if is_counted call && not (is_again (Call call) stored) then with_answer call frame stored else stored
+stored_after Nothing sent stored = stored_later sent stored
 stored_after asking sent stored = stored
 
 -- ---- settings

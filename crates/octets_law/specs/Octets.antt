@@ -29,11 +29,10 @@ is_dcp id service type frame = number 12 2 frame == 0x8892 && number 14 2 frame 
 -- Blocks: Option and Suboption as one number, and the contents, with their length before them. The next block is at an
 -- even place.
 abbrev pub blocks_in : ℕ → List ℕ → List (ℕ × List ℕ)
-blocks_in zero octets = []
-blocks_in (suc most) [] = []
 blocks_in (suc most) (first ∷ behind) =
     let octets = first ∷ behind in
     (number 0 2 octets, part 4 (number 2 2 octets) octets) ∷ blocks_in most (drop (4 + (number 2 2 octets + 1) / 2 * 2) octets)
+blocks_in most octets = []
 
 -- The blocks of a DCP frame, by its DCPDataLength.
 abbrev pub dcp_blocks : List ℕ → List (ℕ × List ℕ)
@@ -119,11 +118,10 @@ text_in record_octets =
 
 -- Records one after another, each at a place that is a multiple of 4.
 abbrev pub texts_in : ℕ → List ℕ → List (Option Command)
-texts_in zero octets = []
-texts_in (suc most) [] = []
 texts_in (suc most) (first ∷ behind) =
     let octets = first ∷ behind in
     text_in octets ∷ texts_in most (drop (64 + (number 36 4 octets + 3) / 4 * 4) octets)
+texts_in most octets = []
 
 -- What the blocks of a Write ask for: one record, or the header of a list (index 0xE040), which asks for nothing, and the
 -- records of the list.
@@ -132,9 +130,8 @@ written_by blocks = if number 34 2 blocks == 0xE040 then None ∷ texts_in 16 (d
 
 -- PNIOStatus of answered records, each in a header of 64 octets.
 abbrev pub statuses_in : ℕ → List ℕ → List ℕ
-statuses_in zero octets = []
-statuses_in (suc most) [] = []
 statuses_in (suc most) (first ∷ behind) = number 44 4 (first ∷ behind) ∷ statuses_in most (drop 64 (first ∷ behind))
+statuses_in most octets = []
 
 -- The statuses with which a frame answers a call: of the call, and of each record of a list; none if it is no answer to it.
 -- In an answer the call's octets begin after 14 of Ethernet, 20 of IPv4 and 8 of UDP.
@@ -142,8 +139,7 @@ abbrev pub statuses : List ℕ → List ℕ → List ℕ
 statuses call frame =
     let answer = drop 42 frame in
     if number 12 2 frame == 0x0800 && (number 0 2 answer == 0x0402 && pointwise nat_eq (name_of answer) (name_of call))
-    then number 80 4 answer ∷ statuses_in 16 (drop 64 (args_of answer))
-    else []
+    then number 80 4 answer ∷ statuses_in 16 (drop 64 (args_of answer)) else []
 
 -- ---- events
 

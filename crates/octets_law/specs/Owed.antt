@@ -1,5 +1,5 @@
 -- What a device owes to a call, read at fixed places.
-use Rattle.std.specs.Prelude.{◌≡◌, ◌+◌, ◌-◌, ◌/◌, ◌%◌, ◌==◌, ◌&&◌, ℕ, Bool, true, false, flat_map, length, nat_eq, nat_le, nat_lt, List, ◌∷◌, take, if◌then◌else◌}
+use Rattle.std.specs.Prelude.{◌≡◌, ◌⊎◌, ◌+◌, ◌-◌, ◌/◌, ◌%◌, ◌==◌, ◌&&◌, ℕ, Bool, true, false, flat_map, length, nat_eq, nat_le, nat_lt, List, [], ◌∷◌, take, None, is_some, if◌then◌else◌}
 use Rattle.std.specs.Cmp.Lexicographic.{pointwise}
 use Rattle.pn_values.specs.IpSuite.{is_zero}
 use Rattle.pn_values.specs.declared.mac.Mac.{Mac}
@@ -8,9 +8,12 @@ use Rattle.rpc_core.specs.Fields.{turned}
 use Rattle.rpc_core.specs.Interface.{interface_uuid}
 use Rattle.rpc_core.specs.declared.interface.Interface.TheVariants.{Device}
 use Rattle.rpc_core.specs.Cache.{Kept, looked, new}
+use Rattle.asked_records.specs.Asked.{AskedState, due_in, is_repeat, question_in}
+use Rattle.asked_records.specs.Names.{named_at}
+use Rattle.asked_records.specs.declared.names.RecordName.{RecordName}
 use Rattle.device_frames.specs.declared.event.Event.{Event}
 use Rattle.device_frames.specs.declared.event.Event.TheVariants.{Frame, Call as Joined}
-use Rattle.octets_law.specs.Octets.{in_order, number, part, statuses}
+use Rattle.octets_law.specs.Octets.{args_of, in_order, number, part, statuses}
 
 -- An identifier of a call, in the byte order of the call.
 abbrev pub identifier : ℕ → List ℕ → List ℕ
@@ -41,8 +44,38 @@ IsFor mac address (Frame frame) call =
 IsFor mac address (Joined caller to octets) call = (to ≡ address) × (call ≡ octets.items)
 IsFor mac address event call = ⊥
 
--- What a device owes to a Write (operation 3) that is whole and has its address: if its activity has no stored answer to this or a later call, the
--- frames that are sent at the event answer the call, with a status of its own and those of its records.
-pub record IsOwed (mac : Mac) (address : List ℕ) (stored : List Kept) (event : Event) (sent : List (List ℕ)) : Type 0 where
-  pub write : (call : List ℕ) → IsFor mac address event call → is_zero address ≡ false → is_whole_call call ≡ true → in_order 68 2 call ≡ 3
-      → looked (identifier 40 call) (in_order 64 4 call) stored ≡ new → (status : ℕ) × (records : List ℕ) × (flat_map (statuses call) sent ≡ status ∷ records)
+-- Whether the blocks of a Write are one record that one of these names has: slot 28, subslot 30 and index 34 of its header. A list has
+-- index 0xE040.
+abbrev pub is_named : List RecordName → List ℕ → Bool
+is_named named blocks = is_some (named_at (number 28 2 blocks) (number 30 2 blocks) (number 34 2 blocks) named)
+
+-- The frames that are sent at an event answer the call, with a status of its own and those of its records.
+abbrev pub AreAnswers : List ℕ → List (List ℕ) → Type 0
+AreAnswers call sent = (status : ℕ) × (records : List ℕ) × (flat_map (statuses call) sent ≡ status ∷ records)
+
+-- The call is asked of the application now: nothing is sent yet, and it is refused with the 64,000th unit from now on if it is not
+-- answered before.
+pub record IsAskedNow (call : List ℕ) (sent : List (List ℕ)) (asked : AskedState) : Type 0 where
+  pub silent : sent ≡ []
+  pub asks : is_repeat (identifier 40 call) (in_order 64 4 call) asked ≡ true
+  pub due : due_in asked ≡ 64000
+
+-- A Write (operation 3) that is whole, and has the address of a device: its activity has no stored answer to this or a later call, and
+-- it is no repeat of the call that the application is asked.
+pub record IsNewWrite (mac : Mac) (address : List ℕ) (stored : List Kept) (asked : AskedState) (event : Event) (call : List ℕ) : Type 0 where
+  pub for : IsFor mac address event call
+  pub address_is : is_zero address ≡ false
+  pub whole : is_whole_call call ≡ true
+  pub operation : in_order 68 2 call ≡ 3
+  pub fresh : looked (identifier 40 call) (in_order 64 4 call) stored ≡ new
+  pub once : is_repeat (identifier 40 call) (in_order 64 4 call) asked ≡ false
+
+-- What a device owes to such a Write: the frames that are sent at the event answer it. One of a record that the station names can also
+-- be asked of its application; all others are answered at once, and so are all Writes to a station that names no records, of whose
+-- application nothing is asked.
+pub record IsOwed (mac : Mac) (address : List ℕ) (named : List RecordName) (stored : List Kept) (asked : AskedState) (event : Event) (sent : List (List ℕ))
+    (later : AskedState) : Type 0 where
+  pub write : (call : List ℕ) → IsNewWrite mac address stored asked event call → is_named named (args_of call) ≡ false → AreAnswers call sent
+  pub named_write : (call : List ℕ) → IsNewWrite mac address stored asked event call → is_named named (args_of call) ≡ true
+      → AreAnswers call sent ⊎ IsAskedNow call sent later
+  pub unasked : named ≡ [] → question_in asked ≡ None → question_in later ≡ None

@@ -6,10 +6,12 @@ ghost use Rattle.pn_values.specs.declared.identity.Identity.{Identity};
 ghost use Rattle.pn_values.specs.declared.real.Real.{Real};
 ghost use Rattle.pn_values.specs.declared.settings.Settings.{Settings};
 ghost use Rattle.settings_journal.specs.Image.{LeftByDevice};
-ghost use Rattle.device_core.specs.State.{station_with};
+ghost use Rattle.asked_records.specs.declared.names.RecordName.{RecordName};
+ghost use Rattle.device_core.specs.State.{station_named};
 ghost use Rattle.octets_law.specs.Headline.{IsLife, Told};
 ghost use Rattle.octets_law.specs.Turns.{IsReady, IsSmall, Lives, Turns, TurnsAll};
 
+use asked_records::NamedRecords;
 use device_core::{Device, Event};
 use flash_model::Flash;
 use frame_codec::Outbox;
@@ -27,13 +29,16 @@ pub trait Witness {
         ensures { told self.new ≡ told self.old ++ (event.now, boxed frames.now) ∷ [] };
 }
 
-/// What a device is: its identity and what is plugged, the same at each start.
+/// What a device is: its identity, what is plugged, and the records that its application answers, the same at each start.
 pub trait Product {
     /// The identity.
     ghost identity_of: { Self → Identity };
 
     /// The modules.
     ghost real_of: { Self → Real };
+
+    /// The records that the application answers.
+    ghost named_of: { Self → List RecordName };
 
     /// Makes the identity.
     fn identity(&self) -> Identity
@@ -42,6 +47,10 @@ pub trait Product {
     /// Makes the modules.
     fn real(&self) -> Real
         ensures { result ≡ real_of self.now };
+
+    /// Makes the list of the records that the application answers.
+    fn named(&self) -> NamedRecords
+        ensures { result ≡ named_of self.now };
 }
 
 /// Starts a device on a blank chip and lets it live: in each cycle it starts on what the cycle before left, is given the
@@ -66,7 +75,13 @@ pub fn live<F: Flash<S>, const S: usize, T: Product, W: Witness, P: Fn(F) -> F>(
     // A start is refused only if the flash cannot be read.
     ensures left { F.image flash ≡ record { first = erased S; second = erased S } → IfErr result (λ refused. refused.0 ≡ BootFault.FlashFault) }
 {
-    let mut device = Device::boot_with(product.identity(), product.real(), options, flash)?;
+    let mut device = Device::boot_named(
+        product.identity(),
+        product.real(),
+        options,
+        product.named(),
+        flash,
+    )?;
     for events in cycles {
         device = live_once(
             product,
@@ -91,15 +106,22 @@ fn live_once<F: Flash<S>, const S: usize, T: Product, W: Witness, P: Fn(F) -> F>
 ) -> Result<Device<F, S>, (BootFault, F)>
     requires powers { P.IsAlwaysCallable power_up.now }
     requires keeps { (lost flash : F) → P.post power_up.now lost flash → F.image flash ≡ F.image lost }
-    ensures lives { (first : Settings) → IsReady F.Flash (station_with (T.identity_of product.now) (T.real_of product.now) options) first device →
-        IfOk result (λ again. Lives F.Flash (station_with (T.identity_of product.now) (T.real_of product.now) options) first events.now
-        (W.told witness.old) (W.told witness.new) again) }
+    ensures lives { (first : Settings) →
+        IsReady F.Flash (station_named (T.identity_of product.now) (T.real_of product.now) options (T.named_of product.now)) first device →
+        IfOk result (λ again. Lives F.Flash (station_named (T.identity_of product.now) (T.real_of product.now) options (T.named_of product.now)) first
+        events.now (W.told witness.old) (W.told witness.new) again) }
     ensures left { LeftByDevice (F.image device.flash) → IfErr result (λ refused. refused.0 ≡ BootFault.FlashFault) }
 {
     let mut device = device;
     turn_all(&mut device, events, witness);
     let flash = power_up(device.into_flash());
-    Device::boot_with(product.identity(), product.real(), options, flash)
+    Device::boot_named(
+        product.identity(),
+        product.real(),
+        options,
+        product.named(),
+        flash,
+    )
 }
 
 // The events of a cycle.

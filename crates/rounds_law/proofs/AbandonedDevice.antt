@@ -9,6 +9,7 @@ use Rattle.frame_codec.specs.declared.udp.Caller.{Caller}
 use Rattle.wire.specs.Codec.{◌>>=◌}
 use Rattle.wire.specs.Checks.{or_fault}
 use Rattle.rpc_core.specs.Call.{Asked as Call}
+use Rattle.asked_records.specs.Asked.{AskedState}
 use Rattle.rpc_core.specs.Cache.{Reported as Looked, kept_of, kept_more}
 use Rattle.rpc_core.specs.Response.{is_done}
 use Rattle.connect_blocks.specs.declared.control.ControlBlock.{ControlBlock}
@@ -40,7 +41,9 @@ use Rattle.device_frames.specs.Sendable.{AreSendable}
 use Rattle.device_frames.specs.Sent.{Sent, bytes_of}
 use Rattle.device_core.specs.State.{Live, Rest, Station}
 use Rattle.device_core.specs.Log.{but_rest, release_log, with_log}
-use Rattle.device_core.specs.Handled.{Handled, Moves, Refuses, answer_from, handled_call, handled_looked, handled_new, handled_said, handled_write}
+use Rattle.device_core.specs.Asking.{Asking, asking_of, asking_write, left_asked, released_by, write_within}
+use Rattle.device_core.specs.Handled.{Handled, Moves, Refuses, answer_from, handled_asking, handled_call, handled_looked, handled_new}
+use Rattle.device_core.specs.Handled.{handled_said, handled_write}
 use Rattle.device_core.specs.Handled.{handled_plug_end, is_running, kept_behind, kept_for, partner_of, ready_behind, served}
 use Rattle.device_core.specs.Machine.{Stepped, handled_step, heard_step}
 use Rattle.controller_messages.specs.declared.setup.Setup.{Setup}
@@ -52,10 +55,11 @@ use Rattle.records.specs.status.Operation.{operation_of}
 use Rattle.end_laws.specs.hearing.Hearing.{comes}
 use Rattle.end_laws.specs.hearing.Stations.{IsCalled}
 use Rattle.both_ends.specs.startup.answer.Answer.{caller_of}
-use Rattle.rounds_law.specs.Path.{device_step, request_to}
+use Rattle.rounds_law.specs.Path.{AsksNothing, device_step, request_to}
 use Rattle.rounds_law.specs.Abandoned.{Denies, IsNewCall, IsOfRelation, is_reached}
 use Rattle.rounds_law.proofs.AgainKept.{none_more}
 use Rattle.rounds_law.proofs.AgainVain.{Keeps}
+use Rattle.rounds_law.proofs.AskedUnits.{unasked_new}
 use Rattle.rounds_law.proofs.DeviceCallingSteps.{kept_first, later_new, step_is}
 use Rattle.rounds_law.proofs.Choices.{where_not}
 
@@ -90,6 +94,29 @@ write_fails real blocks = by_read (single_of kind.IodWriteReq blocks)
     by_read (Ok x) = block_fails real x.1 (or_fault fault.BlockForm (in_iod_write_req x.0))
     by_read (Err why) = (why, refl)
 
+relation_fails : (behind : List ℕ) (read : Result IodWriteReq CallFault)
+    → Fails {A = IodWriteReq × List ℕ} (read >>= λ write. in_relation None write.header.ar_uuid >>= λ _. Ok (write, behind))
+unfolding in_relation
+relation_fails behind (Ok write) = (fault.UnknownRelation, refl)
+relation_fails behind (Err why) = (why, refl)
+
+within_fails : (blocks : List ℕ) → Fails (write_within None blocks)
+unfolding write_within
+within_fails blocks = by_read (single_of kind.IodWriteReq blocks)
+  where
+    by_read : (read : Result (Block × List ℕ) CallFault)
+        → Fails {A = IodWriteReq × List ℕ}
+        (read >>= λ x. or_fault fault.BlockForm (in_iod_write_req x.0) >>= λ write. in_relation None write.header.ar_uuid >>= λ _. Ok (write, x.1))
+    by_read (Ok x) = relation_fails x.1 (or_fault fault.BlockForm (in_iod_write_req x.0))
+    by_read (Err why) = (why, refl)
+
+-- so it asks the application nothing
+unasked_write : (station : Station) (live : Live) (caller : Caller) (call : Call) (blocks : List ℕ) → live.rest.link ≡ None
+    → asking_of live.rest.real station.named (uuid_of live.rest.link) caller call blocks Write ≡ Ok None
+unasked_write station live caller call blocks none =
+    ap (λ (l : Option RelationState). asking_write live.rest.real station.named caller call (write_within (uuid_of l) blocks)) none
+    ∙ ap (λ (r : Result (IodWriteReq × List ℕ) CallFault). asking_write live.rest.real station.named caller call r) (within_fails blocks).1
+
 ended_fails : (blocks : List ℕ) → Fails (prm_end_of None blocks)
 unfolding prm_end_of
 ended_fails blocks = by_block (control_block kind.PrmEnd blocks)
@@ -114,6 +141,7 @@ record IsRefusedAt (station : Station) (live : Live) (caller : Caller) (call : C
   why : CallFault
   rest : Rest
   calls : rest.calls ≡ live.rest.calls
+  asked : rest.asked ≡ live.rest.asked
   moves : what
       ≡ Moves
       (kept_behind station.identity rest call (answer_from live.values.running.suite.address caller call operation (Err why)) None)
@@ -128,9 +156,12 @@ write_refused station live caller call blocks none =
       why = fails.0;
       rest = live.rest;
       calls = refl;
-      moves = ap (λ (l : Option RelationState). handled_write station live caller call (writing_of (uuid_of l) live.rest.real blocks)) none
+      asked = refl;
+      moves = ap (λ (asking : Result (Option Asking) CallFault). handled_asking station live caller call blocks Write asking)
+          (unasked_write station live caller call blocks none)
+          ∙ (ap (λ (l : Option RelationState). handled_write station live caller call (writing_of (uuid_of l) live.rest.real blocks)) none
           ∙ (ap (λ (r : Result Writing CallFault). handled_write station live caller call r) fails.1
-          ∙ ap (λ (l : Option RelationState). served station live caller call Write (Err fails.0) l []) none);
+          ∙ ap (λ (l : Option RelationState). served station live caller call Write (Err fails.0) l []) none));
     }
 
 -- PrmEnd
@@ -149,6 +180,7 @@ ended_refused station live caller call blocks none =
       why = fails.0;
       rest = live.rest;
       calls = refl;
+      asked = refl;
       moves = ap (λ (l : Option RelationState). if is_plug_control blocks l then handled_plug_end station live caller call blocks
           else ended_with station live caller call blocks l (prm_end_of l blocks)) none
           ∙ ap (λ (r : Result ControlBlock CallFault). ended_with station live caller call blocks None r) fails.1;
@@ -158,7 +190,8 @@ ended_refused station live caller call blocks none =
 abbrev released_with : Station → Live → Caller → Call → Option RelationState → Option RelationState → Result ControlBlock CallFault → Handled
 released_with station live caller call named before ended =
     let answer = ended >>= λ block. Ok (block_bytes (is.ReleaseRes (done_of block))) in
-    served station (but_rest live (with_log (release_log (uuid_of named) answer) live.rest)) caller call Release answer
+    let asked = left_asked (released_by answer (uuid_of named)) live.rest.asked in
+    served station (but_rest live (record (with_log (release_log (uuid_of named) answer) live.rest) { asked = asked })) caller call Release answer
     (updated (answered Ended ended) before) []
 
 released_refused : (station : Station) (live : Live) (caller : Caller) (call : Call) (blocks : List ℕ) → live.rest.link ≡ None
@@ -169,6 +202,7 @@ released_refused station live caller call blocks none =
       why = fails.0;
       rest = live.rest;
       calls = refl;
+      asked = refl;
       moves = ap (λ (l : Option RelationState). released_with station live caller call l l (release_of l blocks)) none
           ∙ ap (λ (r : Result ControlBlock CallFault). released_with station live caller call None None r) fails.1;
     }
@@ -232,12 +266,12 @@ module _ (setup : Setup) (identity : Identity) (outcomes : List Outcome) (statio
   abbrev call : Call
   call = call_for setup request
 
-  pub denied : IsOfRelation request → station.identity ≡ identity → live.rest.link ≡ None
+  pub denied : IsOfRelation request → station.identity ≡ identity → live.rest.link ≡ None → AsksNothing live
       → IsNewCall setup (sequence_of setup.plan request) live → is_reached setup live ≡ true
       → ((operation : Operation) (refusal : CallFault) → is_done (status_of operation refusal) ≡ false)
       → AreSendable identity (device_step outcomes station live (request_to setup identity request)).sent
       → Denies setup identity request live (device_step outcomes station live (request_to setup identity request))
-  denied of same none unheard reached negative sendable =
+  denied of same none nothing unheard reached negative sendable =
       let found = call_refused setup station live caller request of none in
       let operation = found.operation in
       let refusal = found.refused in
@@ -245,7 +279,8 @@ module _ (setup : Setup) (identity : Identity) (outcomes : List Outcome) (statio
       let sent = answer_from address caller call operation (Err refusal.why) in
       let here = answer_from setup.plan.station.suite.address caller call operation (Err refusal.why) in
       let handles = ap (λ (o : Option Operation). handled_call station live caller call o) found.operates
-      ∙ (ap (λ (l : Looked). handled_looked station live caller call (blocks_of setup request) operation l) unheard ∙ refusal.moves) in
+      ∙ (ap (λ (l : Looked). handled_looked station live caller call (blocks_of setup request) operation l) unheard
+      ∙ (unasked_new station live caller call (blocks_of setup request) operation nothing ∙ refusal.moves)) in
       let stepped = step_is outcomes station live (request_to setup identity request) caller setup.plan.station.suite.address (Calls call)
       (kept_behind station.identity refusal.rest call sent None) (sent ∷ []) hears reached handles in
       let message : sent ≡ here = ap (λ (a : List ℕ). answer_from a caller call operation (Err refusal.why))
@@ -263,6 +298,7 @@ module _ (setup : Setup) (identity : Identity) (outcomes : List Outcome) (statio
         };
         values = refl;
         unrelated = refl;
+        unasked = ap (λ (a : AskedState). a.standing) refusal.asked ∙ nothing;
         newer = λ later less. later_new setup.activity later (kept_more 4 kept refusal.rest.calls) kept (kept_first kept refusal.rest.calls) less;
         uncalled = λ activity other free.
             none_more activity kept refusal.rest.calls other (ap (kept_of activity) refusal.calls ∙ free);

@@ -16,7 +16,7 @@ use Rattle.network_world.specs.World.{is_ended}
 use Rattle.rounds_law.specs.Rounds.{HearsAll, Net, Round}
 use Rattle.rounds_law.specs.Path.{IsAddressed, IsIgnored, IsNamed, IsOutputs, IsSized, device_step, request_to}
 use Rattle.rounds_law.specs.Stages.{IsLooking, Leads}
-use Rattle.rounds_law.specs.Start.{CanBeAddressed, CanStart, IsOfPlan, start_up_limit}
+use Rattle.rounds_law.specs.Start.{CanBeAddressed, CanStart, start_up_limit}
 use Rattle.rounds_law.specs.Again.{AreStarts, LeadsBack, Plant, PlantRound, begun_with, made}
 use Rattle.rounds_law.specs.Abandoned.{AsksInVain, Awaited, IsAbandoned, IsNewCall, IsUnasked, IsUnreached, LastsFor, Response, WaitsInVain, denials_left}
 use Rattle.rounds_law.specs.Abandoned.{is_reached, last_call, units_to_denial}
@@ -48,6 +48,7 @@ module _ {F : Type 0} {S : ℕ} (as_flash : Flash F S) (setup next : Setup) (ide
     sized = subst (λ (l : Live). IsSized l.values.running.suite) (sym still) stands.sized;
     addressed = subst (λ (l : Live). IsAddressed setup l ⊎ CanBeAddressed l) (sym still) stands.addressed;
     uncalled_next = ap (λ (l : Live). kept_of next.activity l.rest.calls) still ∙ stands.uncalled_next;
+    unasked = ap (λ (l : Live). l.rest.asked.standing) still ∙ stands.unasked;
   }
 
   -- If it comes before others, it is as if these came alone.
@@ -221,6 +222,7 @@ module _ {F : Type 0} {S : ℕ} (as_flash : Flash F S) (setup next : Setup) (ide
         sized = at.sized;
         addressed = at.addressed;
         uncalled_next = at.uncalled_next;
+        unasked = at.unasked;
       };
       silent = at.silent;
       unrelated = at.unrelated;

@@ -28,7 +28,7 @@ use Rattle.controller_core.specs.Machine.{step_of}
 use Rattle.end_laws.specs.hearing.Stations.{IsCalled, IsNumbered}
 use Rattle.network_world.specs.World.{is_ended}
 use Rattle.rounds_law.specs.Rounds.{Net, Round, hears_all}
-use Rattle.rounds_law.specs.Path.{IsOutputs, controller_step, device_step, request_to}
+use Rattle.rounds_law.specs.Path.{AsksNothing, IsOutputs, controller_step, device_step, request_to}
 use Rattle.rounds_law.specs.Repeating.{completes, counts_on}
 use Rattle.rounds_law.specs.Start.{CanStart}
 use Rattle.rounds_law.specs.Again.{AreStarts, HasEnded, IsDenial}
@@ -45,7 +45,7 @@ use Rattle.rounds_law.proofs.DeviceCallingSteps.{later_new}
 
 pub record DeniedLaws (setup : Setup) (identity : Identity) : Type 0 where
   pub denied : (outcomes : List Outcome) (station : Station) (live : Live) (request : Request)
-      → station.identity ≡ identity → live.rest.link ≡ None → is_reached setup live ≡ true
+      → station.identity ≡ identity → live.rest.link ≡ None → AsksNothing live → is_reached setup live ≡ true
       → IsOfRelation request → IsNumbered request → IsNewCall setup (sequence_of setup.plan request) live
       → AreSendable identity (device_step outcomes station live (request_to setup identity request)).sent
       → Denies setup identity request live (device_step outcomes station live (request_to setup identity request))
@@ -133,6 +133,7 @@ module _ {F : Type 0} {S : ℕ} (as_flash : Flash F S) (setup next : Setup) (ide
   record Denied (request : Request) (before live : Live) : Type 0 where
     values : live.values ≡ before.values
     unrelated : live.rest.link ≡ None
+    unasked : AsksNothing live
     newer : (later : ℕ) → sequence_of setup.plan request < later → IsNewCall setup later live
     uncalled : kept_of next.activity live.rest.calls ≡ None
 
@@ -155,7 +156,7 @@ module _ {F : Type 0} {S : ℕ} (as_flash : Flash F S) (setup next : Setup) (ide
       let frame = request_to setup identity request in
       let own = bare.stands.of_device in
       let law = λ (sendable : AreSendable station.identity (device_step [] station live frame).sent).
-      denies.denied [] station live request own bare.unrelated reached of numbered unheard
+      denies.denied [] station live request own bare.unrelated bare.stands.unasked reached of numbered unheard
       (subst (λ (i : Identity). AreSendable i (device_step [] station live frame).sent) own sendable) in
       let all = arrive_first as_flash station (Denied request live) (IsOutputs setup (Some serial) identity.mac)
       (λ between octets outputs is.
@@ -165,19 +166,20 @@ module _ {F : Type 0} {S : ℕ} (as_flash : Flash F S) (setup next : Setup) (ide
       (λ sendable. record {
         values = (law sendable).values;
         unrelated = (law sendable).unrelated;
+        unasked = (law sendable).unasked;
         newer = (law sendable).newer;
         uncalled = (law sendable).uncalled next.activity starts.calls bare.stands.uncalled_next;
       }) are (arrives_as as_flash net after round (frame ∷ outputs) under_way) in
       let its = law all.1 in
       let unit = free_aged as_flash setup next identity laws again again_next ends can starts round.device station 0 after.to_controller after.device
-      all.0.of_station round.unit all.0.is.unrelated in
+      all.0.of_station round.unit all.0.is.unrelated all.0.is.unasked in
       let step = controller_step net.controller its.octets in
       record {
         bare = record {
           stands = stays_on as_flash setup next identity laws again again_next ends can starts net after round 0 round.device all.0.is.values all.0.is.uncalled
               bare.stands unit;
           silent = (went_at as_flash round.device station Ticks after.to_controller after.device all.0.of_station round.unit).sent
-              ∙ (again.unrelated [] station round.device.live all.0.is.unrelated).0;
+              ∙ (again.unrelated [] station round.device.live all.0.is.unrelated all.0.is.unasked).0;
           unrelated = unit.lasts;
         };
         values = unit.values ∙ all.0.is.values;

@@ -6,6 +6,7 @@ use Rattle.pn_values.specs.declared.identity.Identity.{Identity}
 use Rattle.frame_codec.specs.declared.udp.Caller.{Caller}
 use Rattle.wire.specs.Codec.{◌>>=◌}
 use Rattle.rpc_core.specs.Call.{Asked as Call}
+use Rattle.asked_records.specs.Asked.{is_repeat}
 use Rattle.rpc_core.specs.Cache.{Kept, Reported as Looked, is_of, kept_more, kept_of, without}
 use Rattle.rpc_core.specs.Response.{is_done}
 use Rattle.connects.specs.declared.requests.parts.Ar.{Ar}
@@ -37,6 +38,7 @@ use Rattle.both_ends.specs.startup.answer.Answer.{caller_of}
 use Rattle.rounds_law.specs.Path.{IsAddressed, device_step, request_to}
 use Rattle.rounds_law.specs.Again.{IsRefusal}
 use Rattle.rounds_law.proofs.DeviceCallingSteps.{first_new, step_is}
+use Rattle.rounds_law.proofs.AskedUnits.{unrepeated}
 use Rattle.rounds_law.proofs.DeviceCallingConnected.{is_connect}
 
 -- ---- no relation is established while one exists
@@ -61,6 +63,7 @@ IsRefused setup identity live step =
     (octets : List ℕ) × (step.frames ≡ octets ∷ []) × IsRefusal setup identity octets
     × (step.live.values ≡ live.values) × (step.live.rest.link ≡ live.rest.link)
     × ((activity : List ℕ) → (activity ≡ setup.activity → ⊥) → kept_of activity live.rest.calls ≡ None → kept_of activity step.live.rest.calls ≡ None)
+    × (step.live.rest.asked ≡ live.rest.asked)
 
 -- ---- the answers to other calls
 
@@ -123,10 +126,12 @@ module _ (setup : Setup) (identity : Identity) (station : Station) (live : Live)
   rest = kept_behind station.identity (counted_by (outcome live.rest.link) (with_log (connect_log blocks (outcome live.rest.link)) live.rest)) call sent
       (link_by (connect_within station.options caller.mac live.rest.link blocks))
 
-  is_handled : kept_of setup.activity live.rest.calls ≡ None → handled_said station live caller (Calls call) ≡ Moves rest (sent ∷ [])
-  is_handled free =
+  is_handled : kept_of setup.activity live.rest.calls ≡ None → is_repeat setup.activity 0 live.rest.asked ≡ false
+      → handled_said station live caller (Calls call) ≡ Moves rest (sent ∷ [])
+  is_handled free unasked =
       ap (λ (o : Option Operation). handled_call station live caller call o) is_connect
-      ∙ ap (λ (l : Looked). handled_looked station live caller call blocks Connect l) (first_new setup.activity 0 live.rest.calls free)
+      ∙ (ap (λ (l : Looked). handled_looked station live caller call blocks Connect l) (first_new setup.activity 0 live.rest.calls free)
+      ∙ unrepeated station live caller call blocks Connect unasked)
 
   refused_by : (link : RelationState) → live.rest.link ≡ Some link → (refusal : CallFault)
       × (connect_within station.options caller.mac live.rest.link blocks ≡ Err refusal)
@@ -135,16 +140,16 @@ module _ (setup : Setup) (identity : Identity) (station : Station) (live : Live)
       (because.0, ap (λ (l : Option RelationState). connect_within station.options caller.mac l blocks) has ∙ because.1)
 
   pub refuses : (outcomes : List Outcome) (link : RelationState) → station.identity ≡ identity → IsAddressed setup live
-      → live.rest.link ≡ Some link → kept_of setup.activity live.rest.calls ≡ None
+      → live.rest.link ≡ Some link → kept_of setup.activity live.rest.calls ≡ None → is_repeat setup.activity 0 live.rest.asked ≡ false
       → ((operation : Operation) (refusal : CallFault) → is_done (status_of operation refusal) ≡ false)
       → heard_of station.identity (comes (request_to setup identity asks.Connect)) ≡ Reported caller setup.plan.station.suite.address (Calls call)
       → is_running live.values.running setup.plan.station.suite.address ≡ true
       → AreSendable identity (device_step outcomes station live (request_to setup identity asks.Connect)).sent
       → IsRefused setup identity live (device_step outcomes station live (request_to setup identity asks.Connect))
-  refuses outcomes link same addressed has uncalled negative hears running sendable =
+  refuses outcomes link same addressed has uncalled unasked negative hears running sendable =
       let stepped = step_is outcomes station live (request_to setup identity asks.Connect) caller setup.plan.station.suite.address
       (Calls call) rest (sent ∷ []) hears running
-      (is_handled uncalled) in
+      (is_handled uncalled unasked) in
       let because = refused_by link has in
       let message = ap (λ (asked : Result Request CallFault). answer_from live.values.running.suite.address caller call Connect
       (asked >>= λ request. Ok (connect_blocks station.identity (number_now station live) request (differing_of request live.rest.real)))) because.1
@@ -163,4 +168,5 @@ module _ (setup : Setup) (identity : Identity) (station : Station) (live : Live)
         refl,
         ap link_by because.1,
         λ activity other none. none_more activity (kept_for station.identity call sent) live.rest.calls other none,
+        refl,
       )

@@ -8,6 +8,7 @@ use Rattle.pn_values.specs.declared.identity.Identity.{Identity}
 use Rattle.pn_values.specs.declared.real.Real.{Real}
 use Rattle.settings_journal.specs.settings_store.Machine.{Outcome}
 use Rattle.settings_journal.specs.settings_store.State.{Values}
+use Rattle.asked_records.specs.Asked.{AskedState}
 use Rattle.rpc_core.specs.Cache.{kept_of}
 use Rattle.pn_values.specs.IpSuite.{is_zero}
 use Rattle.device_frames.specs.Heard.{Ticks}
@@ -29,7 +30,7 @@ use Rattle.network_world.specs.World.{is_ended}
 use Rattle.both_ends.specs.startup.Played.{CanMeet}
 use Rattle.both_ends.specs.startup.answer.Answer.{AcceptsInterval}
 use Rattle.rounds_law.specs.Rounds.{BothExchange, Net, Round, Goes, hears_all}
-use Rattle.rounds_law.specs.Path.{Asks, AsksNext, FindsIt, IsAddressed, IsFree, IsIgnored, IsNamed, IsOutputs}
+use Rattle.rounds_law.specs.Path.{AsksNothing, Asks, AsksNext, FindsIt, IsAddressed, IsFree, IsIgnored, IsNamed, IsOutputs}
 use Rattle.rounds_law.specs.Path.{IsSized, controller_step, device_step, found_frame, request_to}
 use Rattle.rounds_law.specs.Stages.{IsAddressing, IsConnecting, IsLooking, Leads}
 use Rattle.rounds_law.specs.Start.{CanBeAddressed, CanStart, IsOfPlan, start_up_limit}
@@ -90,6 +91,7 @@ pub record AgainLaws (setup : Setup) (identity : Identity) : Type 0 where
       × ((device_step outcomes station live (request_to setup identity wants.Connect)).live.rest.link ≡ live.rest.link)
       × ((activity : List ℕ) → (activity ≡ setup.activity → ⊥) → kept_of activity live.rest.calls ≡ None
       → kept_of activity (device_step outcomes station live (request_to setup identity wants.Connect)).live.rest.calls ≡ None)
+      × ((device_step outcomes station live (request_to setup identity wants.Connect)).live.rest.asked ≡ live.rest.asked)
   pub unset : CanMeet setup identity → (outcomes : List Outcome) (station : Station) (live : Live) (left : ℕ)
       → station.identity ≡ identity → HasEarlier setup left live
       → ((device_step outcomes station live (request_to setup identity wants.Address)).frames ≡ unset_frame setup identity ∷ [])
@@ -100,11 +102,13 @@ pub record AgainLaws (setup : Setup) (identity : Identity) : Type 0 where
       × ((heard_step outcomes station live Ticks).live.values ≡ live.values)
       × ((heard_step outcomes station live Ticks).live.rest.calls ≡ live.rest.calls)
       × (((heard_step outcomes station live Ticks).live.rest.link ≡ None) ⊎ HasEarlier setup left (heard_step outcomes station live Ticks).live)
+      × AsksNothing (heard_step outcomes station live Ticks).live
   pub last : (outcomes : List Outcome) (station : Station) (live : Live) → station.identity ≡ identity → HasEarlier setup 1 live
       → (heard_step outcomes station live Ticks).live.rest.link ≡ None
-  pub unrelated : (outcomes : List Outcome) (station : Station) (live : Live) → live.rest.link ≡ None
+  pub unrelated : (outcomes : List Outcome) (station : Station) (live : Live) → live.rest.link ≡ None → AsksNothing live
       → ((heard_step outcomes station live Ticks).frames ≡ []) × ((heard_step outcomes station live Ticks).live.values ≡ live.values)
       × ((heard_step outcomes station live Ticks).live.rest.calls ≡ live.rest.calls) × ((heard_step outcomes station live Ticks).live.rest.link ≡ None)
+      × AsksNothing (heard_step outcomes station live Ticks).live
   pub vain : (serial : ℕ) (outcomes : List Outcome) (station : Station) (live : Live) (octets : List ℕ) → station.identity ≡ identity
       → live.rest.link ≡ None → IsOutputs setup (Some serial) identity.mac octets ⊎ IsEnd setup serial identity.mac octets
       → ((device_step outcomes station live octets).frames ≡ []) × ((device_step outcomes station live octets).live ≡ live)
@@ -141,8 +145,9 @@ pub record Aged {F : Type 0} (setup next : Setup) (station : Station) (before : 
   pub values : after.live.values ≡ before.values
   pub calls : after.live.rest.calls ≡ before.rest.calls
   pub lasts : Lasts setup next left after.live
+  pub unasked : AsksNothing after.live
 
--- What all these nets have. The device has stored no answer of the next start.
+-- What all these nets have. The device asks its application nothing, and has stored no answer of the next start.
 pub record Stands {F : Type 0} (setup next : Setup) (identity : Identity) (net : Net F) : Type 0 where
   pub ignored : AllByRecursion (IsIgnored setup) net.to_controller
   pub ignored_next : AllByRecursion (IsIgnored next) net.to_controller
@@ -152,6 +157,7 @@ pub record Stands {F : Type 0} (setup next : Setup) (identity : Identity) (net :
   pub sized : IsSized net.device.live.values.running.suite
   pub addressed : IsAddressed setup net.device.live ⊎ CanBeAddressed net.device.live
   pub uncalled_next : kept_of next.activity net.device.live.rest.calls ≡ None
+  pub unasked : AsksNothing net.device.live
 
 -- A request is under way that the device will refuse.
 pub record IsAsking {F : Type 0} (setup next : Setup) (identity : Identity) (left : ℕ) (phase : Phases) (request : Request) (net : Net F) : Type 0 where
@@ -178,8 +184,9 @@ two_of setup next left live (inr one) (inl none) = inl none
 two_of setup next left live (inr one) (inr other) = inr (record { here = one; there = other })
 
 -- the same relation in another state
-moved_to : (setup : Setup) (left : ℕ) (before after : Live) → after.rest.link ≡ before.rest.link → HasEarlier setup left before → HasEarlier setup left after
-moved_to setup left before after same earlier = record {
+moved_to : (setup : Setup) (left : ℕ) (before after : Live) → after.rest.link ≡ before.rest.link → after.rest.asked ≡ before.rest.asked
+    → HasEarlier setup left before → HasEarlier setup left after
+moved_to setup left before after same asked earlier = record {
   link = earlier.link;
   has = same ∙ earlier.has;
   ar = earlier.ar;
@@ -193,11 +200,13 @@ moved_to setup left before after same earlier = record {
   begun = earlier.begun;
   called = earlier.called;
   time = earlier.time;
+  unasked = ap (λ (a : AskedState). a.standing) asked ∙ earlier.unasked;
 }
 
-both_moved : (setup next : Setup) (left : ℕ) (before after : Live) → after.rest.link ≡ before.rest.link → Has setup next left before → Has setup next left after
-both_moved setup next left before after same has =
-    record { here = moved_to setup left before after same has.here; there = moved_to next left before after same has.there }
+both_moved : (setup next : Setup) (left : ℕ) (before after : Live) → after.rest.link ≡ before.rest.link → after.rest.asked ≡ before.rest.asked
+    → Has setup next left before → Has setup next left after
+both_moved setup next left before after same asked has =
+    record { here = moved_to setup left before after same asked has.here; there = moved_to next left before after same asked has.there }
 
 -- It lasts longer at most.
 pub longer : (setup : Setup) (left : ℕ) (live : Live) → HasEarlier setup left live → HasEarlier setup (suc left) live
@@ -215,6 +224,7 @@ longer setup left live earlier = record {
   begun = earlier.begun;
   called = earlier.called;
   time = omega (arith, earlier.time);
+  unasked = earlier.unasked;
 }
 
 -- One less, and one sum that computes by its first number.
@@ -247,10 +257,11 @@ module _ {F : Type 0} {S : ℕ} (as_flash : Flash F S) (setup next : Setup) (ide
 
   -- The unit of a device without a relation changes nothing that counts.
   pub free_aged : (before : State F) (station : Station) (left : ℕ) (frames : List (List ℕ)) (after : State F) → before.station ≡ station
-      → Goes as_flash before Ticks frames after → before.live.rest.link ≡ None → Aged setup next station before.live left frames after
-  free_aged before station left frames after same goes none =
+      → Goes as_flash before Ticks frames after → before.live.rest.link ≡ None → AsksNothing before.live
+      → Aged setup next station before.live left frames after
+  free_aged before station left frames after same goes none unasked =
       let w = went_at as_flash before station Ticks frames after same goes in
-      let law = again.unrelated [] station before.live none in
+      let law = again.unrelated [] station before.live none unasked in
       let nothing : frames ≡ [] = w.sent ∙ law.0 in
       record {
         ignored = subst (AllByRecursion (IsIgnored setup)) (sym nothing) tt;
@@ -259,6 +270,7 @@ module _ {F : Type 0} {S : ℕ} (as_flash : Flash F S) (setup next : Setup) (ide
         values = ap (λ (live : Live). live.values) w.state ∙ law.1;
         calls = ap (λ (live : Live). live.rest.calls) w.state ∙ law.2;
         lasts = free_lasts setup next left after.live (ap (λ (live : Live). live.rest.link) w.state ∙ law.3);
+        unasked = subst AsksNothing (sym w.state) law.4;
       }
 
   has_aged : (before : State F) (station : Station) (left : ℕ) (frames : List (List ℕ)) (after : State F)
@@ -277,6 +289,7 @@ module _ {F : Type 0} {S : ℕ} (as_flash : Flash F S) (setup next : Setup) (ide
         values = ap (λ (live : Live). live.values) w.state ∙ law.1;
         calls = ap (λ (live : Live). live.rest.calls) w.state ∙ law.2;
         lasts = subst (Lasts setup next left) (sym w.state) (lasting left has (two_of setup next left step.live law.3 law_next.3));
+        unasked = subst AsksNothing (sym w.state) law.4;
       }
     where
       lasting : (left : ℕ) → Has setup next (suc left) before.live
@@ -286,15 +299,17 @@ module _ {F : Type 0} {S : ℕ} (as_flash : Flash F S) (setup next : Setup) (ide
       lasting (suc left) has either = either
 
   aged : (before : State F) (station : Station) (left : ℕ) (frames : List (List ℕ)) (after : State F) → before.station ≡ station → station.identity ≡ identity
-      → Goes as_flash before Ticks frames after → Lasts setup next (suc left) before.live → Aged setup next station before.live left frames after
-  aged before station left frames after same own goes (inl none) = free_aged before station left frames after same goes none
-  aged before station left frames after same own goes (inr has) = has_aged before station left frames after same own goes has
+      → Goes as_flash before Ticks frames after → AsksNothing before.live → Lasts setup next (suc left) before.live
+      → Aged setup next station before.live left frames after
+  aged before station left frames after same own goes unasked (inl none) = free_aged before station left frames after same goes none unasked
+  aged before station left frames after same own goes unasked (inr has) = has_aged before station left frames after same own goes has
 
   aged_zero : (before : State F) (station : Station) (left : ℕ) (frames : List (List ℕ)) (after : State F)
       → before.station ≡ station → station.identity ≡ identity
-      → Goes as_flash before Ticks frames after → Lasts setup next left before.live → left ≡ 0 → Aged setup next station before.live 0 frames after
-  aged_zero before station zero frames after same own goes none e = free_aged before station 0 frames after same goes none
-  aged_zero before station (suc left) frames after same own goes lasts e = absurd cc
+      → Goes as_flash before Ticks frames after → AsksNothing before.live → Lasts setup next left before.live → left ≡ 0
+      → Aged setup next station before.live 0 frames after
+  aged_zero before station zero frames after same own goes unasked none e = free_aged before station 0 frames after same goes none unasked
+  aged_zero before station (suc left) frames after same own goes unasked lasts e = absurd cc
 
   -- ---- what stays
 
@@ -317,6 +332,7 @@ module _ {F : Type 0} {S : ℕ} (as_flash : Flash F S) (setup next : Setup) (ide
         sized = subst (λ (v : Values). IsSized v.running.suite) (sym values) stands.sized;
         addressed = stays_addressed net after values stands.addressed;
         uncalled_next = ap (kept_of next.activity) unit.calls ∙ uncalled;
+        unasked = unit.unasked;
       }
 
   -- ---- the search
@@ -335,8 +351,10 @@ module _ {F : Type 0} {S : ℕ} (as_flash : Flash F S) (setup next : Setup) (ide
       → Asks setup identity.mac phase request None spare net.controller → net.to_device ≡ request_to setup identity request ∷ []
       → kept_of setup.activity net.device.live.rest.calls ≡ None
       → Lasts setup next left net.device.live → IsFree setup net.device.live ⊎ MayAsk left phase request net
-  asking_by zero net request phase spare stood asks under_way uncalled none = inl (record { unrelated = none; uncalled = uncalled })
-  asking_by (suc left) net request phase spare stood asks under_way uncalled (inl none) = inl (record { unrelated = none; uncalled = uncalled })
+  asking_by zero net request phase spare stood asks under_way uncalled none =
+      inl (record { unrelated = none; unasked = stood.unasked; uncalled = uncalled })
+  asking_by (suc left) net request phase spare stood asks under_way uncalled (inl none) =
+      inl (record { unrelated = none; unasked = stood.unasked; uncalled = uncalled })
   asking_by (suc left) net request phase spare stood asks under_way uncalled (inr has) =
       inr (record { stands = stood; spare = spare; asks = asks; under_way = under_way; has = has; uncalled = uncalled })
 
@@ -456,7 +474,8 @@ module _ {F : Type 0} {S : ℕ} (as_flash : Flash F S) (setup next : Setup) (ide
       net.device connect [] round.answers round.device refl
       (λ sendable. record {
         values = (law sendable).3;
-        has = both_moved setup next (suc left) net.device.live (device_step [] station net.device.live connect).live (law sendable).4 asking.has;
+        has = both_moved setup next (suc left) net.device.live (device_step [] station net.device.live connect).live (law sendable).4
+            (law sendable).6 asking.has;
         uncalled = (law sendable).5 next.activity starts.calls stands.uncalled_next;
       }) tt
       (arrives_as as_flash net after round (connect ∷ []) asking.under_way) in
@@ -531,12 +550,15 @@ module _ {F : Type 0} {S : ℕ} (as_flash : Flash F S) (setup next : Setup) (ide
       let hears = arrives_as as_flash net after round [] over.nothing in
       let station_is : round.device.station ≡ net.device.station = ap (λ (d : State F). d.station) hears.0 in
       waits_with left (less left) net after over round
-      (by_left left station_is over.stands.of_device (subst (λ (d : State F). Lasts setup next left d.live) (sym hears.0) over.lasts)) hears.0 hears.1
+      (by_left left station_is over.stands.of_device (subst (λ (d : State F). AsksNothing d.live) (sym hears.0) over.stands.unasked)
+      (subst (λ (d : State F). Lasts setup next left d.live) (sym hears.0) over.lasts)) hears.0 hears.1
     where
-      by_left : (left : ℕ) → round.device.station ≡ net.device.station → net.device.station.identity ≡ identity → Lasts setup next left round.device.live
+      by_left : (left : ℕ) → round.device.station ≡ net.device.station → net.device.station.identity ≡ identity → AsksNothing round.device.live
+          → Lasts setup next left round.device.live
           → Aged setup next net.device.station round.device.live (less left) after.to_controller after.device
-      by_left zero same own none = free_aged round.device net.device.station 0 after.to_controller after.device same round.unit none
-      by_left (suc left) same own lasts = aged round.device net.device.station left after.to_controller after.device same own round.unit lasts
+      by_left zero same own unasked none = free_aged round.device net.device.station 0 after.to_controller after.device same round.unit none unasked
+      by_left (suc left) same own unasked lasts =
+          aged round.device net.device.station left after.to_controller after.device same own round.unit unasked lasts
 
   -- ---- the device lost its power while data was exchanged
 
@@ -582,13 +604,14 @@ module _ {F : Type 0} {S : ℕ} (as_flash : Flash F S) (setup next : Setup) (ide
       (keeps octets is))
       net.device net.to_device round.answers round.device refl said refl round.arrives in
       let still : round.device.live.rest.link ≡ None = ap (λ (live : Live). live.rest.link) all.is ∙ none in
-      let unit = free_aged round.device station 0 after.to_controller after.device all.of_station round.unit still in
+      let unasked = subst AsksNothing (sym all.is) stands.unasked in
+      let unit = free_aged round.device station 0 after.to_controller after.device all.of_station round.unit still unasked in
       let step : Stepped = record { controller = net.controller; frames = [] } in
       record {
         stands = stays_on net after round 0 round.device (ap (λ (live : Live). live.values) all.is)
             (ap (λ (live : Live). kept_of next.activity live.rest.calls) all.is ∙ stands.uncalled_next) stands unit;
         silent = (went_at as_flash round.device station Ticks after.to_controller after.device all.of_station round.unit).sent
-            ∙ (again.unrelated [] station round.device.live still).0;
+            ∙ (again.unrelated [] station round.device.live still unasked).0;
         unrelated = unit.lasts;
         values = unit.values ∙ ap (λ (live : Live). live.values) all.is;
         calls = unit.calls ∙ ap (λ (live : Live). live.rest.calls) all.is;
@@ -662,6 +685,7 @@ module _ {F : Type 0} {S : ℕ} (as_flash : Flash F S) (setup next : Setup) (ide
     plugged = plan.plugged ∙ ap (λ p. p.real) (sym starts.plan);
     interval = subst (λ p. AcceptsInterval station.options p) (sym starts.plan) plan.interval;
     ready = plan.ready;
+    names = plan.names;
   }
 
   addressed_next : (live : Live) → IsAddressed setup live ⊎ CanBeAddressed live → IsAddressed next live ⊎ CanBeAddressed live
@@ -678,7 +702,7 @@ module _ {F : Type 0} {S : ℕ} (as_flash : Flash F S) (setup next : Setup) (ide
     of_device = stands.of_device;
     of_plan = of_plan_next net.device.station net.device.live.rest.real stands.of_plan;
     named = record { name = stands.named.name ∙ ap (λ p. p.station.name) (sym starts.plan) };
-    free = record { unrelated = none; uncalled = stands.uncalled_next };
+    free = record { unrelated = none; unasked = stands.unasked; uncalled = stands.uncalled_next };
     sized = stands.sized;
     addressed = addressed_next net.device.live stands.addressed;
   }
@@ -820,6 +844,7 @@ module _ {F : Type 0} {S : ℕ} (as_flash : Flash F S) (setup next : Setup) (ide
             sized = at.sized;
             addressed = at.addressed;
             uncalled_next = at.uncalled_next;
+            unasked = at.unasked;
           };
           alone = at.alone;
           outputs = at.outputs;
@@ -874,6 +899,7 @@ module _ {F : Type 0} {S : ℕ} (as_flash : Flash F S) (setup next : Setup) (ide
             sized = at.sized;
             addressed = at.addressed;
             uncalled_next = at.uncalled_next;
+            unasked = at.earlier.unasked;
           } in
           let opened = at.opened ∙ ap (λ (f : List ℕ). f ∷ []) (opening_is setup identity plant.net.controller at.of_setup) in
           let asks = looks left plant.net round.net stands at.of_setup at.made opened at.uncalled

@@ -31,28 +31,27 @@ use Rattle.relations.specs.exchange.Notices.{header_of}
 use Rattle.relations.specs.exchange.Diagnosis.{low_header_of}
 use Rattle.relations.specs.exchange.Opening.{route_of as inputs_route}
 use Rattle.relations.specs.exchange.Units.{alarm_due}
-use Rattle.relations.specs.Phases.{passing, passing_by, updated}
 use Rattle.relations.specs.Plugging.{ready_for}
 use Rattle.relations.specs.RelationState.{RelationState}
-use Rattle.relations.specs.Timers.{Due, due_by, due_of, ending_of, is_timed, limit_of, unit_later}
+use Rattle.relations.specs.Timers.{Due, due_by, ending_of, is_timed, limit_of, unit_later}
 use Rattle.device_frames.specs.Heard.{Ticks}
 use Rattle.device_frames.specs.Relation.{alarms_of, due_frames, farewells_in, frames_in, inputs_of, low_alarms_of, plug_call_in, plug_calls, ready_calls}
 use Rattle.device_frames.specs.Relation.{where_due}
 use Rattle.device_frames.specs.Sendable.{AreSendable}
 use Rattle.device_frames.specs.Sent.{Sent, bytes_of}
 use Rattle.device_core.specs.State.{Live, Station, counter_of, units_after}
-use Rattle.device_core.specs.Log.{err_log, with_log}
-use Rattle.device_core.specs.Handled.{Handled, Moves, partner_of}
+use Rattle.device_core.specs.Handled.{Handled, partner_of}
 use Rattle.device_core.specs.Machine.{Stepped, handled_step, heard_step}
 use Rattle.controller_messages.specs.declared.setup.Setup.{Setup}
 use Rattle.end_laws.specs.device.Orderly.{AreNumbered, IsNumberedCall}
 use Rattle.end_laws.specs.hearing.Stations.{IsDevice, IsSetup}
 use Rattle.both_ends.specs.startup.request.Request.{request_for}
 use Rattle.both_ends.specs.startup.answer.Answer.{caller_of}
-use Rattle.rounds_law.specs.Path.{IsIgnored}
+use Rattle.rounds_law.specs.Path.{AsksNothing, IsIgnored}
 use Rattle.rounds_law.specs.Again.{HasEarlier, units_left}
 use Rattle.rounds_law.proofs.AgainIgnored.{HeardLaws, IsOfUnit, IsPlugCall, IsReadyOfOther, unit_ignored}
 use Rattle.rounds_law.proofs.AnywherePlugs.{later_numbered}
+use Rattle.rounds_law.proofs.AskedUnits.{quiet_unit, ticked_at, ticked_by}
 use Rattle.rounds_law.proofs.DevicePassingTimers.{tick_ending}
 
 -- ---- what is sent
@@ -223,41 +222,26 @@ ends_now link begun h = ends_by (is_timed link.phase) link.flow.cyclic.begun (li
 
 -- ---- the step
 
-abbrev ticked_at : Live → Option RelationState → Handled
-ticked_at live link =
-    let due = due_of link in
-    let later = updated (passing link) link in
-    let units = units_after 1 live.rest.units in
-    Moves (with_log (err_log due.farewell) (record live.rest { lamp = live.rest.lamp - 1; link = later; units = units }))
-    (due_frames live.values.running.suite.address (counter_of units) due later)
-
-abbrev ticked_by : Live → RelationState → Option Abort → Handled
-ticked_by live link ending =
-    let due = due_by link ending in
-    let later = updated (passing_by ending) (Some link) in
-    let units = units_after 1 live.rest.units in
-    Moves (with_log (err_log due.farewell) (record live.rest { lamp = live.rest.lamp - 1; link = later; units = units }))
-    (due_frames live.values.running.suite.address (counter_of units) due later)
-
 unit_is : (outcomes : List Outcome) (station : Station) (live : Live) (link : RelationState) (ending : Option Abort)
-    → live.rest.link ≡ Some link → ending_of link ≡ ending
+    → AsksNothing live → live.rest.link ≡ Some link → ending_of link ≡ ending
     → heard_step outcomes station live Ticks ≡ handled_step outcomes station live (ticked_by live link ending)
 unfolding heard_step
-unit_is outcomes station live link ending has is =
-    ap (λ (l : Option RelationState). handled_step outcomes station live (ticked_at live l)) has
-    ∙ ap (λ (e : Option Abort). handled_step outcomes station live (ticked_by live link e)) is
+unit_is outcomes station live link ending nothing has is =
+    ap (λ (what : Handled). handled_step outcomes station live what) (quiet_unit station live nothing)
+    ∙ (ap (λ (l : Option RelationState). handled_step outcomes station live (ticked_at live l)) has
+    ∙ ap (λ (e : Option Abort). handled_step outcomes station live (ticked_by live link e)) is)
 
 -- what the law says of it
 abbrev Goes : Setup → Live → ℕ → Stepped → Type 0
 Goes setup live left step =
     AllByRecursion (IsOfUnit setup) step.sent × (step.live.values ≡ live.values) × (step.live.rest.calls ≡ live.rest.calls)
-    × ((step.live.rest.link ≡ None) ⊎ HasEarlier setup left step.live)
+    × ((step.live.rest.link ≡ None) ⊎ HasEarlier setup left step.live) × AsksNothing step.live
 
 module _ (setup : Setup) (good : IsSetup setup) (outcomes : List Outcome) (station : Station) (live : Live) where
   goes_by : (left : ℕ) (earlier : HasEarlier setup (suc left) live) (ending : Option Abort)
       → Goes setup live left (handled_step outcomes station live (ticked_by live earlier.link ending))
   unfolding handled_step
-  goes_by left earlier (Some reason) = ((tt, tt), refl, refl, inl refl)
+  goes_by left earlier (Some reason) = ((tt, tt), refl, refl, inl refl, earlier.unasked)
   goes_by left earlier None =
       let link = earlier.link in
       let later = unit_later link in
@@ -281,12 +265,14 @@ module _ (setup : Setup) (good : IsSetup setup) (outcomes : List Outcome) (stati
           begun = earlier.begun;
           called = called;
           time = left_later link left earlier.begun earlier.time;
+          unasked = earlier.unasked;
         }),
+        earlier.unasked,
       )
 
   goes : (left : ℕ) → HasEarlier setup (suc left) live → Goes setup live left (heard_step outcomes station live Ticks)
   goes left earlier =
-      subst (Goes setup live left) (sym (unit_is outcomes station live earlier.link (ending_of earlier.link) earlier.has refl))
+      subst (Goes setup live left) (sym (unit_is outcomes station live earlier.link (ending_of earlier.link) earlier.unasked earlier.has refl))
       (goes_by left earlier (ending_of earlier.link))
 
   frames_are : (heard_step outcomes station live Ticks).frames ≡ map (bytes_of station.identity) (heard_step outcomes station live Ticks).sent
@@ -299,6 +285,7 @@ module _ (setup : Setup) (good : IsSetup setup) (outcomes : List Outcome) (stati
       × ((heard_step outcomes station live Ticks).live.values ≡ live.values)
       × ((heard_step outcomes station live Ticks).live.rest.calls ≡ live.rest.calls)
       × (((heard_step outcomes station live Ticks).live.rest.link ≡ None) ⊎ HasEarlier setup left (heard_step outcomes station live Ticks).live)
+      × AsksNothing (heard_step outcomes station live Ticks).live
   earlier_unit laws identity left device same earlier can =
       let all = goes left earlier in (
         subst (AllByRecursion (IsIgnored setup)) (sym (frames_are ∙ ap (λ (i : Identity). map (bytes_of i) (heard_step outcomes station live Ticks).sent) same))
@@ -306,20 +293,26 @@ module _ (setup : Setup) (good : IsSetup setup) (outcomes : List Outcome) (stati
         all.1,
         all.2,
         all.3,
+        all.4,
       )
 
   pub earlier_last : HasEarlier setup 1 live → (heard_step outcomes station live Ticks).live.rest.link ≡ None
   unfolding handled_step
   earlier_last earlier =
       let over = ends_now earlier.link earlier.begun earlier.time in
-      ap (λ (step : Stepped). step.live.rest.link) (unit_is outcomes station live earlier.link (Some over.0) earlier.has over.1)
+      ap (λ (step : Stepped). step.live.rest.link) (unit_is outcomes station live earlier.link (Some over.0) earlier.unasked earlier.has over.1)
 
-pub no_relation_unit : (outcomes : List Outcome) (station : Station) (live : Live) → live.rest.link ≡ None
+pub no_relation_unit : (outcomes : List Outcome) (station : Station) (live : Live) → live.rest.link ≡ None → AsksNothing live
     → ((heard_step outcomes station live Ticks).frames ≡ []) × ((heard_step outcomes station live Ticks).live.values ≡ live.values)
     × ((heard_step outcomes station live Ticks).live.rest.calls ≡ live.rest.calls) × ((heard_step outcomes station live Ticks).live.rest.link ≡ None)
+    × AsksNothing (heard_step outcomes station live Ticks).live
 unfolding heard_step handled_step
-no_relation_unit outcomes station live none =
-    subst (λ (l : Option RelationState). ((handled_step outcomes station live (ticked_at live l)).frames ≡ [])
+no_relation_unit outcomes station live none nothing =
+    subst (λ (what : Handled). ((handled_step outcomes station live what).frames ≡ []) × ((handled_step outcomes station live what).live.values ≡ live.values)
+    × ((handled_step outcomes station live what).live.rest.calls ≡ live.rest.calls) × ((handled_step outcomes station live what).live.rest.link ≡ None)
+    × AsksNothing (handled_step outcomes station live what).live) (sym (quiet_unit station live nothing))
+    (subst (λ (l : Option RelationState). ((handled_step outcomes station live (ticked_at live l)).frames ≡ [])
     × ((handled_step outcomes station live (ticked_at live l)).live.values ≡ live.values)
     × ((handled_step outcomes station live (ticked_at live l)).live.rest.calls ≡ live.rest.calls)
-    × ((handled_step outcomes station live (ticked_at live l)).live.rest.link ≡ None)) (sym none) (refl, refl, refl, refl)
+    × ((handled_step outcomes station live (ticked_at live l)).live.rest.link ≡ None)
+    × AsksNothing (handled_step outcomes station live (ticked_at live l)).live) (sym none) (refl, refl, refl, refl, nothing))

@@ -15,7 +15,8 @@ use Rattle.frame_codec.specs.Sendable.{CanBeSent, IsMac, carrying}
 use Rattle.rpc_core.specs.declared.interface.Interface.TheVariants.{Controller as controllers}
 use Rattle.rpc_core.specs.Interface.{interface_uuid}
 use Rattle.rpc_core.specs.Call.{Asked as Call}
-use Rattle.rpc_core.specs.Sendable.{CanBeCalled, IsHeader, IsUuid}
+use Rattle.rpc_core.specs.Response.{Answered}
+use Rattle.rpc_core.specs.Sendable.{CanBeAnswered, CanBeCalled, IsHeader, IsUuid}
 use Rattle.connect_blocks.specs.declared.control.ControlBlock.{ControlBlock}
 use Rattle.pn_alarms.specs.declared.fault.AlarmFault.{AlarmFault}
 use Rattle.pn_alarms.specs.declared.pdu.Header.{Header}
@@ -26,7 +27,7 @@ use Rattle.relations.specs.declared.ready.Ready.{Ready}
 use Rattle.relations.specs.exchange.Frames.{Inputs, Notifies, Reports}
 use Rattle.plans.specs.declared.parts.Controller.{Controller}
 use Rattle.device_frames.specs.Sendable.{AreSendable, IsSendable}
-use Rattle.device_frames.specs.Sent.{Sent, ReadyCall, PlugReadyCall, Ends, Exchanges, bytes_of, plug_ready_frame, ready_frame}
+use Rattle.device_frames.specs.Sent.{Sent, CallAnswer, ReadyCall, PlugReadyCall, Ends, Exchanges, bytes_of, plug_ready_frame, ready_frame, response_frame}
 use Rattle.controller_messages.specs.declared.setup.Setup.{Setup}
 use Rattle.controller_messages.specs.Heard.{Heard, Alarms, Answers, Calls, Cyclic, Nothing, Refuses, Responds}
 use Rattle.controller_messages.specs.Heard.{heard_alarm, heard_content, heard_of, heard_read, heard_real_time}
@@ -39,9 +40,10 @@ use Rattle.controller_core.specs.stored.Alarms.{is_alarm}
 use Rattle.controller_core.specs.stored.State.{Controlling, Live}
 use Rattle.controller_core.specs.Machine.{Stepped, after_turn, called, can_begin, is_exchanging, noticed, readied, step_of, stepped, stays, turned}
 use Rattle.end_laws.specs.hearing.Hearing.{mine_reported}
-use Rattle.end_laws.specs.hearing.Stations.{IsAddress, IsDevice, plug_ready_call, ready_call}
+use Rattle.end_laws.specs.hearing.Stations.{IsAddress, IsCaller, IsDevice, plug_ready_call, ready_call}
 use Rattle.rounds_law.specs.Path.{IsIgnored, controller_step}
 use Rattle.rounds_law.proofs.AgainIgnored as again
+use Rattle.rounds_law.proofs.AnywhereLinkIgnored.{answer_ignored}
 use Rattle.rounds_law.proofs.AnywhereDeviceSays.{IsSizedPlug, IsSizedReady}
 use Rattle.rounds_law.proofs.Choices.{where_not, where_so}
 use Rattle.rounds_law.proofs.PlaceTurns.{uncalled, unchanged}
@@ -147,12 +149,16 @@ real_time_quiet source frame_id body (inr other) =
     ∙ where_so (is_alarm_id frame_id) (heard_alarm source frame_id (alarm_of body)) _ other.1))
     (alarm_quiet source frame_id (alarm_of body))
 
--- The laws of the crates below: frames that can be sent are read as they are written, and ApplicationReady is heard as it was said.
+-- The laws of the crates below: frames that can be sent are read as they are written, and responses and ApplicationReady are heard as they
+-- were said.
 pub record UnitLaws : Type 0 where
   pub real_time : (destination source : Mac) (tag : Option ℕ) (frame_id : ℕ) (body : List ℕ)
       → CanBeSent (carrying destination source tag (RealTime frame_id body))
       → frame_of (frame_bytes (carrying destination source tag (RealTime frame_id body)))
       ≡ Ok (carrying destination source tag (RealTime frame_id (body ++ padding_of (carrying destination source tag (RealTime frame_id body)))))
+  pub responses : (mine : Controller) (identity : Identity) (caller : Caller) (address : List ℕ) (answer : Answered)
+      → IsDevice identity → IsCaller caller → IsAddress address → CanBeAnswered answer
+      → heard_of mine (response_frame identity caller address answer) ≡ mine_reported mine caller.mac caller.endpoint (Responds answer)
   pub ready : (mine : Controller) (identity : Identity) (address : List ℕ) (ready : Ready)
       → IsDevice identity → IsMac ready.partner.mac → IsAddress ready.partner.address → IsAddress address → CanBeCalled controllers (ready_call ready)
       → heard_of mine (ready_frame identity address ready)
@@ -213,7 +219,7 @@ module _ (laws : UnitLaws) (setup : Setup) (identity : Identity) where
 
   -- ---- all messages of a unit
 
-  -- A message of a unit: its ERR, an alarm again, ApplicationReady again, also that of a plug, or inputs.
+  -- A message of a unit: its ERR, an alarm again, ApplicationReady again, also that of a plug, inputs, or the refusal of a call of another start.
   abbrev pub IsOfUnit : Sent → Type 0
   IsOfUnit (Ends farewell) = Unit {0}
   IsOfUnit (Exchanges route (Inputs state inputs counter)) = is_cyclic route.sent_id ≡ true
@@ -221,6 +227,7 @@ module _ (laws : UnitLaws) (setup : Setup) (identity : Identity) where
   IsOfUnit (Exchanges route (Reports tag header alarm)) = Unit {0}
   IsOfUnit (ReadyCall address ready) = IsSizedReady ready
   IsOfUnit (PlugReadyCall address ready) = IsSizedPlug ready
+  IsOfUnit (CallAnswer caller address answer) = answer.header.activity ≡ setup.activity → ⊥
   IsOfUnit message = ⊥
 
   message_early : (message : Sent) → IsDevice identity → IsOfUnit message → IsSendable identity message → IsIgnoredEarly setup (bytes_of identity message)
@@ -239,6 +246,9 @@ module _ (laws : UnitLaws) (setup : Setup) (identity : Identity) where
       ignored_early setup (bytes_of identity (ReadyCall address ready)) (ready_quiet address ready device of can)
   message_early (PlugReadyCall address ready) device of can =
       ignored_early setup (bytes_of identity (PlugReadyCall address ready)) (plug_quiet address ready device of can)
+  message_early (CallAnswer caller address answer) device of can =
+      early_of setup (bytes_of identity (CallAnswer caller address answer))
+      (answer_ignored (record { responses = laws.responses }) setup identity caller address answer device can of)
   message_early message device of can = absurd of
 
   pub messages_early : (sent : List Sent) → IsDevice identity → AllByRecursion IsOfUnit sent → AreSendable identity sent

@@ -17,6 +17,7 @@ use Rattle.rounds_law.specs.Rounds.{Net}
 use Rattle.rounds_law.specs.Stages.{IsAddressing, IsConnecting}
 use Rattle.rounds_law.specs.Start.{CanBeAddressed, CanStart}
 use Rattle.rounds_law.proofs.AgainLaw.{plant_leads}
+use Rattle.rounds_law.proofs.AnywhereAsked.{unrelated_asked}
 use Rattle.rounds_law.proofs.AnywhereBesideEarly.{UnitLaws}
 use Rattle.rounds_law.proofs.AnywhereBesideLooks.{AsksBeside, IsAskingBeside}
 use Rattle.rounds_law.proofs.AnywhereBesideRound.{Pair, of_plan_next}
@@ -39,7 +40,11 @@ module _ {F : Type 0} {S : ℕ} (as_flash : Flash F S) (identity : Identity) (si
     of_device = at.device.of_device;
     of_plan = of_plan_next as_flash identity silence before setup net.device.station net.device.live.rest.real pairs.0.long.starts at.device.of_plan;
     addressed = addressed;
-    free = record { unrelated = none; uncalled = at.device.uncalled_next };
+    free = record {
+      unrelated = none;
+      unasked = unrelated_asked before setup net.device.live.rest.link net.device.live.rest.asked.standing none at.device.asked;
+      uncalled = at.device.uncalled_next;
+    };
   }
 
   addressing : (left : ℕ) (net : Net F) → IsAsking left Addressing wants.Address net → CanBeAddressed net.device.live → net.device.live.rest.link ≡ None
@@ -52,7 +57,11 @@ module _ {F : Type 0} {S : ℕ} (as_flash : Flash F S) (identity : Identity) (si
     of_device = at.device.of_device;
     of_plan = of_plan_next as_flash identity silence before setup net.device.station net.device.live.rest.real pairs.0.long.starts at.device.of_plan;
     named = record { name = at.device.named.name ∙ ap (λ p. p.station.name) (sym pairs.0.long.starts.plan) };
-    free = record { unrelated = none; uncalled = at.device.uncalled_next };
+    free = record {
+      unrelated = none;
+      unasked = unrelated_asked before setup net.device.live.rest.link net.device.live.rest.asked.standing none at.device.asked;
+      uncalled = at.device.uncalled_next;
+    };
     can = able;
   }
 

@@ -109,7 +109,7 @@ module _ {F : Type 0} {S : ℕ} (as_flash : Flash F S) (identity : Identity) (si
     ready_of : (before setup : Setup) (later : List Setup) (all : AllApart before (setup ∷ later)) (fewer : ℕ) (net : Net F)
         → IsOver as_flash identity silence said before setup later all.2 fewer net
         → IsReady as_flash identity silence said before setup later all.2 all.0 all.1 fewer net
-    ready_of before setup later all fewer net over = record { nets = over.nets; releases = over.releases; early = over.early; few = over.few }
+    ready_of before setup later all fewer net over = record { nets = over.nets; releases = over.releases; early = over.early.0; few = over.few }
 
     -- From the second round of a start that is refused.
     refused_leads : (before setup next : Setup) (rest : List Setup) (all : AllApart before (setup ∷ next ∷ rest)) → Leads setup next rest

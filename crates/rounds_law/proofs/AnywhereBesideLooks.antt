@@ -48,7 +48,7 @@ module _ {F : Type 0} {S : ℕ} (as_flash : Flash F S) (identity : Identity) (si
   pub record IsReady (left : ℕ) (net : Net F) : Type 0 where
     pub nets : UnderWayForAll as_flash identity silence before (setup ∷ later) net
     pub releases : AreOwn before IsRelease net.to_device
-    pub early : (start : Setup) → AllByRecursion (IsIgnoredEarly start) net.to_controller
+    pub early : AllByRecursion (IsIgnoredEarly setup) net.to_controller
     pub few : Few as_flash identity silence left net.device
 
   devices_of : (starts : List Setup) (net : Net F) → UnderWayForAll as_flash identity silence before starts net
@@ -170,8 +170,8 @@ module _ {F : Type 0} {S : ℕ} (as_flash : Flash F S) (identity : Identity) (si
     devices_later = all_aged as_flash identity silence before (setup ∷ later) pairs round.device after.device after.to_controller round.unit devices_found
 
     unit : UnitPassed said setup identity round.device after.to_controller after.device
-    unit = unit_passed said setup identity as_flash real silence round.device after.to_controller after.device round.unit devices_found.0.of_device
-        devices_found.0.lasts
+    unit = unit_passed said setup identity as_flash real before silence round.device after.to_controller after.device round.unit devices_found.0.of_device
+        devices_found.0.lasts devices_found.0.asked
 
     nearer : (after.device.live.rest.link ≡ None) ⊎ (suc (remains after.device.live.rest.link) ≤ left)
     nearer = unit_nearer as_flash identity silence before setup pairs.0 left round.device after.device after.to_controller round.unit devices_found.0
@@ -182,7 +182,7 @@ module _ {F : Type 0} {S : ℕ} (as_flash : Flash F S) (identity : Identity) (si
     IsFirst c = (c.setup ≡ setup) × (c.live ≡ first_live setup.plan)
 
     ignored : AllByRecursion (IsIgnoredEarly setup) (net.to_controller ++ parts.one)
-    ignored = all_joined (IsIgnoredEarly setup) net.to_controller parts.one (ready.early setup) (all_early setup parts.one then_released.ignored)
+    ignored = all_joined (IsIgnoredEarly setup) net.to_controller parts.one ready.early (all_early setup parts.one then_released.ignored)
 
     values_are : after.device.live.values ≡ parts.between.live.values
     values_are = unit.values ∙ ap (λ (l : Live). l.values) found.live

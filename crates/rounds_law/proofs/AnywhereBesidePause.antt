@@ -12,13 +12,12 @@ use Rattle.rounds_law.specs.Anywhere.{IsLate, LeadsAnywhereBack, remains}
 use Rattle.rounds_law.specs.AnywhereFrames.{AreOwn, IsRelease}
 use Rattle.rounds_law.specs.Rounds.{Net, Round}
 use Rattle.rounds_law.proofs.AgainLaw.{sum, sum_is}
-use Rattle.rounds_law.proofs.AnywhereBesideEarly.{IsIgnoredEarly, UnitLaws}
-use Rattle.rounds_law.proofs.AnywhereBesideRefused.{all_kept}
+use Rattle.rounds_law.proofs.AnywhereBesideEarly.{UnitLaws}
+use Rattle.rounds_law.proofs.AnywhereBesideRefused.{EarlyForAll, all_heard, all_kept, all_passed}
 use Rattle.rounds_law.proofs.AnywhereBesideRound.{Pair, UnderWayForAll}
-use Rattle.rounds_law.proofs.AnywhereBesideUnit.{unit_passed}
 use Rattle.rounds_law.proofs.AnywhereParted.{Nearer, Passes, nearer, passes, remains_few}
 use Rattle.rounds_law.proofs.AnywherePlants.{IsUnderWay}
-use Rattle.rounds_law.proofs.AnywhereRounds.{any_device, leads_longer}
+use Rattle.rounds_law.proofs.AnywhereRounds.{leads_longer}
 
 -- What follows a round in which the controller has ended: the next start if the pause is over, else the pause goes on.
 abbrev pub settled : {F : Type 0} → Bool → Setup → List Setup → Net F → ℕ → Plant F
@@ -46,7 +45,7 @@ module _ {F : Type 0} {S : ℕ} (as_flash : Flash F S) (identity : Identity) (si
     pub nets : UnderWayForAll as_flash identity silence setup starts net
     pub ended : is_ended net.controller.live.phase ≡ true
     pub releases : AreOwn setup IsRelease net.to_device
-    pub early : (start : Setup) → AllByRecursion (IsIgnoredEarly start) net.to_controller
+    pub early : EarlyForAll starts net.to_controller
     pub time : (net.device.live.rest.link ≡ None) ⊎ (remains net.device.live.rest.link + idle ≤ bound)
 
   module _ (setup next : Setup) (rest : List Setup) (pairs : AllByRecursion (Pair as_flash identity silence setup) (next ∷ rest)) where
@@ -67,14 +66,12 @@ module _ {F : Type 0} {S : ℕ} (as_flash : Flash F S) (identity : Identity) (si
         nearer as_flash setup next identity silence pairs.0.controller_frame pairs.0.ended_frame pairs.0.ended_unit pairs.0.device_frame pairs.0.link_unit
         pairs.0.link_release pairs.0.keeps pairs.0.long pairs.0.patience net after under releases round
 
-    -- What the device sends in the unit of a round is ignored by the next start.
-    early_after : (net after : Net F) → IsUnderWay as_flash setup next identity silence net → Round as_flash net after
-        → (start : Setup) → AllByRecursion (IsIgnoredEarly start) after.to_controller
-    early_after net after under round start =
-        let any = (any_device as_flash setup next identity silence pairs.0.long pairs.0.patience pairs.0.device_frame
-        net.device net.to_device round.answers round.device round.arrives under.device under.to_device).0 in
-        (unit_passed said start identity as_flash pairs.0.long.of_device silence round.device after.to_controller after.device round.unit any.of_device
-        any.lasts).early
+    -- What the device sends in the unit of a round is ignored by each of the next starts.
+    early_after : (net after : Net F) → UnderWayForAll as_flash identity silence setup (next ∷ rest) net → Round as_flash net after
+        → EarlyForAll (next ∷ rest) after.to_controller
+    early_after net after nets round =
+        all_passed as_flash identity silence said setup (next ∷ rest) pairs.0.long.of_device round.device after.to_controller after.device round.unit
+        (all_heard as_flash identity silence setup (next ∷ rest) pairs net round.answers round.device round.arrives nets)
 
     fewer_after : (bound idle : ℕ) (net after : Net F) → IsUnderWay as_flash setup next identity silence net → AreOwn setup IsRelease net.to_device
         → Round as_flash net after → (net.device.live.rest.link ≡ None) ⊎ (remains net.device.live.rest.link + idle ≤ bound)
@@ -95,7 +92,7 @@ module _ {F : Type 0} {S : ℕ} (as_flash : Flash F S) (identity : Identity) (si
           nets = all_kept as_flash identity silence setup (next ∷ rest) pairs net after past.nets round;
           ended = pass.ended;
           releases = pass.releases;
-          early = early_after net after past.nets.0 round;
+          early = early_after net after past.nets round;
           time = fewer_after bound idle net after past.nets.0 past.releases round past.time;
         }
 
@@ -118,7 +115,7 @@ module _ {F : Type 0} {S : ℕ} (as_flash : Flash F S) (identity : Identity) (si
           nets = all_kept as_flash identity silence setup (next ∷ rest) pairs plant.net after nets round;
           ended = pass.ended;
           releases = pass.releases;
-          early = early_after plant.net after nets.0 round;
+          early = early_after plant.net after nets round;
           time = late_after plant after nets late round;
         }
 
@@ -128,7 +125,7 @@ module _ {F : Type 0} {S : ℕ} (as_flash : Flash F S) (identity : Identity) (si
     pub record IsOver (left : ℕ) (net : Net F) : Type 0 where
       pub nets : UnderWayForAll as_flash identity silence setup (next ∷ rest) net
       pub releases : AreOwn setup IsRelease net.to_device
-      pub early : (start : Setup) → AllByRecursion (IsIgnoredEarly start) net.to_controller
+      pub early : EarlyForAll (next ∷ rest) net.to_controller
       pub few : remains net.device.live.rest.link ≤ left
 
     over_with : (pause bound idle : ℕ) (net : Net F) → pause ≤ idle → IsPast setup (next ∷ rest) bound idle net → IsOver (bound - pause) net

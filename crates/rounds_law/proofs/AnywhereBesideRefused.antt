@@ -3,9 +3,10 @@ use Rattle.std.proofs.Common.{◌≡◌, ◌⊎◌, inl, inr, ◌≤◌, ℕ, su
 use Rattle.std.specs.List.{AllByRecursion}
 use Rattle.flash_model.specs.declared.flash.Flash.{Ghosts as Flash}
 use Rattle.pn_values.specs.declared.identity.Identity.{Identity}
-use Rattle.relations.specs.RelationState.{RelationState}
+use Rattle.relations.specs.RelationState.{RelationState, uuid_of}
+use Rattle.device_frames.specs.Heard.{Ticks}
 use Rattle.device_frames.specs.Sendable.{AreSendable}
-use Rattle.device_core.specs.State.{Live}
+use Rattle.device_core.specs.State.{Live, State}
 use Rattle.controller_messages.specs.declared.request.Request.{Request}
 use Rattle.controller_messages.specs.declared.request.Request.TheVariants as wants
 use Rattle.controller_messages.specs.declared.setup.Setup.{Setup}
@@ -16,15 +17,17 @@ use Rattle.controller_core.specs.declared.stored.state.State.TheVariants.{Addres
 use Rattle.controller_core.specs.stored.State.{Controlling}
 use Rattle.controller_core.specs.Machine.{Stepped, step_of}
 use Rattle.network_world.specs.World.{is_ended}
+use Rattle.end_laws.specs.hearing.Stations.{IsDevice}
 use Rattle.rounds_law.specs.Again.{HasEnded, unset_frame}
 use Rattle.rounds_law.specs.Anywhere.{IsAnyDevice, remains}
 use Rattle.rounds_law.specs.AnywhereAgain.{StartLaws}
 use Rattle.rounds_law.specs.Path.{Asks, IsAddressed, controller_step, device_step, request_to}
-use Rattle.rounds_law.specs.Rounds.{Net, Round}
+use Rattle.rounds_law.specs.Rounds.{Goes, HearsAll, Net, Round}
 use Rattle.rounds_law.specs.Start.{CanStart}
 use Rattle.rounds_law.proofs.AnywhereBesideEarly.{IsEarly, IsIgnoredEarly, UnitLaws, ignore_early}
 use Rattle.rounds_law.proofs.AnywhereBesideLooks.{AsksBeside, IsAskingBeside}
-use Rattle.rounds_law.proofs.AnywhereBesideRound.{Pair, UnderWayForAll, unit_nearer}
+use Rattle.rounds_law.proofs.AnywhereAsked.{none_repeats}
+use Rattle.rounds_law.proofs.AnywhereBesideRound.{AnyForAll, Pair, UnderWayForAll, unit_nearer}
 use Rattle.rounds_law.proofs.AnywhereBesideUnit.{unit_passed}
 use Rattle.rounds_law.proofs.AnywhereRounds.{any_device}
 use Rattle.rounds_law.proofs.CompositionEnds.{Passed, passed}
@@ -38,6 +41,31 @@ all_kept as_flash identity silence setup [] pairs net after all round = tt
 all_kept as_flash identity silence setup (start ∷ starts) pairs net after all round =
     (pairs.0.keeps pairs.0.long pairs.0.patience net after all.0 round, all_kept as_flash identity silence setup starts pairs.1 net after all.1 round)
 
+-- So does what holds of the device after frames of the controller.
+pub all_heard : {F : Type 0} {S : ℕ} (as_flash : Flash F S) (identity : Identity) (silence : ℕ) (setup : Setup) (starts : List Setup)
+    → AllByRecursion (Pair as_flash identity silence setup) starts → (net : Net F) (answers : List (List ℕ)) (device : State F)
+    → HearsAll as_flash net.device net.to_device answers device → UnderWayForAll as_flash identity silence setup starts net
+    → AnyForAll as_flash identity silence setup starts device
+all_heard as_flash identity silence setup [] pairs net answers device hears all = tt
+all_heard as_flash identity silence setup (start ∷ starts) pairs net answers device hears all = (
+  (any_device as_flash setup start identity silence pairs.0.long pairs.0.patience pairs.0.device_frame net.device net.to_device answers device hears
+      all.0.device all.0.to_device).0,
+  all_heard as_flash identity silence setup starts pairs.1 net answers device hears all.1,
+)
+
+-- What the device sends in a unit is ignored by the controller of each of them.
+abbrev pub EarlyForAll : List Setup → List (List ℕ) → Type 0
+EarlyForAll starts frames = AllByRecursion (λ start. AllByRecursion (IsIgnoredEarly start) frames) starts
+
+pub all_passed : {F : Type 0} {S : ℕ} (as_flash : Flash F S) (identity : Identity) (silence : ℕ) (said : UnitLaws) (setup : Setup) (starts : List Setup)
+    → IsDevice identity → (before : State F) (frames : List (List ℕ)) (after : State F) → Goes as_flash before Ticks frames after
+    → AnyForAll as_flash identity silence setup starts before → EarlyForAll starts frames
+all_passed as_flash identity silence said setup [] real before frames after goes all = tt
+all_passed as_flash identity silence said setup (start ∷ starts) real before frames after goes all = (
+  (unit_passed said start identity as_flash real setup silence before frames after goes all.0.of_device all.0.lasts all.0.asked).early,
+  all_passed as_flash identity silence said setup starts real before frames after goes all.1,
+)
+
 module _ {F : Type 0} {S : ℕ} (as_flash : Flash F S) (identity : Identity) (silence : ℕ) (said : UnitLaws) (before setup next : Setup) (rest : List Setup)
     (pairs : AllByRecursion (Pair as_flash identity silence before) (setup ∷ next ∷ rest)) (laws : StartLaws as_flash identity setup)
     (can : CanStart setup identity)
@@ -47,7 +75,7 @@ module _ {F : Type 0} {S : ℕ} (as_flash : Flash F S) (identity : Identity) (si
     pub nets : UnderWayForAll as_flash identity silence setup (next ∷ rest) net
     pub ended : is_ended net.controller.live.phase ≡ true
     pub nothing : net.to_device ≡ []
-    pub early : (start : Setup) → AllByRecursion (IsIgnoredEarly start) net.to_controller
+    pub early : EarlyForAll (next ∷ rest) net.to_controller
     pub time : (net.device.live.rest.link ≡ None) ⊎ (suc (remains net.device.live.rest.link) ≤ left)
 
   abbrev Asking : ℕ → Phases → Request → Net F → Type 0
@@ -85,8 +113,8 @@ module _ {F : Type 0} {S : ℕ} (as_flash : Flash F S) (identity : Identity) (si
       nets = all_kept as_flash identity silence setup (next ∷ rest) later_pairs net after at.nets round;
       ended = ap is_ended over.0.in_phase;
       nothing = over.1;
-      early = λ start. (unit_passed said start identity as_flash later_pairs.0.long.of_device silence round.device after.to_controller after.device round.unit
-          any_here.of_device any_here.lasts).early;
+      early = all_passed as_flash identity silence said setup (next ∷ rest) later_pairs.0.long.of_device round.device after.to_controller after.device
+          round.unit (all_heard as_flash identity silence setup (next ∷ rest) later_pairs net round.answers round.device round.arrives at.nets);
       time = unit_nearer as_flash identity silence setup next later_pairs.0 fewer round.device after.device after.to_controller round.unit any_here
           (few_here same);
     }
@@ -116,6 +144,7 @@ module _ {F : Type 0} {S : ℕ} (as_flash : Flash F S) (identity : Identity) (si
       let connect = request_to setup identity wants.Connect in
       let law = λ (sendable : AreSendable station.identity (device_step [] station net.device.live connect).sent).
       laws.device_refused can.can_meet can.has_address [] station net.device.live link at.device.of_device addressed has at.device.uncalled_next
+      (none_repeats before setup (uuid_of net.device.live.rest.link) net.device.live.rest.asked.standing 0 at.device.asked)
       (subst (λ (i : Identity). AreSendable i (device_step [] station net.device.live connect).sent) at.device.of_device sendable) in
       let all = arrive_first as_flash station (λ (live : Live). live.rest.link ≡ net.device.live.rest.link) (λ (octets : List ℕ). ⊥)
       (never (λ (live : Live). live.rest.link ≡ net.device.live.rest.link) station)

@@ -5,7 +5,7 @@ use Rattle.flash_model.specs.declared.flash.Flash.{Ghosts as Flash}
 use Rattle.pn_values.specs.declared.identity.Identity.{Identity}
 use Rattle.pn_values.specs.declared.real.Real.{Real}
 use Rattle.rpc_core.specs.Cache.{Kept as Stored, kept_of}
-use Rattle.relations.specs.RelationState.{RelationState}
+use Rattle.relations.specs.RelationState.{RelationState, uuid_of}
 use Rattle.device_frames.specs.Heard.{Ticks}
 use Rattle.device_core.specs.State.{Live, State, Station}
 use Rattle.controller_messages.specs.declared.setup.Setup.{Setup}
@@ -20,6 +20,7 @@ use Rattle.rounds_law.specs.AnywhereFrames.{AreOwn, IsAnything, IsOwn, IsRelease
 use Rattle.rounds_law.specs.Path.{IsAddressed, IsIgnored}
 use Rattle.rounds_law.specs.Rounds.{Goes, HearsAll, Net, hears_all}
 use Rattle.rounds_law.specs.Start.{CanBeAddressed, IsOfPlan}
+use Rattle.rounds_law.proofs.AnywhereAsked.{next_asked}
 use Rattle.rounds_law.proofs.AnywhereParts.{ControllerFrame, DeviceFrame, DeviceUnit, EndedFrame, EndedUnit, Hears, IsLong}
 use Rattle.rounds_law.proofs.AnywhereParts.{LinkGoesOn, LinkRelease, LinkUnit}
 use Rattle.rounds_law.proofs.AnywherePlants.{IsUnderWay, RoundKeeps}
@@ -123,6 +124,7 @@ module _ {F : Type 0} {S : ℕ} (as_flash : Flash F S) (identity : Identity) (si
     plugged = plan.plugged ∙ ap (λ p. p.real) (sym starts.plan);
     interval = subst (λ p. AcceptsInterval station.options p) (sym starts.plan) plan.interval;
     ready = plan.ready;
+    names = plan.names;
   }
 
   pub addressed_next : (setup next : Setup) (live : Live) → AreStarts setup next → IsAddressed setup live ⊎ CanBeAddressed live
@@ -151,6 +153,7 @@ module _ {F : Type 0} {S : ℕ} (as_flash : Flash F S) (identity : Identity) (si
     stored = λ kept is. none_stored next.activity live kept one.uncalled_next is;
     stored_other = λ kept is. none_stored next.activity live kept one.uncalled_next is;
     uncalled_next = other.uncalled_next;
+    asked = next_asked setup next later (uuid_of live.rest.link) live.rest.asked.standing one.asked other.asked;
   }
 
   pub all_next : (setup next : Setup) (starts : List Setup) (device : State F) → AreStarts setup next

@@ -21,7 +21,7 @@ use Rattle.controller_messages.specs.Sent.{Agrees}
 use Rattle.controller_messages.specs.Heard.{Answers, Heard, Nothing}
 use Rattle.controller_messages.specs.Requests.{writing_from}
 use Rattle.controller_core.specs.declared.stored.event.Event.{Event}
-use Rattle.controller_core.specs.declared.stored.event.Event.TheVariants.{Frame, Write}
+use Rattle.controller_core.specs.declared.stored.event.Event.TheVariants.{Frame}
 use Rattle.controller_core.specs.declared.stored.state.State.{State}
 use Rattle.controller_core.specs.declared.stored.state.State.TheVariants.{Looking, Addressing, Connecting, Ending, Waiting, Exchanging}
 use Rattle.controller_core.specs.stored.Cause.{cause_of}

@@ -1,6 +1,6 @@
 -- The answers of a device to the calls of its controller are fit, and are stored.
 use Rattle.std.proofs.Common.{◌≡◌, ◌⊎◌, ◌≤◌, ◌<◌, ◌+◌, ◌==◌, ◌&&◌, ℕ, nat_eq, Bool, true, false, List, [], ◌∷◌}
-use Rattle.std.proofs.Common.{Option, Some, None, Result, Ok, Err, refl, sym, ap, subst, ◌∙◌, arith}
+use Rattle.std.proofs.Common.{Option, Some, None, Result, Ok, Err, sym, ap, subst, ◌∙◌, arith}
 use Rattle.std.specs.Prelude.{option_and_then, unwrap_or}
 use Rattle.std.specs.List.{AllByRecursion}
 use Rattle.std.specs.Cmp.Lexicographic.{pointwise}
@@ -15,6 +15,7 @@ use Rattle.rpc_core.specs.Call.{Asked as Call}
 use Rattle.rpc_core.specs.Response.{Answered, answer_to, is_done}
 use Rattle.records.specs.declared.status.call_fault.CallFault.{CallFault}
 use Rattle.records.specs.declared.status.operation.Operation.{Operation}
+use Rattle.records.specs.declared.status.operation.Operation.TheVariants.{Write}
 use Rattle.records.specs.status.Status.{done, status_of}
 use Rattle.records.specs.writes.Asked.{writing_of}
 use Rattle.connects.specs.answers.Connect.{Chosen, chosen_of}
@@ -23,10 +24,11 @@ use Rattle.module_diff.specs.Diff.{diff_of}
 use Rattle.relations.specs.Calls.{done_of, release_of}
 use Rattle.relations.specs.Connect.{connect_blocks, connect_within}
 use Rattle.relations.specs.Numbers.{endpoint_of}
-use Rattle.relations.specs.RelationState.{RelationState}
+use Rattle.relations.specs.RelationState.{RelationState, uuid_of}
 use Rattle.device_frames.specs.Sendable.{IsSendable}
 use Rattle.device_frames.specs.Sent.{CallAnswer, Sent, bytes_of}
 use Rattle.device_core.specs.State.{Live, Rest, Station}
+use Rattle.device_core.specs.Asking.{asking_of}
 use Rattle.device_core.specs.Handled.{answer_from}
 use Rattle.device_core.specs.Handled.{kept_behind, outcome_of}
 use Rattle.controller_messages.specs.declared.setup.Setup.{Setup}
@@ -37,7 +39,7 @@ use Rattle.end_laws.specs.hearing.Stations.{IsDevice, IsSetup}
 use Rattle.end_laws.specs.turns.Turns.{chosen_in}
 use Rattle.both_ends.specs.startup.answer.Answer.{IsAllThere, caller_of, chosen_with}
 use Rattle.both_ends.specs.startup.request.Request.{no_rows, request_for}
-use Rattle.rounds_law.specs.Anywhere.{AllLast, IsAnyDevice, IsFit}
+use Rattle.rounds_law.specs.Anywhere.{AllLast, IsAnyDevice, IsFit, IsQuestionOf}
 use Rattle.rounds_law.specs.Path.{IsIgnored, hold_of}
 use Rattle.rounds_law.proofs.AnywhereDeviceFine.{IsFineMove, answer_stored}
 use Rattle.rounds_law.proofs.AnywhereDeviceSays.{IsFitting, SaysLaws}
@@ -53,7 +55,7 @@ some_is : {A : Type 0} (a b : A) → Some a ≡ Some b → a ≡ b
 some_is {A} a b e = ap (λ (o : Option A). unwrap_or o a) e
 
 -- a negative answer, and one to another call than the Connect
-refused_fit : (setup : Setup) (response : Answered) → is_done response.status ≡ false → IsFit setup (Responds response)
+pub refused_fit : (setup : Setup) (response : Answered) → is_done response.status ≡ false → IsFit setup (Responds response)
 refused_fit setup response negative = λ right positive. absurd cc
 
 later_fit : (setup : Setup) (response : Answered) → (response.header.sequence == 0) ≡ false → IsFit setup (Responds response)
@@ -94,7 +96,9 @@ pub record CallLaws (setup next : Setup) (silence : ℕ) (station : Station) : T
   pub same : diff_of (request_for setup.plan setup.ar).expected setup.plan.real.modules.items ≡ no_rows
   pub accepted : connect_within station.options setup.plan.controller.mac None (blocks_of setup asks.Connect) ≡ Ok (request_for setup.plan setup.ar)
   pub quiet : (number : ℕ) → number < 65536 → (standing : Option (List ℕ))
-      → IsQuiet standing setup.plan.real (writing_of standing setup.plan.real (blocks_of setup (asks.Write number)))
+      → IsQuiet station.named standing setup.plan.real (writing_of standing setup.plan.real (blocks_of setup (asks.Write number)))
+  pub unasked : (number : ℕ) → number < 65536 → (standing : Option (List ℕ)) (caller : Caller) (call : Call)
+      → asking_of setup.plan.real station.named standing caller call (blocks_of setup (asks.Write number)) Write ≡ Ok None
   pub released : (link : Option RelationState) → (release_of link (blocks_of setup (asks.Release 0)) ≡ Ok (control_of setup 4))
       ⊎ ((refusal : CallFault) × (release_of link (blocks_of setup (asks.Release 0)) ≡ Err refusal))
   pub unchosen : chosen_in (block_bytes (is.ReleaseRes (done_of (control_of setup 4)))) ≡ None
@@ -113,16 +117,18 @@ module _ (setup next : Setup) (identity : Identity) (silence : ℕ) (station : S
   pub served_move : (live : Live) → IsAnyDevice setup next identity silence station live → (rest : Rest) → rest.calls ≡ live.rest.calls
       → (call : Call) → call.header.activity ≡ setup.activity → (address : List ℕ) (operation : Operation) (outcome : Result (List ℕ) CallFault)
       → IsFit setup (Responds (answer_to call (outcome_of operation outcome).0 (outcome_of operation outcome).1))
-      → (link : Option RelationState) → AllLast silence link → (behind : List Sent) → AllByRecursion (IsFitting setup) behind
+      → (link : Option RelationState) → AllLast silence link → IsQuestionOf setup next (uuid_of link) rest.asked.standing
+      → (behind : List Sent) → AllByRecursion (IsFitting setup) behind
       → FineMove (kept_behind station.identity rest call (answer_from address caller call operation outcome) link)
       (answer_from address caller call operation outcome ∷ behind)
-  served_move live before rest same call own address operation outcome fit link lasts behind fits =
+  served_move live before rest same call own address operation outcome fit link lasts asked behind fits =
       let answer = answer_to call (outcome_of operation outcome).0 (outcome_of operation outcome).1 in (
         lasts,
         λ can. answer_stored setup next identity silence station laws.says laws.good laws.device laws.other laws.ignored
             caller address call answer rest.calls own own
-            (refl, fit) can.0 (ap (kept_of next.activity) same ∙ before.uncalled_next),
-        ((refl, fit), fits),
+            fit can.0 (ap (kept_of next.activity) same ∙ before.uncalled_next),
+        (fit, fits),
+        asked,
       )
 
   pub fit_no : (call : Call) (operation : Operation) (refusal : CallFault) → IsFit setup (Responds (answer_to call (status_of operation refusal) []))

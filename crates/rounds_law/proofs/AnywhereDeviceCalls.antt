@@ -22,6 +22,7 @@ use Rattle.records.specs.declared.status.operation.Operation.{Operation}
 use Rattle.records.specs.declared.status.operation.Operation.TheVariants.{Connect, Control, Release, Write}
 use Rattle.records.specs.status.Operation.{operation_of}
 use Rattle.records.specs.status.Status.{done}
+use Rattle.rpc_core.specs.declared.response.Status.{Status}
 use Rattle.record_blocks.specs.declared.write_record.IodWriteReq.{IodWriteReq}
 use Rattle.records.specs.declared.writes.taken.TakenRecord.{TakenRecord}
 use Rattle.records.specs.declared.writes.write.Effect.{Effect}
@@ -42,8 +43,10 @@ use Rattle.device_frames.specs.Heard.{Calls}
 use Rattle.device_frames.specs.Relation.{ready_calls}
 use Rattle.device_core.specs.State.{Live, Station}
 use Rattle.device_core.specs.Log.{but_rest, connect_log, release_log, with_log}
-use Rattle.device_core.specs.Handled.{Handled, counted_by, handled_blocks, handled_call, handled_effect, handled_looked}
-use Rattle.device_core.specs.Handled.{handled_new, handled_plug_end, handled_said, handled_write, kept_answer}
+use Rattle.asked_records.specs.Asked.{is_repeat}
+use Rattle.device_core.specs.Asking.{Asking as Question, asking_of, left_asked, released_by}
+use Rattle.device_core.specs.Handled.{Handled, Moves, counted_by, handled_asking, handled_blocks, handled_call, handled_effect, handled_looked}
+use Rattle.device_core.specs.Handled.{handled_new, handled_unanswered, handled_plug_end, handled_said, handled_write, kept_answer}
 use Rattle.device_core.specs.Handled.{number_now, partner_of, ready_behind, served, starting_of}
 use Rattle.device_core.specs.Machine.{effect_link, link_behind, one_link, several_answer}
 use Rattle.device_core.specs.Several.{Judged, judged_each}
@@ -52,8 +55,9 @@ use Rattle.controller_messages.specs.declared.request.Request.TheVariants as ask
 use Rattle.controller_messages.specs.Requests.{blocks_of, call_for, control_of, write_count}
 use Rattle.both_ends.specs.startup.answer.Answer.{IsAllThere, caller_of}
 use Rattle.both_ends.specs.startup.request.Request.{request_for}
-use Rattle.rounds_law.specs.Anywhere.{AllLast, IsAnyDevice}
+use Rattle.rounds_law.specs.Anywhere.{AllLast, IsAnyDevice, IsQuestionOf}
 use Rattle.rounds_law.proofs.AgainKept.{refused_within}
+use Rattle.rounds_law.proofs.AnywhereAsked.{left_so, nothing_asked, unrelated_asked}
 use Rattle.rounds_law.proofs.AnywhereDeviceFine.{IsFine, parameterized_lasts, records_last, restarted_lasts, stored_before}
 use Rattle.rounds_law.proofs.AnywhereDeviceSays.{IsFitting}
 use Rattle.rounds_law.proofs.AnywhereDeviceWrites.{IsQuiet}
@@ -84,15 +88,16 @@ module _ (setup next : Setup) (identity : Identity) (silence : ℕ) (station : S
       served_move setup next identity silence station laws live before (counted_by (let e : Result (List ℕ) CallFault = Err refusal in e)
       (with_log (connect_log (blocks_of setup asks.Connect) (let e : Result (List ℕ) CallFault = Err refusal in e)) live.rest))
       refl (call_for setup asks.Connect) refl live.values.running.suite.address Connect (Err refusal)
-      (fit_no setup next identity silence station laws (call_for setup asks.Connect) Connect refusal) live.rest.link before.lasts [] tt
+      (fit_no setup next identity silence station laws (call_for setup asks.Connect) Connect refusal) live.rest.link before.lasts before.asked [] tt
 
   no_difference : (live : Live) → IsAnyDevice setup next identity silence station live → differing_of (request_for setup.plan setup.ar) live.rest.real ≡ []
   no_difference live before =
       ap (λ (real : Real). differing_of (request_for setup.plan setup.ar) real) before.of_plan.plugged
       ∙ ap (λ (rows : Listed DiffModule DiffSubmodule). differing_octets rows) laws.same
 
-  connect_taken : (live : Live) → IsAnyDevice setup next identity silence station live → Fine live (connect_by live (Ok (request_for setup.plan setup.ar)))
-  connect_taken live before =
+  connect_taken : (live : Live) → IsAnyDevice setup next identity silence station live → live.rest.link ≡ None
+      → Fine live (connect_by live (Ok (request_for setup.plan setup.ar)))
+  connect_taken live before none =
       let request = request_for setup.plan setup.ar in
       let number = number_now station live in
       let blocks = connect_blocks station.identity number request (differing_of request live.rest.real) in
@@ -105,7 +110,17 @@ module _ (setup next : Setup) (identity : Identity) (silence : ℕ) (station : S
       (subst (λ (differing : List ℕ). IsAllThere (connect_blocks station.identity number request differing) (0xC000 + number) (endpoint_of number))
       (sym (no_difference live before)) (laws.whole number few)))
       (Some (made_of request (partner_of caller) (rows_of request live.rest.real) station.options (starting_of station live)))
-      (record { runs = λ untimed. absurd cc; active = laws.active; holds = laws.holds; named = laws.good.ar; object = refl; called = (omega arith, tt); inputs = refl }) [] tt
+      (record {
+        runs = λ untimed. absurd cc;
+        active = laws.active;
+        holds = laws.holds;
+        named = laws.good.ar;
+        object = refl;
+        called = (omega arith, tt);
+        inputs = refl;
+      })
+      (nothing_asked setup next (Some setup.ar) live.rest.asked.standing (unrelated_asked setup next live.rest.link live.rest.asked.standing none before.asked))
+      [] tt
 
   connect_fine : (live : Live) → IsAnyDevice setup next identity silence station live
       → Fine live (handled_new station live caller (call_for setup asks.Connect) (blocks_of setup asks.Connect) Connect)
@@ -117,7 +132,7 @@ module _ (setup next : Setup) (identity : Identity) (silence : ℕ) (station : S
           subst (λ (r : Result Request CallFault). Fine live (connect_by live r))
           (sym (ap (λ (l : Option RelationState). connect_within station.options setup.plan.controller.mac l (blocks_of setup asks.Connect)) has
           ∙ laws.accepted))
-          (connect_taken live before)
+          (connect_taken live before has)
       by_link (Some link) has =
           let because = refused_within station.options.smallest_interval link.request.ar.uuid (blocks_of setup asks.Connect) in
           subst (λ (r : Result Request CallFault). Fine live (connect_by live r))
@@ -129,7 +144,8 @@ module _ (setup next : Setup) (identity : Identity) (silence : ℕ) (station : S
   abbrev release_by : Live → Call → Result ControlBlock CallFault → Handled
   release_by live call ended =
       let answer = ended >>= λ block. Ok (block_bytes (is.ReleaseRes (done_of block))) in
-      served station (but_rest live (with_log (release_log (uuid_of live.rest.link) answer) live.rest)) caller call Release answer
+      let asked = left_asked (released_by answer (uuid_of live.rest.link)) live.rest.asked in
+      served station (but_rest live (record (with_log (release_log (uuid_of live.rest.link) answer) live.rest) { asked = asked })) caller call Release answer
       (updated (answered Ended ended) live.rest.link) []
 
   release_fine : (live : Live) → IsAnyDevice setup next identity silence station live → (sequence : ℕ)
@@ -144,16 +160,17 @@ module _ (setup next : Setup) (identity : Identity) (silence : ℕ) (station : S
           let answer : Result (List ℕ) CallFault = Ok blocks in
           subst (λ (r : Result ControlBlock CallFault). Fine live (release_by live (call_for setup (asks.Release sequence)) r)) (sym e)
           (served_move setup next identity silence station laws live before
-          (with_log (release_log (uuid_of live.rest.link) answer) live.rest) refl (call_for setup (asks.Release sequence)) refl
+          (record (with_log (release_log (uuid_of live.rest.link) answer) live.rest) { asked = left_asked (uuid_of live.rest.link) live.rest.asked }) refl
+          (call_for setup (asks.Release sequence)) refl
           live.values.running.suite.address Release answer (unchosen_fit setup (answer_to (call_for setup (asks.Release sequence)) done blocks) laws.unchosen)
-          None tt [] tt)
+          None tt (left_so setup next (uuid_of live.rest.link) None live.rest.asked before.asked) [] tt)
       by_outcome (inr e) =
           let answer : Result (List ℕ) CallFault = Err e.0 in
           subst (λ (r : Result ControlBlock CallFault). Fine live (release_by live (call_for setup (asks.Release sequence)) r)) (sym e.1)
           (served_move setup next identity silence station laws live before
           (with_log (release_log (uuid_of live.rest.link) answer) live.rest) refl (call_for setup (asks.Release sequence)) refl
           live.values.running.suite.address Release answer
-          (fit_no setup next identity silence station laws (call_for setup (asks.Release sequence)) Release e.0) live.rest.link before.lasts [] tt)
+          (fit_no setup next identity silence station laws (call_for setup (asks.Release sequence)) Release e.0) live.rest.link before.lasts before.asked [] tt)
 
   -- ---- PrmEnd
 
@@ -175,6 +192,20 @@ module _ (setup next : Setup) (identity : Identity) (silence : ℕ) (station : S
       → AllByRecursion (IsFitting setup) (ready_behind by_application address link (Ok block))
   behind_fits true address link block lasts = tt
   behind_fits false address link block lasts = ready_fits address link lasts
+
+  -- The relation keeps its ARUUID.
+  restarted_named : (link : Option RelationState) → uuid_of (updated (Named (partner_of caller)) link) ≡ uuid_of link
+  restarted_named None = refl
+  restarted_named (Some link) = refl
+
+  parameterized_named : (by_application : Bool) (link : Option RelationState) → uuid_of (updated (Parameterized by_application) link) ≡ uuid_of link
+  parameterized_named by_application None = refl
+  parameterized_named true (Some link) = refl
+  parameterized_named false (Some link) = refl
+
+  ended_named : (by_application : Bool) (link : Option RelationState)
+      → uuid_of (updated (Named (partner_of caller)) (updated (Parameterized by_application) link)) ≡ uuid_of link
+  ended_named by_application link = restarted_named (updated (Parameterized by_application) link) ∙ parameterized_named by_application link
 
   abbrev control_by : Live → Result ControlBlock CallFault → Handled
   control_by live ended =
@@ -202,12 +233,14 @@ module _ (setup next : Setup) (identity : Identity) (silence : ℕ) (station : S
           (Ok (block_bytes (is.PrmEndRes (done_of block))))
           (fit_later setup next identity silence station laws (call_for setup asks.PrmEnd) (block_bytes (is.PrmEndRes (done_of block)))
           (not_first (write_count setup.plan))) after lasts
+          (subst (λ (uuid : Option (List ℕ)). IsQuestionOf setup next uuid live.rest.asked.standing)
+          (sym (ended_named by_application live.rest.link)) before.asked)
           (ready_behind by_application live.values.running.suite.address after (Ok block))
           (behind_fits by_application live.values.running.suite.address after block lasts)
       by_outcome (Err refusal) =
           served_move setup next identity silence station laws live before
           live.rest refl (call_for setup asks.PrmEnd) refl live.values.running.suite.address Control (Err refusal)
-          (fit_no setup next identity silence station laws (call_for setup asks.PrmEnd) Control refusal) live.rest.link before.lasts [] tt
+          (fit_no setup next identity silence station laws (call_for setup asks.PrmEnd) Control refusal) live.rest.link before.lasts before.asked [] tt
 
   -- ---- Write
 
@@ -223,13 +256,38 @@ module _ (setup next : Setup) (identity : Identity) (silence : ℕ) (station : S
       by_effect (Stores value) = lasts
       by_effect (Keeps parameter) = took_lasts parameter (keeping parameter link) link lasts
 
-      by_result : (result : Result Asking CallFault) → AllLast silence (one_link result link)
+      by_result : (result : Result Asking Status) → AllLast silence (one_link result link)
       by_result (Ok write) = by_effect write.effect
-      by_result (Err refusal) = lasts
+      by_result (Err status) = lasts
 
   each_lasts : (judged : List Judged) (link : Option RelationState) → AllLast silence link → AllLast silence (link_behind judged link)
   each_lasts [] link lasts = lasts
   each_lasts (one ∷ judged) link lasts = each_lasts judged (one_link one.1 link) (one_lasts one link lasts)
+
+  took_named : (kept : Result Records CallFault) (link : Option RelationState) → uuid_of (updated (taking kept) link) ≡ uuid_of link
+  took_named (Ok records) None = refl
+  took_named (Ok records) (Some link) = refl
+  took_named (Err refusal) link = refl
+
+  one_named : (one : Judged) (link : Option RelationState) → uuid_of (one_link one.1 link) ≡ uuid_of link
+  one_named one link = by_result one.1
+    where
+      by_effect : (effect : Effect) → uuid_of (effect_link effect link) ≡ uuid_of link
+      by_effect (Stores value) = refl
+      by_effect (Keeps parameter) = took_named (keeping parameter link) link
+
+      by_result : (result : Result Asking Status) → uuid_of (one_link result link) ≡ uuid_of link
+      by_result (Ok write) = by_effect write.effect
+      by_result (Err status) = refl
+
+  each_named : (judged : List Judged) (link : Option RelationState) → uuid_of (link_behind judged link) ≡ uuid_of link
+  each_named [] link = refl
+  each_named (one ∷ judged) link = each_named judged (one_link one.1 link) ∙ one_named one link
+
+  -- so the application is asked the same
+  same_asked : (live : Live) → IsAnyDevice setup next identity silence station live → (link : Option RelationState) → uuid_of link ≡ uuid_of live.rest.link
+      → IsQuestionOf setup next (uuid_of link) live.rest.asked.standing
+  same_asked live before link same = subst (λ (uuid : Option (List ℕ)). IsQuestionOf setup next uuid live.rest.asked.standing) (sym same) before.asked
 
   kept_fine : (live : Live) → IsAnyDevice setup next identity silence station live → (number : ℕ) (header : IodWriteReq) (kept : Result Records CallFault)
       → Fine live (served station live caller (call_for setup (asks.Write number)) Write (kept_answer header kept)
@@ -239,23 +297,26 @@ module _ (setup next : Setup) (identity : Identity) (silence : ℕ) (station : S
       live.rest refl (call_for setup (asks.Write number)) refl live.values.running.suite.address Write (kept_answer header (Ok records))
       (fit_later setup next identity silence station laws (call_for setup (asks.Write number)) (answer_of header) (not_first number))
       (updated (Named (partner_of caller)) (updated (Took records) live.rest.link))
-      (restarted_lasts silence (partner_of caller) (updated (Took records) live.rest.link) (records_last silence records live.rest.link before.lasts)) [] tt
+      (restarted_lasts silence (partner_of caller) (updated (Took records) live.rest.link) (records_last silence records live.rest.link before.lasts))
+      (same_asked live before (updated (Named (partner_of caller)) (updated (Took records) live.rest.link))
+      (restarted_named (updated (Took records) live.rest.link) ∙ took_named (Ok records) live.rest.link)) [] tt
   kept_fine live before number header (Err refusal) =
       served_move setup next identity silence station laws live before
       live.rest refl (call_for setup (asks.Write number)) refl live.values.running.suite.address Write (Err refusal)
-      (fit_no setup next identity silence station laws (call_for setup (asks.Write number)) Write refusal) live.rest.link before.lasts [] tt
+      (fit_no setup next identity silence station laws (call_for setup (asks.Write number)) Write refusal) live.rest.link before.lasts before.asked [] tt
 
   writing_fine : (live : Live) → IsAnyDevice setup next identity silence station live → (number : ℕ) (writing : Result Writing CallFault)
-      → IsQuiet (uuid_of live.rest.link) live.rest.real writing → Fine live (handled_write station live caller (call_for setup (asks.Write number)) writing)
+      → IsQuiet station.named (uuid_of live.rest.link) live.rest.real writing
+      → Fine live (handled_write station live caller (call_for setup (asks.Write number)) writing)
   writing_fine live before number (Err refusal) quiet =
       served_move setup next identity silence station laws live before
       live.rest refl (call_for setup (asks.Write number)) refl live.values.running.suite.address Write (Err refusal)
-      (fit_no setup next identity silence station laws (call_for setup (asks.Write number)) Write refusal) live.rest.link before.lasts [] tt
+      (fit_no setup next identity silence station laws (call_for setup (asks.Write number)) Write refusal) live.rest.link before.lasts before.asked [] tt
   writing_fine live before number (Ok (One write)) quiet =
       subst (λ (effect : Effect). Fine live (handled_effect station live caller (call_for setup (asks.Write number)) write.request effect)) (sym quiet.1)
       (kept_fine live before number write.request (keeping quiet.0 live.rest.link))
   writing_fine live before number (Ok (Each header entries)) quiet =
-      let judged = judged_each (uuid_of live.rest.link) live.rest.real entries in (
+      let judged = judged_each station.named (uuid_of live.rest.link) live.rest.real entries in (
         quiet,
         served_move setup next identity silence station laws live before
             live.rest refl (call_for setup (asks.Write number)) refl live.values.running.suite.address Write
@@ -263,15 +324,22 @@ module _ (setup next : Setup) (identity : Identity) (silence : ℕ) (station : S
             (fit_later setup next identity silence station laws (call_for setup (asks.Write number)) (several_answer header judged [] live.rest.link)
             (not_first number))
             (updated (Named (partner_of caller)) (link_behind judged live.rest.link))
-            (restarted_lasts silence (partner_of caller) (link_behind judged live.rest.link) (each_lasts judged live.rest.link before.lasts)) [] tt,
+            (restarted_lasts silence (partner_of caller) (link_behind judged live.rest.link) (each_lasts judged live.rest.link before.lasts))
+            (same_asked live before (updated (Named (partner_of caller)) (link_behind judged live.rest.link))
+            (restarted_named (link_behind judged live.rest.link) ∙ each_named judged live.rest.link)) [] tt,
       )
 
   write_fine : (live : Live) → IsAnyDevice setup next identity silence station live → (number : ℕ) → number < 65536
       → Fine live (handled_new station live caller (call_for setup (asks.Write number)) (blocks_of setup (asks.Write number)) Write)
   write_fine live before number small =
-      writing_fine live before number (writing_of (uuid_of live.rest.link) live.rest.real (blocks_of setup (asks.Write number)))
-      (subst (λ (real : Real). IsQuiet (uuid_of live.rest.link) real (writing_of (uuid_of live.rest.link) real (blocks_of setup (asks.Write number))))
-      (sym before.of_plan.plugged) (laws.quiet number small (uuid_of live.rest.link)))
+      let call = call_for setup (asks.Write number) in
+      let blocks = blocks_of setup (asks.Write number) in
+      let unasked = ap (λ (real : Real). asking_of real station.named (uuid_of live.rest.link) caller call blocks Write) before.of_plan.plugged
+      ∙ laws.unasked number small (uuid_of live.rest.link) caller call in
+      subst (λ (asking : Result (Option Question) CallFault). Fine live (handled_asking station live caller call blocks Write asking)) (sym unasked)
+      (writing_fine live before number (writing_of (uuid_of live.rest.link) live.rest.real blocks)
+      (subst (λ (real : Real). IsQuiet station.named (uuid_of live.rest.link) real (writing_of (uuid_of live.rest.link) real blocks))
+      (sym before.of_plan.plugged) (laws.quiet number small (uuid_of live.rest.link))))
 
   -- ---- a call, by what is stored
 
@@ -283,15 +351,24 @@ module _ (setup next : Setup) (identity : Identity) (silence : ℕ) (station : S
       (sym own)
       (by_kept (kept_of setup.activity live.rest.calls) refl)
     where
+      -- a repeat of the call that is asked is dropped
+      by_repeat : (repeats : Bool) → Fine live (if repeats then Moves live.rest [] else handled_new station live caller call blocks operation)
+      by_repeat true = (before.lasts, λ can. stored_before setup next identity silence station live before, tt, before.asked)
+      by_repeat false = fine
+
+      unanswered : Fine live (handled_unanswered station live caller call blocks operation)
+      unanswered = by_repeat (is_repeat call.header.activity call.header.sequence live.rest.asked)
+
       by_number : (kept : Kept) → kept_of setup.activity live.rest.calls ≡ Some kept → (same less : Bool)
           → Fine live (handled_looked station live caller call blocks operation (if same then again kept.frame else (if less then old else new)))
-      by_number kept found true less = (before.lasts, λ can. stored_before setup next identity silence station live before, (before.stored kept found, tt))
+      by_number kept found true less =
+          (before.lasts, λ can. stored_before setup next identity silence station live before, (before.stored kept found, tt), before.asked)
       by_number kept found false true = tt
-      by_number kept found false false = fine
+      by_number kept found false false = unanswered
 
       by_kept : (found : Option Kept) → kept_of setup.activity live.rest.calls ≡ found
           → Fine live (handled_looked station live caller call blocks operation (reported_by call.header.sequence found))
-      by_kept None e = fine
+      by_kept None e = unanswered
       by_kept (Some kept) e = by_number kept e (call.header.sequence == kept.sequence) (nat_lt call.header.sequence kept.sequence)
 
   said_fine : (live : Live) (call : Call) (operation : Operation) (blocks : List ℕ) → call.blocks ≡ Some blocks

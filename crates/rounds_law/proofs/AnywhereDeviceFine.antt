@@ -19,7 +19,7 @@ use Rattle.rpc_core.specs.Response.{Answered}
 use Rattle.cyclic_data.specs.Timing.{Hearing, held_on}
 use Rattle.cyclic_data.specs.declared.exchange.route.Route.{Route}
 use Rattle.frame_codec.specs.FrameId.{is_cyclic}
-use Rattle.relations.specs.RelationState.{RelationState}
+use Rattle.relations.specs.RelationState.{RelationState, uuid_of}
 use Rattle.relations.specs.declared.phase.Partner.{Partner}
 use Rattle.relations.specs.exchange.Flow.{Flow}
 use Rattle.relations.specs.Phases.{Named, Records, Took, Parameterized, parameterized_from, exchanging_from, updated, with_flow, with_reported}
@@ -34,10 +34,11 @@ use Rattle.device_core.specs.Several.{Judged, texts_in}
 use Rattle.controller_messages.specs.declared.setup.Setup.{Setup}
 use Rattle.end_laws.specs.device.Orderly.{AreNumbered}
 use Rattle.end_laws.specs.hearing.Stations.{IsDevice, IsSetup}
-use Rattle.rounds_law.specs.Anywhere.{AllLast, ChoosesWell, IsAnyDevice, Lasts}
+use Rattle.rounds_law.specs.Anywhere.{AllLast, ChoosesWell, IsAnyDevice, IsQuestionOf, Lasts}
 use Rattle.rounds_law.specs.Path.{IsAddressed, IsIgnored}
 use Rattle.rounds_law.specs.Start.{CanBeAddressed, IsOfPlan}
 use Rattle.rounds_law.proofs.AgainKept.{none_more}
+use Rattle.rounds_law.proofs.AnywhereAsked.{some_more}
 use Rattle.rounds_law.proofs.AnywherePlugs.{after_numbered, later_numbered}
 use Rattle.rounds_law.proofs.AnywhereDeviceSays.{IsFitting, IsSizedIfPlug, SaysLaws, all_fit, all_sized, message_fit}
 use Rattle.rounds_law.proofs.DeviceCallingSteps.{kept_first}
@@ -135,7 +136,9 @@ module _ (setup next : Setup) (identity : Identity) (silence : ℕ) (station : S
 
   -- The rest after it, and what is sent.
   abbrev pub IsFineMove : Rest → List Sent → Type 0
-  IsFineMove rest sent = AllLast silence rest.link × (AreSendable station.identity sent → IsStored rest.calls) × AllByRecursion (IsFitting setup) sent
+  IsFineMove rest sent =
+      AllLast silence rest.link × (AreSendable station.identity sent → IsStored rest.calls) × AllByRecursion (IsFitting setup) sent
+      × IsQuestionOf setup next (uuid_of rest.link) rest.asked.standing
 
   -- An outcome that leaves the settings. Of several records that one call writes, none is an I&M text.
   abbrev pub IsFine : Live → Handled → Type 0
@@ -154,9 +157,9 @@ module _ (setup next : Setup) (identity : Identity) (silence : ℕ) (station : S
 
   -- the same settings, and another rest
   rest_after : (live : Live) (rest : Rest) → IsAnyDevice setup next identity silence station live → rest.real ≡ live.rest.real
-      → AllLast silence rest.link → IsStored rest.calls
+      → AllLast silence rest.link → IsStored rest.calls → IsQuestionOf setup next (uuid_of rest.link) rest.asked.standing
       → IsAnyDevice setup next identity silence station (record { values = live.values; rest = rest })
-  rest_after live rest device real lasts stored = record {
+  rest_after live rest device real lasts stored asked = record {
     of_device = device.of_device;
     of_plan = subst (λ (r : Real). IsOfPlan setup station r) (sym real) device.of_plan;
     named = record { name = device.named.name };
@@ -166,6 +169,7 @@ module _ (setup next : Setup) (identity : Identity) (silence : ℕ) (station : S
     stored = stored.well;
     stored_other = stored.other;
     uncalled_next = stored.uncalled;
+    asked = asked;
   }
     where
       addressed_so : IsAddressed setup live ⊎ CanBeAddressed live
@@ -212,7 +216,7 @@ module _ (setup next : Setup) (identity : Identity) (silence : ℕ) (station : S
     move_after : (live : Live) (rest : Rest) (sent : List Sent) → IsAnyDevice setup next identity silence station live → rest.real ≡ live.rest.real
         → IsFineMove rest sent → AreSendable station.identity sent → GoesOn (record { values = live.values; rest = rest }) (map (bytes_of station.identity) sent)
     move_after live rest sent before real fine can =
-        (rest_after live rest before real fine.0 (fine.1 can), all_fit laws setup station.identity good device sent fine.2 can)
+        (rest_after live rest before real fine.0 (fine.1 can) fine.3, all_fit laws setup station.identity good device sent fine.2 can)
 
     pub fine_after : (live : Live) (what : Handled) → IsAnyDevice setup next identity silence station live
         → (handled_step [] station live what).live.rest.real ≡ live.rest.real → IsFine live what
@@ -261,3 +265,29 @@ module _ (setup next : Setup) (identity : Identity) (silence : ℕ) (station : S
             (ignored caller address answer can (λ same. other (sym same ∙ named)));
         uncalled = none_more next.activity newest calls (λ same. other (same ∙ own)) uncalled;
       }
+
+  -- one that refuses a call that had no answer in time
+  pub late_stored : SaysLaws → IsSetup setup → IsDevice station.identity
+      → ((caller : Caller) (address : List ℕ) (answer : Answered) → IsSendable station.identity (CallAnswer caller address answer)
+      → (answer.header.activity ≡ next.activity → ⊥) → IsIgnored next (bytes_of station.identity (CallAnswer caller address answer)))
+      → (newest : Kept) (caller : Caller) (address : List ℕ) (answer : Answered) (calls : List Kept)
+      → newest.frame ≡ bytes_of station.identity (CallAnswer caller address answer) → newest.activity ≡ answer.header.activity
+      → (answer.header.activity ≡ next.activity → ⊥)
+      → IsFitting setup (CallAnswer caller address answer) → IsSendable station.identity (CallAnswer caller address answer)
+      → IsStored calls → IsStored (kept_more 4 newest calls)
+  late_stored laws good device ignored newest caller address answer calls frame named apart fits can stored = record {
+    well = λ kept found. well_by kept (some_more setup.activity newest calls kept found);
+    other = λ kept found. other_by kept (some_more setup.activity newest calls kept found);
+    uncalled = none_more next.activity newest calls (λ same. apart (sym (same ∙ named))) stored.uncalled;
+  }
+    where
+      well_by : (kept : Kept) → (kept ≡ newest) ⊎ (kept_of setup.activity calls ≡ Some kept) → ChoosesWell setup kept.frame
+      well_by kept (inl same) =
+          subst (ChoosesWell setup) (sym (ap (λ (k : Kept). k.frame) same ∙ frame))
+          (message_fit laws setup station.identity good device (CallAnswer caller address answer) fits can)
+      well_by kept (inr old) = stored.well kept old
+
+      other_by : (kept : Kept) → (kept ≡ newest) ⊎ (kept_of setup.activity calls ≡ Some kept) → IsIgnored next kept.frame
+      other_by kept (inl same) =
+          subst (IsIgnored next) (sym (ap (λ (k : Kept). k.frame) same ∙ frame)) (ignored caller address answer can apart)
+      other_by kept (inr old) = stored.other kept old

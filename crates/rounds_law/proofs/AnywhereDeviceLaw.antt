@@ -69,7 +69,7 @@ use Rattle.rounds_law.proofs.AnywhereDeviceHears.{HearsLaws, IsHeardAs, message_
 use Rattle.rounds_law.proofs.AnywhereDeviceReleased.{released_or, response_unchosen}
 use Rattle.rounds_law.proofs.AnywhereDeviceSays.{IsSizedIfPlug, SaysLaws}
 use Rattle.rounds_law.proofs.AnywhereDeviceSets.{set_after, set_sized}
-use Rattle.rounds_law.proofs.AnywhereDeviceWrites.{all_quiet}
+use Rattle.rounds_law.proofs.AnywhereDeviceWrites.{all_quiet, all_unasked}
 use Rattle.rounds_law.proofs.AnywhereLinkIgnored.{answer_ignored}
 use Rattle.rounds_law.proofs.AnywhereParts.{DeviceFound, DeviceFrame, DeviceUnit, HasWay, Hears, IsLong}
 use Rattle.rounds_law.proofs.SearchingDevice.{found_so, some_name}
@@ -149,7 +149,9 @@ module _ {F : Type 0} {S : ℕ} (as_flash : Flash F S) (setup next : Setup) (ide
       same = laws.same;
       accepted = laws.own station.options long.can.can_meet.named before.of_plan.interval;
       quiet = λ number small standing. all_quiet laws.block_read laws.block_long setup long.real.ar long.real.plan.few_records
-          setup.plan.real fits number standing;
+          setup.plan.real fits station.named number standing;
+      unasked = λ number small standing caller call. all_unasked laws.block_read laws.block_long setup long.real.ar long.real.plan.few_records
+          setup.plan.real fits station.named before.of_plan.names number standing caller call;
       released = λ link. released_or laws.block_long link (control_of setup 4) (laws.block_alone (is.Release (control_of setup 4))
           (record { ar_uuid = long.real.ar; session_key = omega arith; control_command = omega arith; control_block_properties = omega arith }));
       unchosen = response_unchosen (done_of (control_of setup 4)) (laws.block_alone (is.ReleaseRes (done_of (control_of setup 4)))
@@ -188,7 +190,7 @@ module _ {F : Type 0} {S : ℕ} (as_flash : Flash F S) (setup next : Setup) (ide
       where
         by_test : (matched : Bool)
             → Fine (if matched then Moves live.rest (IdentifyAnswer setup.plan.controller.mac live.values.running 1 ∷ []) else Refuses note.Filter)
-        by_test true = (before.lasts, λ can. stored_before setup next identity silence station live before, (tt, tt))
+        by_test true = (before.lasts, λ can. stored_before setup next identity silence station live before, (tt, tt), before.asked)
         by_test false = tt
 
     suite_sized : IsSized setup.plan.station.suite
@@ -280,7 +282,7 @@ module _ {F : Type 0} {S : ℕ} (as_flash : Flash F S) (setup next : Setup) (ide
     heard_goes heard message can way (inr is) = subst IsHeardGoing (sym is) (step_heard Elsewhere (fine_goes Elsewhere tt tt))
 
     unit_goes : IsHeardGoing Ticks
-    unit_goes = step_heard Ticks (fine_goes Ticks tt (unit_fine setup next identity silence station live before))
+    unit_goes = step_heard Ticks (fine_goes Ticks tt (unit_fine setup next identity silence station calls live before))
 
   -- ---- the parts
 

@@ -25,7 +25,6 @@ use Rattle.controller_messages.specs.declared.setup.Setup.{Setup}
 use Rattle.controller_messages.specs.Heard.{Calls, Heard, Nothing, Responds, heard_of}
 use Rattle.end_laws.specs.hearing.Hearing.{IsUncalled, mine_reported}
 use Rattle.end_laws.specs.hearing.Stations.{IsAddress, IsCaller, IsDevice, IsSetup, plug_ready_call, ready_call}
-use Rattle.both_ends.specs.startup.answer.Answer.{caller_of}
 use Rattle.rounds_law.specs.Anywhere.{ChoosesWell, IsFit}
 
 -- ---- the laws of the crates below
@@ -83,13 +82,13 @@ pub record IsSizedPlug (ready : PlugReady) : Type 0 where
   pub interface : ready.header.interface ≡ interface_uuid controllers
   pub uuid : IsUuid ready.block.ar_uuid
 
--- A message that is fit: a response to this controller.
+-- A message that is fit, also a response to another station.
 abbrev pub IsFitting : Setup → Sent → Type 0
 IsFitting setup (IdentifyAnswer asker running xid) = Unit {0}
 IsFitting setup (GetAnswer asker running alias request) = Unit {0}
 IsFitting setup (SetAnswer asker request answers) = Unit {0}
 IsFitting setup (ArpReply asker address target) = ⊥
-IsFitting setup (CallAnswer caller address answer) = (caller ≡ caller_of setup.plan.controller) × IsFit setup (Responds answer)
+IsFitting setup (CallAnswer caller address answer) = IsFit setup (Responds answer)
 IsFitting setup (Again frame) = ChoosesWell setup frame
 IsFitting setup (ReadyCall address ready) = IsSizedReady ready
 IsFitting setup (PlugReadyCall address ready) = IsSizedPlug ready
@@ -117,10 +116,10 @@ module _ (laws : SaysLaws) (setup : Setup) (identity : Identity) (good : IsSetup
       uncalled_fit setup (heard_of setup.plan.controller (frame_bytes (carrying destination identity.mac tag (RealTime frame_id body))))
       (laws.alone setup.plan.controller destination identity.mac tag frame_id body can.destination can.source can.tag)
 
-  answer_fit : (caller : Caller) (address : List ℕ) (answer : Answered) → caller ≡ caller_of setup.plan.controller → IsFit setup (Responds answer)
+  answer_fit : (caller : Caller) (address : List ℕ) (answer : Answered) → IsFit setup (Responds answer)
       → IsSendable identity (CallAnswer caller address answer) → ChoosesWell setup (response_frame identity caller address answer)
-  answer_fit caller address answer of fit can =
-      let called = subst IsCaller (sym of) (record { mac = good.mac; endpoint = (good.address, omega arith) }) in
+  answer_fit caller address answer fit can =
+      let called : IsCaller caller = record { mac = can.0.destination; endpoint = can.0.content.1 } in
       subst (IsFit setup) (sym (laws.response setup.plan.controller identity caller address answer device called can.0.content.0.0 can.1))
       (reported_fit setup caller.mac caller.endpoint (Responds answer) fit)
 
@@ -147,7 +146,7 @@ module _ (laws : SaysLaws) (setup : Setup) (identity : Identity) (good : IsSetup
   message_fit (GetAnswer asker running alias request) fits can = data_fit asker None _ _ can
   message_fit (SetAnswer asker request answers) fits can = data_fit asker None _ _ can
   message_fit (ArpReply asker address target) fits can = absurd fits
-  message_fit (CallAnswer caller address answer) fits can = answer_fit caller address answer fits.0 fits.1 can
+  message_fit (CallAnswer caller address answer) fits can = answer_fit caller address answer fits can
   message_fit (Again frame) fits can = fits
   message_fit (ReadyCall address ready) fits can = ready_fit address ready fits can
   message_fit (PlugReadyCall address ready) fits can = plug_fit address ready fits can

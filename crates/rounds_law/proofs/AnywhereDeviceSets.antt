@@ -1,5 +1,5 @@
 -- A Set of the IP suite at a device in any state: it has the suite afterwards, or its settings are as before.
-use Rattle.std.proofs.Common.{◌≡◌, ◌⊎◌, inl, inr, ◌≤◌, ◌==◌, ℕ, Bool, true, false, List, [], ◌∷◌, map, refl, sym, subst}
+use Rattle.std.proofs.Common.{◌≡◌, ◌⊎◌, inl, inr, ◌≤◌, ◌==◌, ℕ, Bool, true, false, List, [], ◌∷◌, map, Option, Some, None, refl, sym, subst}
 use Rattle.std.specs.Prelude.{if◌then◌else◌}
 use Rattle.std.specs.List.{AllByRecursion}
 use Rattle.pn_values.specs.declared.command.Command.TheVariants.{SetIp}
@@ -13,17 +13,20 @@ use Rattle.settings_journal.specs.settings_store.Machine.{Carried, Pass, accepte
 use Rattle.settings_journal.specs.settings_store.State.{Values}
 use Rattle.dcp_core.specs.Request.{Asked}
 use Rattle.dcp_core.specs.Set.{plan_of}
+use Rattle.relations.specs.RelationState.{RelationState, uuid_of}
 use Rattle.device_frames.specs.Sendable.{AreSendable}
 use Rattle.device_frames.specs.Sent.{SetAnswer, bytes_of}
 use Rattle.device_core.specs.State.{Live, Station}
+use Rattle.device_core.specs.Asking.{ended_by, left_asked}
 use Rattle.device_core.specs.Handled.{Sets}
 use Rattle.device_core.specs.Machine.{Stepped, farewell_at, farewells_at, finished, handled_step, link_after, resets}
 use Rattle.controller_messages.specs.declared.setup.Setup.{Setup}
 use Rattle.controller_messages.specs.Requests.{address_asked}
 use Rattle.end_laws.specs.hearing.Stations.{IsDevice, IsSetup}
-use Rattle.rounds_law.specs.Anywhere.{AllLast, IsAnyDevice}
+use Rattle.rounds_law.specs.Anywhere.{AllLast, IsAnyDevice, IsQuestionOf}
 use Rattle.rounds_law.specs.Path.{IsAddressed, IsNamed, IsSized}
 use Rattle.rounds_law.specs.Start.{CanBeAddressed}
+use Rattle.rounds_law.proofs.AnywhereAsked.{left_so}
 use Rattle.rounds_law.proofs.AnywhereDeviceExchange.{both_fit, farewells_fit}
 use Rattle.rounds_law.proofs.AnywhereDeviceFine.{GoesOn}
 use Rattle.rounds_law.proofs.AnywhereDeviceSays.{IsFitting, IsSizedIfPlug, SaysLaws, all_fit, all_sized}
@@ -82,6 +85,18 @@ module _ (setup next : Setup) (identity : Identity) (silence : ℕ) (station : S
   link_lasts true = tt
   link_lasts false = before.lasts
 
+  -- a relation that ends drops what it asked
+  asked_after : (ends : Bool) (link : Option RelationState) → live.rest.link ≡ link
+      → IsQuestionOf setup next (uuid_of (link_after ends live.rest.link)) (left_asked (ended_by (farewell_at ends live.rest.link)) live.rest.asked).standing
+  asked_after false link has = before.asked
+  asked_after true None has =
+      subst (λ (l : Option RelationState). IsQuestionOf setup next None (left_asked (ended_by (farewell_at true l)) live.rest.asked).standing) (sym has)
+      (subst (λ (l : Option RelationState). IsQuestionOf setup next (uuid_of l) live.rest.asked.standing) has before.asked)
+  asked_after true (Some link) has =
+      subst (λ (l : Option RelationState). IsQuestionOf setup next None (left_asked (ended_by (farewell_at true l)) live.rest.asked).standing) (sym has)
+      (left_so setup next (Some link.request.ar.uuid) None live.rest.asked
+      (subst (λ (l : Option RelationState). IsQuestionOf setup next (uuid_of l) live.rest.asked.standing) has before.asked))
+
   sent_fit : (answers : List BlockError) → AllByRecursion (IsFitting setup) (finished station.identity live.rest (Sets mac request in_operation) answers).sent
   sent_fit answers =
       both_fit setup (farewells_at (resets (plan_of in_operation request) answers) live.rest.link) (SetAnswer mac request answers ∷ [])
@@ -98,6 +113,7 @@ module _ (setup next : Setup) (identity : Identity) (silence : ℕ) (station : S
     stored = before.stored;
     stored_other = before.stored_other;
     uncalled_next = before.uncalled_next;
+    asked = asked_after (resets (plan_of in_operation request) settled.answers) live.rest.link refl;
   }
     where
       addressed_so : (settled.values.running.suite ≡ setup.plan.station.suite) ⊎ ((settled.values.has_failed ≡ false) × (1 ≤ settled.values.room))

@@ -1,8 +1,7 @@
 -- The Writes of a plan at a device with any relation, or none: they are refused, or their records are parameter records.
-use Rattle.std.proofs.Common.{◌≡◌, ◌⊎◌, inl, inr, ◌≤◌, ◌<◌, ◌+◌, ◌*◌, ℕ, zero, suc, Bool, true, false, not, cond, List, [], ◌∷◌, length, take, drop}
+use Rattle.std.proofs.Common.{◌≡◌, ◌⊎◌, inl, inr, ◌≤◌, ◌<◌, ◌+◌, ◌*◌, ℕ, Bool, true, false, not, cond, List, [], ◌∷◌, length, take, drop}
 use Rattle.std.proofs.Common.{Option, Some, None, Result, Ok, Err, refl, sym, ap, subst, ◌∙◌, arith}
-use Rattle.std.specs.Prelude.{nat_lt, slice_get, unwrap_or}
-use Rattle.std.specs.List.{AllByRecursion}
+use Rattle.std.specs.Prelude.{nat_lt, slice_get}
 use Rattle.std.specs.Cmp.Lexicographic.{same_text}
 use Rattle.std.proofs.lemmas.Bool.{ltb-true}
 use Rattle.std.proofs.lemmas.Bool.Decides.{nat_tests}
@@ -27,32 +26,23 @@ use Rattle.records.specs.writes.Handled.{handled_request, targeted, written}
 use Rattle.records.specs.writes.Several.{is_several, list_behind}
 use Rattle.records.specs.reads.Handled.{placed}
 use Rattle.plans.specs.declared.parts.PlanRecord.{PlanRecord}
+use Rattle.device_core.specs.Asking.{asking_write, write_within}
 use Rattle.device_core.specs.Several.{judged_each, texts_in}
+use Rattle.asked_records.specs.declared.names.RecordName.{RecordName}
+use Rattle.frame_codec.specs.declared.udp.Caller.{Caller}
+use Rattle.rpc_core.specs.Call.{Asked as Call}
 use Rattle.controller_messages.specs.declared.setup.Setup.{Setup}
 use Rattle.controller_messages.specs.Requests.{entries_bytes, list_blocks, write_blocks, write_of, writing_blocks}
 use Rattle.rounds_law.proofs.WriteJudged.{one_is, writing_is}
-use Rattle.rounds_law.proofs.WriteListed.{AreBlocksLong, AreBlocksRead, AreFit, IsFit, each_is, header_for, judged_is, judged_well, list_sized, listed}
-use Rattle.rounds_law.proofs.WriteListed.{one_can, take_few}
+use Rattle.rounds_law.proofs.WriteListed.{AreBlocksLong, AreBlocksRead, AreFit, IsFit, each_drop, each_is, each_take, found_fit, header_for, judged_is}
+use Rattle.rounds_law.proofs.WriteListed.{judged_well, list_sized, listed, none_written, one_can, take_few}
+use Rattle.rounds_law.proofs.WriteUnasked.{AreNames, none_unasked, write_unasked}
 
 -- A Write that is refused, or keeps its record; of several records, none is an I&M text.
-abbrev pub IsQuiet : Option (List ℕ) → Real → Result Writing CallFault → Type 0
-IsQuiet standing real (Err fault) = Unit {0}
-IsQuiet standing real (Ok (One write)) = (parameter : TakenRecord) × (write.effect ≡ Keeps parameter)
-IsQuiet standing real (Ok (Each header entries)) = texts_in (judged_each standing real entries) ≡ []
-
--- ---- lists
-
-each_take : {A : Type 0} (P : A → Type 0) (n : ℕ) (xs : List A) → AllByRecursion P xs → AllByRecursion P (take n xs)
-each_take P zero [] all = tt
-each_take P zero (x ∷ xs) all = tt
-each_take P (suc n) [] all = tt
-each_take P (suc n) (x ∷ xs) all = (all.0, each_take P n xs all.1)
-
-each_drop : {A : Type 0} (P : A → Type 0) (n : ℕ) (xs : List A) → AllByRecursion P xs → AllByRecursion P (drop n xs)
-each_drop P zero [] all = tt
-each_drop P zero (x ∷ xs) all = all
-each_drop P (suc n) [] all = tt
-each_drop P (suc n) (x ∷ xs) all = each_drop P n xs all.1
+abbrev pub IsQuiet : List RecordName → Option (List ℕ) → Real → Result Writing CallFault → Type 0
+IsQuiet named standing real (Err fault) = Unit {0}
+IsQuiet named standing real (Ok (One write)) = (parameter : TakenRecord) × (write.effect ≡ Keeps parameter)
+IsQuiet named standing real (Ok (Each header entries)) = texts_in (judged_each named standing real entries) ≡ []
 
 no_text : (setup : Setup) (number : ℕ) (entries : List PlanRecord) → texts_in (judged_well setup number entries) ≡ []
 no_text setup number [] = refl
@@ -113,10 +103,10 @@ nothing_written standing real = refl
 -- ---- the Writes of a plan
 
 module _ (read : AreBlocksRead) (long : AreBlocksLong) (setup : Setup) (wide : length setup.ar ≡ 16) (number : ℕ) (small : number + 1 < 65536) (real : Real)
-    (standing : Option (List ℕ)) where
+    (names : List RecordName) (standing : Option (List ℕ)) where
   one_quiet : (found : Option PlanRecord) → ((entry : PlanRecord) → found ≡ Some entry → IsFit real entry)
-      → IsQuiet standing real (writing_of standing real (write_blocks setup number found))
-  one_quiet None fits = subst (IsQuiet standing real) (sym (nothing_written standing real)) tt
+      → IsQuiet names standing real (writing_of standing real (write_blocks setup number found))
+  one_quiet None fits = subst (IsQuiet names standing real) (sym (nothing_written standing real)) tt
   one_quiet (Some entry) fits =
       let fit = fits entry refl in
       let asked = write_of setup number entry in
@@ -127,18 +117,18 @@ module _ (read : AreBlocksRead) (long : AreBlocksLong) (setup : Setup) (wide : l
       by_name : (asked : IodWriteReq) → writing_of standing real (write_blocks setup number (Some entry))
           ≡ handled_writing standing real (write_of setup number entry) entry.data.items
           → IsFit real entry → (standing ≡ Some setup.ar) ⊎ (in_relation standing setup.ar ≡ Err fault.UnknownRelation)
-          → IsQuiet standing real (writing_of standing real (write_blocks setup number (Some entry)))
+          → IsQuiet names standing real (writing_of standing real (write_blocks setup number (Some entry)))
       by_name asked is fit (inl named) =
-          subst (IsQuiet standing real)
+          subst (IsQuiet names standing real)
           (sym (is ∙ (ap (λ (s : Option (List ℕ)). handled_writing s real (write_of setup number entry) entry.data.items) named
           ∙ one_is real setup.ar (number + 1) entry.slot entry.subslot entry.index entry.data.items fit.below fit.there fit.short)))
           (_, refl)
       by_name asked is fit (inr unnamed) =
-          subst (IsQuiet standing real) (sym (is ∙ writing_refused standing real (write_of setup number entry) entry.data.items unnamed)) tt
+          subst (IsQuiet names standing real) (sym (is ∙ writing_refused standing real (write_of setup number entry) entry.data.items unnamed)) tt
 
   list_quiet : (entries : List PlanRecord) → length entries ≤ 10 → AreFit real entries
-      → IsQuiet standing real (writing_of standing real (list_blocks setup number entries))
-  list_quiet [] ten fits = subst (IsQuiet standing real) (sym (nothing_written standing real)) tt
+      → IsQuiet names standing real (writing_of standing real (list_blocks setup number entries))
+  list_quiet [] ten fits = subst (IsQuiet names standing real) (sym (nothing_written standing real)) tt
   list_quiet (entry ∷ entries) ten fits =
       let header = header_for setup number (entry ∷ entries) in
       let octets = entries_bytes setup number (entry ∷ entries) in
@@ -148,75 +138,57 @@ module _ (read : AreBlocksRead) (long : AreBlocksLong) (setup : Setup) (wide : l
       by_name : writing_of standing real (list_blocks setup number (entry ∷ entries))
           ≡ handled_writing standing real (header_for setup number (entry ∷ entries)) (entries_bytes setup number (entry ∷ entries))
           → (standing ≡ Some setup.ar) ⊎ (in_relation standing setup.ar ≡ Err fault.UnknownRelation)
-          → IsQuiet standing real (writing_of standing real (list_blocks setup number (entry ∷ entries)))
+          → IsQuiet names standing real (writing_of standing real (list_blocks setup number (entry ∷ entries)))
       by_name is (inl named) =
           let header = header_for setup number (entry ∷ entries) in
           let octets = entries_bytes setup number (entry ∷ entries) in
-          subst (IsQuiet standing real)
+          subst (IsQuiet names standing real)
           (sym (is ∙ (ap (λ (s : Option (List ℕ)). handled_writing s real header octets) named
           ∙ each_is read long setup wide number small real (entry ∷ entries) ten fits)))
-          (ap (λ (s : Option (List ℕ)). texts_in (judged_each s real (listed setup number (entry ∷ entries)))) named
-          ∙ (ap texts_in (judged_is read long setup wide number small real (entry ∷ entries) fits) ∙ no_text setup number (entry ∷ entries)))
+          (ap (λ (s : Option (List ℕ)). texts_in (judged_each names s real (listed setup number (entry ∷ entries)))) named
+          ∙ (ap texts_in (judged_is read long setup wide number small real names (entry ∷ entries) fits) ∙ no_text setup number (entry ∷ entries)))
       by_name is (inr unnamed) =
-          subst (IsQuiet standing real)
+          subst (IsQuiet names standing real)
           (sym (is ∙ writing_refused standing real (header_for setup number (entry ∷ entries)) (entries_bytes setup number (entry ∷ entries)) unnamed)) tt
 
-  found_fit : (entries : List PlanRecord) (place : ℕ) → AreFit real entries → (entry : PlanRecord) → slice_get entries place ≡ Some entry → IsFit real entry
-  found_fit [] place fits entry found = absurd cc
-  found_fit (first ∷ entries) zero fits entry found = subst (IsFit real) (ap (λ (o : Option PlanRecord). unwrap_or o first) found) fits.0
-  found_fit (first ∷ entries) (suc place) fits entry found = found_fit entries place fits.1 entry found
-
-  pub writes_quiet : AreFit real setup.plan.records.items → IsQuiet standing real (writing_of standing real (writing_blocks setup number))
+  pub writes_quiet : AreFit real setup.plan.records.items → IsQuiet names standing real (writing_of standing real (writing_blocks setup number))
   writes_quiet fits = by_kind setup.plan.multiple_write refl
     where
       records : List PlanRecord
       records = setup.plan.records.items
 
       by_kind : (several : Bool) → setup.plan.multiple_write ≡ several
-          → IsQuiet standing real (writing_of standing real
+          → IsQuiet names standing real (writing_of standing real
           (cond several (list_blocks setup number (take (cond several 10 1) (drop (cond several (number * 10) number) records)))
           (write_blocks setup number (slice_get records number))))
       by_kind true is =
           list_quiet (take 10 (drop (number * 10) records)) (take_few 10 (drop (number * 10) records))
           (each_take (IsFit real) 10 (drop (number * 10) records) (each_drop (IsFit real) (number * 10) records fits))
-      by_kind false is = one_quiet (slice_get records number) (found_fit records number fits)
-
--- ---- numbers that no Write has
-
-slice_none : (entries : List PlanRecord) (place : ℕ) → length entries ≤ place → slice_get entries place ≡ None
-slice_none [] place few = refl
-slice_none (entry ∷ entries) zero few = absurd (omega (arith, few))
-slice_none (entry ∷ entries) (suc place) few = slice_none entries place (omega (arith, few))
-
-drop_all : (n : ℕ) (entries : List PlanRecord) → length entries ≤ n → drop n entries ≡ []
-drop_all zero [] few = refl
-drop_all zero (entry ∷ entries) few = absurd (omega (arith, few))
-drop_all (suc n) [] few = refl
-drop_all (suc n) (entry ∷ entries) few = drop_all n entries (omega (arith, few))
-
-none_written : (setup : Setup) (number : ℕ) → length setup.plan.records.items ≤ number → writing_blocks setup number ≡ []
-none_written setup number few = by_kind setup.plan.multiple_write
-  where
-    records : List PlanRecord
-    records = setup.plan.records.items
-
-    by_kind : (several : Bool)
-        → cond several (list_blocks setup number (take (cond several 10 1) (drop (cond several (number * 10) number) records)))
-        (write_blocks setup number (slice_get records number)) ≡ []
-    by_kind true = ap (λ (l : List PlanRecord). list_blocks setup number (take 10 l)) (drop_all (number * 10) records (omega (arith, few)))
-    by_kind false = ap (λ (o : Option PlanRecord). write_blocks setup number o) (slice_none records number few)
+      by_kind false is = one_quiet (slice_get records number) (found_fit real records number fits)
 
 not_small : (number : ℕ) → nat_lt (number + 1) 65536 ≡ false → 32 ≤ number
 not_small number e = grind (arith, nat_tests, e)
 
 pub all_quiet : AreBlocksRead → AreBlocksLong → (setup : Setup) → length setup.ar ≡ 16 → length setup.plan.records.items ≤ 32 → (real : Real)
-    → AreFit real setup.plan.records.items → (number : ℕ) (standing : Option (List ℕ))
-    → IsQuiet standing real (writing_of standing real (writing_blocks setup number))
-all_quiet read long setup wide few real fits number standing = by_size (nat_lt (number + 1) 65536) refl
+    → AreFit real setup.plan.records.items → (names : List RecordName) (number : ℕ) (standing : Option (List ℕ))
+    → IsQuiet names standing real (writing_of standing real (writing_blocks setup number))
+all_quiet read long setup wide few real fits names number standing = by_size (nat_lt (number + 1) 65536) refl
   where
-    by_size : (small : Bool) → nat_lt (number + 1) 65536 ≡ small → IsQuiet standing real (writing_of standing real (writing_blocks setup number))
-    by_size true e = writes_quiet read long setup wide number (ltb-true (number + 1) 65536 e) real standing fits
+    by_size : (small : Bool) → nat_lt (number + 1) 65536 ≡ small → IsQuiet names standing real (writing_of standing real (writing_blocks setup number))
+    by_size true e = writes_quiet read long setup wide number (ltb-true (number + 1) 65536 e) real names standing fits
     by_size false e =
-        subst (λ (blocks : List ℕ). IsQuiet standing real (writing_of standing real blocks))
+        subst (λ (blocks : List ℕ). IsQuiet names standing real (writing_of standing real blocks))
         (sym (none_written setup number (omega (arith, few, not_small number e))))
-        (subst (IsQuiet standing real) (sym (nothing_written standing real)) tt)
+        (subst (IsQuiet names standing real) (sym (nothing_written standing real)) tt)
+
+-- None of them asks the application anything.
+pub all_unasked : AreBlocksRead → AreBlocksLong → (setup : Setup) → length setup.ar ≡ 16 → length setup.plan.records.items ≤ 32 → (real : Real)
+    → AreFit real setup.plan.records.items → (names : List RecordName) → AreNames names
+    → (number : ℕ) (standing : Option (List ℕ)) (caller : Caller) (call : Call)
+    → asking_write real names caller call (write_within standing (writing_blocks setup number)) ≡ Ok None
+all_unasked read long setup wide few real fits names are number standing caller call = by_size (nat_lt (number + 1) 65536) refl
+  where
+    by_size : (small : Bool) → nat_lt (number + 1) 65536 ≡ small
+        → asking_write real names caller call (write_within standing (writing_blocks setup number)) ≡ Ok None
+    by_size true e = write_unasked read long setup wide number (ltb-true (number + 1) 65536 e) real names are caller call standing fits
+    by_size false e = none_unasked setup number real names caller call standing (omega (arith, few, not_small number e))

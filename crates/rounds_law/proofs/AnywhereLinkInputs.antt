@@ -1,5 +1,5 @@
 -- Which frames of a device a controller accepts as cyclic frames: the inputs of a relation with its route.
-use Rattle.std.proofs.Common.{◌≡◌, ◌==◌, ◌++◌, ℕ, false, nat_eq, List, [], ◌∷◌, map, Option, Some, None, refl, sym, ap, subst, ◌∙◌}
+use Rattle.std.proofs.Common.{◌≡◌, inl, inr, ◌==◌, ◌++◌, ℕ, false, nat_eq, List, [], ◌∷◌, map, Option, Some, None, refl, sym, ap, subst, ◌∙◌}
 use Rattle.std.specs.Prelude.{option_map}
 use Rattle.std.specs.Cmp.Lexicographic.{pointwise}
 use Rattle.std.specs.List.{AllByRecursion}
@@ -23,14 +23,16 @@ use Rattle.relations.specs.exchange.Frames.{Inputs, Notifies, Replies, RepliesLo
 use Rattle.relations.specs.exchange.Notices.{header_of}
 use Rattle.relations.specs.Plugging.{plug_ready_of}
 use Rattle.relations.specs.RelationState.{RelationState}
+use Rattle.relations.specs.Phases.{passing_by, updated}
 use Rattle.relations.specs.Timers.{due_by, ending_of, unit_later}
 use Rattle.device_frames.specs.Heard as device
 use Rattle.device_frames.specs.Heard.{Ticks, heard_of as device_hears}
-use Rattle.device_frames.specs.Relation.{alarms_of, frames_in, inputs_of, low_alarms_of, plug_calls, ready_calls, where_due}
+use Rattle.device_frames.specs.Relation.{alarms_of, due_frames, frames_in, inputs_of, low_alarms_of, plug_calls, ready_calls, where_due}
 use Rattle.device_frames.specs.Sendable.{AreSendable, IsSendable}
-use Rattle.device_frames.specs.Sent.{Sent, ReadyCall, PlugReadyCall, Ends, Exchanges, bytes_of}
+use Rattle.device_frames.specs.Sent.{Sent, CallAnswer, ReadyCall, PlugReadyCall, Ends, Exchanges, bytes_of}
 use Rattle.device_core.specs.State.{Live, Station, counter_of, units_after}
-use Rattle.device_core.specs.Machine.{Stepped, handled_step, heard_step}
+use Rattle.rpc_core.specs.Cache.{Kept}
+use Rattle.device_core.specs.Machine.{handled_step, heard_step}
 use Rattle.controller_messages.specs.declared.setup.Setup.{Setup}
 use Rattle.controller_messages.specs.Heard.{heard_of}
 use Rattle.controller_core.specs.stored.State.{Controlling}
@@ -41,7 +43,7 @@ use Rattle.rounds_law.proofs.AnywhereLinkHears.{own_is_of_data}
 use Rattle.rounds_law.proofs.AnywhereLinkLaws.{ExchangeLaws, ReadLaws}
 use Rattle.rounds_law.proofs.AnywhereLinkMoved.{AreOfLink, IsOfLink, calls_of_link, due_of_link, report_of_link}
 use Rattle.rounds_law.proofs.AnywhereParts.{Accepts, AcceptsInputs, InputsOfFrame, InputsOfUnit}
-use Rattle.rounds_law.proofs.DevicePassingUnits.{ticked_by, unit_goes}
+use Rattle.rounds_law.proofs.AskedUnits.{IsLate, late_at, late_of, unit_sends}
 
 -- ---- the messages of a relation
 
@@ -97,6 +99,8 @@ module _ (laws : ReadLaws) (identity : Identity) (controller : Controlling) (lin
       never (bytes_of identity (ReadyCall address ready)) (udp_no_data laws mine ready.partner.mac identity.mac _ _ _ can)
   message_well (PlugReadyCall address ready) of can =
       never (bytes_of identity (PlugReadyCall address ready)) (udp_no_data laws mine ready.partner.mac identity.mac _ _ _ can)
+  message_well (CallAnswer caller address answer) of can =
+      never (bytes_of identity (CallAnswer caller address answer)) (udp_no_data laws mine caller.mac identity.mac _ _ _ can.0)
   message_well message of can = absurd of
 
   all_well : (sent : List Sent) → AreOfLink link.flow.cyclic.route sent → AreSendable identity sent → AllByRecursion IsWell (map (bytes_of identity) sent)
@@ -125,8 +129,9 @@ alarm_of_link route flow None = tt
 alarm_of_link route flow (Some alarm) = (tt, tt)
 
 module _ (outcomes : List Outcome) (station : Station) (live : Live) (link : RelationState) where
-  unit_by : (ending : Option Abort) → AreOfLink link.flow.cyclic.route (handled_step outcomes station live (ticked_by live link ending)).sent
-  unfolding handled_step
+  unit_by : (ending : Option Abort)
+      → AreOfLink link.flow.cyclic.route (due_frames live.values.running.suite.address (counter_of (units_after 1 live.rest.units)) (due_by link ending)
+      (updated (passing_by ending) (Some link)))
   unit_by (Some reason) = (tt, tt)
   unit_by None =
       let route = link.flow.cyclic.route in
@@ -143,9 +148,15 @@ module _ (outcomes : List Outcome) (station : Station) (live : Live) (link : Rel
       (due_of_link route due.is_plug_ready _ (calls_of_link route address (plug_ready_of (Some later))))
       (due_of_link route due.is_cyclic (inputs_of counter (Some later.flow)) (refl, tt)))))
 
+  late_of_link : (sent : List Sent) (stored : List Kept)
+      → IsLate station.identity live.values.running.suite.address live.rest.asked.standing live.rest.calls sent stored → AreOfLink link.flow.cyclic.route sent
+  late_of_link sent stored (inl (none, same)) = subst (AreOfLink link.flow.cyclic.route) (sym none) tt
+  late_of_link sent stored (inr (one, asked, is, kept)) = subst (AreOfLink link.flow.cyclic.route) (sym is) (tt, tt)
+
   pub unit_of_link : live.rest.link ≡ Some link → AreOfLink link.flow.cyclic.route (heard_step outcomes station live Ticks).sent
   unit_of_link has =
-      unit_goes (λ (step : Stepped). AreOfLink link.flow.cyclic.route step.sent) outcomes station live link (ending_of link) has refl (unit_by (ending_of link))
+      subst (AreOfLink link.flow.cyclic.route) (sym (unit_sends outcomes station live link (ending_of link) has refl))
+      (all_both link.flow.cyclic.route _ (late_at live) (unit_by (ending_of link)) (late_of_link (late_at live) _ (late_of station live)))
 
 -- ---- the parts
 

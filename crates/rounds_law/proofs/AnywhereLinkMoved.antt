@@ -22,7 +22,8 @@ use Rattle.rounds_law.proofs.AnywhereParts.{IsMoved, LinkGoesOn}
 
 -- ---- what a device sends in a relation
 
--- A message of this relation: its inputs, an alarm or the reply to one, ApplicationReady, also that of a plug, or its ERR.
+-- A message of this relation: its inputs, an alarm or the reply to one, ApplicationReady, also that of a plug, or its ERR; or a response to a
+-- call.
 abbrev pub IsOfLink : Route → Sent → Type 0
 IsOfLink route (Ends farewell) = Unit {0}
 IsOfLink route (Exchanges sent (Inputs state inputs counter)) = sent ≡ route
@@ -36,7 +37,7 @@ IsOfLink route (IdentifyAnswer asker running xid) = ⊥
 IsOfLink route (GetAnswer asker running alias request) = ⊥
 IsOfLink route (SetAnswer asker request answers) = ⊥
 IsOfLink route (ArpReply asker address target) = ⊥
-IsOfLink route (CallAnswer caller address answer) = ⊥
+IsOfLink route (CallAnswer caller address answer) = Unit {0}
 IsOfLink route (Again frame) = ⊥
 
 -- Each of the messages is.

@@ -1,5 +1,6 @@
 -- What a device does with the Release of a controller that has ended.
-use Rattle.std.proofs.Common.{◌≡◌, ◌⊎◌, inl, inr, ◌&&◌, ◌==◌, ◌<◌, ℕ, Bool, true, false, List, Option, Some, None, Result, Ok, Err, refl, sym, ap, subst, ◌∙◌}
+use Rattle.std.proofs.Common.{◌≡◌, ◌⊎◌, inl, inr, ◌&&◌, ◌==◌, ◌<◌, ℕ, Bool, true, false, List, [], Option, Some, None}
+use Rattle.std.proofs.Common.{Result, Ok, Err, refl, sym, ap, subst, ◌∙◌}
 use Rattle.std.specs.Prelude.{nat_lt, if◌then◌else◌}
 use Rattle.std.specs.List.{AllByRecursion}
 use Rattle.flash_model.specs.declared.flash.Flash.{Ghosts as Flash}
@@ -7,6 +8,7 @@ use Rattle.pn_values.specs.declared.identity.Identity.{Identity}
 use Rattle.pn_values.specs.declared.mac.Mac.{Mac}
 use Rattle.frame_codec.specs.declared.udp.Caller.{Caller}
 use Rattle.frame_codec.specs.Sendable.{IsMac}
+use Rattle.asked_records.specs.Asked.{is_repeat}
 use Rattle.rpc_core.specs.Cache.{Kept, Reported as Looked, again, kept_of, looked, new, old, reported_by}
 use Rattle.rpc_core.specs.Call.{Asked as Call}
 use Rattle.settings_journal.specs.settings_store.Machine.{Outcome}
@@ -21,7 +23,7 @@ use Rattle.device_frames.specs.Heard.{Calls, Elsewhere, Heard, Reported, heard_o
 use Rattle.device_frames.specs.Sendable.{AreSendable}
 use Rattle.device_frames.specs.declared.note.Note.TheVariants as note
 use Rattle.device_core.specs.State.{Live, State, Station}
-use Rattle.device_core.specs.Handled.{Handled, Refuses, handled_call, handled_looked, is_running}
+use Rattle.device_core.specs.Handled.{Handled, Moves, Refuses, handled_call, handled_looked, handled_new, is_running}
 use Rattle.device_core.specs.Machine.{Stepped, handled_step, heard_step}
 use Rattle.controller_messages.specs.declared.request.Request.TheVariants as asks
 use Rattle.controller_messages.specs.declared.setup.Setup.{Setup}
@@ -107,10 +109,25 @@ ended_by : (link : Option RelationState) (release : Result ControlBlock CallFaul
 ended_by link (Ok block) = inl refl
 ended_by link (Err fault) = inr refl
 
+repeated_left : (outcomes : List Outcome) (station : Station) (live : Live) → IsLeftBy live (handled_step outcomes station live (Moves live.rest []))
+unfolding handled_step
+repeated_left outcomes station live = inr refl
+
+new_left : (outcomes : List Outcome) (station : Station) (live : Live) (caller : Caller) (call : Call) (blocks : List ℕ)
+    → IsLeftBy live (handled_step outcomes station live (handled_new station live caller call blocks Release))
+unfolding handled_step
+new_left outcomes station live caller call blocks = ended_by live.rest.link (release_of live.rest.link blocks)
+
 looked_left : (outcomes : List Outcome) (station : Station) (live : Live) (caller : Caller) (call : Call) (blocks : List ℕ) (looks : Looked)
     → IsLeftBy live (handled_step outcomes station live (handled_looked station live caller call blocks Release looks))
 unfolding handled_step
-looked_left outcomes station live caller call blocks new = ended_by live.rest.link (release_of live.rest.link blocks)
+looked_left outcomes station live caller call blocks new = by_repeat (is_repeat call.header.activity call.header.sequence live.rest.asked)
+  where
+    -- a repeat of the call that is asked is dropped
+    by_repeat : (repeats : Bool)
+        → IsLeftBy live (handled_step outcomes station live (if repeats then Moves live.rest [] else handled_new station live caller call blocks Release))
+    by_repeat true = repeated_left outcomes station live
+    by_repeat false = new_left outcomes station live caller call blocks
 looked_left outcomes station live caller call blocks (again frame) = inr refl
 looked_left outcomes station live caller call blocks old = inr refl
 
@@ -152,12 +169,30 @@ again_for next sequence (Some kept) stored = either (sequence == kept.sequence) 
     either false true = tt
     either false false = tt
 
+repeated_ignored : (next : Setup) (outcomes : List Outcome) (station : Station) (live : Live)
+    → IsIgnoredBy next station.identity (handled_step outcomes station live (Moves live.rest []))
+unfolding handled_step
+repeated_ignored next outcomes station live = λ can. tt
+
+new_ignored : AnswerLaws → (next : Setup) (outcomes : List Outcome) (station : Station) (live : Live) (caller : Caller) (call : Call) (blocks : List ℕ)
+    → IsDevice station.identity → (call.header.activity ≡ next.activity → ⊥)
+    → IsIgnoredBy next station.identity (handled_step outcomes station live (handled_new station live caller call blocks Release))
+unfolding handled_step
+new_ignored laws next outcomes station live caller call blocks real other = λ can.
+    (answer_ignored laws next station.identity caller live.values.running.suite.address _ real can.0 other, tt)
+
 looked_ignored : AnswerLaws → (next : Setup) (outcomes : List Outcome) (station : Station) (live : Live) (caller : Caller) (call : Call) (blocks : List ℕ)
     (looks : Looked) → IsDevice station.identity → (call.header.activity ≡ next.activity → ⊥) → IsAgainFor next looks
     → IsIgnoredBy next station.identity (handled_step outcomes station live (handled_looked station live caller call blocks Release looks))
 unfolding handled_step
-looked_ignored laws next outcomes station live caller call blocks new real other for = λ can.
-    (answer_ignored laws next station.identity caller live.values.running.suite.address _ real can.0 other, tt)
+looked_ignored laws next outcomes station live caller call blocks new real other for =
+    by_repeat (is_repeat call.header.activity call.header.sequence live.rest.asked)
+  where
+    by_repeat : (repeats : Bool)
+        → IsIgnoredBy next station.identity
+        (handled_step outcomes station live (if repeats then Moves live.rest [] else handled_new station live caller call blocks Release))
+    by_repeat true = repeated_ignored next outcomes station live
+    by_repeat false = new_ignored laws next outcomes station live caller call blocks real other
 looked_ignored laws next outcomes station live caller call blocks (again frame) real other for = λ can. (for, tt)
 looked_ignored laws next outcomes station live caller call blocks old real other for = λ can. tt
 

@@ -14,17 +14,19 @@ use Rattle.cyclic_data.specs.exchange.Cyclic.{Cyclic}
 use Rattle.cyclic_data.specs.exchange.Units.{ending_by, ending_of as cyclic_ending, tick_by}
 use Rattle.relations.specs.exchange.Units.{alarm_due}
 use Rattle.relations.specs.RelationState.{RelationState}
+use Rattle.relations.specs.Phases.{passing_by, updated}
 use Rattle.relations.specs.Timers.{ending_of, is_timed, limit_of, unit_later}
 use Rattle.device_frames.specs.Heard.{Ticks}
 use Rattle.device_core.specs.State.{Live, Station}
-use Rattle.device_core.specs.Machine.{Stepped, handled_step, heard_step}
+use Rattle.device_core.specs.Machine.{heard_step}
 use Rattle.controller_messages.specs.declared.setup.Setup.{Setup}
 use Rattle.rounds_law.specs.Again.{units_left}
 use Rattle.rounds_law.specs.Anywhere.{AllLast}
 use Rattle.rounds_law.proofs.AgainUnits.{no_relation_unit}
 use Rattle.rounds_law.proofs.AnywhereParts.{LinkGoesOn, LinkUnit}
 use Rattle.rounds_law.proofs.DevicePassingTimers.{tick_ending}
-use Rattle.rounds_law.proofs.DevicePassingUnits.{ticked_by, unit_goes}
+use Rattle.rounds_law.proofs.AskedUnits.{unit_link}
+use Rattle.rounds_law.proofs.AnywhereAsked.{unrelated_asked}
 
 -- ---- the units until it ends
 
@@ -69,22 +71,21 @@ Ages link after = (after ≡ None)
 
 module _ (outcomes : List Outcome) (station : Station) (live : Live) (link : RelationState) where
   ages_by : (is_timed link.phase ≡ false → link.flow.cyclic.begun ≡ true) → (ending : Option Abort) → ending_of link ≡ ending
-      → Ages link (handled_step outcomes station live (ticked_by live link ending)).live.rest.link
-  unfolding handled_step
+      → Ages link (updated (passing_by ending) (Some link))
   ages_by runs (Some reason) is = inl refl
   ages_by runs None is = inr (unit_later link, refl, record { route = refl }, refl, nearer link runs is)
 
   pub ages : (is_timed link.phase ≡ false → link.flow.cyclic.begun ≡ true) → live.rest.link ≡ Some link
       → Ages link (heard_step outcomes station live Ticks).live.rest.link
-  ages runs has =
-      unit_goes (λ (step : Stepped). Ages link step.live.rest.link) outcomes station live link (ending_of link) has refl (ages_by runs (ending_of link) refl)
+  ages runs has = subst (Ages link) (sym (unit_link outcomes station live link (ending_of link) has refl)) (ages_by runs (ending_of link) refl)
 
 module _ {F : Type 0} {S : ℕ} (as_flash : Flash F S) (setup next : Setup) (identity : Identity) (silence : ℕ) where
   pub link_unit : LinkUnit as_flash setup next identity silence
   link_unit = λ before after frames goes device.
       let step = heard_step goes.steps.outcomes before.station before.live Ticks in (
         λ none. (
-            let quiet = no_relation_unit goes.steps.outcomes before.station before.live none in
+            let nothing = unrelated_asked setup next before.live.rest.link before.live.rest.asked.standing none device.asked in
+            let quiet = no_relation_unit goes.steps.outcomes before.station before.live none nothing in
             (ap (λ (l : Live). l.rest.link) goes.steps.live ∙ quiet.3, goes.steps.frames ∙ quiet.0)
             ),
         λ link has. subst (Ages link) (sym (ap (λ (l : Live). l.rest.link) goes.steps.live))

@@ -12,12 +12,14 @@ use Rattle.rounds_law.specs.Anywhere.{AllLast, HasStored, IsAnyDevice, IsAnywher
 use Rattle.rounds_law.specs.Path.{IsAddressed, IsSized}
 use Rattle.rounds_law.specs.Power.{powered}
 use Rattle.rounds_law.specs.Start.{CanBeAddressed, IsOfPlan}
+use Rattle.relations.specs.RelationState.{uuid_of}
+use Rattle.rounds_law.proofs.AnywhereAsked.{nothing_asked}
 
 -- The plan's device, if it was given the plan's modules, whatever is plugged now.
 pub of_given : (setup : Setup) (station : Station) (real : Real) → IsOfPlan setup station real → station.real ≡ setup.plan.real
     → IsOfPlan setup station station.real
 of_given setup station real plan given =
-    record { vendor = plan.vendor; device = plan.device; plugged = given; interval = plan.interval; ready = plan.ready }
+    record { vendor = plan.vendor; device = plan.device; plugged = given; interval = plan.interval; ready = plan.ready; names = plan.names }
 
 module _ {F : Type 0} {S : ℕ} (as_flash : Flash F S) (setup next : Setup) (identity : Identity) (silence : ℕ) (station : Station) (flash : F) (device : State F)
     (of_device : station.identity ≡ identity) (of_plan : IsOfPlan setup station station.real) (stored : HasStored as_flash setup flash)
@@ -54,6 +56,7 @@ module _ {F : Type 0} {S : ℕ} (as_flash : Flash F S) (setup next : Setup) (ide
     stored = λ kept has. none_stored kept has;
     stored_other = λ kept has. none_stored kept has;
     uncalled_next = ap (λ (live : Live). kept_of next.activity live.rest.calls) state;
+    asked = nothing_asked setup next (uuid_of device.live.rest.link) device.live.rest.asked.standing (ap (λ (live : Live). live.rest.asked.standing) state);
   }
 
 module _ {F : Type 0} {S : ℕ} (as_flash : Flash F S) (setup next : Setup) (identity : Identity) (silence : ℕ) (plant : Plant F) (device : State F)

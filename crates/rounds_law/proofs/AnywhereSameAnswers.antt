@@ -1,9 +1,9 @@
 -- What a device sends and stores with a turn: what its positive responses to a Connect choose.
-use Rattle.std.proofs.Common.{◌≡◌, ◌⊎◌, inl, inr, ◌<◌, ◌+◌, ◌==◌, ◌&&◌, ℕ, nat_eq, Bool, true, false, List, [], ◌∷◌}
+use Rattle.std.proofs.Common.{◌≡◌, ◌⊎◌, inl, inr, ◌<◌, ◌+◌, ◌==◌, ◌&&◌, ◌++◌, ℕ, nat_eq, Bool, true, false, List, [], ◌∷◌}
 use Rattle.std.proofs.Common.{Option, Some, None, Result, Ok, Err, refl, sym, ap, subst, ◌∙◌, arith}
 use Rattle.std.specs.Prelude.{option_and_then}
 use Rattle.std.specs.List.{AllByRecursion}
-use Rattle.std.specs.Cmp.Lexicographic.{pointwise}
+use Rattle.std.specs.Cmp.Lexicographic.{pointwise, same_text}
 use Rattle.std.proofs.lemmas.Bool.Decides.{nat_tests}
 use Rattle.std.proofs.lemmas.Option.{same_Some}
 use Rattle.pn_values.specs.declared.real.Real.{Real}
@@ -35,14 +35,20 @@ use Rattle.relations.specs.RelationState.{RelationState}
 use Rattle.relations.specs.declared.ready.Ready.{Ready}
 use Rattle.device_frames.specs.Heard.{Calls, Heard, Reported}
 use Rattle.device_frames.specs.Sent.{Again, CallAnswer, Exchanges, PlugReadyCall, ReadyCall, Sent, bytes_of}
+use Rattle.asked_records.specs.Asked.{question_in}
+use Rattle.asked_records.specs.Questions.{call_of}
+use Rattle.asked_records.specs.declared.question.Question.{Question}
+use Rattle.rpc_core.specs.declared.response.Status.{Status}
 use Rattle.device_core.specs.State.{Live, Rest, Station}
+use Rattle.device_core.specs.Asking.{kept_reply, reply_to}
 use Rattle.device_core.specs.Handled.{answer_from, kept_for, outcome_of}
 use Rattle.controller_messages.specs.declared.request.Request.{Request}
 use Rattle.controller_messages.specs.declared.request.Request.TheVariants as asks
 use Rattle.controller_messages.specs.declared.setup.Setup.{Setup}
 use Rattle.controller_messages.specs.Heard.{Responds}
 use Rattle.controller_messages.specs.Requests.{blocks_of, call_for, write_count}
-use Rattle.end_laws.specs.device.Does.{AreReadied, Connected, Does, Following, IsEffect, IsExchange, IsOther, Plugging, Readying, Serves, readied_from}
+use Rattle.end_laws.specs.device.Does.{AreReadied, Connected, Declines, Does, Following, IsEffect, IsExchange, IsOther, Plugging, Readying, Replies, Serves}
+use Rattle.end_laws.specs.device.Does.{readied_from}
 use Rattle.end_laws.specs.device.Owed.{IsOfRelation}
 use Rattle.end_laws.specs.hearing.Stations.{IsCalled}
 use Rattle.end_laws.specs.turns.Turns.{chosen_in}
@@ -55,7 +61,7 @@ use Rattle.rounds_law.proofs.AnywhereSameHears.{IsOwnHeard, which_is, which_of}
 use Rattle.rounds_law.proofs.AnywhereSameLink.{none_before, request_is}
 use Rattle.rounds_law.proofs.AnywhereSameReleased.{IsUnchosen}
 use Rattle.rounds_law.proofs.AnywhereSameSays.{IsSaying}
-use Rattle.rounds_law.proofs.DeviceCallingSteps.{kept_first}
+use Rattle.rounds_law.proofs.AnywhereAsked.{some_more}
 
 -- What the laws of the crates below say of the answers of a device to this controller, and that this holds of each number that it may choose while it
 -- has no relation.
@@ -71,6 +77,10 @@ pub record AnswersLaws (setup : Setup) (Holds : Chosen → Type 0) (station : St
 second_so : (a b : Bool) → (a && b) ≡ true → b ≡ true
 second_so true b e = e
 second_so false b e = absurd cc
+
+first_so : (a b : Bool) → (a && b) ≡ true → a ≡ true
+first_so true b e = refl
+first_so false b e = absurd cc
 
 module _ (setup : Setup) (Holds : Chosen → Type 0) (silence : ℕ) (station : Station) (live : Live) (laws : AnswersLaws setup Holds station live) where
   abbrev Says : Answered → Type 0
@@ -176,16 +186,30 @@ module _ (setup : Setup) (Holds : Chosen → Type 0) (silence : ℕ) (station : 
 
   -- ---- what is stored
 
-  -- The stored responses are the same, or the newest one is that which was sent first.
-  abbrev Stores : List Kept → List Sent → Type 0
-  Stores calls sent = (calls ≡ live.rest.calls)
-      ⊎ ((kept : Kept) × (kept_of setup.activity calls ≡ Some kept) × (first : Sent) × (others : List Sent) × (sent ≡ first ∷ others)
-      × (kept.frame ≡ bytes_of station.identity first))
+  -- Each stored response to this controller was stored before, or is sent now.
+  abbrev pub IsStoredFrom : List Kept → List Sent → Type 0
+  IsStoredFrom calls sent = (kept : Kept) → kept_of setup.activity calls ≡ Some kept
+      → (kept_of setup.activity live.rest.calls ≡ Some kept)
+      ⊎ ((front : List Sent) × (message : Sent) × (others : List Sent) × (sent ≡ front ++ message ∷ others) × (kept.frame ≡ bytes_of station.identity message))
+
+  same_stored : (calls : List Kept) (sent : List Sent) → calls ≡ live.rest.calls → IsStoredFrom calls sent
+  same_stored calls sent same = λ kept found. inl (ap (λ (c : List Kept). kept_of setup.activity c) (sym same) ∙ found)
+
+  more_stored : (calls : List Kept) (newest : Kept) (front : List Sent) (message : Sent) (others sent : List Sent) → calls ≡ kept_more 4 newest live.rest.calls
+      → newest.frame ≡ bytes_of station.identity message → sent ≡ front ++ message ∷ others → IsStoredFrom calls sent
+  more_stored calls newest front message others sent same frame sends = λ kept found.
+      by_more kept (some_more setup.activity newest live.rest.calls kept (ap (λ (c : List Kept). kept_of setup.activity c) (sym same) ∙ found))
+    where
+      by_more : (kept : Kept) → (kept ≡ newest) ⊎ (kept_of setup.activity live.rest.calls ≡ Some kept)
+          → (kept_of setup.activity live.rest.calls ≡ Some kept)
+          ⊎ ((ahead : List Sent) × (one : Sent) × (later : List Sent) × (sent ≡ ahead ++ one ∷ later) × (kept.frame ≡ bytes_of station.identity one))
+      by_more kept (inl is) = inr (front, message, others, sends, ap (λ (k : Kept). k.frame) is ∙ frame)
+      by_more kept (inr old) = inl old
 
   -- ---- a turn
 
   abbrev Went : Rest → List Sent → Type 0
-  Went after sent = AllByRecursion Saying sent × Stores after.calls sent
+  Went after sent = AllByRecursion Saying sent × IsStoredFrom after.calls sent
 
   served : (heard : Heard) (after : Rest) (sent : List Sent) → AllLast silence live.rest.link → IsOwnHeard setup heard
       → ((caller : Caller) (address : List ℕ) (sequence : ℕ) → heard ≡ Reported caller address (Calls (call_for setup (asks.Release sequence)))
@@ -210,21 +234,13 @@ module _ (setup : Setup) (Holds : Chosen → Type 0) (silence : ℕ) (station : 
       (λ release. (subst (AllByRecursion (IsUnchosen setup)) sends
       (by_release request own.called release it.caller it.address (it.is ∙ ap (λ (c : Call). Reported it.caller it.address (Calls c)) own.is))).0) in (
         subst (AllByRecursion Saying) (sym sends) (
-          (own.by, says),
+          says,
           readied_says after.link address it.ready lasts it.readied
               (subst (AllByRecursion IsSizedIfPlug) sends sized).1,
         ),
-        inr (
-          kept_for station.identity (call_for setup request) first,
-          subst (λ (calls : List Kept). kept_of setup.activity calls ≡ Some (kept_for station.identity (call_for setup request) first))
-              (sym (it.keeps ∙ (ap (λ (m : Sent). kept_more 4 (kept_for station.identity it.call m) live.rest.calls) is_first
-              ∙ ap (λ (c : Call). kept_more 4 (kept_for station.identity c first) live.rest.calls) own.is)))
-              (kept_first (kept_for station.identity (call_for setup request) first) live.rest.calls),
-          first,
-          readied_from address it.ready,
-          sends,
-          refl,
-        ),
+        more_stored after.calls (kept_for station.identity (call_for setup request) first) [] first (readied_from address it.ready) sent
+            (it.keeps ∙ (ap (λ (m : Sent). kept_more 4 (kept_for station.identity it.call m) live.rest.calls) is_first
+            ∙ ap (λ (c : Call). kept_more 4 (kept_for station.identity c first) live.rest.calls) own.is)) refl sends,
       )
     where
       by_release : (request : Request) → IsCalled request → which_of request ≡ Release → (caller : Caller) (address : List ℕ)
@@ -240,23 +256,73 @@ module _ (setup : Setup) (Holds : Chosen → Type 0) (silence : ℕ) (station : 
       → call.header.activity ≡ setup.activity
   repeats_activity heard caller address call known is = ap (λ (c : Call). c.header.activity) (subst (IsOwnHeard setup) is known).is
 
+  -- ---- a call that is asked
+
+  -- A response to it: it is not the Connect of this start.
+  reply_says : (question : Question) (status : Status) (blocks : List ℕ)
+      → (question.header.activity ≡ setup.activity → (question.header.sequence == 0) ≡ false) → Says (answer_to (call_of question) status blocks)
+  reply_says question status blocks other = λ right.
+      let same = first_so (pointwise nat_eq question.header.activity setup.activity) (question.header.sequence == 0) right in
+      let later = other (same_text question.header.activity setup.activity (sym same)) in
+      absurd (clash (sym later ∙ second_so (pointwise nat_eq question.header.activity setup.activity) (question.header.sequence == 0) right))
+    where
+      clash : false ≡ true → ⊥
+      clash e = absurd cc
+
+  all_sized_front : (front others : List Sent) → AllByRecursion IsSizedIfPlug (front ++ others) → AllByRecursion IsSizedIfPlug front
+  all_sized_front [] others all = tt
+  all_sized_front (one ∷ front) others all = (all.0, all_sized_front front others all.1)
+
+  all_joined : (front others : List Sent) → AllByRecursion Saying front → AllByRecursion Saying others → AllByRecursion Saying (front ++ others)
+  all_joined [] others ones all = all
+  all_joined (one ∷ front) others ones all = (ones.0, all_joined front others ones.1 all)
+
+  declined : (heard : Heard) (after : Rest) (sent : List Sent) → Declines station live heard after sent → Went after sent
+  declined heard after sent it =
+      let call = it.new_call.call in
+      let message : Sent = CallAnswer it.new_call.caller live.values.running.suite.address (answer_to call it.status []) in (
+        subst (AllByRecursion Saying) (sym it.sends) (refused_says (answer_to call it.status []) it.undone, tt),
+        more_stored after.calls (kept_for station.identity call message) [] message [] sent (ap (λ (r : Rest). r.calls) it.becomes) refl it.sends,
+      )
+
+  replied : (heard : Heard) (after : Rest) (sent : List Sent) → AllLast silence live.rest.link
+      → ((question : Question) → question_in live.rest.asked ≡ Some question → question.header.activity ≡ setup.activity
+      → (question.header.sequence == 0) ≡ false)
+      → AllByRecursion IsSizedIfPlug sent → Replies station live heard after sent → Went after sent
+  replied heard after sent lasts others sized it =
+      let reply = reply_to live.values.running.suite.address it.question it.status it.blocks in (
+        subst (AllByRecursion Saying) (sym it.sends)
+            (all_joined it.first (reply ∷ [])
+            (others_say after.link it.first lasts it.others (all_sized_front it.first (reply ∷ []) (subst (AllByRecursion IsSizedIfPlug) it.sends sized)))
+            (reply_says it.question it.status it.blocks (others it.question it.asked), tt)),
+        more_stored after.calls (kept_reply station.identity it.question reply) it.first reply [] sent it.keeps refl it.sends,
+      )
+
   -- All that is sent, and what is stored afterwards.
   pub turn_says : (heard : Heard) (after : Rest) (sent : List Sent) → AllLast silence live.rest.link → IsOwnHeard setup heard → StoresChosen setup Holds live
       → ((caller : Caller) (address : List ℕ) (sequence : ℕ) → heard ≡ Reported caller address (Calls (call_for setup (asks.Release sequence)))
       → AllByRecursion (IsUnchosen setup) sent)
+      → ((question : Question) → question_in live.rest.asked ≡ Some question → question.header.activity ≡ setup.activity
+      → (question.header.sequence == 0) ≡ false)
       → AllByRecursion IsSizedIfPlug sent → Does station live heard after sent → Went after sent
-  turn_says heard after sent lasts known stored releases sized (inl it) =
-      (subst (AllByRecursion Saying) (sym it.silent) tt, inl (ap (λ (r : Rest). r.calls) it.same))
-  turn_says heard after sent lasts known stored releases sized (inr (inl it)) = (others_say after.link sent lasts it.others sized, inl it.calls)
-  turn_says heard after sent lasts known stored releases sized (inr (inr (inl it))) =
-      (exchange_says sent it.others, inl (ap (λ (r : Rest). r.calls) it.becomes))
-  turn_says heard after sent lasts known stored releases sized (inr (inr (inr (inl it)))) = (
+  turn_says heard after sent lasts known stored releases others sized (inl it) =
+      (subst (AllByRecursion Saying) (sym it.silent) tt, same_stored after.calls sent (ap (λ (r : Rest). r.calls) it.same))
+  turn_says heard after sent lasts known stored releases others sized (inr (inl it)) =
+      (others_say after.link sent lasts it.others sized, same_stored after.calls sent it.calls)
+  turn_says heard after sent lasts known stored releases others sized (inr (inr (inl it))) =
+      (exchange_says sent it.others, same_stored after.calls sent (ap (λ (r : Rest). r.calls) it.becomes))
+  turn_says heard after sent lasts known stored releases others sized (inr (inr (inr (inl it)))) = (
     subst (AllByRecursion Saying) (sym it.sends) (
       stored it.kept (subst (λ (activity : List ℕ). kept_of activity live.rest.calls ≡ Some it.kept)
           (repeats_activity heard it.caller it.address it.call known it.is) it.there),
       tt,
     ),
-    inl (ap (λ (r : Rest). r.calls) it.same),
+    same_stored after.calls sent (ap (λ (r : Rest). r.calls) it.same),
   )
-  turn_says heard after sent lasts known stored releases sized (inr (inr (inr (inr it)))) =
+  turn_says heard after sent lasts known stored releases others sized (inr (inr (inr (inr (inl it))))) =
       served heard after sent lasts known releases sized it
+  turn_says heard after sent lasts known stored releases others sized (inr (inr (inr (inr (inr (inl it)))))) =
+      (subst (AllByRecursion Saying) (sym it.silent) tt, same_stored after.calls sent (ap (λ (r : Rest). r.calls) it.becomes))
+  turn_says heard after sent lasts known stored releases others sized (inr (inr (inr (inr (inr (inr (inl it))))))) = declined heard after sent it
+  turn_says heard after sent lasts known stored releases others sized (inr (inr (inr (inr (inr (inr (inr it))))))) =
+      replied heard after sent lasts others sized it

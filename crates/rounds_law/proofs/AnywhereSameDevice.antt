@@ -1,12 +1,14 @@
 -- A step of a device: its relation stays that of this start, and what it stores and sends chooses as before.
-use Rattle.std.proofs.Common.{◌≡◌, ◌<◌, ◌⊎◌, inl, inr, ℕ, true, List, ◌∷◌, map, Some, None, Ok, refl, sym, ap, subst, ◌∙◌}
+use Rattle.std.proofs.Common.{◌≡◌, ◌<◌, ◌⊎◌, inl, inr, ◌==◌, ◌++◌, ℕ, true, false, List, [], ◌∷◌, map, Some, None, Ok, refl, sym, subst, ◌∙◌}
 use Rattle.std.specs.List.{AllByRecursion}
-use Rattle.std.proofs.lemmas.Option.{same_Some}
 use Rattle.flash_model.specs.declared.flash.Flash.{Ghosts as Flash}
 use Rattle.pn_values.specs.declared.identity.Identity.{Identity}
 use Rattle.settings_journal.specs.settings_store.Machine.{Outcome}
 use Rattle.connect_blocks.specs.ArBlock.{is_some_uuid}
 use Rattle.rpc_core.specs.Cache.{Kept, kept_of}
+use Rattle.asked_records.specs.Asked.{question_in}
+use Rattle.asked_records.specs.declared.question.Question.{Question}
+use Rattle.relations.specs.RelationState.{uuid_of}
 use Rattle.frame_codec.specs.declared.udp.Caller.{Caller}
 use Rattle.records.specs.declared.writes.taken.TakenRecord.{TakenRecord}
 use Rattle.connects.specs.answers.Connect.{Chosen}
@@ -35,17 +37,18 @@ use Rattle.rounds_law.proofs.AnywhereDeviceAnswers.{CallLaws}
 use Rattle.rounds_law.proofs.AnywhereDeviceHears.{IsHeardAs, message_heard, message_said}
 use Rattle.rounds_law.proofs.AnywhereDeviceLaw.{AreSizedPlugs, DeviceLaws, calls, frame_sized, unit_sized}
 use Rattle.rounds_law.proofs.AnywhereParts.{Hears, IsLong}
-use Rattle.rounds_law.proofs.AnywhereSameAnswers.{AnswersLaws, turn_says}
+use Rattle.rounds_law.proofs.AnywhereAsked.{not_connect}
+use Rattle.rounds_law.proofs.AnywhereSameAnswers.{AnswersLaws, IsStoredFrom, turn_says}
 use Rattle.rounds_law.proofs.AnywhereControllerLaws.{ControllerLaws}
 use Rattle.rounds_law.proofs.AnywhereSameHears.{IsKnown, message_known, rules_for, unit_known}
 use Rattle.rounds_law.proofs.AnywhereSameLink.{link_on}
 use Rattle.rounds_law.proofs.AnywhereSameReleased.{IsUnchosen, release_unchosen}
-use Rattle.rounds_law.proofs.AnywhereSameSays.{PacketsAreNothing, all_say}
+use Rattle.rounds_law.proofs.AnywhereSameSays.{IsSaying, PacketsAreNothing, all_say}
 
 -- A clause of a function below: each turn of a device that hears planned calls is of a kind.
 abbrev pub TurnsAreKnown : Type 0
 TurnsAreKnown = (rules : Rules TakenRecord Request) (activity : List ℕ) (outcomes : List Outcome) (station : Station) (live : Live) (heard : Heard)
-    → IsPlanned rules activity live.rest.real heard
+    → IsPlanned rules activity station.named live.rest.real heard
     → Turn station live heard (heard_step outcomes station live heard).live.rest (heard_step outcomes station live heard).sent
 
 -- What follows from the clauses of functions below for these stations.
@@ -67,7 +70,7 @@ module _ {F : Type 0} {S : ℕ} (as_flash : Flash F S) (setup next : Setup) (ide
   read = laws.read long.can.can_meet.named
 
   module _ (before after : State F) (heard : Heard) (frames : List (List ℕ)) (goes : Goes as_flash before heard frames after)
-      (any : IsAnyDevice setup next identity silence before.station before.live) (known : IsKnown setup before.live.rest.real read heard)
+      (any : IsAnyDevice setup next identity silence before.station before.live) (known : IsKnown setup before.station.named before.live.rest.real read heard)
       (plugs : AreSizedPlugs as_flash setup next identity silence laws.device before heard goes.steps.outcomes) where
     abbrev outcomes : List Outcome
     outcomes = goes.steps.outcomes
@@ -109,40 +112,53 @@ module _ {F : Type 0} {S : ℕ} (as_flash : Flash F S) (setup next : Setup) (ide
         allows = allows;
       }
 
+      replies : (question : Question) → question_in before.live.rest.asked ≡ Some question → question.header.activity ≡ setup.activity
+          → (question.header.sequence == 0) ≡ false
+      replies question is = not_connect setup next (uuid_of before.live.rest.link) before.live.rest.asked question any.asked is
+
       device : IsDevice before.station.identity
       device = subst IsDevice (sym any.of_device) long.of_device
 
       all_sent : AllByRecursion (ChoosesIn setup Holds) (map (bytes_of before.station.identity) sent)
       all_sent =
           all_say laws.device.says laws.packets setup Holds before.station.identity long.real device sent
-          (turn_says setup Holds silence before.station before.live answers heard rest sent any.lasts known.1 stored releases plugs turn.does).0 goes.steps.sendable
+          (turn_says setup Holds silence before.station before.live answers heard rest sent any.lasts known.1 stored releases replies plugs turn.does).0
+          goes.steps.sendable
 
-      stored_in : (stored_now : List Kept) → (stored_now ≡ before.live.rest.calls)
-          ⊎ ((kept : Kept) × (kept_of setup.activity stored_now ≡ Some kept) × (first : Sent) × (others : List Sent) × (sent ≡ first ∷ others)
-          × (kept.frame ≡ bytes_of before.station.identity first))
-          → (kept : Kept) → kept_of setup.activity stored_now ≡ Some kept → ChoosesIn setup Holds kept.frame
-      stored_in stored_now (inl same) kept found = stored kept (ap (λ (c : List Kept). kept_of setup.activity c) (sym same) ∙ found)
-      stored_in stored_now (inr newest) kept found =
-          let is : newest.0 ≡ kept = same_Some newest.0 kept (sym newest.1 ∙ found) in
-          subst (λ (k : Kept). ChoosesIn setup Holds k.frame) is
-          (subst (ChoosesIn setup Holds) (sym newest.5)
-          (subst (λ (messages : List Sent). AllByRecursion (ChoosesIn setup Holds) (map (bytes_of before.station.identity) messages)) newest.4 all_sent).0)
+      middle : (front : List Sent) (message : Sent) (others : List Sent)
+          → AllByRecursion (ChoosesIn setup Holds) (map (bytes_of before.station.identity) (front ++ message ∷ others))
+          → ChoosesIn setup Holds (bytes_of before.station.identity message)
+      middle [] message others all = all.0
+      middle (one ∷ front) message others all = middle front message others all.1
+
+      stored_by : (kept : Kept)
+          → (kept_of setup.activity before.live.rest.calls ≡ Some kept)
+          ⊎ ((front : List Sent) × (message : Sent) × (others : List Sent) × (sent ≡ front ++ message ∷ others)
+          × (kept.frame ≡ bytes_of before.station.identity message))
+          → ChoosesIn setup Holds kept.frame
+      stored_by kept (inl old) = stored kept old
+      stored_by kept (inr new) =
+          subst (ChoosesIn setup Holds) (sym new.4)
+          (middle new.0 new.1 new.2
+          (subst (λ (messages : List Sent). AllByRecursion (ChoosesIn setup Holds) (map (bytes_of before.station.identity) messages)) new.3 all_sent))
+
+      went : AllByRecursion (IsSaying setup Holds) sent × IsStoredFrom setup Holds silence before.station before.live answers rest.calls sent
+      went = turn_says setup Holds silence before.station before.live answers heard rest sent any.lasts known.1 stored releases replies plugs turn.does
 
       -- What it stores and sends.
       stays_chosen : StoresChosen setup Holds after.live × AllByRecursion (ChoosesIn setup Holds) frames
       stays_chosen = (
         subst (λ (live : Live). StoresChosen setup Holds live) (sym goes.steps.live)
-            (stored_in rest.calls
-            (turn_says setup Holds silence before.station before.live answers heard rest sent any.lasts known.1 stored releases plugs turn.does).1),
+            (λ kept found. stored_by kept (went.1 kept found)),
         subst (AllByRecursion (ChoosesIn setup Holds)) (sym (goes.steps.frames ∙ frames_are outcomes before.station before.live heard)) all_sent,
       )
 
   -- ---- a frame of the controller, and a unit
 
   frame_known : (before : State F) (octets : List ℕ) → IsAnyDevice setup next identity silence before.station before.live → IsOwn setup IsAnything octets
-      → IsKnown setup before.live.rest.real read (heard_of before.station.identity (comes octets))
+      → IsKnown setup before.station.named before.live.rest.real read (heard_of before.station.identity (comes octets))
   frame_known before octets any own =
-      message_known setup before.live.rest.real read (heard_of before.station.identity (comes octets)) own.message own.way
+      message_known setup before.station.named before.live.rest.real read (heard_of before.station.identity (comes octets)) own.message own.way
       (subst (λ (o : List ℕ). IsHeardAs (heard_of before.station.identity (comes o)) (message_said setup own.message)) (sym own.frame)
       (message_heard laws.device.hears setup before.station.identity long.real own.message own.sendable own.way))
 
@@ -166,7 +182,7 @@ module _ {F : Type 0} {S : ℕ} (as_flash : Flash F S) (setup next : Setup) (ide
   pub unit_leaves : (before after : State F) (frames : List (List ℕ)) → Goes as_flash before Ticks frames after
       → IsAnyDevice setup next identity silence before.station before.live → Leaves before after frames
   unit_leaves before after frames goes any =
-      let known = unit_known setup before.live.rest.real read in
+      let known = unit_known setup before.station.named before.live.rest.real read in
       let plugs = unit_sized as_flash setup next identity silence laws.device long before after frames goes any in
       record {
         of_start = stays_of_start before after Ticks frames goes any known plugs;

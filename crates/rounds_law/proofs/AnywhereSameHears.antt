@@ -1,6 +1,6 @@
 -- What a device hears of its controller, as the law of its turns needs it: each call is one of the controller's start-up, and nothing comes
 -- from the application of the device.
-use Rattle.std.proofs.Common.{◌≡◌, inl, inr, false, [], Option, Some, None, Ok, refl, sym, subst}
+use Rattle.std.proofs.Common.{◌≡◌, inl, inr, false, [], Option, Some, None, Ok, refl, sym, subst, List}
 use Rattle.pn_values.specs.declared.real.Real.{Real}
 use Rattle.frame_codec.specs.declared.udp.Caller.{Caller}
 use Rattle.rpc_core.specs.Call.{Asked as Call}
@@ -17,6 +17,7 @@ use Rattle.diagnosis.specs.declared.reports.priority.Priority.{Priority}
 use Rattle.diagnosis.specs.declared.reports.priority.Priority.TheVariants.{High, Low}
 use Rattle.plans.specs.Connect.{connect_of}
 use Rattle.device_frames.specs.Heard.{Calls, Applied, Heard, Reported, Ticks}
+use Rattle.asked_records.specs.declared.names.RecordName.{RecordName}
 use Rattle.controller_messages.specs.declared.request.Request.{Request}
 use Rattle.controller_messages.specs.declared.request.Request.TheVariants as asks
 use Rattle.controller_messages.specs.declared.setup.Setup.{Setup}
@@ -89,19 +90,20 @@ rules_for setup = record {
   to_controller = λ octets. small.Nothing;
 }
 
-module _ (setup : Setup) (real : Real) (read : request_of None (connect_of setup.plan setup.ar) ≡ Ok (request_for setup.plan setup.ar)) where
+module _ (setup : Setup) (named : List RecordName) (real : Real)
+    (read : request_of None (connect_of setup.plan setup.ar) ≡ Ok (request_for setup.plan setup.ar)) where
   abbrev Planned : Heard → Type 0
-  Planned heard = IsPlanned (rules_for setup) setup.activity real heard
+  Planned heard = IsPlanned (rules_for setup) setup.activity named real heard
 
   -- Both.
   abbrev pub IsKnown : Heard → Type 0
   IsKnown heard = Planned heard × IsOwnHeard setup heard
 
   abbrev PlannedAs : Request → Option Operation → Type 0
-  PlannedAs request which = IsPlannedAs (rules_for setup) real (call_for setup request).header.sequence (blocks_of setup request) which
+  PlannedAs request which = IsPlannedAs (rules_for setup) named real (call_for setup request).header.sequence (blocks_of setup request) which
 
   call_planned : (request : Request) → IsCalled request → PlannedAs request (Some (which_of request))
-      → IsPlannedCall (rules_for setup) setup.activity real (call_for setup request)
+      → IsPlannedCall (rules_for setup) setup.activity named real (call_for setup request)
   call_planned request called plans = record {
     own = refl;
     blocks = blocks_of setup request;

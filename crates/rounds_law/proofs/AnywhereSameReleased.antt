@@ -7,6 +7,7 @@ use Rattle.connect_blocks.specs.declared.control.ControlBlock.{ControlBlock}
 use Rattle.block_codec.specs.declared.block.Block.TheVariants as is
 use Rattle.block_codec.specs.Block.{block_bytes}
 use Rattle.frame_codec.specs.declared.udp.Caller.{Caller}
+use Rattle.asked_records.specs.Asked.{is_repeat}
 use Rattle.rpc_core.specs.Cache.{Reported as Looked, again, looked, new, old}
 use Rattle.rpc_core.specs.Response.{Answered, answer_to, is_done}
 use Rattle.records.specs.declared.status.call_fault.CallFault.{CallFault}
@@ -23,6 +24,7 @@ use Rattle.device_frames.specs.Heard.{Calls, Reported}
 use Rattle.device_frames.specs.Sent.{Again, CallAnswer, Sent}
 use Rattle.device_core.specs.State.{Live, Station}
 use Rattle.device_core.specs.Log.{but_rest, release_log, with_log}
+use Rattle.device_core.specs.Asking.{left_asked, released_by}
 use Rattle.device_core.specs.Handled.{Handled, Moves, Refuses, handled_call, handled_looked, handled_new, handled_said, is_running, served}
 use Rattle.device_core.specs.Machine.{handled_step, heard_step}
 use Rattle.controller_messages.specs.declared.request.Request.TheVariants as asks
@@ -51,6 +53,10 @@ module _ (setup : Setup) (outcomes : List Outcome) (station : Station) (live : L
   unfolding handled_step
   refused why = tt
 
+  silent : Unchosen (Moves live.rest [])
+  unfolding handled_step
+  silent = tt
+
   repeated : (frame : List ℕ) → Unchosen (Moves live.rest (Again frame ∷ []))
   unfolding handled_step
   repeated frame = (tt, tt)
@@ -62,7 +68,8 @@ module _ (setup : Setup) (outcomes : List Outcome) (station : Station) (live : L
   abbrev release_by : Result ControlBlock CallFault → Handled
   release_by ended =
       let answer = ended >>= λ block. Ok (block_bytes (is.ReleaseRes (done_of block))) in
-      served station (but_rest live (with_log (release_log (uuid_of live.rest.link) answer) live.rest)) caller
+      let asked = left_asked (released_by answer (uuid_of live.rest.link)) live.rest.asked in
+      served station (but_rest live (record (with_log (release_log (uuid_of live.rest.link) answer) live.rest) { asked = asked })) caller
       (call_for setup (asks.Release sequence)) Release answer (updated (answered Ended ended) live.rest.link) []
 
   taken : Unchosen (release_by (Ok (control_of setup 4)))
@@ -87,7 +94,12 @@ module _ (setup : Setup) (outcomes : List Outcome) (station : Station) (live : L
 
   by_cache : (found : Looked)
       → Unchosen (handled_looked station live caller (call_for setup (asks.Release sequence)) (blocks_of setup (asks.Release sequence)) Release found)
-  by_cache new = fresh
+  by_cache new = by_repeat (is_repeat setup.activity sequence live.rest.asked)
+    where
+      by_repeat : (repeats : Bool) → Unchosen (if repeats then Moves live.rest []
+          else handled_new station live caller (call_for setup (asks.Release sequence)) (blocks_of setup (asks.Release sequence)) Release)
+      by_repeat true = silent
+      by_repeat false = fresh
   by_cache (again frame) = repeated frame
   by_cache old = refused note.OldCall
 

@@ -1,5 +1,5 @@
 -- What a controller hears of the messages of a device: what a positive response to its Connect chooses.
-use Rattle.std.proofs.Common.{◌≡◌, ◌==◌, ◌&&◌, ℕ, nat_eq, Bool, true, false, List, [], ◌∷◌, map, Option, Some, None, sym, subst, arith}
+use Rattle.std.proofs.Common.{◌≡◌, ◌==◌, ◌&&◌, ℕ, nat_eq, Bool, true, false, List, [], ◌∷◌, map, Option, Some, None, sym, subst}
 use Rattle.std.specs.Prelude.{if◌then◌else◌}
 use Rattle.std.specs.List.{AllByRecursion}
 use Rattle.std.specs.Cmp.Lexicographic.{pointwise}
@@ -24,7 +24,6 @@ use Rattle.controller_messages.specs.declared.setup.Setup.{Setup}
 use Rattle.controller_messages.specs.Heard.{Calls, Heard, Nothing, Responds, heard_of}
 use Rattle.end_laws.specs.hearing.Hearing.{IsUncalled, mine_reported}
 use Rattle.end_laws.specs.hearing.Stations.{IsAddress, IsCaller, IsDevice, IsSetup, plug_ready_call, ready_call}
-use Rattle.both_ends.specs.startup.answer.Answer.{caller_of}
 use Rattle.rounds_law.specs.AnywhereSame.{Chooses, ChoosesIn}
 use Rattle.rounds_law.proofs.AnywhereDeviceSays.{IsSizedPlug, IsSizedReady, SaysLaws}
 
@@ -52,9 +51,9 @@ reported_chooses setup Holds destination to heard fit =
 
 -- ---- each message
 
--- A response to this controller that chooses so, and an ApplicationReady, also that of a plug, of sizes that are read.
+-- A response that chooses so, and an ApplicationReady, also that of a plug, of sizes that are read.
 abbrev pub IsSaying : Setup → (Chosen → Type 0) → Sent → Type 0
-IsSaying setup Holds (CallAnswer caller address answer) = (caller ≡ caller_of setup.plan.controller) × Chooses setup Holds (Responds answer)
+IsSaying setup Holds (CallAnswer caller address answer) = Chooses setup Holds (Responds answer)
 IsSaying setup Holds (Again frame) = ChoosesIn setup Holds frame
 IsSaying setup Holds (ReadyCall address ready) = IsSizedReady ready
 IsSaying setup Holds (PlugReadyCall address ready) = IsSizedPlug ready
@@ -68,10 +67,10 @@ module _ (laws : SaysLaws) (packets : PacketsAreNothing) (setup : Setup) (Holds 
       uncalled_chooses setup Holds (heard_of setup.plan.controller (frame_bytes (carrying destination identity.mac tag (RealTime frame_id body))))
       (laws.alone setup.plan.controller destination identity.mac tag frame_id body can.destination can.source can.tag)
 
-  answer_says : (caller : Caller) (address : List ℕ) (answer : Answered) → caller ≡ caller_of setup.plan.controller → Chooses setup Holds (Responds answer)
+  answer_says : (caller : Caller) (address : List ℕ) (answer : Answered) → Chooses setup Holds (Responds answer)
       → IsSendable identity (CallAnswer caller address answer) → ChoosesIn setup Holds (response_frame identity caller address answer)
-  answer_says caller address answer of fit can =
-      let called = subst IsCaller (sym of) (record { mac = good.mac; endpoint = (good.address, omega arith) }) in
+  answer_says caller address answer fit can =
+      let called : IsCaller caller = record { mac = can.0.destination; endpoint = can.0.content.1 } in
       subst (Chooses setup Holds) (sym (laws.response setup.plan.controller identity caller address answer device called can.0.content.0.0 can.1))
       (reported_chooses setup Holds caller.mac caller.endpoint (Responds answer) fit)
 
@@ -97,7 +96,7 @@ module _ (laws : SaysLaws) (packets : PacketsAreNothing) (setup : Setup) (Holds 
   message_says (SetAnswer asker request answers) says can = data_says asker None _ _ can
   message_says (ArpReply asker address target) says can =
       subst (Chooses setup Holds) (sym (packets setup.plan.controller identity asker address target device can.destination can.content.0.1 can.content.1)) tt
-  message_says (CallAnswer caller address answer) says can = answer_says caller address answer says.0 says.1 can
+  message_says (CallAnswer caller address answer) says can = answer_says caller address answer says can
   message_says (Again frame) says can = says
   message_says (ReadyCall address ready) says can = ready_says address ready says can
   message_says (PlugReadyCall address ready) says can = plug_says address ready says can

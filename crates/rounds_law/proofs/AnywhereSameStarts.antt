@@ -7,6 +7,7 @@ use Rattle.pn_values.specs.declared.identity.Identity.{Identity}
 use Rattle.plans.specs.declared.parts.Parts.{Parts}
 use Rattle.rpc_core.specs.Cache.{Kept, kept_of}
 use Rattle.device_core.specs.State.{State}
+use Rattle.relations.specs.RelationState.{uuid_of}
 use Rattle.controller_messages.specs.declared.setup.Setup.{Setup}
 use Rattle.controller_messages.specs.Requests.{write_count}
 use Rattle.controller_core.specs.declared.stored.event.Event.TheVariants.{Tick}
@@ -27,6 +28,7 @@ use Rattle.rounds_law.proofs.AnywhereDeviceLaw.{device_frame}
 use Rattle.rounds_law.proofs.AnywhereLaw.{any_first}
 use Rattle.rounds_law.proofs.AnywhereLaws.{AnywhereLaws, keeps}
 use Rattle.rounds_law.proofs.AnywhereLinkRelease.{link_release, release_ignored}
+use Rattle.rounds_law.proofs.AnywhereAsked.{nothing_asked, unrelated_asked}
 use Rattle.rounds_law.proofs.AnywhereLinkUnit.{link_unit}
 use Rattle.rounds_law.proofs.AnywhereParts.{Hears, IsLong, LinkRelease, ReleaseIgnored}
 use Rattle.rounds_law.proofs.AnywherePlants.{IsUnderWay}
@@ -111,6 +113,8 @@ module _ {F : Type 0} {S : ℕ} (as_flash : Flash F S) (setup next : Setup) (ide
     stored = λ kept found. none_found kept found;
     stored_other = λ kept found. none_found kept found;
     uncalled_next = uncalled next device.live.rest.calls;
+    asked = nothing_asked next (third device) (uuid_of device.live.rest.link) device.live.rest.asked.standing
+        (unrelated_asked setup next device.live.rest.link device.live.rest.asked.standing is.1 is.0.asked);
   }
     where
       none_found : {A : Type 0} (kept : Kept) → kept_of next.activity device.live.rest.calls ≡ Some kept → A

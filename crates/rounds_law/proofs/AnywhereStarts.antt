@@ -20,6 +20,7 @@ use Rattle.rounds_law.specs.Rounds.{BothExchange, HearsAll, Net, Round, hears_al
 use Rattle.rounds_law.specs.Stages.{IsLooking, Leads}
 use Rattle.rounds_law.specs.Start.{CanBeAddressed, IsOfPlan, start_up_limit}
 use Rattle.rounds_law.proofs.AgainLaw.{plant_leads}
+use Rattle.rounds_law.proofs.AnywhereAsked.{unrelated_asked}
 use Rattle.rounds_law.proofs.AnywhereParted.{Begins, parted_leads}
 use Rattle.rounds_law.proofs.AnywhereParts.{AreOwn, ControllerFrame, DeviceFrame, EndedFrame, EndedUnit, Hears, IsAnything, IsLong, IsOwn, IsRelease}
 use Rattle.rounds_law.proofs.AnywhereParts.{LinkRelease, LinkUnit, ReleaseIgnored}
@@ -78,6 +79,7 @@ module _ {F : Type 0} {S : ℕ} (as_flash : Flash F S) (setup next : Setup) (ide
     plugged = plan.plugged ∙ ap (λ p. p.real) (sym long.starts.plan);
     interval = subst (λ p. AcceptsInterval station.options p) (sym long.starts.plan) plan.interval;
     ready = plan.ready;
+    names = plan.names;
   }
 
   pub addressed_next : (live : Live) → IsAddressed setup live ⊎ CanBeAddressed live → IsAddressed next live ⊎ CanBeAddressed live
@@ -116,7 +118,11 @@ module _ {F : Type 0} {S : ℕ} (as_flash : Flash F S) (setup next : Setup) (ide
     of_device = is.0.of_device;
     of_plan = of_plan_next device.station device.live.rest.real is.0.of_plan;
     named = record { name = is.0.named.name ∙ ap (λ p. p.station.name) (sym long.starts.plan) };
-    free = record { unrelated = is.1; uncalled = is.0.uncalled_next };
+    free = record {
+      unrelated = is.1;
+      unasked = unrelated_asked setup next device.live.rest.link device.live.rest.asked.standing is.1 is.0.asked;
+      uncalled = is.0.uncalled_next;
+    };
     sized = is.0.sized;
     addressed = addressed_next device.live is.0.addressed;
   }

@@ -48,6 +48,7 @@ use Rattle.both_ends.specs.startup.answer.Answer.{caller_of}
 use Rattle.rounds_law.specs.Path.{Asks, IsAddressed, IsFree, controller_step, device_step, request_to}
 use Rattle.rounds_law.specs.Causes.{Differs, EndedWith, blocks_with, differing_frame}
 use Rattle.rounds_law.proofs.ControllerCallingResponses.{is_its_answer, is_reported}
+use Rattle.rounds_law.proofs.AskedUnits.{unasked_new}
 use Rattle.rounds_law.proofs.DeviceCallingConnected.{is_connect}
 use Rattle.rounds_law.proofs.DeviceCallingSteps.{first_new, step_is}
 use Rattle.rounds_law.proofs.PlaceTurns.{unfollowed}
@@ -88,7 +89,8 @@ module _ (setup : Setup) (station : Station) (live : Live) where
   is_handled : IsFree setup live → handled_said station live caller (Calls call) ≡ Moves rest (sent ∷ [])
   is_handled free =
       ap (λ (o : Option Operation). handled_call station live caller call o) is_connect
-      ∙ ap (λ (l : Looked). handled_looked station live caller call blocks Connect l) (first_new setup.activity 0 live.rest.calls free.uncalled)
+      ∙ (ap (λ (l : Looked). handled_looked station live caller call blocks Connect l) (first_new setup.activity 0 live.rest.calls free.uncalled)
+      ∙ unasked_new station live caller call blocks Connect free.unasked)
 
   is_sent : IsAddressed setup live → IsFree setup live
       → connect_within station.options setup.plan.controller.mac None blocks ≡ Ok (request_for setup.plan setup.ar)

@@ -39,6 +39,7 @@ module _ {F : Type 0} {S : ℕ} (as_flash : Flash F S) (setup next : Setup) (ide
     sized = at.sized;
     addressed = at.addressed;
     uncalled_next = at.uncalled_next;
+    unasked = at.unasked;
   }
 
   lasts_by : (left : ℕ) (live : Live) → (live.rest.link ≡ None) ⊎ IsEarlier setup next left live → Lasts setup next (suc left) live

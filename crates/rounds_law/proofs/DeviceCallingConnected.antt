@@ -29,8 +29,9 @@ use Rattle.end_laws.specs.hearing.Hearing.{comes}
 use Rattle.both_ends.specs.startup.request.Request.{request_for}
 use Rattle.both_ends.specs.startup.answer.Answer.{answer_frame, caller_of}
 use Rattle.rounds_law.proofs.Numbers.{number_few}
-use Rattle.rounds_law.specs.Path.{HasRelation, IsAddressed, IsFree, device_step, request_to}
+use Rattle.rounds_law.specs.Path.{AsksNothing, HasRelation, IsAddressed, IsFree, device_step, request_to}
 use Rattle.rounds_law.specs.Start.{IsOfPlan}
+use Rattle.rounds_law.proofs.AskedUnits.{unasked_new}
 use Rattle.rounds_law.proofs.DeviceCallingSteps.{first_new, kept_first, step_is}
 
 pub is_connect : operation_of 0 ≡ Some Connect
@@ -88,7 +89,8 @@ module _ (setup : Setup) (identity : Identity) (station : Station) (live : Live)
   is_handled : IsFree setup live → handled_said station live caller (Calls call) ≡ Moves rest (sent ∷ [])
   is_handled free =
       ap (λ (o : Option Operation). handled_call station live caller call o) is_connect
-      ∙ ap (λ (l : Looked). handled_looked station live caller call blocks Connect l) (first_new setup.activity 0 live.rest.calls free.uncalled)
+      ∙ (ap (λ (l : Looked). handled_looked station live caller call blocks Connect l) (first_new setup.activity 0 live.rest.calls free.uncalled)
+      ∙ unasked_new station live caller call blocks Connect free.unasked)
 
   frames_are : station.identity ≡ identity → live.rest.real ≡ setup.plan.real → IsAddressed setup live → live.rest.link ≡ None
       → map (bytes_of station.identity) (sent ∷ []) ≡ answer_frame setup identity station.options (number_now station live) setup.plan.station.suite.address ∷ []
@@ -98,8 +100,9 @@ module _ (setup : Setup) (identity : Identity) (station : Station) (live : Live)
       ∙ (ap (λ suite. bytes_of identity (message identity setup.plan.real suite.address live.rest.link) ∷ []) addressed.suite
       ∙ ap (λ (link : Option RelationState). bytes_of identity (message identity setup.plan.real setup.plan.station.suite.address link) ∷ []) unrelated))
 
-  relation : rest.link ≡ Some made → HasRelation setup (number_now station live) Started [] 0 0 (record { values = live.values; rest = rest })
-  relation has = record {
+  relation : AsksNothing live → rest.link ≡ Some made
+      → HasRelation setup (number_now station live) Started [] 0 0 (record { values = live.values; rest = rest })
+  relation nothing has = record {
     link = made;
     has = has;
     in_phase = refl;
@@ -117,6 +120,7 @@ module _ (setup : Setup) (identity : Identity) (station : Station) (live : Live)
     kept = kept_for station.identity call sent;
     answered = kept_first (kept_for station.identity call sent) live.rest.calls;
     number = refl;
+    unasked = nothing;
   }
 
   pub connects : (outcomes : List Outcome) → station.identity ≡ identity → IsOfPlan setup station live.rest.real → IsAddressed setup live → IsFree setup live
@@ -128,4 +132,4 @@ module _ (setup : Setup) (identity : Identity) (station : Station) (live : Live)
       let stepped = step_is outcomes station live (request_to setup identity asks.Connect) caller setup.plan.station.suite.address (Calls call)
       rest (sent ∷ []) hears running (is_handled free) in
       subst (λ (step : Stepped). IsConnected setup identity station live step) (sym stepped)
-      (frames_are same of_plan.plugged addressed free.unrelated, refl, relation (is_made free.unrelated accepted))
+      (frames_are same of_plan.plugged addressed free.unrelated, refl, relation free.unasked (is_made free.unrelated accepted))

@@ -37,6 +37,7 @@ use Rattle.both_ends.specs.startup.request.Request.{request_for}
 use Rattle.both_ends.specs.startup.answer.Answer.{caller_of}
 use Rattle.rounds_law.specs.Path.{HasRelation, IsAddressed, device_step, ended_frame, readied_frame, request_to}
 use Rattle.rounds_law.specs.Start.{IsOfPlan}
+use Rattle.rounds_law.proofs.AskedUnits.{unasked_new}
 use Rattle.rounds_law.proofs.DeviceCallingBlocks.{HasSize, IsReadAlone, not_of_plug, prm_ended}
 use Rattle.rounds_law.proofs.DeviceCallingSteps.{kept_first, later_new, partner_alive, step_is}
 use Rattle.rounds_law.proofs.Choices.{where_not, where_so}
@@ -128,8 +129,9 @@ module _ (setup : Setup) (identity : Identity) (station : Station) (live : Live)
       ap (λ (o : Option Operation). handled_call station live caller call o) is_control
       ∙ (ap (λ (l : Looked). handled_looked station live caller call blocks Control l)
       (later_new setup.activity (write_count setup.plan + 1) live.rest.calls relation.kept relation.answered later)
+      ∙ (unasked_new station live caller call blocks Control relation.unasked
       ∙ where_not (is_plug_control blocks live.rest.link) (handled_plug_end station live caller call blocks) (Moves rest sent)
-      (not_of_plug live.rest.link control))
+      (not_of_plug live.rest.link control)))
 
   frames_are : station.identity ≡ identity → IsAddressed setup live → station.options.ready_by_application ≡ false → ended_now ≡ Ok control
       → link_now ≡ Some made → map (bytes_of station.identity) sent ≡ ended_frame setup identity ∷ readied_frame setup identity ∷ []
@@ -166,6 +168,7 @@ module _ (setup : Setup) (identity : Identity) (station : Station) (live : Live)
     kept = kept_for station.identity call answer_now;
     answered = kept_first (kept_for station.identity call answer_now) live.rest.calls;
     number = refl;
+    unasked = relation.unasked;
   }
 
   pub ends : (outcomes : List Outcome) → station.identity ≡ identity → IsOfPlan setup station live.rest.real → IsAddressed setup live → last ≤ write_count setup.plan

@@ -110,6 +110,7 @@ module _ (sound : IsSound ethernet) (whole : IsSoundWhole layers) (setup : Setup
         kept = before.kept;
         answered = before.answered;
         number = before.number;
+        unasked = before.unasked;
       })
 
   pub exchange_stays : (serial : ℕ) (outcomes : List Outcome) (station : Station) (live : Live) (age : ℕ) (octets : List ℕ)

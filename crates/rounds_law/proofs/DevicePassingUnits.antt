@@ -1,5 +1,5 @@
 -- What a unit of time does to a device.
-use Rattle.std.proofs.Common.{◌≡◌, ◌+◌, ◌-◌, ◌≤◌, ◌<◌, ◌&&◌, ◌++◌, ℕ, suc, Bool, true, false, List, [], ◌∷◌, map, Option, Some, None, refl, sym, ap, subst, ◌∙◌}
+use Rattle.std.proofs.Common.{◌≡◌, ◌+◌, ◌≤◌, ◌<◌, ◌&&◌, ◌++◌, ℕ, suc, Bool, true, false, List, [], ◌∷◌, map, Option, Some, None, refl, sym, ap, subst, ◌∙◌}
 use Rattle.std.specs.List.{AllByRecursion}
 use Rattle.pn_values.specs.declared.identity.Identity.{Identity}
 use Rattle.settings_journal.specs.settings_store.Machine.{Outcome}
@@ -7,7 +7,6 @@ use Rattle.records.specs.declared.writes.taken.TakenRecord.{TakenRecord}
 use Rattle.cyclic_data.specs.declared.status.StationState.{StationState}
 use Rattle.cyclic_data.specs.Image.{Shown}
 use Rattle.cyclic_data.specs.declared.exchange.route.Route.{Route}
-use Rattle.pn_alarms.specs.declared.abort.Abort.{Abort}
 use Rattle.pn_alarms.specs.Device.{end_later}
 use Rattle.pn_alarms.specs.Ends.{DeviceEnd}
 use Rattle.relations.specs.exchange.Flow.{state_of}
@@ -15,38 +14,20 @@ use Rattle.relations.specs.declared.phase.Phase.{Phase}
 use Rattle.relations.specs.exchange.Frames.{Inputs}
 use Rattle.relations.specs.exchange.Opening.{route_of as inputs_route}
 use Rattle.relations.specs.exchange.Units.{repeated_of, tick_of}
-use Rattle.relations.specs.Phases.{passing, passing_by, updated}
 use Rattle.relations.specs.RelationState.{RelationState}
-use Rattle.relations.specs.Timers.{due_by, due_of, ending_of, is_again, is_plug_again, is_timed, unit_later}
+use Rattle.relations.specs.Timers.{due_by, is_again, is_plug_again, is_timed, unit_later}
 use Rattle.device_frames.specs.Heard.{Ticks}
 use Rattle.device_frames.specs.Relation.{alarms_of, due_frames, inputs_of, low_alarms_of, plug_calls, ready_calls, where_due}
 use Rattle.device_frames.specs.Sent.{Exchanges as device_exchanges, Sent, bytes_of}
 use Rattle.device_core.specs.State.{Live, Station, counter_of, units_after}
-use Rattle.device_core.specs.Log.{err_log, with_log}
-use Rattle.device_core.specs.Handled.{Handled, Moves}
+use Rattle.device_core.specs.Handled.{Handled}
 use Rattle.device_core.specs.Machine.{Stepped, handled_step, heard_step}
 use Rattle.controller_messages.specs.declared.setup.Setup.{Setup}
 use Rattle.both_ends.specs.startup.request.Request.{request_for}
 use Rattle.rounds_law.specs.Path.{Exchanges, HasRelation, IsFree, IsInputs, hold_of}
+use Rattle.rounds_law.proofs.AskedUnits.{quiet_unit, ticked_at, unit_goes, unit_link, unit_values}
 use Rattle.rounds_law.proofs.DevicePassingTimers.{active_more, calm_later, held_more, limit_later, no_alarm}
 use Rattle.rounds_law.proofs.DevicePassingTimers.{no_plug, not_again, stays_before, stays_later, waited_more, waits_more}
-
--- A unit at a device with this relation, and with one that ends for this reason, if it does.
-abbrev pub ticked_at : Live → Option RelationState → Handled
-ticked_at live link =
-    let due = due_of link in
-    let later = updated (passing link) link in
-    let units = units_after 1 live.rest.units in
-    Moves (with_log (err_log due.farewell) (record live.rest { lamp = live.rest.lamp - 1; link = later; units = units }))
-    (due_frames live.values.running.suite.address (counter_of units) due later)
-
-abbrev pub ticked_by : Live → RelationState → Option Abort → Handled
-ticked_by live link ending =
-    let due = due_by link ending in
-    let later = updated (passing_by ending) (Some link) in
-    let units = units_after 1 live.rest.units in
-    Moves (with_log (err_log due.farewell) (record live.rest { lamp = live.rest.lamp - 1; link = later; units = units }))
-    (due_frames live.values.running.suite.address (counter_of units) due later)
 
 -- ---- without a relation
 
@@ -55,20 +36,12 @@ pub free_unit : (setup : Setup) (outcomes : List Outcome) (station : Station) (l
     × IsFree setup (heard_step outcomes station live Ticks).live
 unfolding heard_step handled_step
 free_unit setup outcomes station live free =
-    subst (λ (l : Option RelationState). ((handled_step outcomes station live (ticked_at live l)).frames ≡ [])
+    subst (λ (what : Handled). ((handled_step outcomes station live what).frames ≡ []) × ((handled_step outcomes station live what).live.values ≡ live.values)
+    × IsFree setup (handled_step outcomes station live what).live) (sym (quiet_unit station live free.unasked))
+    (subst (λ (l : Option RelationState). ((handled_step outcomes station live (ticked_at live l)).frames ≡ [])
     × ((handled_step outcomes station live (ticked_at live l)).live.values ≡ live.values)
     × IsFree setup (handled_step outcomes station live (ticked_at live l)).live) (sym free.unrelated)
-    (refl, refl, record { unrelated = refl; uncalled = free.uncalled })
-
--- ---- with one that ends for this reason, or does not end
-
-pub unit_goes : (Goes : Stepped → Type 0) (outcomes : List Outcome) (station : Station) (live : Live) (link : RelationState) (reason : Option Abort)
-    → live.rest.link ≡ Some link → ending_of link ≡ reason
-    → Goes (handled_step outcomes station live (ticked_by live link reason)) → Goes (heard_step outcomes station live Ticks)
-unfolding heard_step
-unit_goes Goes outcomes station live link reason has ending goes =
-    subst (λ (l : Option RelationState). Goes (handled_step outcomes station live (ticked_at live l))) (sym has)
-    (subst (λ (e : Option Abort). Goes (handled_step outcomes station live (ticked_by live link e))) (sym ending) goes)
+    (refl, refl, record { unrelated = refl; unasked = free.unasked; uncalled = free.uncalled }))
 
 -- ---- before data is exchanged
 
@@ -113,7 +86,7 @@ relation_unit serial setup identity outcomes station live phase taken last age s
     (plug_calls address (Some later)) inputs (no_alarm link.flow before.calm) (not_again link phase age before.in_phase before.waited few)
     (no_plug link (ap is_timed before.in_phase ∙ timed)) in
     unit_goes (λ (step : Stepped). AllByRecursion (IsInputs setup identity) step.frames × (step.live.values ≡ live.values)
-    × HasRelation setup serial phase taken last (suc age) step.live) outcomes station live link None before.has
+    × HasRelation setup serial phase taken last (suc age) step.live) outcomes station live link None before.unasked before.has
     (stays_before setup link phase age before.request before.in_phase timed before.active few) (
       subst (λ (i : Identity). AllByRecursion (IsInputs setup identity) (map (bytes_of i) (due_frames address counter (due_by link None) (Some later))))
           (sym same)
@@ -142,6 +115,7 @@ relation_unit serial setup identity outcomes station live phase taken last age s
         kept = before.kept;
         answered = before.answered;
         number = before.number;
+        unasked = before.unasked;
       },
     )
 
@@ -150,15 +124,13 @@ relation_unit serial setup identity outcomes station live phase taken last age s
 pub exchange_unit : (serial : ℕ) (setup : Setup) (outcomes : List Outcome) (station : Station) (live : Live) (age : ℕ) → age + 2 ≤ hold_of setup.plan → age < 3000
     → Exchanges setup serial age live
     → ((heard_step outcomes station live Ticks).live.values ≡ live.values) × Exchanges setup serial (suc age) (heard_step outcomes station live Ticks).live
-unfolding handled_step
 exchange_unit serial setup outcomes station live age holds few before =
     let link = before.link in
-    unit_goes (λ (step : Stepped). (step.live.values ≡ live.values) × Exchanges setup serial (suc age) step.live) outcomes station live link None before.has
-    (stays_later link age (hold_of setup.plan) before.in_phase before.limit before.held_few before.high before.low before.low_limit holds few) (
-      refl,
+    let stays = stays_later link age (hold_of setup.plan) before.in_phase before.limit before.held_few before.high before.low before.low_limit holds few in (
+      unit_values outcomes station live,
       record {
         link = unit_later link;
-        has = refl;
+        has = unit_link outcomes station live link None before.has stays;
         in_phase = before.in_phase;
         request = before.request;
         limit = limit_later link.flow.cyclic.begun link.flow.cyclic.hearing ∙ before.limit;

@@ -26,7 +26,8 @@ use Rattle.controller_messages.specs.declared.setup.Setup.{Setup}
 use Rattle.rounds_law.specs.Path.{HasRelation, IsAddressed, readied_frame}
 use Rattle.rounds_law.specs.Repeating.{AsksInTime, Awaits, completes, counts_on}
 use Rattle.rounds_law.proofs.DevicePassingTimers.{calm_later, no_alarm, no_plug}
-use Rattle.rounds_law.proofs.DevicePassingUnits.{all_inputs, unit_goes}
+use Rattle.rounds_law.proofs.AskedUnits.{unit_goes}
+use Rattle.rounds_law.proofs.DevicePassingUnits.{all_inputs}
 
 -- ---- the activity timer
 
@@ -106,7 +107,8 @@ module _ (setup : Setup) (identity : Identity) (outcomes : List Outcome) (statio
   unfolding handled_step
   awaiting_unit same addressed few =
       let address = live.values.running.suite.address in
-      unit_goes (λ (step : Stepped). AsksInTime setup serial identity waited inactive live step) outcomes station live link None before.has (stays few)
+      unit_goes (λ (step : Stepped). AsksInTime setup serial identity waited inactive live step) outcomes station live link None before.unasked before.has
+      (stays few)
       (record {
         inputs = map (bytes_of identity) inputs;
         are_inputs =
@@ -128,6 +130,7 @@ module _ (setup : Setup) (identity : Identity) (outcomes : List Outcome) (statio
           numbered = record { few = before.numbered.few; route = before.numbered.route; endpoint = before.numbered.endpoint };
           waits = waited_is;
           runs = inactive_is;
+          unasked = before.unasked;
         };
       })
 
@@ -141,7 +144,7 @@ module _ (setup : Setup) (identity : Identity) (outcomes : List Outcome) (statio
   unfolding handled_step
   last_unit same long =
       unit_goes (λ (step : Stepped). (step.frames ≡ farewell_frame identity (farewell_of Activity link) ∷ []) × (step.live.rest.link ≡ None))
-      outcomes station live link (Some Activity) before.has (ends long)
+      outcomes station live link (Some Activity) before.unasked before.has (ends long)
       (ap (λ (i : Identity). farewell_frame i (farewell_of Activity link) ∷ []) same, refl)
 
 -- A relation whose PrmEnd was just answered.
@@ -156,4 +159,5 @@ just_ended serial setup taken last live is = record {
   numbered = is.numbered;
   waits = omega (arith, is.waited);
   runs = omega (arith, is.active);
+  unasked = is.unasked;
 }

@@ -1,7 +1,9 @@
+pub mod AskedUnits
 pub mod Choices
 pub mod PlanKept
 pub mod PlaceTurns
 pub mod AnywherePlugs
+pub mod AnywhereAsked
 pub mod CompositionLaws
 pub mod CompositionLists
 pub mod CompositionEnds
@@ -21,6 +23,7 @@ pub mod ControllerPassingUnits
 pub mod ControllerPassingFrames
 pub mod WriteJudged
 pub mod WriteListed
+pub mod WriteUnasked
 pub mod WriteAnswered
 pub mod WriteKept
 pub mod WriteTaken

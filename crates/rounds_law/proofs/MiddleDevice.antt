@@ -18,7 +18,7 @@ use Rattle.rounds_law.specs.Path.{IsAddressed, IsOutputs, device_step}
 use Rattle.rounds_law.specs.Repeating.{Awaits, counts_on}
 use Rattle.rounds_law.proofs.DevicePassingTaken.{Stays, outputs_stay, with_data}
 use Rattle.rounds_law.proofs.DevicePassingTimers.{active_more, calm_later, limit_later, waited_more}
-use Rattle.rounds_law.proofs.DevicePassingUnits.{unit_goes}
+use Rattle.rounds_law.proofs.AskedUnits.{unit_goes}
 use Rattle.rounds_law.proofs.DeviceRepeatingUnits.{awaiting_unit, inactive_is, stays, waited_is}
 
 -- What counts for its frames.
@@ -33,6 +33,7 @@ awaits_of serial setup waited inactive live is = record {
   numbered = is.related.numbered;
   waits = is.waits;
   runs = is.runs;
+  unasked = is.related.unasked;
 }
 
 module _ (setup : Setup) (identity : Identity) (outcomes : List Outcome) (station : Station) (live : Live) (waited inactive : ℕ)
@@ -46,7 +47,7 @@ module _ (setup : Setup) (identity : Identity) (outcomes : List Outcome) (statio
   awaiting_on few =
       let is = before.related in
       let link = is.link in
-      unit_goes (λ (step : Stepped). IsAwaiting setup serial (counts_on waited) (inactive + 1) step.live) outcomes station live link None is.has
+      unit_goes (λ (step : Stepped). IsAwaiting setup serial (counts_on waited) (inactive + 1) step.live) outcomes station live link None is.unasked is.has
       (stays setup identity outcomes station live waited inactive serial awaits few)
       (record {
         taken = before.taken;
@@ -73,6 +74,7 @@ module _ (setup : Setup) (identity : Identity) (outcomes : List Outcome) (statio
           kept = is.kept;
           answered = is.answered;
           number = is.number;
+          unasked = is.unasked;
         };
         waits = waited_is setup identity outcomes station live waited inactive serial awaits;
         runs = inactive_is setup identity outcomes station live waited inactive serial awaits;
@@ -120,6 +122,7 @@ waits_still serial sound whole setup identity good real outcomes station live wa
         kept = is.kept;
         answered = is.answered;
         number = is.number;
+        unasked = is.unasked;
       };
       waits = before.waits;
       runs = before.runs;

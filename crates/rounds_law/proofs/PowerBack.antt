@@ -42,5 +42,6 @@ module _ {F : Type 0} {S : ℕ} (as_flash : Flash F S) (setup next : Setup) (ide
     sized = subst (λ (live : Live). IsSized live.values.running.suite) (sym state) can.sized;
     addressed = suite_by can.addressed;
     unrelated = ap (λ (live : Live). live.rest.link) state;
+    unasked = ap (λ (live : Live). live.rest.asked.standing) state;
     uncalled_next = ap (λ (live : Live). kept_of next.activity live.rest.calls) state;
   }

@@ -16,6 +16,7 @@ use Rattle.pn_values.specs.declared.set_item.BlockError.{BlockError}
 use Rattle.pn_values.specs.declared.set_item.BlockError.TheVariants as error
 use Rattle.pn_values.specs.declared.set_item.SetItem.{SetItem}
 use Rattle.pn_values.specs.declared.set_item.SetItem.TheVariants.{Ask}
+use Rattle.asked_records.specs.Asked.{AskedState}
 use Rattle.rpc_core.specs.Cache.{kept_of}
 use Rattle.settings_journal.specs.settings_store.Machine.{Carried, Outcome, Pass, accepted, answered, carried, committed}
 use Rattle.settings_journal.specs.settings_store.State.{Values}
@@ -29,7 +30,8 @@ use Rattle.device_frames.specs.Heard.{Asks, Elsewhere, Heard}
 use Rattle.device_frames.specs.Sent.{IdentifyAnswer, SetAnswer, bytes_of}
 use Rattle.device_core.specs.State.{Live, Rest, Station, alias_in}
 use Rattle.device_core.specs.Handled.{Moves, Refuses, Sets}
-use Rattle.device_core.specs.Machine.{Stepped, farewells_at, finished, handled_step, heard_step, link_after, resets}
+use Rattle.device_core.specs.Asking.{ended_by, left_asked}
+use Rattle.device_core.specs.Machine.{Stepped, farewell_at, farewells_at, finished, handled_step, heard_step, link_after, resets}
 use Rattle.relations.specs.RelationState.{RelationState}
 use Rattle.end_laws.specs.hearing.Hearing.{own_hears}
 use Rattle.rounds_law.specs.Path.{IsAddressed, IsFree, IsNamed, IsSized, found_frame, set_frame}
@@ -105,6 +107,7 @@ item_carried suite live can =
 pub record IsFinished (identity : Identity) (rest : Rest) (asker : Mac) (request : Asked) (answers : List BlockError) : Type 0 where
   pub link : (finished identity rest (Sets asker request false) answers).rest.link ≡ rest.link
   pub calls : (finished identity rest (Sets asker request false) answers).rest.calls ≡ rest.calls
+  pub asked : (finished identity rest (Sets asker request false) answers).rest.asked ≡ rest.asked
   pub sent : (finished identity rest (Sets asker request false) answers).sent ≡ SetAnswer asker request answers ∷ []
 
 pub set_finished : (identity : Identity) (rest : Rest) (asker : Mac) (request : Asked) (answers : List BlockError)
@@ -112,6 +115,7 @@ pub set_finished : (identity : Identity) (rest : Rest) (asker : Mac) (request : 
 set_finished identity rest asker request answers quiet = record {
   link = ap (λ (ends : Bool). link_after ends rest.link) quiet;
   calls = refl;
+  asked = ap (λ (ends : Bool). left_asked (ended_by (farewell_at ends rest.link)) rest.asked) quiet;
   sent = ap (λ (ends : Bool). farewells_at ends rest.link ++ SetAnswer asker request answers ∷ []) quiet;
 }
 
@@ -132,7 +136,11 @@ set_taken setup station live asks named free can =
       frames = ap (map (bytes_of station.identity)) end.sent ∙ ap (λ (a : List BlockError). bytes_of station.identity (SetAnswer asker request a) ∷ []) answers;
       named = record { name = carries.name ∙ named.name };
       addressed = record { suite = carries.addressed };
-      free = record { unrelated = end.link ∙ free.unrelated; uncalled = ap (kept_of setup.activity) end.calls ∙ free.uncalled };
+      free = record {
+        unrelated = end.link ∙ free.unrelated;
+        unasked = ap (λ (asked : AskedState). asked.standing) end.asked ∙ free.unasked;
+        uncalled = ap (kept_of setup.activity) end.calls ∙ free.uncalled;
+      };
     }
   where
     asker : Mac

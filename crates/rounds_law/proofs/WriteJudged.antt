@@ -217,7 +217,7 @@ unfolding block_bytes block number_of
 type_is request rest = refl
 
 module _ (long : (value : Block) → length (block_bytes value) ≡ block_size value) where
-  single_is : (asked : IodWriteReq) (rest : List ℕ) → block_of (block_bytes (is.IodWriteReq asked) ++ rest) ≡ front (is.IodWriteReq asked) rest
+  pub single_is : (asked : IodWriteReq) (rest : List ℕ) → block_of (block_bytes (is.IodWriteReq asked) ++ rest) ≡ front (is.IodWriteReq asked) rest
       → single_of kind.IodWriteReq (block_bytes (is.IodWriteReq asked) ++ rest) ≡ Ok (is.IodWriteReq asked, rest)
   unfolding single_of
   single_is asked rest read =

@@ -96,6 +96,7 @@ pub record IsTaken (station : Station) (live : Live) (caller : Caller) (call : C
   pub becomes : step.live.rest.link ≡ Some (restarted (partner_of caller) (with_more more link))
   pub stored : step.live.rest.calls
       ≡ kept_more 4 (record { activity = call.header.activity; sequence = call.header.sequence; frame = octets }) live.rest.calls
+  pub asked : step.live.rest.asked ≡ live.rest.asked
 
 step_is : (outcomes : List Outcome) (station : Station) (live : Live) (heard : Heard) (what : Handled) → handled station live heard ≡ what
     → heard_step outcomes station live heard ≡ handled_step outcomes station live what
@@ -126,6 +127,7 @@ module _ (outcomes : List Outcome) (station : Station) (live : Live) (caller : C
     values = refl;
     becomes = refl;
     stored = refl;
+    asked = refl;
   }
 
   one_handled : (request : IodWriteReq) (parameter : TakenRecord) → length link.taken < 64
@@ -191,6 +193,7 @@ module _ (outcomes : List Outcome) (station : Station) (live : Live) (caller : C
           becomes = ap (λ (l : Option RelationState). updated (Named source) (link_behind judged l)) there
               ∙ ap (λ (l : Option RelationState). updated (Named source) l) (link_is setup number entries link started room);
           stored = refl;
+          asked = refl;
         }
 
     pub list_taken : (heard : Heard)

@@ -1,7 +1,7 @@
 -- A list of records that the device has: the device reads it and judges each record well.
 use Rattle.std.proofs.Common.{◌≡◌, ◌<◌, ◌≤◌, ◌+◌, ◌-◌, ◌*◌, ◌/◌, ℕ, zero, suc, Bool, true, false, cond, List, [], ◌∷◌, ◌++◌, length}
-use Rattle.std.proofs.Common.{take, drop, map, replicate, Option, Some, None, Result, Ok, refl, sym, ap, ◌∙◌, append_assoc, arith}
-use Rattle.std.specs.Prelude.{nat_lt}
+use Rattle.std.proofs.Common.{take, drop, map, replicate, Option, Some, None, is_some, Result, Ok, Err, refl, sym, ap, subst, ◌∙◌, append_assoc, arith}
+use Rattle.std.specs.Prelude.{if◌then◌else◌, nat_lt, slice_get, unwrap_or}
 use Rattle.std.specs.List.{AllByRecursion}
 use Rattle.std.proofs.lemmas.List.{drop_at, length-append, take_at}
 use Rattle.wire.specs.Codec.{◌>>=◌}
@@ -19,6 +19,7 @@ use Rattle.block_codec.specs.Block.{block, block_bytes, block_of, block_size, fi
 use Rattle.block_codec.specs.Writable.{CanBeWritten, IsRecord}
 use Rattle.records.specs.declared.status.call_fault.CallFault.{CallFault}
 use Rattle.records.specs.declared.status.call_fault.CallFault.TheVariants as fault
+use Rattle.records.specs.declared.status.operation.Operation.TheVariants.{Write as writes}
 use Rattle.records.specs.status.Status.{done}
 use Rattle.records.specs.reads.Parameters.{parameter_length}
 use Rattle.records.specs.declared.writes.write.Effect.TheVariants.{Keeps}
@@ -30,13 +31,31 @@ use Rattle.records.specs.writes.Asked.{handled_writing, several_of}
 use Rattle.records.specs.writes.Entry.{Entry}
 use Rattle.records.specs.writes.Handled.{handled_request}
 use Rattle.records.specs.writes.Several.{entries_in, entries_then, entry_in, entry_of, is_list, is_then, list_behind, list_of as list_in, padded}
+use Rattle.asked_records.specs.Answers.{unanswered_status}
+use Rattle.asked_records.specs.Judging.{asked_name}
+use Rattle.asked_records.specs.Names.{named_at}
+use Rattle.asked_records.specs.declared.names.RecordName.{RecordName}
+use Rattle.asked_records.specs.declared.status.Unanswered.TheVariants.{InList}
 use Rattle.plans.specs.declared.parts.PlanRecord.{PlanRecord}
+use Rattle.device_core.specs.Several.{Judged, judged_each, with_status}
 use Rattle.controller_messages.specs.declared.setup.Setup.{Setup}
-use Rattle.controller_messages.specs.Requests.{entries_bytes, entry_bytes, list_of, padding_of, write_blocks, write_of}
+use Rattle.controller_messages.specs.Requests.{entries_bytes, entry_bytes, list_blocks, list_of, padding_of, write_blocks, write_of, writing_blocks}
 use Rattle.both_ends.specs.startup.View.{taken_for}
 use Rattle.rounds_law.proofs.WriteJudged.{not_below, own_relation, request_is, take_whole}
 
 -- ---- lists
+
+pub each_take : {A : Type 0} (P : A → Type 0) (n : ℕ) (xs : List A) → AllByRecursion P xs → AllByRecursion P (take n xs)
+each_take P zero [] all = tt
+each_take P zero (x ∷ xs) all = tt
+each_take P (suc n) [] all = tt
+each_take P (suc n) (x ∷ xs) all = (all.0, each_take P n xs all.1)
+
+pub each_drop : {A : Type 0} (P : A → Type 0) (n : ℕ) (xs : List A) → AllByRecursion P xs → AllByRecursion P (drop n xs)
+each_drop P zero [] all = tt
+each_drop P zero (x ∷ xs) all = all
+each_drop P (suc n) [] all = tt
+each_drop P (suc n) (x ∷ xs) all = each_drop P n xs all.1
 
 pub take_few : {A : Type 0} (n : ℕ) (xs : List A) → length (take n xs) ≤ n
 take_few zero [] = omega arith
@@ -116,7 +135,7 @@ response_size request status wide = omega (arith, wide)
 abbrev pub listed : Setup → ℕ → List PlanRecord → List Entry
 listed setup number entries = map (λ (entry : PlanRecord). (write_of setup number entry, entry.data.items)) entries
 
-abbrev pub judged_well : Setup → ℕ → List PlanRecord → List (IodWriteReq × Result Write CallFault)
+abbrev pub judged_well : Setup → ℕ → List PlanRecord → List Judged
 judged_well setup number entries =
     map (λ (entry : PlanRecord). (write_of setup number entry, Ok (record { request = write_of setup number entry; effect = Keeps (taken_for entry) }))) entries
 
@@ -135,9 +154,42 @@ list_response setup number entries = answer_of (header_for setup number entries)
 abbrev pub AreFit : Real → List PlanRecord → Type 0
 AreFit real entries = AllByRecursion (IsFit real) entries
 
--- What a device judges of an entry.
-abbrev judged_by : Option (List ℕ) → Real → Entry → IodWriteReq × Result Write CallFault
-judged_by standing real entry = (entry.0, handled_request standing real entry.0 entry.1)
+pub found_fit : (real : Real) (entries : List PlanRecord) (place : ℕ) → AreFit real entries → (entry : PlanRecord) → slice_get entries place ≡ Some entry
+    → IsFit real entry
+found_fit real [] place fits entry found = absurd cc
+found_fit real (first ∷ entries) zero fits entry found = subst (IsFit real) (ap (λ (o : Option PlanRecord). unwrap_or o first) found) fits.0
+found_fit real (first ∷ entries) (suc place) fits entry found = found_fit real entries place fits.1 entry found
+
+-- A parameter record is not one that the application answers.
+pub entry_unnamed : (setup : Setup) (number : ℕ) (real : Real) (named : List RecordName) (entry : PlanRecord) → IsFit real entry
+    → asked_name real named (write_of setup number entry).header ≡ None
+entry_unnamed setup number real named entry fit =
+    ap (λ (size : Option ℕ). let o : Option RecordName = if is_some size then None else named_at entry.slot entry.subslot entry.index named in o) fit.there
+
+-- ---- numbers that no Write has
+
+slice_none : (entries : List PlanRecord) (place : ℕ) → length entries ≤ place → slice_get entries place ≡ None
+slice_none [] place few = refl
+slice_none (entry ∷ entries) zero few = absurd (omega (arith, few))
+slice_none (entry ∷ entries) (suc place) few = slice_none entries place (omega (arith, few))
+
+drop_all : (n : ℕ) (entries : List PlanRecord) → length entries ≤ n → drop n entries ≡ []
+drop_all zero [] few = refl
+drop_all zero (entry ∷ entries) few = absurd (omega (arith, few))
+drop_all (suc n) [] few = refl
+drop_all (suc n) (entry ∷ entries) few = drop_all n entries (omega (arith, few))
+
+pub none_written : (setup : Setup) (number : ℕ) → length setup.plan.records.items ≤ number → writing_blocks setup number ≡ []
+none_written setup number few = by_kind setup.plan.multiple_write
+  where
+    records : List PlanRecord
+    records = setup.plan.records.items
+
+    by_kind : (several : Bool)
+        → cond several (list_blocks setup number (take (cond several 10 1) (drop (cond several (number * 10) number) records)))
+        (write_blocks setup number (slice_get records number)) ≡ []
+    by_kind true = ap (λ (l : List PlanRecord). list_blocks setup number (take 10 l)) (drop_all (number * 10) records (omega (arith, few)))
+    by_kind false = ap (λ (o : Option PlanRecord). write_blocks setup number o) (slice_none records number few)
 
 -- ---- what is written and read
 
@@ -226,14 +278,18 @@ module _ (read : AreBlocksRead) (long : AreBlocksLong) (setup : Setup) (wide : l
 
   -- ---- each record is judged well
 
-  pub judged_is : (entries : List PlanRecord) → AreFit real entries → map (judged_by (Some setup.ar) real) (listed setup number entries)
-      ≡ judged_well setup number entries
-  judged_is [] fit = refl
-  judged_is (entry ∷ entries) fit =
-      let one : Result Write CallFault = Ok (record { request = write_of setup number entry; effect = Keeps (taken_for entry) }) in
-      ap (λ (r : Result Write CallFault). (write_of setup number entry, r) ∷ map (judged_by (Some setup.ar) real) (listed setup number entries))
+  pub judged_is : (named : List RecordName) (entries : List PlanRecord) → AreFit real entries
+      → judged_each named (Some setup.ar) real (listed setup number entries) ≡ judged_well setup number entries
+  judged_is named [] fit = refl
+  judged_is named (entry ∷ entries) fit =
+      let asked = write_of setup number entry in
+      let one : Result Write CallFault = Ok (record { request = asked; effect = Keeps (taken_for entry) }) in
+      let others = judged_each named (Some setup.ar) real (listed setup number entries) in
+      ap (λ (name : Option RecordName). let r : Result Write Status = if is_some name then Err (unanswered_status writes InList)
+      else with_status (handled_request (Some setup.ar) real asked entry.data.items) in (asked, r) ∷ others) (entry_unnamed setup number real named entry fit.0)
+      ∙ (ap (λ (r : Result Write CallFault). (asked, with_status r) ∷ others)
       (request_is real setup.ar (number + 1) entry.slot entry.subslot entry.index entry.data.items fit.0.below fit.0.there fit.0.short)
-      ∙ ap (λ (others : List (IodWriteReq × Result Write CallFault)). (write_of setup number entry, one) ∷ others) (judged_is entries fit.1)
+      ∙ ap (λ (more : List Judged). (asked, with_status one) ∷ more) (judged_is named entries fit.1))
 
   octets_few : (entries : List PlanRecord) → AreFit real entries → length (entries_bytes setup number entries) ≤ 132 * length entries
   octets_few [] fit = omega arith

@@ -1,6 +1,6 @@
 -- A Write of the plan at a device that has the plan's relation: it is heard as that call, its records are kept, and its response says so.
 use Rattle.std.proofs.Common.{◌≡◌, ◌<◌, ◌≤◌, ◌+◌, ◌*◌, ◌/◌, ◌&&◌, ◌||◌, ◌==◌, ℕ, zero, suc, Bool, true, false, not, cond, List, []}
-use Rattle.std.proofs.Common.{◌∷◌, ◌++◌, length, take, drop, map, Option, Some, Result, Ok, refl, sym, ap, subst, ◌∙◌, arith}
+use Rattle.std.proofs.Common.{◌∷◌, ◌++◌, length, take, drop, map, Option, Some, None, Result, Ok, refl, sym, ap, subst, ◌∙◌, arith}
 use Rattle.std.specs.Prelude.{nat_eq, nat_lt, slice_get}
 use Rattle.std.specs.Cmp.Lexicographic.{pointwise}
 use Rattle.std.specs.List.{AllByRecursion}
@@ -47,9 +47,12 @@ use Rattle.device_frames.specs.declared.note.Note.TheVariants as note
 use Rattle.device_frames.specs.Heard.{Calls, Elsewhere, Heard, Reported, heard_of}
 use Rattle.device_frames.specs.Sent.{response_frame}
 use Rattle.device_core.specs.State.{Live, Station}
-use Rattle.device_core.specs.Handled.{Handled, Refuses, WritesEach, handled, handled_call, handled_looked, handled_said, handled_write, is_running, partner_of}
+use Rattle.device_core.specs.Handled.{Handled, Refuses, WritesEach, handled, handled_asking, handled_call, handled_looked, handled_said, handled_write}
+use Rattle.device_core.specs.Handled.{is_running, partner_of}
 use Rattle.device_core.specs.Machine.{Stepped, heard_step}
 use Rattle.device_core.specs.Several.{Judged, judged_each}
+use Rattle.device_core.specs.Asking.{Asking, asking_of, asking_write, write_within}
+use Rattle.asked_records.specs.Asked.{AskedState}
 use Rattle.controller_messages.specs.declared.request.Request.TheVariants as asks
 use Rattle.controller_messages.specs.declared.setup.Setup.{Setup}
 use Rattle.controller_messages.specs.Requests.{call_for, entries_bytes, first_of, group_of, list_blocks, per_call}
@@ -65,26 +68,16 @@ use Rattle.both_ends.specs.startup.View.{taken_for}
 use Rattle.rounds_law.specs.Path.{HasRelation, IsAddressed, IsWritten, request_to}
 use Rattle.rounds_law.specs.Start.{IsWritable}
 use Rattle.rounds_law.proofs.WriteJudged.{not_below, one_is, one_true, writing_is}
-use Rattle.rounds_law.proofs.WriteListed.{AreBlocksLong, AreBlocksRead, AreFit, IsFit, each_is, header_for, judged_is, judged_well}
+use Rattle.rounds_law.proofs.WriteListed.{AreBlocksLong, AreBlocksRead, AreFit, IsFit, each_drop, each_is, each_take, header_for, judged_is, judged_well}
 use Rattle.rounds_law.proofs.WriteListed.{list_few, list_response, list_sized, listed, one_can, one_few, take_few}
 use Rattle.rounds_law.proofs.WriteAnswered.{list_written}
+use Rattle.rounds_law.proofs.WriteUnasked.{AreNames, write_unasked}
+use Rattle.rounds_law.proofs.AskedUnits.{unasked_new}
 use Rattle.rounds_law.proofs.WriteKept.{IsTaken, list_taken, one_taken, with_more}
 use Rattle.rounds_law.proofs.Choices.{both_true}
 use Rattle.rounds_law.proofs.ControllerCallingAsks.{few_by}
 
 -- ---- lists
-
-each_take : {A : Type 0} (P : A → Type 0) (n : ℕ) (xs : List A) → AllByRecursion P xs → AllByRecursion P (take n xs)
-each_take P zero [] all = tt
-each_take P zero (x ∷ xs) all = tt
-each_take P (suc n) [] all = tt
-each_take P (suc n) (x ∷ xs) all = (all.0, each_take P n xs all.1)
-
-each_drop : {A : Type 0} (P : A → Type 0) (n : ℕ) (xs : List A) → AllByRecursion P xs → AllByRecursion P (drop n xs)
-each_drop P zero [] all = tt
-each_drop P zero (x ∷ xs) all = all
-each_drop P (suc n) [] all = tt
-each_drop P (suc n) (x ∷ xs) all = each_drop P n xs all.1
 
 take_least : {A : Type 0} (n : ℕ) (xs : List A) → length (take n xs) ≤ length xs
 take_least zero [] = omega arith
@@ -160,6 +153,7 @@ module _ (read : AreBlocksRead) (long : AreBlocksLong) (setup : Setup) (identity
     (fits : AreFit setup.plan.real setup.plan.records.items) (has_address : is_zero setup.plan.station.suite.address ≡ false)
     (number : ℕ) (below : number < write_count setup.plan) (headed : IsHeader (call_for setup (asks.Write number)).header)
     (outcomes : List Outcome) (station : Station) (live : Live) (age : ℕ) (own : station.identity ≡ identity) (plugged : live.rest.real ≡ setup.plan.real)
+    (names : AreNames station.named)
     (addressed : IsAddressed setup live)
     (serial : ℕ) (relation : HasRelation setup serial Started (map taken_for (take (first_of setup.plan number) setup.plan.records.items)) number age live) where
   abbrev plan : Parts
@@ -205,15 +199,23 @@ module _ (read : AreBlocksRead) (long : AreBlocksLong) (setup : Setup) (identity
   named : uuid_of live.rest.link ≡ Some setup.ar
   named = ap uuid_of relation.has ∙ ap (λ (request : Related). Some request.ar.uuid) relation.request
 
+  -- It asks the application nothing.
+  unasked : asking_of live.rest.real station.named (uuid_of live.rest.link) caller call (writing_blocks setup number) writes ≡ Ok None
+  unasked =
+      ap (λ (real : Real). asking_write real station.named caller call (write_within (uuid_of live.rest.link) (writing_blocks setup number))) plugged
+      ∙ write_unasked read long setup wide number small plan.real station.named names caller call (uuid_of live.rest.link) fits
+
   handled_is : (writing : Result Writing CallFault) → writing_of (Some setup.ar) plan.real (writing_blocks setup number) ≡ writing
       → handled station live heard ≡ handled_write station live caller call writing
   handled_is writing e =
       ap (λ (b : Bool). cond b (handled_said station live caller (Calls call)) (Refuses note.NotMine)) running
       ∙ (ap (λ (operation : Option Operation). handled_call station live caller call operation) write_operation
       ∙ (ap (λ (l : Looked). handled_looked station live caller call (writing_blocks setup number) writes l) is_new
+      ∙ (unasked_new station live caller call (writing_blocks setup number) writes relation.unasked
+      ∙ (ap (λ (asking : Result (Option Asking) CallFault). handled_asking station live caller call (writing_blocks setup number) writes asking) unasked
       ∙ ap (λ (w : Result Writing CallFault). handled_write station live caller call w)
       (ap (λ (standing : Option (List ℕ)). writing_of standing live.rest.real (writing_blocks setup number)) named
-      ∙ (ap (λ (real : Real). writing_of (Some setup.ar) real (writing_blocks setup number)) plugged ∙ e))))
+      ∙ (ap (λ (real : Real). writing_of (Some setup.ar) real (writing_blocks setup number)) plugged ∙ e))))))
 
   -- ---- its records
 
@@ -267,7 +269,7 @@ module _ (read : AreBlocksRead) (long : AreBlocksLong) (setup : Setup) (identity
       }
 
   abbrev handled_each : Option (List ℕ) → Real → IodWriteReq → List Entry → Handled
-  handled_each standing real header entries = WritesEach caller live.values.running.suite.address call header (judged_each standing real entries)
+  handled_each standing real header entries = WritesEach caller live.values.running.suite.address call header (judged_each station.named standing real entries)
 
   list_done : plan.multiple_write ≡ true → IsDone step
   list_done several =
@@ -294,7 +296,7 @@ module _ (read : AreBlocksRead) (long : AreBlocksLong) (setup : Setup) (identity
       ap (λ (standing : Option (List ℕ)). handled_each standing live.rest.real header (listed setup number entries)) named
       ∙ (ap (λ (real : Real). handled_each (Some setup.ar) real header (listed setup number entries)) plugged
       ∙ ap (λ (each : List Judged). WritesEach caller live.values.running.suite.address call header each)
-      (judged_is read long setup wide number small plan.real entries its)) in
+      (judged_is read long setup wide number small plan.real station.named entries its)) in
       record {
         blocks = list_response setup number entries;
         fewer = list_few read long setup wide number small plan.real entries ten;
@@ -363,6 +365,7 @@ module _ (read : AreBlocksRead) (long : AreBlocksLong) (setup : Setup) (identity
     limit = relation.limit;
     low_limit = relation.low_limit;
     low_new = relation.low_new;
+    unasked = ap (λ (asked : AskedState). asked.standing) it.taken.asked ∙ relation.unasked;
     kept = record { activity = setup.activity; sequence = number + 1; frame = it.taken.octets };
     answered = ap (λ (calls : List Kept). kept_of setup.activity calls) it.taken.stored
         ∙ kept_again (record { activity = setup.activity; sequence = number + 1; frame = it.taken.octets }) _ refl;

@@ -17,7 +17,7 @@ use Rattle.controller_core.specs.declared.stored.state.State.TheVariants.{Ended,
 use Rattle.controller_core.specs.declared.stored.state.Cause.{Cause}
 use Rattle.controller_core.specs.stored.State.{Controlling, phase_for}
 use Rattle.controller_core.specs.Machine.{Stepped}
-use Rattle.rounds_law.specs.Path.{AllAnswered, IsAddressed, IsNamed, IsOutputs, IsSized, request_to, route_to}
+use Rattle.rounds_law.specs.Path.{AllAnswered, AsksNothing, IsAddressed, IsNamed, IsOutputs, IsSized, request_to, route_to}
 use Rattle.rounds_law.specs.Start.{CanBeAddressed, IsOfPlan}
 use Rattle.rounds_law.specs.Repeating.{completes, counts_on}
 use Rattle.rounds_law.specs.Again.{HasEnded, IsDenial, Plant}
@@ -42,14 +42,15 @@ IsOfRelation (asks.Write number) = Unit {0}
 IsOfRelation asks.PrmEnd = Unit {0}
 IsOfRelation (asks.Release sequence) = Unit {0}
 
--- A device without a relation sends a negative response to this call. It still has no relation. A later call is still a new one, and it has
--- stored no answer of another activity.
+-- A device without a relation sends a negative response to this call. It still has no relation, and asks its application nothing. A later call
+-- is still a new one, and it has stored no answer of another activity.
 pub record Denies (setup : Setup) (identity : Identity) (request : Request) (live : Live) (step : DeviceStepped) : Type 0 where
   pub octets : List ℕ
   pub frames : step.frames ≡ octets ∷ []
   pub denial : IsDenial setup identity request octets
   pub values : step.live.values ≡ live.values
   pub unrelated : step.live.rest.link ≡ None
+  pub unasked : AsksNothing step.live
   pub newer : (later : ℕ) → sequence_of setup.plan request < later → IsNewCall setup later step.live
   pub uncalled : (activity : List ℕ) → (activity ≡ setup.activity → ⊥) → kept_of activity live.rest.calls ≡ None
       → kept_of activity step.live.rest.calls ≡ None
@@ -147,8 +148,8 @@ pub record StillExpects (setup : Setup) (serial : ℕ) (identity : Identity) (aw
 
 -- ---- both
 
--- The controller waits for this, and will be started again with the next set-up if it ends. Its device is the plan's, has no relation, and
--- has stored no answer of the next start. Nothing is under way to the controller.
+-- The controller waits for this, and will be started again with the next set-up if it ends. Its device is the plan's, has no relation, asks its
+-- application nothing, and has stored no answer of the next start. Nothing is under way to the controller.
 pub record IsAbandoned {F : Type 0} (setup next : Setup) (identity : Identity) (awaited : Awaited) (plant : Plant F) : Type 0 where
   pub serial : ℕ
   pub expects : Expects setup serial identity.mac awaited plant.net.controller
@@ -163,6 +164,7 @@ pub record IsAbandoned {F : Type 0} (setup next : Setup) (identity : Identity) (
   pub sized : IsSized plant.net.device.live.values.running.suite
   pub addressed : IsAddressed setup plant.net.device.live ⊎ CanBeAddressed plant.net.device.live
   pub unrelated : plant.net.device.live.rest.link ≡ None
+  pub unasked : AsksNothing plant.net.device.live
   pub uncalled_next : kept_of next.activity plant.net.device.live.rest.calls ≡ None
 
 -- The number of negative responses until the controller ends: one, or, if the plan goes on after a refused record, one for each Write that

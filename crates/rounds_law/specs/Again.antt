@@ -31,7 +31,7 @@ use Rattle.network_world.specs.World.{is_ended}
 use Rattle.end_laws.specs.device.Orderly.{AreNumbered}
 use Rattle.both_ends.specs.startup.request.Request.{request_for}
 use Rattle.both_ends.specs.startup.answer.Answer.{caller_of}
-use Rattle.rounds_law.specs.Path.{AllAnswered, HasNoTurn, IsAddressed, IsIgnored, IsNamed, IsOutputs, IsSized, route_to}
+use Rattle.rounds_law.specs.Path.{AllAnswered, AsksNothing, HasNoTurn, IsAddressed, IsIgnored, IsNamed, IsOutputs, IsSized, route_to}
 use Rattle.rounds_law.specs.Rounds.{BothExchange, Net, Round}
 use Rattle.rounds_law.specs.Start.{CanBeAddressed, IsOfPlan}
 
@@ -44,7 +44,7 @@ units_left link =
     if is_timed link.phase then limit_of link - link.inactive else link.flow.cyclic.hearing.limit - link.flow.cyclic.hearing.held
 
 -- The device has the relation of an earlier start of this controller, of any number, with another ARUUID. If the controller is silent, the relation ends
--- after at most this many units. The numbers of its calls for plugs have their sizes.
+-- after at most this many units. The numbers of its calls for plugs have their sizes. Nothing is asked of its application.
 pub record HasEarlier (setup : Setup) (left : ℕ) (live : Live) : Type 0 where
   pub link : RelationState
   pub has : live.rest.link ≡ Some link
@@ -59,6 +59,7 @@ pub record HasEarlier (setup : Setup) (left : ℕ) (live : Live) : Type 0 where
   pub begun : link.flow.cyclic.begun ≡ (if is_timed link.phase then false else true)
   pub called : AreNumbered link.plugs.calls
   pub time : units_left link ≤ left
+  pub unasked : AsksNothing live
 
 -- ---- the frames of a device that refuses
 
@@ -196,7 +197,8 @@ pub record IsRestart {F : Type 0} (setup next : Setup) (identity : Identity) (le
   pub uncalled : kept_of setup.activity plant.net.device.live.rest.calls ≡ None
   pub uncalled_next : kept_of next.activity plant.net.device.live.rest.calls ≡ None
 
--- The device lost its power while data was exchanged, and has started again: it has no relation and has stored no answer of the next start.
+-- The device lost its power while data was exchanged, and has started again: it has no relation, asks its application nothing, and has stored no
+-- answer of the next start.
 -- Its controller still exchanges data. Only outputs are under way to the device, and nothing to the controller.
 pub record IsDeserted {F : Type 0} (setup next : Setup) (identity : Identity) (left : ℕ) (plant : Plant F) : Type 0 where
   pub serial : ℕ
@@ -212,4 +214,5 @@ pub record IsDeserted {F : Type 0} (setup next : Setup) (identity : Identity) (l
   pub sized : IsSized plant.net.device.live.values.running.suite
   pub addressed : IsAddressed setup plant.net.device.live ⊎ CanBeAddressed plant.net.device.live
   pub unrelated : plant.net.device.live.rest.link ≡ None
+  pub unasked : AsksNothing plant.net.device.live
   pub uncalled_next : kept_of next.activity plant.net.device.live.rest.calls ≡ None

@@ -1,5 +1,5 @@
 -- Both ends in any state, with any of their frames under way: what losses, repeats, power failures and restarts can leave.
-use Rattle.std.specs.Prelude.{◌≡◌, ◌≢◌, ◌⊎◌, ◌≤◌, ◌<◌, ◌+◌, ◌*◌, ℕ, zero, suc, true, false, List, ◌∷◌, Option, Some, None}
+use Rattle.std.specs.Prelude.{◌≡◌, ◌≢◌, ◌⊎◌, ◌≤◌, ◌<◌, ◌+◌, ◌*◌, ◌==◌, ℕ, zero, suc, true, false, List, ◌∷◌, Option, Some, None}
 use Rattle.std.specs.List.{AllByRecursion}
 use Rattle.flash_model.specs.declared.flash.Flash.{Ghosts as Flash}
 use Rattle.pn_values.specs.declared.identity.Identity.{Identity}
@@ -9,8 +9,10 @@ use Rattle.frame_codec.specs.FrameId.{is_cyclic}
 use Rattle.rpc_core.specs.Cache.{Kept, kept_of}
 use Rattle.rpc_core.specs.Response.{is_done}
 use Rattle.rpc_core.specs.Sendable.{IsHeader, IsUuid}
+use Rattle.asked_records.specs.Asked.{Standing}
+use Rattle.asked_records.specs.Questions.{is_of_relation}
 use Rattle.plans.specs.declared.parts.Parts.{Parts}
-use Rattle.relations.specs.RelationState.{RelationState}
+use Rattle.relations.specs.RelationState.{RelationState, uuid_of}
 use Rattle.relations.specs.Timers.{is_timed, limit_of}
 use Rattle.relations.specs.declared.phase.Phase.TheVariants.{Exchanging as in_exchange}
 use Rattle.device_core.specs.State.{Live, Station}
@@ -69,6 +71,16 @@ IsFit setup heard = Unit {0}
 abbrev pub ChoosesWell : Setup → List ℕ → Type 0
 ChoosesWell setup octets = IsFit setup (heard_of setup.plan.controller octets)
 
+-- What is asked of the application, if anything is, was asked in the relation with this ARUUID. The call is not of the next start, and not the
+-- Connect of this one.
+abbrev pub IsQuestionOf : Setup → Setup → Option (List ℕ) → Option Standing → Type 0
+IsQuestionOf setup next uuid None = Unit {0}
+IsQuestionOf setup next None (Some standing) = ⊥
+IsQuestionOf setup next (Some uuid) (Some standing) =
+    (is_of_relation uuid standing.question.request ≡ true)
+    × (standing.question.header.activity ≡ next.activity → ⊥)
+    × (standing.question.header.activity ≡ setup.activity → (standing.question.header.sequence == 0) ≡ false)
+
 -- The stored answers to one controller choose so, as all answers of a device do.
 abbrev pub StoresWell : Setup → Live → Type 0
 StoresWell setup live = (kept : Kept) → kept_of setup.activity live.rest.calls ≡ Some kept → ChoosesWell setup kept.frame
@@ -77,8 +89,8 @@ StoresWell setup live = (kept : Kept) → kept_of setup.activity live.rest.calls
 abbrev pub StoresForOther : Setup → Setup → Live → Type 0
 StoresForOther setup next live = (kept : Kept) → kept_of setup.activity live.rest.calls ≡ Some kept → IsIgnored next kept.frame
 
--- The device is the plan's, uses its name, and has its IP suite or can store it. It may have any relation, or none. It has stored no answer of
--- the next start.
+-- The device is the plan's, uses its name, and has its IP suite or can store it. It may have any relation, or none, and what is asked of its
+-- application was asked in that relation. It has stored no answer of the next start.
 pub record IsAnyDevice (setup next : Setup) (identity : Identity) (silence : ℕ) (station : Station) (live : Live) : Type 0 where
   pub of_device : station.identity ≡ identity
   pub of_plan : IsOfPlan setup station live.rest.real
@@ -89,6 +101,7 @@ pub record IsAnyDevice (setup next : Setup) (identity : Identity) (silence : ℕ
   pub stored : StoresWell setup live
   pub stored_other : StoresForOther setup next live
   pub uncalled_next : kept_of next.activity live.rest.calls ≡ None
+  pub asked : IsQuestionOf setup next (uuid_of live.rest.link) live.rest.asked.standing
 
 -- ---- the controller
 

@@ -7,6 +7,7 @@ use Rattle.pn_values.specs.declared.identity.Identity.{Identity}
 use Rattle.pn_values.specs.declared.settings.Settings.{Settings}
 use Rattle.settings_journal.specs.settings_store.Machine.{Outcome}
 use Rattle.connect_blocks.specs.ArBlock.{is_some_uuid}
+use Rattle.asked_records.specs.Asked.{is_repeat}
 use Rattle.rpc_core.specs.Cache.{kept_of}
 use Rattle.module_diff.specs.Diff.{diff_of}
 use Rattle.plans.specs.Connect.{connect_of}
@@ -53,13 +54,13 @@ StartsApart setup identity (next ∷ later) = AllByRecursion (IsLaterStart setup
 
 -- ---- a device that has a relation
 
--- It refuses the Connect of any controller that it has stored no response to, and the relation is unchanged. For other activities it stores
--- no response.
+-- It refuses the Connect of any controller that it has stored no response to, unless that call is asked of its application. The relation, and
+-- what is asked, are unchanged. For other activities it stores no response.
 abbrev pub RefusesConnect : Setup → Identity → Type 0
 RefusesConnect setup identity =
     CanMeet setup identity → is_zero setup.plan.station.suite.address ≡ false
     → (outcomes : List Outcome) (station : Station) (live : Live) (link : RelationState) → station.identity ≡ identity → IsAddressed setup live
-    → live.rest.link ≡ Some link → kept_of setup.activity live.rest.calls ≡ None
+    → live.rest.link ≡ Some link → kept_of setup.activity live.rest.calls ≡ None → is_repeat setup.activity 0 live.rest.asked ≡ false
     → AreSendable identity (device_step outcomes station live (request_to setup identity asks.Connect)).sent
     → (octets : List ℕ)
     × ((device_step outcomes station live (request_to setup identity asks.Connect)).frames ≡ octets ∷ [])
@@ -68,6 +69,7 @@ RefusesConnect setup identity =
     × ((device_step outcomes station live (request_to setup identity asks.Connect)).live.rest.link ≡ live.rest.link)
     × ((activity : List ℕ) → (activity ≡ setup.activity → ⊥) → kept_of activity live.rest.calls ≡ None
     → kept_of activity (device_step outcomes station live (request_to setup identity asks.Connect)).live.rest.calls ≡ None)
+    × ((device_step outcomes station live (request_to setup identity asks.Connect)).live.rest.asked ≡ live.rest.asked)
 
 -- It refuses the Set of the IP suite, and nothing changes.
 abbrev pub RefusesAddress : Setup → Identity → Type 0

@@ -20,7 +20,7 @@ use Rattle.controller_messages.specs.Requests.{write_count}
 use Rattle.controller_core.specs.declared.stored.state.Cause.{Cause}
 use Rattle.controller_core.specs.declared.stored.state.State.{State as Phases}
 use Rattle.controller_core.specs.declared.stored.state.State.TheVariants.{Addressing as in_addressing, Connecting as in_connecting}
-use Rattle.rounds_law.specs.Path.{Asks, IsAddressed, IsIgnored, IsNamed, IsSized, request_to}
+use Rattle.rounds_law.specs.Path.{Asks, AsksNothing, IsAddressed, IsIgnored, IsNamed, IsSized, request_to}
 use Rattle.rounds_law.specs.Rounds.{BothExchange, Net}
 use Rattle.rounds_law.specs.Middle.{IsConfirming, IsEnding, IsReadied, IsWaiting, IsWriting, waiting_limit, writing_limit}
 use Rattle.rounds_law.specs.Stages.{IsAddressing, IsConnecting, IsLooking}
@@ -29,8 +29,8 @@ use Rattle.rounds_law.specs.Asking.{IsAskingAgain, Stage, stage_limit}
 use Rattle.rounds_law.specs.Again.{HasEarlier, HasEnded, IsDeserted, IsRestart, Plant}
 use Rattle.rounds_law.specs.Abandoned.{AsksInVain, Awaited, IsNewCall, IsReleasing, WaitsInVain, is_reached}
 
--- What the states below have in common: the controller will be started again with the next set-up. The device is the plan's, and has stored
--- no answer of the next start. What is under way to the controller it ignores.
+-- What the states below have in common: the controller will be started again with the next set-up. The device is the plan's, asks its
+-- application nothing, and has stored no answer of the next start. What is under way to the controller it ignores.
 pub record WillStart {F : Type 0} (setup next : Setup) (identity : Identity) (plant : Plant F) : Type 0 where
   pub ignored : AllByRecursion (IsIgnored setup) plant.net.to_controller
   pub ignored_next : AllByRecursion (IsIgnored next) plant.net.to_controller
@@ -42,6 +42,7 @@ pub record WillStart {F : Type 0} (setup next : Setup) (identity : Identity) (pl
   pub sized : IsSized plant.net.device.live.values.running.suite
   pub addressed : IsAddressed setup plant.net.device.live ⊎ CanBeAddressed plant.net.device.live
   pub uncalled_next : kept_of next.activity plant.net.device.live.rest.calls ≡ None
+  pub unasked : AsksNothing plant.net.device.live
 
 -- The device has the relation of an earlier start, seen from either start, which ends after at most this many units if its controller is
 -- silent.

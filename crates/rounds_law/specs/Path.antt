@@ -67,6 +67,10 @@ use Rattle.both_ends.specs.startup.answer.Answer.{caller_of}
 
 -- ---- the device
 
+-- Nothing is asked of its application.
+abbrev pub AsksNothing : Live → Type 0
+AsksNothing live = live.rest.asked.standing ≡ None
+
 -- The device uses the plan's station name.
 pub record IsNamed (setup : Setup) (live : Live) : Type 0 where
   pub name : live.values.running.name ≡ setup.plan.station.name
@@ -81,9 +85,10 @@ pub record IsSized (suite : Suite) : Type 0 where
 pub record IsAddressed (setup : Setup) (live : Live) : Type 0 where
   pub suite : live.values.running.suite ≡ setup.plan.station.suite
 
--- The device has no relation, and has stored no response to this controller.
+-- The device has no relation, asks its application nothing, and has stored no response to this controller.
 pub record IsFree (setup : Setup) (live : Live) : Type 0 where
   pub unrelated : live.rest.link ≡ None
+  pub unasked : AsksNothing live
   pub uncalled : kept_of setup.activity live.rest.calls ≡ None
 
 -- No alarm of either priority waits for its ACK.
@@ -109,7 +114,8 @@ pub record HasNumber (setup : Setup) (serial : ℕ) (flow : Flow) : Type 0 where
   pub endpoint : flow.endpoint ≡ endpoint_of serial
 
 -- The device has the plan's relation, of this number, in a phase before data is exchanged. It accepted these records, and the last call
--- that it answered has this sequence number. Its timers have run for at most this many units. No alarm of low priority was sent or accepted.
+-- that it answered has this sequence number. Its timers have run for at most this many units. No alarm of low priority was sent or accepted,
+-- and nothing is asked of its application.
 pub record HasRelation (setup : Setup) (serial : ℕ) (phase : Phase) (taken : List TakenRecord) (last : ℕ) (age : ℕ) (live : Live) : Type 0 where
   pub link : RelationState
   pub has : live.rest.link ≡ Some link
@@ -128,6 +134,7 @@ pub record HasRelation (setup : Setup) (serial : ℕ) (phase : Phase) (taken : L
   pub kept : Kept
   pub answered : kept_of setup.activity live.rest.calls ≡ Some kept
   pub number : kept.sequence ≡ last
+  pub unasked : AsksNothing live
 
 -- Data that waits for its ACK, if there is any, was sent at most this many units ago.
 abbrev pub WaitsFew : ℕ → Option ℕ → Type 0

@@ -11,10 +11,10 @@ use Rattle.device_core.specs.Machine.{Stepped}
 use Rattle.controller_messages.specs.declared.setup.Setup.{Setup}
 use Rattle.both_ends.specs.startup.request.Request.{request_for}
 use Rattle.both_ends.specs.startup.answer.Answer.{caller_of}
-use Rattle.rounds_law.specs.Path.{IsCalm, IsInputs, readied_frame, HasNumber}
+use Rattle.rounds_law.specs.Path.{AsksNothing, IsCalm, IsInputs, readied_frame, HasNumber}
 
 -- The device has the plan's relation, of this number, and waits for the response to ApplicationReady, which it last sent this many units ago. The activity
--- timer has run for this many units. No alarm waits for its ACK.
+-- timer has run for this many units. No alarm waits for its ACK, and nothing is asked of its application.
 pub record Awaits (setup : Setup) (serial : ℕ) (waited : ℕ) (inactive : ℕ) (live : Live) : Type 0 where
   pub link : RelationState
   pub has : live.rest.link ≡ Some link
@@ -25,6 +25,7 @@ pub record Awaits (setup : Setup) (serial : ℕ) (waited : ℕ) (inactive : ℕ)
   pub numbered : HasNumber setup serial link.flow
   pub waits : link.waited ≡ waited
   pub runs : link.inactive ≡ inactive
+  pub unasked : AsksNothing live
 
 -- Whether the next unit completes a second since then.
 abbrev pub completes : ℕ → Bool

@@ -5,6 +5,7 @@ use Rattle.pn_values.specs.declared.identity.Identity.{Identity}
 use Rattle.pn_values.specs.IpSuite.{is_zero}
 use Rattle.pn_values.specs.declared.real.Real.{Real}
 use Rattle.records.specs.reads.Parameters.{parameter_length}
+use Rattle.asked_records.specs.Names.{last_index}
 use Rattle.plans.specs.declared.parts.Parts.{Parts}
 use Rattle.plans.specs.declared.parts.PlanRecord.{PlanRecord}
 use Rattle.controller_messages.specs.declared.setup.ControllerOptions.{ControllerOptions}
@@ -31,13 +32,15 @@ abbrev pub HoldsLong : Parts → Type 0
 HoldsLong plan = 4 ≤ plan.times.data_hold_factor * (plan.times.send_clock_factor * plan.times.reduction_ratio)
 
 -- The device is the one of the plan: it has the plan's VendorID and DeviceID, and these modules are the plan's; it accepts the plan's
--- interval, and sends ApplicationReady without its application.
+-- interval, and sends ApplicationReady without its application. The records that its application answers have indices below 0x8000, as each
+-- device checks.
 pub record IsOfPlan (setup : Setup) (station : Station) (real : Real) : Type 0 where
   pub vendor : station.identity.vendor_id ≡ setup.plan.station.vendor_id
   pub device : station.identity.device_id ≡ setup.plan.station.device_id
   pub plugged : real ≡ setup.plan.real
   pub interval : AcceptsInterval station.options setup.plan
   pub ready : station.options.ready_by_application ≡ false
+  pub names : AllByRecursion (λ name. name.index ≤ last_index) station.named
 
 -- The device can store an IP suite: no commit of its settings has failed since it started, and there is room for one more.
 pub record CanBeAddressed (live : Live) : Type 0 where

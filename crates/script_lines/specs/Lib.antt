@@ -6,3 +6,4 @@ pub mod Show
 pub mod Expected
 pub mod Reports
 pub mod Places
+pub mod Asked

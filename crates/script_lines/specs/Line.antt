@@ -12,7 +12,7 @@ use Rattle.pn_values.specs.declared.real.RealSubmodule.{RealSubmodule}
 use Rattle.script_lines.specs.Numbers.{number_of, repeated}
 use Rattle.hex.specs.declared.error.FromHexError.{FromHexError}
 use Rattle.script_lines.specs.declared.command.Choice.{Choice}
-use Rattle.script_lines.specs.declared.command.Choice.TheVariants.{InputsBad, ReadyLater, Interval}
+use Rattle.script_lines.specs.declared.command.Choice.TheVariants.{InputsBad, ReadyLater, Interval, AnswersRecords}
 use Rattle.script_lines.specs.declared.command.Words.{Words}
 use Rattle.script_lines.specs.declared.command.Words.TheVariants.{One, Two, Three, Four, Five, Six, More}
 
@@ -25,7 +25,9 @@ use Rattle.script_lines.specs.declared.command.Words.TheVariants.{One, Two, Thre
 -- the record with this index of the submodule in a slot and subslot, write these octets to it, show what the last of these
 -- requests was answered with, hand over the frames that wait, start the services beside the device; say that the application
 -- is ready for the plug in a slot and subslot, pull the submodule there, pull the module in a slot, plug this submodule into a
--- slot with a module of this ident number, or show how far each submodule is that the Connect of the relation expects.
+-- slot with a module of this ident number, or show how far each submodule is that the Connect of the relation expects; show what
+-- is asked of the application, answer the question with this number by the octets of a record, or say that its record is
+-- written, or refuse it with this ErrorCode1 and ErrorCode2.
 pub data Command : Type 0 where
   Frame : (bytes : List ℕ) → Command
   Restart : Command
@@ -59,6 +61,10 @@ pub data Command : Type 0 where
   PullModule : (slot : ℕ) → Command
   Plug : (slot : ℕ) → (module_ident : ℕ) → (submodule : RealSubmodule) → Command
   Expected : Command
+  Asked : Command
+  AnswerRead : (number : ℕ) → (octets : List ℕ) → Command
+  AnswerWrite : (number : ℕ) → Command
+  Refuse : (number : ℕ) → (code1 : ℕ) → (code2 : ℕ) → Command
 
 -- The meaning of a line: too long or not ASCII, empty or a comment, a command, or none of these.
 pub data Line : Type 0 where
@@ -118,7 +124,8 @@ bare word =
     else (if is_text word (codes "show") then Some Show
     else (if is_text word (codes "due") then Some Due
     else (if is_text word (codes "ready") then Some Ready
-    else (if is_text word (codes "expected") then Some Expected else bare_of_both word))))
+    else (if is_text word (codes "expected") then Some Expected
+    else (if is_text word (codes "asked") then Some Asked else bare_of_both word)))))
 
 -- Units of time, at least one.
 abbrev pub units_of : Option ℕ → Option ℕ
@@ -137,7 +144,8 @@ with_one word first =
     else (if is_text word (codes "tick") then option_map Tick (units_of (number_of 1000000 first))
     else (if is_text word (codes "elapse") then option_map Elapse (units_of (number_of 1000000 first))
     else (if is_text word (codes "services") then services_of first
-    else (if is_text word (codes "pull") then option_map PullModule (number_of 65535 first) else None))))
+    else (if is_text word (codes "pull") then option_map PullModule (number_of 65535 first)
+    else (if is_text word (codes "answer") then option_map AnswerWrite (number_of 4294967295 first) else None)))))
 
 -- The mask of decoded bytes.
 abbrev pub mask_of : Result (List ℕ) FromHexError → Option (List ℕ)
@@ -174,12 +182,18 @@ abbrev pub choice_of : List ℕ → List ℕ → Option Choice
 choice_of name value =
     if is_text name (codes "inputs-bad") then option_map InputsBad (one_of (codes "on") (codes "off") value)
     else (if is_text name (codes "ready") then option_map ReadyLater (one_of (codes "on") (codes "off") value)
-    else (if is_text name (codes "interval") then option_map Interval (units_of (number_of 65536 value)) else None))
+    else (if is_text name (codes "interval") then option_map Interval (units_of (number_of 65536 value))
+    else (if is_text name (codes "records") then option_map AnswersRecords (one_of (codes "on") (codes "off") value) else None)))
 
 -- A command for a slot and subslot, if both are valid.
 abbrev pub at_place : (ℕ → ℕ → Command) → Option ℕ → Option ℕ → Option Command
 at_place command None subslot = None
 at_place command (Some slot) subslot = option_map (command slot) subslot
+
+-- The command that answers the question with a number by the octets of a record, if both are valid.
+abbrev pub answer_of : Option ℕ → Option (List ℕ) → Option Command
+answer_of None octets = None
+answer_of (Some number) octets = option_map (AnswerRead number) octets
 
 -- The command of a line with two words after it.
 abbrev pub with_two : List ℕ → List ℕ → List ℕ → Option Command
@@ -189,7 +203,8 @@ with_two word first second =
     else (if is_text word (codes "provider") then at_place Provider (number_of 65535 first) (number_of 65535 second)
     else (if is_text word (codes "pull") then at_place Pull (number_of 65535 first) (number_of 65535 second)
     else (if is_text word (codes "ready") then at_place ReadyAt (number_of 65535 first) (number_of 65535 second)
-    else ordered word (strike_of (number_of 4294967295 first) (mask_of (decode_of second)))))))
+    else (if is_text word (codes "answer") then answer_of (number_of 4294967295 first) (bytes_of second)
+    else ordered word (strike_of (number_of 4294967295 first) (mask_of (decode_of second))))))))
 
 -- The command of a word with a slot, a subslot and bytes.
 abbrev pub targeted : List ℕ → ℕ → ℕ → Option (List ℕ) → Option Command
@@ -208,9 +223,17 @@ placed word (Some slot) (Some subslot) third =
     else (if is_text word (codes "read") then option_map (Read slot subslot) (number_of 65535 third)
     else targeted word slot subslot (bytes_of third)))
 
+-- The command that refuses the question with a number, with an ErrorCode1 and an ErrorCode2.
+abbrev pub refuse_of : Option ℕ → Option ℕ → Option ℕ → Option Command
+refuse_of (Some number) (Some code1) code2 = option_map (Refuse number code1) code2
+refuse_of (Some number) None code2 = None
+refuse_of None code1 code2 = None
+
 -- The command of a line with three words after it.
 abbrev pub with_three : List ℕ → List ℕ → List ℕ → List ℕ → Option Command
-with_three word first second third = placed word (number_of 65535 first) (number_of 65535 second) third
+with_three word first second third =
+    if is_text word (codes "refuse") then refuse_of (number_of 4294967295 first) (number_of 255 second) (number_of 255 third)
+    else placed word (number_of 65535 first) (number_of 65535 second) third
 
 -- The command that writes these octets to the record with this index of the submodule in a slot and subslot.
 abbrev pub write_of : Option ℕ → Option ℕ → Option ℕ → Option (List ℕ) → Option Command

@@ -3,7 +3,7 @@ use Rattle.script_lines.specs.declared.command.Command.{Command as Code}
 use Rattle.script_lines.specs.declared.command.Command.TheVariants as code
 use Rattle.script_lines.specs.declared.command.Line.{Line as CodeLine}
 use Rattle.script_lines.specs.declared.command.Line.TheVariants as line
-use Rattle.script_lines.specs.Line.{Command, Frame, Restart, Tick, Elapse, Show, Due, Choose, Ready, Arm, Input, Alarm, Status, Diagnosis, Provider, Config, Start, Give, OutputStatus, Stop, Stands, Told, Read, Write, Reply, Places, Deliver, Serve, ReadyAt, Pull, PullModule, Plug, Expected, Line, Unfit, Skipped, Asks, Unknown}
+use Rattle.script_lines.specs.Line.{Command, Frame, Restart, Tick, Elapse, Show, Due, Choose, Ready, Arm, Input, Alarm, Status, Diagnosis, Provider, Config, Start, Give, OutputStatus, Stop, Stands, Told, Read, Write, Reply, Places, Deliver, Serve, ReadyAt, Pull, PullModule, Plug, Expected, Asked, AnswerRead, AnswerWrite, Refuse, Line, Unfit, Skipped, Asks, Unknown}
 
 -- What the functions return is this command.
 abbrev pub command_read : Code → Command
@@ -39,6 +39,10 @@ command_read (code.Pull slot subslot) = Pull slot subslot
 command_read (code.PullModule slot) = PullModule slot
 command_read (code.Plug slot module_ident submodule) = Plug slot module_ident submodule
 command_read code.Expected = Expected
+command_read code.Asked = Asked
+command_read (code.AnswerRead number octets) = AnswerRead number octets.now
+command_read (code.AnswerWrite number) = AnswerWrite number
+command_read (code.Refuse number code1 code2) = Refuse number code1 code2
 
 -- What the functions return is this line.
 abbrev pub line_read : CodeLine → Line

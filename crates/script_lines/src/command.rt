@@ -7,8 +7,8 @@ ghost use Rattle.hex.specs.Hex.{decode_of};
 ghost use Rattle.uuid.specs.Text.{parsed};
 ghost use Rattle.script_lines.specs.Line.{behind, AreWords, bytes_of, catalogue_in, command_in, command_of, meaning_of, words_of, bare};
 ghost use Rattle.script_lines.specs.Line.{bare_of_both, with_one, with_two, with_five, with_four, with_more, with_three, ordered, start_of, units_of, mask_of, strike_of};
-ghost use Rattle.script_lines.specs.Line.{Choose, Elapse, OutputStatus, Provider, Pull, PullModule, Read, ReadyAt, Status, Tick};
-ghost use Rattle.script_lines.specs.Line.{at_place, choice_of, one_of, record_of, records_of, services_of, targeted};
+ghost use Rattle.script_lines.specs.Line.{AnswerWrite, Choose, Elapse, OutputStatus, Provider, Pull, PullModule, Read, ReadyAt, Status, Tick};
+ghost use Rattle.script_lines.specs.Line.{answer_of, at_place, choice_of, one_of, record_of, records_of, refuse_of, services_of, targeted};
 ghost use Rattle.script_lines.specs.Numbers.{number_of};
 ghost use Rattle.script_lines.specs.Read.{command_read, line_read};
 
@@ -58,6 +58,14 @@ pub enum Command<'a> {
     Plug(u16, u32, RealSubmodule),
     /// Shows how far each submodule is that the Connect of the device's relation expects.
     Expected,
+    /// Shows what is asked of the device's application.
+    Asked,
+    /// Answers the question with this number by the octets of a record.
+    AnswerRead(u32, &'a [u8]),
+    /// Answers the question with this number: its record is written.
+    AnswerWrite(u32),
+    /// Refuses the question with this number, with this ErrorCode1 and ErrorCode2.
+    Refuse(u32, u8, u8),
     /// Orders the flash to fail at a later call.
     Arm(Order),
     /// A diagnosis of the submodule in this slot and subslot, of this channel and error, appears or disappears.
@@ -107,6 +115,8 @@ pub enum Choice {
     ReadyLater(bool),
     /// The smallest interval of cyclic frames that a Connect may ask for, in units of time.
     Interval(u32),
+    /// Whether the device's application answers records.
+    AnswersRecords(bool),
 }
 
 /// The meaning of a line.
@@ -306,6 +316,8 @@ fn bare(word: &[u8]) -> Option<Command<'static>>
         Some(Command::Ready)
     } else if word == b"expected".as_slice() {
         Some(Command::Expected)
+    } else if word == b"asked".as_slice() {
+        Some(Command::Asked)
     } else {
         bare_of_both(word)
     }
@@ -349,6 +361,8 @@ fn with_one<'a>(
         Ok(services(first))
     } else if word == b"pull".as_slice() {
         Ok(pull_module(first))
+    } else if word == b"answer".as_slice() {
+        Ok(answer_write(first))
     } else {
         Ok(None)
     }
@@ -391,12 +405,12 @@ fn units(digits: &[u8], most: u32) -> Option<u32>
     }
 }
 
-fn with_two(
+fn with_two<'a>(
     word: &[u8],
     first: &[u8],
     second: &[u8],
-    buffer: &mut Vec<u8>,
-) -> Result<Option<Command<'static>>, AllocError>
+    buffer: &'a mut Vec<u8>,
+) -> Result<Option<Command<'a>>, AllocError>
     ensures { IfOk result (λ command. option_map command_read command ≡ with_two word.now first.now second.now) }
 {
     if word == b"start".as_slice() {
@@ -409,6 +423,8 @@ fn with_two(
         Ok(pull(first, second))
     } else if word == b"ready".as_slice() {
         Ok(ready_at(first, second))
+    } else if word == b"answer".as_slice() {
+        answer_read(first, second, buffer)
     } else {
         ordered(word, first, second, buffer)
     }
@@ -432,6 +448,8 @@ fn option_named(name: &[u8], value: &[u8]) -> Option<Choice>
         switch(value).map(Choice::ReadyLater)
     } else if name == b"interval".as_slice() {
         units(value, LONGEST_INTERVAL).map(Choice::Interval)
+    } else if name == b"records".as_slice() {
+        switch(value).map(Choice::AnswersRecords)
     } else {
         None
     }
@@ -498,6 +516,42 @@ fn ready_at(first: &[u8], second: &[u8]) -> Option<Command<'static>>
     Some(Command::ReadyAt(slot, subslot))
 }
 
+/// The command that answers the question with this number by the octets of a record.
+fn answer_read<'a>(
+    number: &[u8],
+    digits: &[u8],
+    buffer: &'a mut Vec<u8>,
+) -> Result<Option<Command<'a>>, AllocError>
+    ensures { IfOk result (λ command. option_map command_read command ≡ answer_of (number_of 4294967295 number.now) (bytes_of digits.now)) }
+{
+    let Some(number) = numbers::decimal(number, u32::MAX) else {
+        return Ok(None);
+    };
+    match decoded(digits, buffer)? {
+        Some(octets) => Ok(Some(Command::AnswerRead(number, octets))),
+        None => Ok(None),
+    }
+}
+
+/// The command that says that the record of the question with this number is written.
+fn answer_write(number: &[u8]) -> Option<Command<'static>>
+    ensures { option_map command_read result ≡ option_map AnswerWrite (number_of 4294967295 number.now) }
+{
+    let number = numbers::decimal(number, u32::MAX)?;
+    Some(Command::AnswerWrite(number))
+}
+
+/// The command that refuses the question with this number, with this ErrorCode1 and this ErrorCode2.
+fn refuse(number: &[u8], code1: &[u8], code2: &[u8]) -> Option<Command<'static>>
+    ensures { option_map command_read result
+        ≡ refuse_of (number_of 4294967295 number.now) (number_of 255 code1.now) (number_of 255 code2.now) }
+{
+    let number = numbers::decimal(number, u32::MAX)?;
+    let code1 = octet_number(code1)?;
+    let code2 = octet_number(code2)?;
+    Some(Command::Refuse(number, code1, code2))
+}
+
 /// The command that starts a controller with this ARUUID and this activity UUID.
 fn start(ar: &[u8], activity: &[u8]) -> Option<Command<'static>>
     ensures { option_map command_read result ≡ start_of (parsed ar.now) (parsed activity.now) }
@@ -546,6 +600,9 @@ fn with_three<'a>(
 ) -> Result<Option<Command<'a>>, AllocError>
     ensures { IfOk result (λ command. option_map command_read command ≡ with_three word.now first.now second.now third.now) }
 {
+    if word == b"refuse".as_slice() {
+        return Ok(refuse(first, second, third));
+    }
     let Some(slot) = place_number(first) else {
         return Ok(None);
     };
@@ -750,6 +807,16 @@ fn place_number(digits: &[u8]) -> Option<u16>
 {
     match numbers::decimal(digits, 65_535) {
         Some(number) => Some(number as u16),
+        None => None,
+    }
+}
+
+/// The number of an octet.
+fn octet_number(digits: &[u8]) -> Option<u8>
+    ensures { result ≡ number_of 255 digits.now }
+{
+    match numbers::decimal(digits, 255) {
+        Some(number) => Some(number as u8),
         None => None,
     }
 }

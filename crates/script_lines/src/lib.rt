@@ -1,6 +1,7 @@
 //! The lines of a script: the commands in them, and the lines that are printed.
 #![tactic(auto)]
 
+pub mod asked;
 mod command;
 mod digits;
 pub mod expected;

@@ -46,8 +46,8 @@ fn priority_word(priority: Priority) -> &'static [u8]
     }
 }
 
-/// A space and a decimal number.
-fn spaced(value: u16, text: &mut Vec<u8>) -> Result<(), AllocError>
+/// A space and a decimal number. This is not a line of its own.
+pub(crate) fn spaced(value: u16, text: &mut Vec<u8>) -> Result<(), AllocError>
     ensures { OnOk result (text.new.items ≡ text.old.items ++ spaced value) }
 {
     text.extend_from_slice(b" ")?;
@@ -64,8 +64,8 @@ fn structure(structure: Option<u16>, text: &mut Vec<u8>) -> Result<(), AllocErro
     }
 }
 
-/// Octets in hex, or `-` if there are none.
-fn octets(octets: &[u8], text: &mut Vec<u8>) -> Result<(), AllocError>
+/// Octets in hex, or `-` if there are none. This is not a line of its own.
+pub(crate) fn octets(octets: &[u8], text: &mut Vec<u8>) -> Result<(), AllocError>
     ensures { OnOk result (text.new.items ≡ text.old.items ++ octets_word octets.now) }
 {
     if octets.is_empty() {

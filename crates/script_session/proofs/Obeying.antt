@@ -4,7 +4,7 @@ use Rattle.flash_model.specs.declared.flash.Order.{Order}
 use Rattle.plans.specs.declared.parts.Parts.{Parts}
 use Rattle.configurator.specs.declared.fault.PlanFault.{PlanFault}
 use Rattle.configurator.specs.declared.fault.PlanFault.TheVariants.{OutOfMemory}
-use Rattle.script_lines.specs.Line.{Command, Frame, Restart, Tick, Elapse, Show, Due, Choose, Ready, Arm, Input, Alarm, Status, Diagnosis, Provider, Config, Start, Give, OutputStatus, Stop, Stands, Told, Read, Write, Reply, Places, Deliver, Serve, ReadyAt, Pull, PullModule, Plug, Expected, Line, Skipped, Asks, meaning_of}
+use Rattle.script_lines.specs.Line.{Command, Frame, Restart, Tick, Elapse, Show, Due, Choose, Ready, Arm, Input, Alarm, Status, Diagnosis, Provider, Config, Start, Give, OutputStatus, Stop, Stands, Told, Read, Write, Reply, Places, Deliver, Serve, ReadyAt, Pull, PullModule, Plug, Expected, Asked, AnswerRead, AnswerWrite, Refuse, Line, Skipped, Asks, meaning_of}
 use Rattle.script_lines.specs.declared.command.Choice.{Choice}
 use Rattle.script_session.specs.declared.power.Power.{Power}
 use Rattle.script_session.specs.declared.power.Power.TheVariants.{On, Off, Away}
@@ -126,3 +126,7 @@ order_taken (Pull slot subslot) old new before now result orders = tt
 order_taken (PullModule slot) old new before now result orders = tt
 order_taken (Plug slot module_ident submodule) old new before now result orders = tt
 order_taken Expected old new before now result orders = tt
+order_taken Asked old new before now result orders = tt
+order_taken (AnswerRead number octets) old new before now result orders = tt
+order_taken (AnswerWrite number) old new before now result orders = tt
+order_taken (Refuse number code1 code2) old new before now result orders = tt

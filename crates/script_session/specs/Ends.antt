@@ -25,12 +25,12 @@ use Rattle.diagnosis.specs.declared.reports.priority.Priority.{Priority}
 use Rattle.diagnosis.specs.declared.reports.priority.Priority.TheVariants.{High, Low}
 use Rattle.diagnosis.specs.declared.reports.report.Report.{Report}
 use Rattle.controller_core.specs.Machine.{Stepped as ControllerRun, step_of as controller_step, can_request, end_of, fresh, opening_of, report_in}
-use Rattle.relations.specs.Options.{default_options}
-use Rattle.relations.specs.declared.options.DeviceOptions.{DeviceOptions}
 use Rattle.script_lines.specs.declared.command.Choice.{Choice}
-use Rattle.script_lines.specs.declared.command.Choice.TheVariants.{InputsBad, ReadyLater, Interval}
+use Rattle.script_lines.specs.declared.command.Choice.TheVariants.{InputsBad, ReadyLater, Interval, AnswersRecords}
 use Rattle.script_lines.specs.Text.{out_lines}
 use Rattle.script_lines.specs.Reports.{told_line}
+use Rattle.script_session.specs.Demo.{default_choices}
+use Rattle.script_session.specs.declared.demo.DemoOptions.{DemoOptions}
 
 -- A device without its flash: what is fixed, and what changes; and the services beside it, once there are any.
 pub record Station : Type 0 where
@@ -114,7 +114,7 @@ station_step station event =
 -- plan of the next controller, the controller once there is one, the lines of the alarms that it accepted since its start, and
 -- the frames that wait at either end, in order.
 pub record Other : Type 0 where
-  pub options : DeviceOptions
+  pub options : DemoOptions
   pub serves : Bool
   pub plan : Option Parts
   pub controller : Option Controlling
@@ -149,7 +149,7 @@ KnowsTheRefusal = (plans : List ℕ → Option Parts) (catalogue : List ℕ) (fa
 
 -- The other end before a catalogue was read. All options have their defaults.
 abbrev pub nobody : Other
-nobody = record { options = default_options; serves = false; plan = None; controller = None; told = []; to_device = []; to_controller = [] }
+nobody = record { options = default_choices; serves = false; plan = None; controller = None; told = []; to_device = []; to_controller = [] }
 
 -- ---- events, one after another, and the frames that they send
 
@@ -257,10 +257,11 @@ abbrev pub with_plan : Other → Parts → Other
 with_plan other plan = record other { plan = Some plan }
 
 -- An option of the device is set.
-abbrev pub with_choice : DeviceOptions → Choice → DeviceOptions
-with_choice options (InputsBad is_on) = record options { inputs_begin_bad = is_on }
-with_choice options (ReadyLater is_on) = record options { ready_by_application = is_on }
-with_choice options (Interval units) = record options { smallest_interval = units }
+abbrev pub with_choice : DemoOptions → Choice → DemoOptions
+with_choice options (InputsBad is_on) = record options { device = record options.device { inputs_begin_bad = is_on } }
+with_choice options (ReadyLater is_on) = record options { device = record options.device { ready_by_application = is_on } }
+with_choice options (Interval units) = record options { device = record options.device { smallest_interval = units } }
+with_choice options (AnswersRecords is_on) = record options { answers_records = is_on }
 
 -- The other end with an option of the device chosen, from the next restart on.
 abbrev pub chosen : Other → Choice → Other

@@ -11,11 +11,11 @@ use Rattle.settings_journal.specs.Commit.{HasBootCause}
 use Rattle.settings_journal.specs.Image.{StartsWith, IsForeign, LeftByDevice}
 use Rattle.settings_journal.specs.declared.journal.BootFault.{BootFault}
 use Rattle.settings_journal.specs.declared.journal.BootFault.TheVariants.{Foreign}
-use Rattle.relations.specs.declared.options.DeviceOptions.{DeviceOptions}
 use Rattle.device_core.specs.Cycle.{started}
 use Rattle.script_session.specs.declared.power.Power.{Power}
 use Rattle.script_session.specs.declared.power.Power.TheVariants.{On, Off, Away}
-use Rattle.script_session.specs.Demo.{demo_device}
+use Rattle.script_session.specs.Demo.{demo_device, options_of}
+use Rattle.script_session.specs.declared.demo.DemoOptions.{DemoOptions}
 use Rattle.script_session.specs.Ends.{Other, Running, Station, services_at}
 
 -- This station runs over a flash whose calls do not fail, and none has failed.
@@ -47,7 +47,7 @@ is_off Away = true
 
 -- The demo device runs, with any settings and options, or its start was refused.
 abbrev pub IsDemo : Power → Type 0
-IsDemo (On device) = device.station ≡ demo_device device.station.options
+IsDemo (On device) = device.station ≡ demo_device (options_of device.station)
 IsDemo (Off fault flash) = Unit {0}
 IsDemo Away = ⊥
 
@@ -59,7 +59,7 @@ IsSameFlash old new = (image_of new ≡ image_of old) × (against_writes (armed_
 -- The demo device was started with these options over this flash, which is still the same, and services with it if they
 -- are on. It runs what is stored, and nothing of an earlier cycle remains; or its start was refused, for a reason that
 -- holds of the flash. The reason Foreign means that no journal of this layout left the flash.
-abbrev pub IsOver : DeviceOptions → Bool → MemoryFlash 4096 → Power → Type 0
+abbrev pub IsOver : DemoOptions → Bool → MemoryFlash 4096 → Power → Type 0
 IsOver options serves flash (On device) =
     (device.station ≡ demo_device options) × (device.live ≡ started demo_real device.live.values.stored device.live.values.room)
     × (device.services ≡ services_at serves device.station device.live.values.running) × StartsWith (image_of device.flash) device.live.values.stored device.live.values.room × IsSameFlash flash device.flash
@@ -76,7 +76,7 @@ IsArmed order old new = ⊥
 
 -- The flash has power again, and the demo device was started over it with these options, and services with it if they are
 -- on.
-abbrev pub IsBack : DeviceOptions → Bool → Power → Power → Type 0
+abbrev pub IsBack : DemoOptions → Bool → Power → Power → Type 0
 IsBack options serves (On device) power = IsOver options serves device.flash power
 IsBack options serves (Off fault flash) power = IsOver options serves flash power
 IsBack options serves Away power = power ≡ Away

@@ -5,9 +5,7 @@ use Rattle.pn_values.specs.Settings.{factory_settings}
 use Rattle.pn_values.specs.declared.settings.Settings.{Settings}
 use Rattle.settings_journal.specs.Image.{capacity}
 use Rattle.relations.specs.Exchanged.{provider_in}
-use Rattle.relations.specs.Options.{default_options}
 use Rattle.relations.specs.RelationState.{phase_of}
-use Rattle.relations.specs.declared.options.DeviceOptions.{DeviceOptions}
 use Rattle.plans.specs.declared.parts.Parts.{Parts}
 use Rattle.device_frames.specs.declared.event.Event.{Event}
 use Rattle.device_frames.specs.declared.event.Event.TheVariants as event
@@ -23,19 +21,22 @@ use Rattle.controller_core.specs.stored.State.{Controlling}
 use Rattle.controller_messages.specs.Access.{record_of}
 use Rattle.controller_messages.specs.RecordRequests.{most_record_octets}
 use Rattle.pn_values.specs.demo.Demo.{demo_real}
-use Rattle.script_session.specs.Demo.{demo_device}
+use Rattle.script_session.specs.Demo.{default_choices, demo_device}
+use Rattle.script_session.specs.declared.demo.DemoOptions.{DemoOptions}
 use Rattle.script_session.specs.Ends.{Station, Turned, due_of, serving, services_at, station_step, Other, Network, DeviceRun, with_ends, arrived_at, chosen, cleared, device_run, frames_for_device, may_request, nobody, printed_for, ticked_by, with_fresh, with_plan, with_run, with_sent}
 use Rattle.station.specs.Serving.{Serving}
 use Rattle.script_lines.specs.Places.{places_shown}
-use Rattle.script_lines.specs.Line.{Command, Frame, Restart, Tick, Elapse, Show, Due, Choose, Ready, Arm, Input, Alarm, Status, Diagnosis, Provider, Config, Start, Give, OutputStatus, Stop, Stands, Told, Read, Write, Reply, Places, Deliver, Serve, ReadyAt, Pull, PullModule, Plug, Expected, Line, Unfit, Skipped, Asks, Unknown}
+use Rattle.script_lines.specs.Line.{Command, Frame, Restart, Tick, Elapse, Show, Due, Choose, Ready, Arm, Input, Alarm, Status, Diagnosis, Provider, Config, Start, Give, OutputStatus, Stop, Stands, Told, Read, Write, Reply, Places, Deliver, Serve, ReadyAt, Pull, PullModule, Plug, Expected, Asked, AnswerRead, AnswerWrite, Refuse, Line, Unfit, Skipped, Asks, Unknown}
 use Rattle.script_lines.specs.declared.command.Choice.{Choice}
 use Rattle.script_lines.specs.Expected.{expected_shown}
+use Rattle.asked_records.specs.Asked.{seen_in}
+use Rattle.script_lines.specs.Asked.{asked_line}
 use Rattle.script_lines.specs.Show.{shown, outputs_shown, controller_shown, diagnoses_shown, due_line, provider_line}
 use Rattle.script_lines.specs.Reports.{reply_line, told_shown}
 use Rattle.script_lines.specs.Text.{boot_line, moved_line, note_line, printed}
 
 -- The demo device, started with these options from these settings, with services that begin with it or without any.
-abbrev pub demo_started : DeviceOptions → Bool → Settings → ℕ → Station
+abbrev pub demo_started : DemoOptions → Bool → Settings → ℕ → Station
 demo_started options serves settings room = record { device = demo_device options; live = started demo_real settings room; services = services_at serves (demo_device options) settings }
 
 -- Services beside the device, if there are none yet.
@@ -106,6 +107,10 @@ provider_answer network slot subslot = record { network = network; text = provid
 -- How far each submodule is that the Connect of the relation expects.
 abbrev pub expected_answer : Network → Answer
 expected_answer network = record { network = network; text = expected_shown (option_map (λ link. link.plugs.places) network.station.live.rest.link) }
+
+-- What is asked of the application of the device.
+abbrev pub asked_answer : Network → Answer
+asked_answer network = record { network = network; text = asked_line (seen_in network.station.live.rest.asked) }
 
 -- An option is set for the device's next start; nothing is printed.
 abbrev pub choose_answer : Network → Choice → Answer
@@ -244,6 +249,10 @@ said plans network (Pull slot subslot) = Answers (local_answer network (local.Pu
 said plans network (PullModule slot) = Answers (local_answer network (local.PullModule slot))
 said plans network (Plug slot module_ident submodule) = Answers (local_answer network (local.Plug slot module_ident submodule))
 said plans network Expected = Answers (expected_answer network)
+said plans network Asked = Answers (asked_answer network)
+said plans network (AnswerRead number octets) = Answers (local_answer network (local.Answer number (handed octets)))
+said plans network (AnswerWrite number) = Answers (local_answer network (local.Written number))
+said plans network (Refuse number code1 code2) = Answers (local_answer network (local.Refuse number code1 code2))
 
 -- The outcome of a line.
 abbrev pub outcome_of : (List ℕ → Option Parts) → Network → Line → Outcome
@@ -286,6 +295,10 @@ arms (Pull slot subslot) = false
 arms (PullModule slot) = false
 arms (Plug slot module_ident submodule) = false
 arms Expected = false
+arms Asked = false
+arms (AnswerRead number octets) = false
+arms (AnswerWrite number) = false
+arms (Refuse number code1 code2) = false
 
 -- A line that orders a failure of the flash.
 abbrev pub is_order : Line → Bool
@@ -296,7 +309,7 @@ is_order Unknown = false
 
 -- The demo device with the factory settings and all options at their defaults.
 abbrev pub factory_device : Station
-factory_device = demo_started default_options false factory_settings (capacity 4096)
+factory_device = demo_started default_choices false factory_settings (capacity 4096)
 
 -- The device as it leaves the factory, without a controller.
 abbrev pub alone : Network

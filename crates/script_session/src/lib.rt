@@ -5,6 +5,7 @@
 mod both;
 mod bytes;
 mod copies;
+mod demo;
 mod device;
 mod laws;
 mod other_end;

@@ -13,6 +13,7 @@ ghost use Rattle.script_session.specs.Session.{IsHandedOver};
 
 use crate::bytes::copied;
 use crate::copies::plan_copy;
+use crate::demo::DemoOptions;
 use crate::device::hand_over;
 use crate::power::DemoStation;
 use crate::waiting::append;
@@ -20,7 +21,6 @@ use configurator::{PlanFault, plan_from_json};
 use controller_core::{Controller, Event, Priority};
 use frame_codec::{Frame, Outbox};
 use plans::Plan;
-use relations::DeviceOptions;
 use script_lines::{Choice, places, render, reports, show};
 use station::StationOutbox;
 use std::alloc::{AllocError, Global};
@@ -33,7 +33,7 @@ use uuid::Uuid;
 #[derive(Drop)]
 pub(crate) struct OtherEnd {
     alloc: Global,
-    options: DeviceOptions,
+    options: DemoOptions,
     serves: bool,
     plan: Option<Plan>,
     controller: Option<Controller>,
@@ -76,7 +76,7 @@ impl OtherEnd {
     {
         OtherEnd {
             alloc,
-            options: DeviceOptions::default(),
+            options: DemoOptions::new(),
             serves: false,
             plan: None,
             controller: None,
@@ -88,7 +88,7 @@ impl OtherEnd {
     }
 
     /// The options of the device's next start.
-    pub(crate) fn options(&self) -> DeviceOptions
+    pub(crate) fn options(&self) -> DemoOptions
         ensures { result ≡ self.now.options }
     {
         self.options
@@ -99,9 +99,10 @@ impl OtherEnd {
         ensures { self.new ≡ chosen self.old choice }
     {
         match choice {
-            Choice::InputsBad(is_on) => self.options.inputs_begin_bad = is_on,
-            Choice::ReadyLater(is_on) => self.options.ready_by_application = is_on,
-            Choice::Interval(units) => self.options.smallest_interval = units,
+            Choice::InputsBad(is_on) => self.options.device.inputs_begin_bad = is_on,
+            Choice::ReadyLater(is_on) => self.options.device.ready_by_application = is_on,
+            Choice::Interval(units) => self.options.device.smallest_interval = units,
+            Choice::AnswersRecords(is_on) => self.options.answers_records = is_on,
         }
     }
 

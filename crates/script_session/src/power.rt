@@ -7,9 +7,9 @@ ghost use Rattle.flash_model.specs.Memory.{image_of, IsReliable};
 ghost use Rattle.settings_journal.specs.Image.{StartsWith, LeftByDevice, capacity};
 ghost use Rattle.station.specs.Serving.{serving_at};
 
+use crate::demo::DemoOptions;
 use device_core::{Device, Event, Note};
 use flash_model::{Flash, Lent, MemoryFlash, Order};
-use relations::DeviceOptions;
 use settings_journal::BootFault;
 use station::{
     DeviceServices, StationOutbox, due_beside, elapse_alone, elapse_beside, step_alone, step_beside,
@@ -158,7 +158,7 @@ impl<'a> Power<'a> {
     ghost use Rattle.script_session.specs.Power.{IsDemo, IsRunning, IsBack, IsOver, is_off, refusal_of};
 
     /// Starts the device with these options from the content of a flash, with services that begin with it or without any.
-    pub(crate) fn start(options: DeviceOptions, serves: bool, flash: DemoFlash<'a>) -> Power<'a>
+    pub(crate) fn start(options: DemoOptions, serves: bool, flash: DemoFlash<'a>) -> Power<'a>
         ensures stored { (settings : Settings) (room : ℕ) → IsReliable flash.entry → LeftByDevice (image_of flash.entry) →
             StartsWith (image_of flash.entry) settings room →
             IsRunning (demo_started options serves settings room) result }
@@ -167,7 +167,13 @@ impl<'a> Power<'a> {
         ensures back { IsOver options serves flash.entry result }
     {
         let (identity, modules) = (pn_values::demo_identity(), pn_values::demo_modules());
-        let mut device = Device::unstarted(identity, modules, options, flash);
+        let mut device = Device::unstarted_named(
+            identity,
+            modules,
+            options.device,
+            options.records(),
+            flash,
+        );
         match device.load() {
             Ok(()) => Power::On(DemoStation::begin(device, serves)),
             Err(fault) => Power::Off(fault, device.into_flash()),
@@ -175,7 +181,7 @@ impl<'a> Power<'a> {
     }
 
     /// Switches the device's power off and on again. It has these options then, and services that begin with it or none.
-    pub(crate) fn restart(self, options: DeviceOptions, serves: bool) -> Power<'a>
+    pub(crate) fn restart(self, options: DemoOptions, serves: bool) -> Power<'a>
         ensures runs { (station : Station) → IsRunning station self.entry →
             IsRunning (demo_started options serves station.live.values.stored station.live.values.room) result }
         ensures back { IsBack options serves self.entry result }
@@ -192,7 +198,7 @@ impl<'a> Power<'a> {
     }
 
     /// Switches the power of a flash on again, and starts the device with these options. A pending order stays armed.
-    fn with_power(options: DeviceOptions, serves: bool, flash: DemoFlash<'a>) -> Power<'a>
+    fn with_power(options: DemoOptions, serves: bool, flash: DemoFlash<'a>) -> Power<'a>
         ensures runs { (settings : Settings) (room : ℕ) → IsReliable flash.entry → LeftByDevice (image_of flash.entry) →
             StartsWith (image_of flash.entry) settings room →
             IsRunning (demo_started options serves settings room) result }

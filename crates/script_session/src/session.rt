@@ -20,7 +20,7 @@ use controller_core::{Event as ControllerEvent, MOST_RECORD_OCTETS};
 use device_core::{Event, Local, Note, Octets};
 use flash_model::{Flash, Lent, MemoryFlash, Order};
 use frame_codec::Bytes;
-use script_lines::{Command, Line, expected, meaning, render, show};
+use script_lines::{Command, Line, asked, expected, meaning, render, show};
 use station::StationOutbox;
 use std::alloc::{AllocError, Global};
 use std::marker::Model;
@@ -56,7 +56,8 @@ impl<'a> Session<'a> {
     ghost use Rattle.script_session.specs.Ends.{IsRightFor, cleared, nobody};
     ghost use Rattle.script_session.specs.Said.{arms, config_outcome, deliver_answer, deliver_outcome, factory_device};
     ghost use Rattle.script_session.specs.Said.{heard_outcome, is_order, outcome_of, restart_answer, said, serve_answer, show_answer, stands_outcome, start_outcome};
-    ghost use Rattle.script_session.specs.Said.{due_answer, expected_answer, fits_record, places_outcome, provider_answer, record_outcome, reply_outcome, tick_answer, told_outcome};
+    ghost use Rattle.script_session.specs.Said.{asked_answer, due_answer, expected_answer, fits_record, places_outcome, provider_answer};
+    ghost use Rattle.script_session.specs.Said.{record_outcome, reply_outcome, tick_answer, told_outcome};
     ghost use Rattle.script_session.specs.Power.{IsArmed, IsBack, is_off, refusal_of};
     ghost use Rattle.script_session.specs.Session.{Are, AreRightFor, Comes, Obeys};
     ghost use Rattle.script_session.specs.Off.{Delivers, GivesBack, Leaves, LeavesBy, Orders, TakesOff, TakesOrder, hands, is_handed};
@@ -172,6 +173,14 @@ impl<'a> Session<'a> {
                 always(self.say(Local::Plug(slot, ident, submodule), text))
             }
             Command::Expected => always(self.expected(text)),
+            Command::Asked => always(self.asked(text)),
+            Command::AnswerRead(number, octets) => {
+                always(self.say(Local::Answer(number, Octets::of(octets)), text))
+            }
+            Command::AnswerWrite(number) => always(self.say(Local::Written(number), text)),
+            Command::Refuse(number, code1, code2) => {
+                always(self.say(Local::Refuse(number, code1, code2), text))
+            }
             Command::Diagnosis(slot, subslot, channel, error, appears) => {
                 let change = Local::Diagnosis(slot, subslot, channel, error, appears);
                 always(self.say(change, text))
@@ -249,6 +258,17 @@ impl<'a> Session<'a> {
     {
         match &self.power {
             Power::On(demo) => expected::expected(self.alloc, demo.device().expected(), text),
+            Power::Off(_, _) | Power::Away => text.extend_from_slice(b"off\n"),
+        }
+    }
+
+    /// Shows what is asked of the device's application.
+    fn asked(&self, text: &mut Vec<u8>) -> Result<(), AllocError>
+        ensures { (network : Network) → Are network self.now →
+            OnOk result (IsObeyed (asked_answer network) self.now text.old.items text.new.items) }
+    {
+        match &self.power {
+            Power::On(demo) => asked::asked(demo.device().asked(), text),
             Power::Off(_, _) | Power::Away => text.extend_from_slice(b"off\n"),
         }
     }

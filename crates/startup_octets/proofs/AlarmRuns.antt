@@ -45,7 +45,8 @@ use Rattle.startup_octets.specs.Log.{Entry}
 use Rattle.startup_octets.specs.Run.{entries_of, entry_by, opening_entry}
 use Rattle.startup_octets.specs.Played.{came_by}
 use Rattle.startup_octets.proofs.AlarmTurns.{IsKept, accepted_if, controller_keeps, controller_turn, device_turn}
-use Rattle.startup_octets.proofs.Points.{dropped, each_both}
+use Rattle.startup_octets.proofs.Points.{dropped}
+use Rattle.startup_octets.proofs.SmallSteps.{each_both}
 
 -- ---- what a controller hears of its device has its sizes
 

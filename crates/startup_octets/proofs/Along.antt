@@ -47,7 +47,7 @@ use Rattle.both_ends.specs.startup.View.{is_planned, move_of, rules_of, view_of}
 use Rattle.both_ends.proofs.StartupEach.{each_at}
 use Rattle.both_ends.proofs.StartupGiven.{GoesSo, HeardSo}
 use Rattle.both_ends.proofs.StartupHeard.{IsKnown, IsKnownHeard, IsPlans, all_met}
-use Rattle.both_ends.proofs.StartupKnown.{CanStart, HoldsAt, all_meant, holds_behind, meant_at_controller, meant_at_device}
+use Rattle.both_ends.proofs.StartupKnown.{CanStart, HoldsAt, all_meant, holds_behind, known_own, meant_at_controller, meant_at_device}
 use Rattle.both_ends.proofs.StartupRuns.{InStep, controller_is, delivered, happens_steps, last_viewed, rules_at}
 use Rattle.plans.specs.Plan.{AreShort}
 use Rattle.startup_octets.specs.StartUp.{Answers, AreStartUps, IsIn, IsPlugReady, IsReadyCall, IsStartUp, Turn, Written, is_granted, sent_by}
@@ -109,7 +109,7 @@ pub record Laws : Type 0 where
   pub undone : AreNotDone
   pub calls_read : AreCallsRead
   pub turn : (rules : small.Rules TakenRecord Request) (activity : List ℕ) (outcomes : List Outcome) (station : Station) (live : Live) (heard : Heard)
-      → IsPlanned rules activity live.rest.real heard → DeviceTurn station live heard (heard_step outcomes station live heard).live.rest (heard_step outcomes station live heard).sent
+      → IsPlanned rules activity station.named live.rest.real heard → DeviceTurn station live heard (heard_step outcomes station live heard).live.rest (heard_step outcomes station live heard).sent
   pub kinds : (setup : Setup) (live : ControllerLive) (event : Event) → IsTurn setup live (controller_came setup event) (turn_of setup live event)
   pub handed : (rules : small.Rules TakenRecord Request) → IsHandedBy rules
 
@@ -208,9 +208,10 @@ module _ (laws : Laws) {F : Type 0} (first : World F) where
           let meant = meant_at_device so goes now can holds in_step plans heard known in
           let sendable = made.hears.steps.sendable in
           let does = (laws.turn (rules_at now) setup.activity outcomes station live heard meant.planned).does in
-          let steps = goes.device_on (rules_at now) setup.activity outcomes station live heard holds.orderly meant.planned (meant.sent outcomes sendable) in
+          let steps = goes.device_on (rules_at now) setup.activity outcomes station live heard holds.orderly (known_own setup live.rest.asked holds.of_known) meant.planned
+          (meant.sent outcomes sendable) in
           let owed = goes.owed (rules_at now) setup.activity outcomes station live heard meant.planned in
-          let met = all_met so setup station can.setup_is can.device_is can.apart heard live (heard_step outcomes station live heard).sent known plans holds.orderly owed sendable in
+          let met = all_met so setup station can.setup_is can.device_is can.apart heard live (heard_step outcomes station live heard).sent known holds.of_known plans holds.orderly owed sendable in
           let ready = messages_ready so laws.calls_read setup station can.setup_is can.device_is can.apart heard live known plans (λ answer is. (it.fine answer is).1)
           (heard_step outcomes station live heard).sent owed met sendable in
           let point = device_point laws.undone so.block_read so.block_long setup station fit can.device_is strict (laws.handed (rules_at now)) (view_of first) begins run turns
@@ -458,7 +459,8 @@ module _ (laws : Laws) {F : Type 0} (first : World F) where
         let rules_are : rules_at now ≡ Own = ap (λ (s : Setup). rules_of s now.device.station) setup_is ∙ ap (λ (s : Station). rules_of first.controller.setup s) station_is in
         let plans = plans_at run now last rules_are steps in
         let meant = all_meant so goes now can holds in_step plans one.0 in
-        let step = happens_steps as_flash goes.device_on goes.controller_on goes.frames_are now one.1 in_step holds.orderly one.0 meant made.0 in
+        let step = happens_steps as_flash goes.device_on goes.controller_on goes.frames_are now one.1 in_step holds.orderly
+        (known_own now.controller.setup now.device.live.rest.asked holds.of_known) one.0 meant made.0 in
         let from : Steps Own (last_of (view_of first) (viewed run)) (move_of one.0) (view_of one.1) =
         subst (λ (w : SmallWorld). Steps Own w (move_of one.0) (view_of one.1)) (sym (last_viewed first run ∙ ap (λ (w : World F). view_of w) last))
         (subst (λ (r : small.Rules TakenRecord Request). Steps r (view_of now) (move_of one.0) (view_of one.1)) rules_are step.is) in

@@ -29,8 +29,8 @@ use Rattle.startup_octets.proofs.DeviceTurn.{early_same}
 use Rattle.startup_octets.proofs.Exact.{written_of}
 use Rattle.startup_octets.proofs.Lists.{parameterized_more, ready_more, sent_at, sent_behind}
 use Rattle.startup_octets.proofs.PlugEnds.{IsNoPlugEnd, all_no_end}
-use Rattle.startup_octets.proofs.Points.{IsAfter, IsBefore, IsPoint, SmallRules, SmallWorld, each_both, each_so, early_waits, named_more, silent_taken, traced_more}
-use Rattle.startup_octets.proofs.SmallSteps.{IsNoAccess, calls_no_access, not_exchanging}
+use Rattle.startup_octets.proofs.Points.{IsAfter, IsBefore, IsPoint, SmallRules, SmallWorld, each_so, early_waits, named_more, silent_taken, traced_more}
+use Rattle.startup_octets.proofs.SmallSteps.{IsNoAccess, calls_no_access, each_both, not_exchanging}
 use Rattle.startup_octets.proofs.DevicePoint.{each_in}
 
 module _ (setup : Setup) (station : Station) where
@@ -128,6 +128,7 @@ module _ (setup : Setup) (station : Station) where
                 (subst (AllByRecursion (IsNoAccess rules)) (sym frames) (all_no_access next.controller idle (turn_of setup live event).sent said on.says));
             unended = each_both _ before_sent turn.sent before.unended
                 (subst (AllByRecursion unended) (sym frames) (all_no_end so setup station good next.controller idle (turn_of setup live event).sent aimed said on.says));
+            unasked = before.unasked;
             early = early_same mac relation turns turn link before.early (silent_taken rules unended mac relation setup.activity turns turn silent);
           })
 
@@ -152,5 +153,6 @@ module _ (setup : Setup) (station : Station) where
             (each_in _ turn.sent (λ frame there. inr (in_nothing turn.sent frame nothing_sent there, sent_behind false frame turns (turn ∷ []) (sent_at false frame turn at there))));
         fine = it.fine;
         named = λ answer is. named_more rules unended mac relation setup.activity turns turn _ (it.named answer is);
+        asked = λ sequence is. named_more rules unended mac relation setup.activity turns turn _ (it.asked sequence is);
         history = by_history it.history;
       }

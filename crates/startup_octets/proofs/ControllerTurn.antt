@@ -32,7 +32,7 @@ use Rattle.controller_messages.specs.RecordRequests.{record_call}
 use Rattle.controller_messages.specs.Requests.{call_for}
 use Rattle.controller_messages.specs.Sent.{Sent, Requests, Accesses, Parametrizes, Agrees, Cycles, Confirms, Replies, Ends, bytes_of, identify_multicast}
 use Rattle.controller_core.specs.declared.stored.event.Event.{Event}
-use Rattle.controller_core.specs.declared.stored.event.Event.TheVariants.{Frame, Write}
+use Rattle.controller_core.specs.declared.stored.event.Event.TheVariants.{Frame}
 use Rattle.controller_core.specs.declared.stored.state.State.TheVariants.{Exchanging}
 use Rattle.controller_core.specs.stored.State.{Live}
 use Rattle.controller_core.specs.start_up.Answers.{is_ready}

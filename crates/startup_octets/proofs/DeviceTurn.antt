@@ -30,6 +30,8 @@ use Rattle.relations.specs.RelationState.{RelationState, uuid_of}
 use Rattle.device_frames.specs.Heard.{Calls, Heard, Reported}
 use Rattle.device_frames.specs.Sendable.{AreSendable}
 use Rattle.device_frames.specs.Sent.{Sent, IdentifyAnswer, GetAnswer, SetAnswer, ArpReply, CallAnswer, Again, ReadyCall, PlugReadyCall, Ends, Exchanges, bytes_of}
+use Rattle.asked_records.specs.Asked.{question_in}
+use Rattle.asked_records.specs.declared.question.Question.{Question}
 use Rattle.device_core.specs.State.{Live, Rest, Station}
 use Rattle.device_core.specs.Handled.{answer_from, outcome_of}
 use Rattle.controller_messages.specs.declared.setup.Setup.{Setup}
@@ -300,7 +302,7 @@ module _ (undone : AreNotDone) (blocks_read : AreBlocksRead) (long : (block : Bl
       (came : (sequence : ℕ) (ask : small.Ask) → heard_as (is_planned setup) heard ≡ small.Call sequence ask → IsIn turn.came (sent_by false turns))
       (no_access : (sequence : ℕ) → heard_as (is_planned setup) heard ≡ small.Call sequence small.Accesses → ⊥)
       (planned : operation_of asked.header.operation ≡ Some operation.Write → is_planned setup asked.header.sequence blocks ≡ true
-      → IsPlannedWrite (rules_of setup station) live.rest.real asked.header.sequence blocks) where
+      → IsPlannedWrite (rules_of setup station) station.named live.rest.real asked.header.sequence blocks) where
     asking_is : asking_at mac turn ≡ Call call.octets
     asking_is = call.asks
 
@@ -338,18 +340,18 @@ module _ (undone : AreNotDone) (blocks_read : AreBlocksRead) (long : (block : Bl
     meant_writes asks plan is writing e =
         let it = planned asks is in
         let number_is : it.number ≡ plan.number = same_number plan.number it.number (sym plan.numbered ∙ it.is) in
-        subst (λ (n : ℕ). IsWritingOf (rules_of setup station) live.rest.real (uuid_of live.rest.link) n (map taken_for (group_of setup.plan plan.number)) writing) plan.numbered
-        (subst (λ (n : ℕ). IsWritingOf (rules_of setup station) live.rest.real (uuid_of live.rest.link) asked.header.sequence (map taken_for (group_of setup.plan n)) writing) number_is
+        subst (λ (n : ℕ). IsWritingOf (rules_of setup station) station.named live.rest.real (uuid_of live.rest.link) n (map taken_for (group_of setup.plan plan.number)) writing) plan.numbered
+        (subst (λ (n : ℕ). IsWritingOf (rules_of setup station) station.named live.rest.real (uuid_of live.rest.link) asked.header.sequence (map taken_for (group_of setup.plan n)) writing) number_is
         (it.keeps (uuid_of live.rest.link) writing (ap (writing_of (uuid_of live.rest.link) live.rest.real) plan.is ∙ e)))
 
     written : (octets : List ℕ) → operation_of asked.header.operation ≡ Some operation.Write → IsAnsweredSo call.octets turn.sent 0 (statuses_in 16 (drop 64 octets))
-        → IsWriteEffect live.rest.real blocks octets live.rest.link rest.link → (b : Bool) → is_planned setup asked.header.sequence blocks ≡ b → IsEarly mac relation (turns ++ turn ∷ []) rest.link
+        → IsWriteEffect station.named live.rest.real blocks octets live.rest.link rest.link → (b : Bool) → is_planned setup asked.header.sequence blocks ≡ b → IsEarly mac relation (turns ++ turn ∷ []) rest.link
     written octets asks answered effect false is =
         absurd (no_access asked.header.sequence (heard_is operation.Write asks ∙ ap (λ (b : Bool). written_by b asked.header.sequence) is))
     written octets asks answered effect true is =
         let plan = planned_exact setup asked.header.sequence blocks is in
         let adds = write_adds undone blocks_read long setup station live.rest.real fit plan.number plan.listed octets live.rest.link rest.link (started_early mac relation turns live.rest.link early)
-        (meant_writes asks plan is) (subst (λ (l : List ℕ). IsWriteEffect live.rest.real l octets live.rest.link rest.link) plan.is effect) in
+        (meant_writes asks plan is) (subst (λ (l : List ℕ). IsWriteEffect station.named live.rest.real l octets live.rest.link rest.link) plan.is effect) in
         early_grown mac relation turns turn live.rest.link rest.link adds.now early adds.grown
         (taken_by (map written_of adds.now) (sym (ap (λ a. confirmed_by relation a turn.sent) asking_is
         ∙ confirmed_so relation call.octets turn.sent 0 (statuses_in 16 (drop 64 octets)) answered
@@ -415,22 +417,29 @@ module _ (undone : AreNotDone) (blocks_read : AreBlocksRead) (long : (block : Bl
   or_first : (b c : Bool) → b ≡ true → b || c ≡ true
   or_first b c is = ap (λ x. x || c) is
 
-  pub device_turn : IsEarly mac relation turns live.rest.link → IsOrderlyIn live.rest.link → IsKnownHeard setup heard → IsPlanned (rules_of setup station) setup.activity live.rest.real heard
+  some_blocks : (one other : List ℕ) → Some one ≡ Some other → one ≡ other
+  some_blocks one other e = cc
+
+  is_asked : (question : Question) → ◌≡◌ {A = Option Question} None (Some question) → ⊥
+  is_asked question e = cc
+
+  pub device_turn : IsEarly mac relation turns live.rest.link → IsOrderlyIn live.rest.link → IsKnownHeard setup heard → IsPlanned (rules_of setup station) setup.activity station.named live.rest.real heard
       → ((caller : Caller) (address : List ℕ) (call : Called) → heard ≡ Reported caller address (Calls call) → IsCallIn mac turn.came call)
       → ((sequence : ℕ) (ask : small.Ask) → heard_as (is_planned setup) heard ≡ small.Call sequence ask → IsIn turn.came (sent_by false turns))
       → ((sequence : ℕ) → heard_as (is_planned setup) heard ≡ small.Call sequence small.Accesses → ⊥)
       → ((caller : Caller) (address : List ℕ) (call : Called) → heard ≡ Reported caller address (Calls call) → IsPlugEnd setup call → ⊥)
+      → question_in live.rest.asked ≡ None
       → ((kept : Kept) → kept_of setup.activity live.rest.calls ≡ Some kept → list_any (pointwise nat_eq (name_for setup.activity kept.sequence)) (names_at mac turns) ≡ true)
       → Does station live heard rest sent → IsNext
-  device_turn early orderly known planned flat came no_access no_end named (inl it) =
+  device_turn early orderly known planned flat came no_access no_end unasked named (inl it) =
       inl (subst (λ (r : Rest). IsEarly mac relation (turns ++ turn ∷ []) r.link) (sym it.same)
       (early_same mac relation turns turn live.rest.link early (taken_none (subst (AllByRecursion IsNoAnswer) (sym it.silent) tt))))
-  device_turn early orderly known planned flat came no_access no_end named (inr (inl it)) =
+  device_turn early orderly known planned flat came no_access no_end unasked named (inr (inl it)) =
       inl (early_kept mac relation turns turn live.rest.link rest.link early orderly it.link (taken_none (no_answers live rest.link sent it.others)))
-  device_turn early orderly known planned flat came no_access no_end named (inr (inr (inl it))) =
+  device_turn early orderly known planned flat came no_access no_end unasked named (inr (inr (inl it))) =
       let begun = subst (IsEarly mac relation turns) it.was early in
       absurd (let e = sym begun.0 ∙ it.awaits in cc)
-  device_turn early orderly known planned flat came no_access no_end named (inr (inr (inr (inl it)))) =
+  device_turn early orderly known planned flat came no_access no_end unasked named (inr (inr (inr (inl it)))) =
       let call = flat it.caller it.address it.call it.is in
       let activity : it.call.header.activity ≡ setup.activity = known_activity setup it.caller it.call (subst (λ (h : Heard). IsKnownHeard setup h) it.is known) in
       let name : name_of call.octets ≡ name_for setup.activity it.kept.sequence =
@@ -443,16 +452,20 @@ module _ (undone : AreNotDone) (blocks_read : AreBlocksRead) (long : (block : Bl
             ∙ or_first (list_any (pointwise nat_eq (name_of call.octets)) (names_at mac turns)) false (ap (λ n. list_any (pointwise nat_eq n) (names_at mac turns)) name ∙ there),
         refl,
       ))))
-  device_turn early orderly known planned flat came no_access no_end named (inr (inr (inr (inr it)))) =
+  device_turn early orderly known planned flat came no_access no_end unasked named (inr (inr (inr (inr (inl it))))) =
       let call = flat it.caller it.address it.call it.is in
-      let plan = subst (λ (h : Heard). IsPlanned (rules_of setup station) setup.activity live.rest.real h) it.is planned in
+      let plan = subst (λ (h : Heard). IsPlanned (rules_of setup station) setup.activity station.named live.rest.real h) it.is planned in
       let same : plan.blocks ≡ it.blocks = some_blocks plan.blocks it.blocks (sym plan.counted ∙ it.counted) in
       by_outcome early orderly it.caller it.address it.call it.is call it.blocks it.counted came no_access
-      (λ asks is. subst (IsPlannedAs (rules_of setup station) live.rest.real it.call.header.sequence it.blocks) asks
-      (subst (λ (l : List ℕ). IsPlannedAs (rules_of setup station) live.rest.real it.call.header.sequence l (operation_of it.call.header.operation)) same plan.asks) is)
+      (λ asks is. subst (IsPlannedAs (rules_of setup station) station.named live.rest.real it.call.header.sequence it.blocks) asks
+      (subst (λ (l : List ℕ). IsPlannedAs (rules_of setup station) station.named live.rest.real it.call.header.sequence l (operation_of it.call.header.operation)) same plan.asks) is)
       it.outcome it.which it.asks
       (exact_of setup it.caller it.call (subst (λ (h : Heard). IsKnownHeard setup h) it.is known) (no_end it.caller it.address it.call it.is) it.which it.asks it.blocks it.counted)
       (answered_so it call) it.effect
-    where
-      some_blocks : (one other : List ℕ) → Some one ≡ Some other → one ≡ other
-      some_blocks one other e = cc
+  device_turn early orderly known planned flat came no_access no_end unasked named (inr (inr (inr (inr (inr (inl it)))))) =
+      inl (subst (λ (r : Rest). IsEarly mac relation (turns ++ turn ∷ []) r.link) (sym it.becomes)
+      (early_same mac relation turns turn live.rest.link early (taken_none (subst (AllByRecursion IsNoAnswer) (sym it.silent) tt))))
+  device_turn early orderly known planned flat came no_access no_end unasked named (inr (inr (inr (inr (inr (inr (inl it))))))) =
+      absurd (is_asked it.other (sym unasked ∙ it.busy))
+  device_turn early orderly known planned flat came no_access no_end unasked named (inr (inr (inr (inr (inr (inr (inr it))))))) =
+      absurd (is_asked it.question (sym unasked ∙ it.asked))

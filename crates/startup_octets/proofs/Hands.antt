@@ -8,7 +8,7 @@ use Rattle.end_laws.specs.both.Small.{AtController, AtDevice, ComesToController,
 use Rattle.end_laws.specs.both.Runs.{AreSteps, end_of}
 use Rattle.end_laws.specs.both.StartUp.{Begins, IsRun, WasHanded, last_of}
 use Rattle.end_laws.specs.both.Steps.{Steps, records_of}
-use Rattle.startup_octets.proofs.SmallSteps.{Awaits}
+use Rattle.startup_octets.proofs.SmallSteps.{Awaits, each_both}
 
 there_last : {A : Type 0} (all : List A) (one : A) → slice_get (all ++ one ∷ []) (length all) ≡ Some one
 there_last [] one = refl
@@ -17,10 +17,6 @@ there_last (first ∷ all) one = there_last all one
 each_split : {A : Type 0} (P : A → Type 0) (front : List A) (one : A) (behind : List A) → AllByRecursion P (front ++ one ∷ behind) → P one
 each_split P [] one behind all = all.0
 each_split P (first ∷ front) one behind all = each_split P front one behind all.1
-
-each_both : {A : Type 0} (P : A → Type 0) (some more : List A) → AllByRecursion P some → AllByRecursion P more → AllByRecursion P (some ++ more)
-each_both P [] more all others = others
-each_both P (one ∷ some) more all others = (all.0, each_both P some more all.1 others)
 
 each_so : {A : Type 0} (P R : A → Type 0) (some : List A) → ((one : A) → P one → R one) → AllByRecursion P some → AllByRecursion R some
 each_so P R [] so all = tt
@@ -108,11 +104,12 @@ module _ {T Q : Type 0} (rules : Rules T Q) where
     first_step : Steps rules now AtDevice sends
     first_step = inr (record {
       frames = frame ∷ [];
-      steps = record {
+      steps = inl (record {
         keeps = refl;
         link = inl refl;
         sent = (inr (record { to_device = idle; to_controller = inr readies; link = waits.link; has = waits.has; awaits = waits.awaits }), tt);
-      };
+        asked = inl refl;
+      });
       controller = refl;
       behind = refl;
     })

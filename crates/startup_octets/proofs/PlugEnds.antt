@@ -1,5 +1,5 @@
 -- The call that ends the parameters of a place after its plug is no call of a start-up.
-use Rattle.std.proofs.Common.{◌≡◌, ◌⊎◌, inl, inr, ◌==◌, ◌&&◌, ℕ, Bool, true, false, cond, List, [], ◌∷◌, map, Option, Some, None, unwrap_or, refl, sym, ap, subst, ◌∙◌, arith}
+use Rattle.std.proofs.Common.{◌≡◌, ◌⊎◌, inl, inr, ◌==◌, ◌&&◌, ℕ, Bool, true, false, cond, List, [], ◌∷◌, map, Some, refl, sym, ap, subst, ◌∙◌, arith}
 use Rattle.std.specs.List.{AllByRecursion}
 use Rattle.pn_values.specs.declared.identity.Identity.{Identity}
 use Rattle.pn_values.specs.declared.mac.Mac.{Mac}
@@ -14,13 +14,11 @@ use Rattle.block_codec.specs.declared.block.Block.TheVariants as variant
 use Rattle.block_codec.specs.Block.{block_bytes}
 use Rattle.records.specs.status.Operation.{operation_of}
 use Rattle.device_frames.specs.declared.event.Event.TheVariants.{Frame}
-use Rattle.device_frames.specs.Heard.{Heard, Calls, Elsewhere, Reported, heard_of, is_own}
+use Rattle.device_frames.specs.Heard.{Calls, Elsewhere, Reported, heard_of, is_own}
 use Rattle.device_core.specs.State.{Station}
 use Rattle.controller_messages.specs.declared.plug_request.PlugRequest.{PlugRequest}
 use Rattle.controller_messages.specs.declared.plug_request.PlugStep.{PlugStep}
 use Rattle.controller_messages.specs.declared.plug_request.PlugStep.TheVariants.{Record, PrmEnd}
-use Rattle.controller_messages.specs.declared.record_request.RecordRequest.{RecordRequest}
-use Rattle.controller_messages.specs.declared.request.Request.{Request}
 use Rattle.controller_messages.specs.declared.request.Request.TheVariants as asks
 use Rattle.controller_messages.specs.declared.setup.Setup.{Setup}
 use Rattle.controller_messages.specs.PlugRequests.{plug_blocks, plug_call, plug_end, plug_operation}
@@ -28,7 +26,7 @@ use Rattle.controller_messages.specs.Requests.{call_for, control_of, write_count
 use Rattle.controller_messages.specs.Sent.{Sent, Requests, Accesses, Parametrizes, Agrees, Cycles, Confirms, Replies, Ends, bytes_of}
 use Rattle.end_laws.specs.both.Small as small
 use Rattle.end_laws.specs.both.Steps.{SaysToDevice}
-use Rattle.end_laws.specs.controller.Small.{asked_by, said_by}
+use Rattle.end_laws.specs.controller.Small.{said_by}
 use Rattle.end_laws.specs.device.Small.{Planned, heard_as, said_to}
 use Rattle.end_laws.specs.device.Small as device
 use Rattle.end_laws.specs.hearing.Stations.{IsSetup}
@@ -36,7 +34,7 @@ use Rattle.end_laws.specs.sending.Addressed.{IsAimedAt}
 use Rattle.both_ends.specs.startup.View.{IsSaidAs, is_planned, rules_of, says_to_device}
 use Rattle.both_ends.proofs.StartupGiven.{HeardSo}
 use Rattle.octets_law.specs.Octets.{number}
-use Rattle.startup_octets.proofs.Blocks.{IsBlockOf, prm_end_read, sixteen}
+use Rattle.startup_octets.proofs.Blocks.{prm_end_read}
 use Rattle.startup_octets.proofs.SmallSteps.{calls_no_access}
 
 -- It is PrmEnd after a plug.

@@ -1,12 +1,11 @@
 -- The ApplicationReady of a plug that a controller hears in a frame, read at fixed places.
-use Rattle.std.proofs.Common.{◌≡◌, ◌==◌, ◌&&◌, ℕ, Bool, true, false, cond, nat_eq, List, [], ◌∷◌, ◌++◌, take, drop, Option, Some, None, unwrap_or, Result, Ok, Err, refl, sym, ap, subst, ◌∙◌}
+use Rattle.std.proofs.Common.{◌≡◌, ◌==◌, ℕ, Bool, true, false, cond, nat_eq, List, [], ◌++◌, take, drop, Option, Some, None, unwrap_or, Result, Ok, Err, refl, sym, ap, subst, ◌∙◌}
 use Rattle.std.proofs.lemmas.Bool.{and_parts, cond_both, eqb-true}
 use Rattle.std.specs.Cmp.Lexicographic.{pointwise, same_text}
 use Rattle.byteorder.specs.Endian.{big_number}
 use Rattle.pn_values.specs.declared.mac.Mac.{Mac}
 use Rattle.frame_codec.specs.declared.fault.FrameFault.{FrameFault}
 use Rattle.frame_codec.specs.declared.udp.Caller.{Caller}
-use Rattle.frame_codec.specs.declared.udp.Endpoint.{Endpoint}
 use Rattle.frame_codec.specs.FrameId.{is_alarm, is_cyclic}
 use Rattle.frame_codec.specs.Frame.{datagram, frame_of}
 use Rattle.frame_codec.specs.Meaning.{Content, Meaning, ArpPacket, RealTime, UdpDatagram}
@@ -29,10 +28,10 @@ use Rattle.diagnosis.specs.reports.Message.{ToController, alarm_of}
 use Rattle.plans.specs.declared.parts.Controller.{Controller}
 use Rattle.controller_messages.specs.declared.refusal.Refusal.{Refusal}
 use Rattle.controller_messages.specs.declared.setup.Setup.{Setup}
-use Rattle.controller_messages.specs.Heard.{Heard, Calls, Cyclic, Nothing, heard_alarm, heard_answer, heard_body, heard_call, heard_content, heard_first, heard_frame, heard_of, heard_read, heard_real_time, heard_refusal, heard_response, is_to}
+use Rattle.controller_messages.specs.Heard.{Heard, Calls, heard_alarm, heard_answer, heard_body, heard_call, heard_content, heard_first, heard_frame, heard_of, heard_read, heard_real_time, heard_refusal, heard_response, is_to}
 use Rattle.controller_messages.specs.PlugRequests.{is_plug_ready, plug_ready_block, plug_ready_in}
 use Rattle.controller_messages.specs.Refusal.{refusal_of}
-use Rattle.octets_law.specs.Octets.{number, part, untagged}
+use Rattle.octets_law.specs.Octets.{number, untagged}
 use Rattle.octets_law.proofs.Bare.{IsBare, bare_of}
 use Rattle.octets_law.proofs.CallPlaces.{IsCallRead, call_placed, skip}
 use Rattle.octets_law.proofs.Datagrams.{body_behind, kind_under}

@@ -24,13 +24,9 @@ use Rattle.startup_octets.specs.StartUp.{IsIn, IsStartUp, Turn, Written, asking_
 use Rattle.startup_octets.proofs.DeviceTurn.{IsEarly, confirmed_none, early_same}
 use Rattle.startup_octets.proofs.Exact.{written_of}
 use Rattle.startup_octets.proofs.Lists.{IsParameterized, IsReadySince, IsTakenAt, named_at, names_more, parameterized_more, ready_more, sent_front, start_up}
-use Rattle.startup_octets.proofs.SmallSteps.{Awaits, IsKeptFine, IsNoAccess}
+use Rattle.startup_octets.proofs.SmallSteps.{Awaits, IsKeptFine, IsNoAccess, each_both}
 
 -- ---- lists
-
-pub each_both : {A : Type 0} (P : A → Type 0) (some more : List A) → AllByRecursion P some → AllByRecursion P more → AllByRecursion P (some ++ more)
-each_both P [] more all others = others
-each_both P (one ∷ some) more all others = (all.0, each_both P some more all.1 others)
 
 pub each_so : {A : Type 0} (P R : A → Type 0) (some : List A) → ((one : A) → P one → R one) → AllByRecursion P some → AllByRecursion R some
 each_so P R [] so all = tt
@@ -110,13 +106,14 @@ module _ (rules : SmallRules) (IsUnended : List ℕ → Type 0) (mac : Mac) (rel
   abbrev pub IsTraced : List Turn → List ℕ → Type 0
   IsTraced turns frame = (rules.to_device frame ≡ small.Idle) ⊎ ((rules.to_controller frame ≡ small.Nothing) × IsIn frame (sent_by false turns))
 
-  -- No ApplicationReady was sent yet, and no call after a plug.
+  -- No ApplicationReady was sent yet, and no call after a plug; and nothing is asked of the application.
   pub record IsBefore (run : List (Move × SmallWorld)) (turns : List Turn) (point : SmallWorld) (link : Option RelationState) : Type 0 where
     pub unready : AllByRecursion (λ frame. rules.to_controller frame ≡ small.Readies → ⊥) point.sent
     pub idle : point.controller ≡ small.Exchanges → ⊥
     pub unawaited : AllByRecursion (λ (one : Move × SmallWorld). Awaits rules one.1.device → ⊥) run
     pub no_access : AllByRecursion (IsNoAccess rules) point.sent
     pub unended : AllByRecursion IsUnended point.sent
+    pub unasked : point.device.asked ≡ None
     pub early : IsEarly mac relation turns link
 
   -- The parameters ended, and what the controller hears as ApplicationReady was sent since.
@@ -131,6 +128,7 @@ module _ (rules : SmallRules) (IsUnended : List ℕ → Type 0) (mac : Mac) (rel
     pub traced : AllByRecursion (IsTraced turns) point.sent
     pub fine : IsKeptFine rules point.device.kept
     pub named : (answer : small.Kept) → point.device.kept ≡ Some answer → list_any (pointwise nat_eq (name_for activity answer.sequence)) (names_at mac turns) ≡ true
+    pub asked : (sequence : ℕ) → point.device.asked ≡ Some sequence → list_any (pointwise nat_eq (name_for activity sequence)) (names_at mac turns) ≡ true
     pub history : IsBefore run turns point link ⊎ IsAfter turns point
 
   pub traced_more : (turns : List Turn) (turn : Turn) (frame : List ℕ) → IsTraced turns frame → IsTraced (turns ++ turn ∷ []) frame
@@ -163,6 +161,7 @@ module _ (rules : SmallRules) (IsUnended : List ℕ → Type 0) (mac : Mac) (rel
     traced = each_so _ _ point.sent (traced_more turns turn) it.traced;
     fine = it.fine;
     named = λ answer is. named_more turns turn _ (it.named answer is);
+    asked = λ sequence is. named_more turns turn _ (it.asked sequence is);
     history = by_history it.history;
   }
     where
@@ -177,6 +176,7 @@ module _ (rules : SmallRules) (IsUnended : List ℕ → Type 0) (mac : Mac) (rel
         unawaited = each_both _ run ((move, point) ∷ []) before.unawaited (early_waits turns point.device link before.early it.seen, tt);
         no_access = before.no_access;
         unended = before.unended;
+        unasked = before.unasked;
         early = early_same mac relation turns turn link before.early (silent_taken turns turn (nothing turn.at_device));
       })
       by_history (inr after) = inr (record {

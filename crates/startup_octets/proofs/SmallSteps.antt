@@ -1,8 +1,12 @@
 -- What the frames of a step say to either end, as far as a start-up is concerned.
-use Rattle.std.proofs.Common.{◌≡◌, ◌⊎◌, ◌≤◌, ◌+◌, inl, inr, ℕ, Bool, List, [], ◌∷◌, Option, Some, sym, ap, subst, ◌∙◌}
+use Rattle.std.proofs.Common.{◌≡◌, ◌⊎◌, ◌≤◌, ◌+◌, inl, inr, ℕ, Bool, List, [], ◌∷◌, ◌++◌, Option, Some, None, refl, sym, ap, subst, ◌∙◌}
 use Rattle.std.specs.List.{AllByRecursion}
 use Rattle.end_laws.specs.both.Small.{Ask, Accesses, Answers, Asking, Awaiting, Call, Confirms, Controller, Device, Exchanges, Idle, Kept, Readies, RelationState, Rules, ToController, ToDevice, Waiting}
-use Rattle.end_laws.specs.both.Steps.{CallsWhile, DeviceSteps, IsDull, IsReady, Moves, SaysAtMost}
+use Rattle.end_laws.specs.both.Steps.{CallsWhile, DeviceSteps, IsDull, IsReady, IsSameOrNone, Moves, SaysAtMost}
+
+pub each_both : {A : Type 0} (P : A → Type 0) (some more : List A) → AllByRecursion P some → AllByRecursion P more → AllByRecursion P (some ++ more)
+each_both P [] more all others = others
+each_both P (one ∷ some) more all others = (all.0, each_both P some more all.1 others)
 
 module _ {T Q : Type 0} (rules : Rules T Q) where
   -- The relation waits for the response to ApplicationReady.
@@ -62,29 +66,83 @@ module _ {T Q : Type 0} (rules : Rules T Q) where
     subst (λ (l : List (List ℕ)). AllByRecursion (IsOfDevice after) l) (sym it.sent) (kept_frame after it.kept before.kept it.has fine, tt),
     subst (λ (d : Device T Q). IsKeptFine d.kept) (sym it.unchanged) fine,
   )
-  device_frames (Call sequence ask) before after frames (inr (inr it)) fine =
+  device_frames (Call sequence ask) before after frames (inr (inr (inl it))) fine =
       (subst (λ (l : List (List ℕ)). AllByRecursion (IsOfDevice after) l) (sym it.1) tt, subst (λ (d : Device T Q). IsKeptFine d.kept) (sym it.0) fine)
+  device_frames (Call sequence ask) before after frames (inr (inr (inr it))) fine = (
+    subst (λ (l : List (List ℕ)). AllByRecursion (IsOfDevice after) l) (sym it.silent) tt,
+    subst (λ (d : Device T Q). IsKeptFine d.kept) (sym it.becomes) fine,
+  )
   device_frames Confirms before after frames (inl it) fine =
       (each_frame (IsDull rules) after frames (dull_frame after) it.dull, subst (λ (d : Device T Q). IsKeptFine d.kept) (sym it.becomes) fine)
   device_frames Confirms before after frames (inr it) fine =
       (each_frame (λ frame. IsDull rules frame ⊎ IsReady rules after frame) after frames (either_frame after) it.sent, subst IsKeptFine (sym it.keeps) fine)
-  device_frames Idle before after frames it fine =
+  device_frames Idle before after frames (inl it) fine =
       (each_frame (λ frame. IsDull rules frame ⊎ IsReady rules after frame) after frames (either_frame after) it.sent, subst IsKeptFine (sym it.keeps) fine)
+  device_frames Idle before after frames (inr it) fine =
+      let no = no_answer it.sequence it.positive it.frame it.to_controller in
+      let last : IsOfDevice after it.frame = record { idle = it.to_device; ready = λ readies. absurd (no readies) } in (
+        subst (λ (l : List (List ℕ)). AllByRecursion (IsOfDevice after) l) (sym it.sent)
+            (each_both (IsOfDevice after) it.others (it.frame ∷ [])
+            (each_frame (λ frame. IsDull rules frame ⊎ IsReady rules after frame) after it.others (either_frame after) it.dull) (last, tt)),
+        λ answer is. subst (λ (k : Kept). (rules.to_device k.frame ≡ Idle) × (rules.to_controller k.frame ≡ Readies → ⊥))
+            (some_kept (record { sequence = it.sequence; frame = it.frame }) answer (sym it.keeps ∙ is)) (it.to_device, no),
+      )
 
-  -- The response that is stored after a step is the one before it, or one to the call that was heard.
-  pub record IsStored (heard : ToDevice) (kept : Kept) : Type 0 where
+  -- A call with this sequence number is heard.
+  pub record IsHeardCall (heard : ToDevice) (sequence : ℕ) : Type 0 where
     pub ask : Ask
-    pub heard_as : heard ≡ Call kept.sequence ask
+    pub heard_as : heard ≡ Call sequence ask
 
-  pub stored_of : (heard : ToDevice) (before after : Device T Q) (frames : List (List ℕ)) → DeviceSteps rules heard before after frames → (kept : Kept) → after.kept ≡ Some kept
-      → (before.kept ≡ Some kept) ⊎ IsStored heard kept
+  -- The response that is stored after a step is the one before it, or one to the call that was heard, or to the one that was asked.
+  abbrev pub IsStored : ToDevice → Device T Q → Kept → Type 0
+  IsStored heard before kept = (before.kept ≡ Some kept) ⊎ (IsHeardCall heard kept.sequence ⊎ (before.asked ≡ Some kept.sequence))
+
+  pub stored_of : (heard : ToDevice) (before after : Device T Q) (frames : List (List ℕ)) → DeviceSteps rules heard before after frames → (kept : Kept)
+      → after.kept ≡ Some kept → IsStored heard before kept
   stored_of (Call sequence ask) before after frames (inl it) kept is =
-      inr (record { ask = ask; heard_as = ap (λ (k : Kept). Call k.sequence ask) (some_kept (record { sequence = sequence; frame = it.frame }) kept (sym it.keeps ∙ is)) })
+      let same = some_kept (record { sequence = sequence; frame = it.frame }) kept (sym it.keeps ∙ is) in
+      inr (inl (record { ask = ask; heard_as = ap (λ (k : Kept). Call k.sequence ask) same }))
   stored_of (Call sequence ask) before after frames (inr (inl it)) kept is = inl (sym (ap (λ (d : Device T Q). d.kept) it.unchanged) ∙ is)
-  stored_of (Call sequence ask) before after frames (inr (inr it)) kept is = inl (sym (ap (λ (d : Device T Q). d.kept) it.0) ∙ is)
+  stored_of (Call sequence ask) before after frames (inr (inr (inl it))) kept is = inl (sym (ap (λ (d : Device T Q). d.kept) it.0) ∙ is)
+  stored_of (Call sequence ask) before after frames (inr (inr (inr it))) kept is = inl (sym (ap (λ (d : Device T Q). d.kept) it.becomes) ∙ is)
   stored_of Confirms before after frames (inl it) kept is = inl (sym (ap (λ (d : Device T Q). d.kept) it.becomes) ∙ is)
   stored_of Confirms before after frames (inr it) kept is = inl (sym it.keeps ∙ is)
-  stored_of Idle before after frames it kept is = inl (sym it.keeps ∙ is)
+  stored_of Idle before after frames (inl it) kept is = inl (sym it.keeps ∙ is)
+  stored_of Idle before after frames (inr it) kept is =
+      inr (inr (it.asked ∙ ap (λ (k : Kept). Some k.sequence) (some_kept (record { sequence = it.sequence; frame = it.frame }) kept (sym it.keeps ∙ is))))
+
+  -- What is asked after a step was asked before it, or it is the call of the application that was heard.
+  same_asked : (before after : Option ℕ) (sequence : ℕ) → IsSameOrNone before after → after ≡ Some sequence → before ≡ Some sequence
+  same_asked before after sequence (inl same) is = sym same ∙ is
+  same_asked before after sequence (inr none) is = let e = sym none ∙ is in absurd cc
+
+  some_number : (one other : ℕ) → Some one ≡ Some other → one ≡ other
+  some_number one other e = cc
+
+  pub asked_of : (heard : ToDevice) (before after : Device T Q) (frames : List (List ℕ)) → DeviceSteps rules heard before after frames → (sequence : ℕ)
+      → after.asked ≡ Some sequence → (before.asked ≡ Some sequence) ⊎ (heard ≡ Call sequence Accesses)
+  asked_of (Call number ask) before after frames (inl it) sequence is = inl (same_asked before.asked after.asked sequence it.asked is)
+  asked_of (Call number ask) before after frames (inr (inl it)) sequence is = inl (sym (ap (λ (d : Device T Q). d.asked) it.unchanged) ∙ is)
+  asked_of (Call number ask) before after frames (inr (inr (inl it))) sequence is = inl (sym (ap (λ (d : Device T Q). d.asked) it.0) ∙ is)
+  asked_of (Call number ask) before after frames (inr (inr (inr it))) sequence is =
+      inr (ap (λ (n : ℕ). Call n ask) (some_number number sequence (sym (ap (λ (d : Device T Q). d.asked) it.becomes) ∙ is)) ∙ ap (Call sequence) it.accesses)
+  asked_of Confirms before after frames (inl it) sequence is = inl (sym (ap (λ (d : Device T Q). d.asked) it.becomes) ∙ is)
+  asked_of Confirms before after frames (inr it) sequence is = inl (same_asked before.asked after.asked sequence it.asked is)
+  asked_of Idle before after frames (inl it) sequence is = inl (same_asked before.asked after.asked sequence it.asked is)
+  asked_of Idle before after frames (inr it) sequence is = let e = sym it.settled ∙ is in absurd cc
+
+  -- While no call of the application is heard, nothing is asked.
+  pub still_unasked : (heard : ToDevice) (before after : Device T Q) (frames : List (List ℕ)) → DeviceSteps rules heard before after frames
+      → ((sequence : ℕ) → heard ≡ Call sequence Accesses → ⊥) → before.asked ≡ None → after.asked ≡ None
+  still_unasked heard before after frames steps unheard none = by_asked after.asked refl
+    where
+      by_source : (sequence : ℕ) → (before.asked ≡ Some sequence) ⊎ (heard ≡ Call sequence Accesses) → after.asked ≡ None
+      by_source sequence (inl was) = let e = sym none ∙ was in absurd cc
+      by_source sequence (inr call) = absurd (unheard sequence call)
+
+      by_asked : (now : Option ℕ) → after.asked ≡ now → after.asked ≡ None
+      by_asked None is = is
+      by_asked (Some sequence) is = by_source sequence (asked_of heard before after frames steps sequence is)
 
   -- ---- the controller
 

@@ -22,7 +22,7 @@ use Rattle.end_laws.specs.both.Small as small
 use Rattle.end_laws.specs.both.StartUp.{Begins as BeginsSmall}
 use Rattle.end_laws.specs.both.Steps.{records_of}
 use Rattle.both_ends.specs.startup.request.Request.{request_for}
-use Rattle.both_ends.specs.startup.Played.{ArePlaced, Begins, CanMeet}
+use Rattle.both_ends.specs.startup.Played.{ArePlaced, AreUnnamed, Begins, CanMeet}
 use Rattle.both_ends.specs.startup.View.{AreThePlans, is_planned, rules_of, taken_for, view_of}
 use Rattle.both_ends.proofs.StartupKnown.{CanStart, first_in_step, holds_first, starts_small}
 use Rattle.both_ends.proofs.StartupPlanned.{count_few}
@@ -98,6 +98,7 @@ module _ (laws : Laws) {F : Type 0} (setup : Setup) (identity : Identity) (good 
     setup_is = good;
     good = record { connect = connect; few = count_few setup.plan good.plan.few_records; short = good.plan.short_records; records = can.records; placed = placed; named = good.ar };
     device_is = subst (λ (i : Identity). IsDevice i) (sym begins.of_device) real;
+    unnamed = begins.unnamed;
     apart = subst (λ (i : Identity). i.mac ≡ setup.plan.controller.mac → ⊥) (sym begins.of_device) can.apart;
   })
 
@@ -109,6 +110,8 @@ module _ (laws : Laws) {F : Type 0} (setup : Setup) (identity : Identity) (good 
     opened = begins.opened;
     uncalled = subst (λ (s : Setup). kept_of s.activity first.device.live.rest.calls ≡ None) (sym begins.of_setup) begins.uncalled;
     unrelated = begins.unrelated;
+    unasked = begins.unasked;
+    unnamed = subst (λ (s : Setup). AreUnnamed first.device.station.named s.plan.records.items) (sym begins.of_setup) begins.unnamed;
   }
 
   begun : BeginsSmall (rules_at first) (view_of first)
@@ -126,12 +129,14 @@ module _ (laws : Laws) {F : Type 0} (setup : Setup) (identity : Identity) (good 
     traced = each_so _ _ first.sent (λ frame dull. inl dull.0) begun.dull;
     fine = λ answer is. absurd (no_kept answer is);
     named = λ answer is. absurd (no_kept answer is);
+    asked = λ sequence is. let e = sym begun.unasked ∙ is in absurd cc;
     history = inl (record {
       unready = each_so _ _ first.sent (λ frame dull ready. let e = sym dull.1 ∙ ready in absurd cc) begun.dull;
       idle = no_seeking (view_of first).controller begun.seeking;
       unawaited = tt;
       no_access = each_so _ _ first.sent (λ frame dull sequence call. let e = sym dull.0 ∙ call in absurd cc) begun.dull;
       unended = each_so _ _ first.sent (λ frame dull. idle_no_end first.controller.setup first.device.station.identity (is_planned first.controller.setup) frame dull.0) begun.dull;
+      unasked = begun.unasked;
       early = subst (IsEarly first.device.station.identity.mac first.controller.setup.ar []) (sym begins.unrelated) tt;
     });
   }

@@ -35,6 +35,7 @@ use Rattle.relations.specs.declared.phase.Partner.{Partner}
 use Rattle.relations.specs.declared.phase.Phase.TheVariants.{Started}
 use Rattle.relations.specs.Phases.{restarted}
 use Rattle.relations.specs.RelationState.{RelationState, uuid_of}
+use Rattle.asked_records.specs.declared.names.RecordName.{RecordName}
 use Rattle.device_core.specs.Several.{Judged, judged_each}
 use Rattle.device_core.specs.Machine.{link_behind, statuses_of}
 use Rattle.device_core.specs.State.{Station}
@@ -54,7 +55,7 @@ use Rattle.octets_law.proofs.WriteMarks.{numbers}
 use Rattle.startup_octets.specs.StartUp.{Written, parameters_by}
 use Rattle.startup_octets.proofs.Blocks.{IsBlockOf}
 use Rattle.startup_octets.proofs.Exact.{AreFit, list_block, list_read, one_block, one_read, written_of}
-use Rattle.startup_octets.proofs.Taking.{AreNotDone, IsGrown, IsStarted, each_taken, granted_in, granted_none, keeping_more}
+use Rattle.startup_octets.proofs.Taking.{AreNotDone, IsGrown, IsStarted, all_refused, each_taken, granted_in, granted_none, keeping_more}
 
 -- ---- lists
 
@@ -160,8 +161,9 @@ pub record IsAdding (blocks octets : List ℕ) (relation : List ℕ) (before aft
   pub grown : IsGrown before after now
   pub granted : granted_in (zip (parameters_by blocks) (0 ∷ statuses_in 16 (drop 64 octets))) ≡ map written_of now
 
-abbrev pub IsWriteEffect : Real → List ℕ → List ℕ → Option RelationState → Option RelationState → Type 0
-IsWriteEffect real blocks octets before after = Grown real blocks before after ⊎ (Stored real blocks before after ⊎ WrittenEach real blocks octets before after)
+abbrev pub IsWriteEffect : List RecordName → Real → List ℕ → List ℕ → Option RelationState → Option RelationState → Type 0
+IsWriteEffect named real blocks octets before after =
+    Grown real blocks before after ⊎ (Stored real blocks before after ⊎ WrittenEach named real blocks octets before after)
 
 some_value : (one other : TakenRecord) → Keeps one ≡ Keeps other → one ≡ other
 some_value one other e = cc
@@ -186,7 +188,7 @@ module _ (undone : AreNotDone) (blocks_read : AreBlocksRead) (long : (block : Bl
 
   -- What the Writes of the plan ask for.
   abbrev pub IsMeant : Option RelationState → List ℕ → Type 0
-  IsMeant before blocks = (writing : Writing) → writing_of (uuid_of before) real blocks ≡ Ok writing → IsWritingOf (rules_of setup station) real (uuid_of before) (suc number) values writing
+  IsMeant before blocks = (writing : Writing) → writing_of (uuid_of before) real blocks ≡ Ok writing → IsWritingOf (rules_of setup station) station.named real (uuid_of before) (suc number) values writing
 
   below_count : (b : Bool) (count : ℕ) → count ≤ 32 → number < cond b ((count + 9) / 10) count → number < 65535
   below_count true count few below = omega (arith, few, below)
@@ -240,7 +242,7 @@ module _ (undone : AreNotDone) (blocks_read : AreBlocksRead) (long : (block : Bl
           let it = meant (One write) judged in
           it.2 ∙ ap (λ (v : TakenRecord). Keeps v) (sym (same_head (taken_for entry) it.0 [] [] (sym values_are ∙ it.1)))
 
-      one_adds : IsMeant before (writing_blocks setup number) → IsWriteEffect real (writing_blocks setup number) octets before after
+      one_adds : IsMeant before (writing_blocks setup number) → IsWriteEffect station.named real (writing_blocks setup number) octets before after
           → IsAdding (writing_blocks setup number) octets setup.ar before after
       one_adds meant (inl it) =
           let value_is : it.value ≡ taken_for entry = some_value it.value (taken_for entry) (sym it.keeps ∙ meant_value (writing_blocks setup number) meant it.write it.judged) in
@@ -313,14 +315,15 @@ module _ (undone : AreNotDone) (blocks_read : AreBlocksRead) (long : (block : Bl
           request_known (uuid_of before) real (writing_blocks setup number) inside_octets header writing
           (ap block_of list_is ∙ blocks_read (is.IodWriteReq header) inside_octets (record { header = can_list })) e
 
-      list_adds : IsMeant before (writing_blocks setup number) → IsWriteEffect real (writing_blocks setup number) octets before after
+      list_adds : IsMeant before (writing_blocks setup number) → IsWriteEffect station.named real (writing_blocks setup number) octets before after
           → IsAdding (writing_blocks setup number) octets setup.ar before after
       list_adds meant (inl it) = absurd (no_one (uuid_of before) real header inside_octets it.write refl (known (One it.write) it.judged))
       list_adds meant (inr (inl it)) = absurd (no_one (uuid_of before) real header inside_octets it.write refl (known (One it.write) it.judged))
       list_adds meant (inr (inr it)) =
-          let judged : List Judged = judged_each (uuid_of before) real it.entries in
-          let each = each_taken undone judged values it.answers before (meant (Each it.header it.entries) it.judged).0 started in
-          let list = each_listed (uuid_of before) real (writing_blocks setup number) it.header it.entries it.judged in
+          let judged : List Judged = judged_each station.named (uuid_of before) real it.entries in
+          let each = each_taken undone judged values it.answers before (meant (Each it.header it.entries) it.judged).0
+          (all_refused undone station.named (uuid_of before) real it.entries) started in
+          let list = each_listed station.named (uuid_of before) real (writing_blocks setup number) it.header it.entries it.judged in
           let told : statuses_in 16 (drop 64 octets) ≡ numbers (statuses_of judged it.answers before) =
           ap (λ l. statuses_in 16 (drop 64 l)) it.tells ∙ several_read it.header judged it.answers before list.wide list.judged list.few in
           let carried : List (Option Written) = map (λ value. Some (written_of value)) values in
@@ -339,7 +342,7 @@ module _ (undone : AreNotDone) (blocks_read : AreBlocksRead) (long : (block : Bl
           }
 
     -- The records that a Write adds.
-    pub write_adds : IsMeant before (writing_blocks setup number) → IsWriteEffect real (writing_blocks setup number) octets before after
+    pub write_adds : IsMeant before (writing_blocks setup number) → IsWriteEffect station.named real (writing_blocks setup number) octets before after
         → IsAdding (writing_blocks setup number) octets setup.ar before after
     write_adds meant effect = by_kind setup.plan.multiple_write refl
       where

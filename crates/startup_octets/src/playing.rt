@@ -2,7 +2,7 @@
 //! sent, and what it showed.
 ghost use Rattle.std.specs.Prelude.{◌≡◌, ◌++◌, ◌∷◌, [], List, IfErr, IfOk, drop, false, length, option_map, slice_get, take, unwrap_or};
 ghost use Rattle.settings_journal.specs.Image.{LeftByDevice};
-ghost use Rattle.both_ends.specs.startup.Played.{Begins, CanMeet};
+ghost use Rattle.both_ends.specs.startup.Played.{AreUnnamed, Begins, CanMeet};
 ghost use Rattle.network_world.specs.Sent.{octets_of};
 ghost use Rattle.network_world.specs.World.{Happens, end_at};
 ghost use Rattle.startup_octets.specs.Alarms.{AreAlarmsTaken};
@@ -16,8 +16,9 @@ ghost use Rattle.startup_octets.specs.Run.{IsCut, IsRun, entry_by, opening_entry
 use crate::alarms::alarms_are_read;
 use crate::outputs::{outputs_are_shown, shown_outputs};
 use crate::start_up::start_ups_are_read;
+use asked_records::NamedRecords;
 use block_codec::AlarmNotification;
-use both_ends::{begin_world, can_meet, modules_are_sized, moves_are_sized};
+use both_ends::{are_unnamed, begin_world, can_meet, modules_are_sized, moves_are_sized};
 use controller_messages::Setup;
 use device_core::Device;
 use expected_places::ExpectedPlace;
@@ -65,7 +66,7 @@ pub trait Witness {
         } ∷ [] };
 }
 
-/// What a device is: its identity, what is plugged, and its options.
+/// What a device is: its identity, what is plugged, its options, and the records that its application answers.
 #[derive(Drop)]
 pub struct Station {
     /// The identity.
@@ -74,12 +75,15 @@ pub struct Station {
     pub real: Real,
     /// The options.
     pub options: DeviceOptions,
+    /// The records that the application answers.
+    pub named: NamedRecords,
 }
 
 /// Why not all moves were played.
 #[derive(Clone, Copy, Debug, PartialEq, Eq)]
 pub enum PlayFault {
-    /// The two ends have the same MAC address, the ARUUID is zero, or a record of the plan is no parameter record.
+    /// The two ends have the same MAC address, the ARUUID is zero, or a record of the plan is no parameter record, or one that the
+    /// application of the device answers.
     CannotMeet,
     /// The device does not start from its flash.
     NoStart(BootFault),
@@ -126,8 +130,10 @@ pub fn play<F: Flash<S>, const S: usize, W: Witness>(
     // comes to the device in this turn. At touched places they are zeros meanwhile.
     ensures changes { (entries : List Entry) → W.log witness.new ≡ W.log witness.old ++ entries
         → AreKept station.options (outputs_in setup.plan.real.modules.items) entries }
-    // A set-up that can meet the device is not refused, nor is a flash that a device left, unless it cannot be read.
-    ensures meets { CanMeet setup station.identity → IfErr result (λ fault. fault ≡ PlayFault.CannotMeet → ⊥) }
+    // A set-up that can meet the device, with no record of its plan among those that the application of the device answers, is not
+    // refused, nor is a flash that a device left, unless it cannot be read.
+    ensures meets { CanMeet setup station.identity → AreUnnamed station.named setup.plan.records.items
+        → IfErr result (λ fault. fault ≡ PlayFault.CannotMeet → ⊥) }
     ensures starts { LeftByDevice (F.image flash) → IfErr result (λ fault. (cause : BootFault) → fault ≡ PlayFault.NoStart cause → cause ≡ BootFault.FlashFault) }
 {
     start_ups_are_read::<F, S>(&setup, &station.identity);
@@ -152,18 +158,23 @@ fn begin<F: Flash<S>, const S: usize>(
     ensures begins { IfOk result (λ world. Begins setup station.identity world) }
     ensures can { IfOk result (λ world. CanMeet setup station.identity) }
     ensures options { IfOk result (λ world. world.device.station.options ≡ station.options) }
-    ensures meets { CanMeet setup station.identity → IfErr result (λ fault. fault ≡ PlayFault.CannotMeet → ⊥) }
+    ensures meets { CanMeet setup station.identity → AreUnnamed station.named setup.plan.records.items
+        → IfErr result (λ fault. fault ≡ PlayFault.CannotMeet → ⊥) }
     ensures starts { LeftByDevice (F.image flash) → IfErr result (λ fault. (cause : BootFault) → fault ≡ PlayFault.NoStart cause → cause ≡ BootFault.FlashFault) }
 {
     if !can_meet(&setup, &station.identity) {
+        return Err(PlayFault::CannotMeet);
+    }
+    if !are_unnamed(station.named.as_slice(), setup.plan.records()) {
         return Err(PlayFault::CannotMeet);
     }
     let Station {
         identity,
         real,
         options,
+        named,
     } = station;
-    match Device::boot_with(identity, real, options, flash) {
+    match Device::boot_named(identity, real, options, named, flash) {
         Ok(device) => Ok(begin_world(alloc, device, setup)),
         Err(refused) => Err(PlayFault::NoStart(refused.0)),
     }

@@ -14,7 +14,7 @@ mod station;
 mod step;
 
 pub use device_services::{Attended, DeviceServices};
-pub use headline::{cycle, cycle_with};
+pub use headline::{cycle, cycle_named, cycle_with};
 pub use joined_call::JoinedCall;
 pub use law::conflicts_are_noticed;
 pub use leaps::{

@@ -15,9 +15,11 @@ use Rattle.pn_values.specs.declared.real.RealModule.{RealModule}
 use Rattle.pn_values.specs.declared.real.RealSubmodule.{RealSubmodule}
 use Rattle.relations.specs.declared.phase.Phase.{Phase}
 use Rattle.relations.specs.declared.phase.Phase.TheVariants.{Started, Preparing, Awaiting, Exchanging}
+use Rattle.asked_records.specs.Answers.{Gives, gives_octets, gives_done, gives_refusal}
+use Rattle.asked_records.specs.Asked.{Seen, Want, to_read, to_write}
 use Rattle.station_abi.specs.declared.reason.Reason.{Reason}
 use Rattle.station_abi.specs.declared.reason.Reason.TheVariants.{NotPlugged, NoRelation, BadLength, NoPlace, NoExchange, AlarmOpen, BadNumber, Exists, Absent, Full, ChangesWait, TooEarly, TooLate}
-use Rattle.station_abi.specs.declared.reason.Reason.TheVariants.{AccessPoint, OtherModule, IsPlugged, NoRoom, BadSubmodule, NoPlug}
+use Rattle.station_abi.specs.declared.reason.Reason.TheVariants.{AccessPoint, OtherModule, IsPlugged, NoRoom, BadSubmodule, NoPlug, NotAsked, OtherKind, BadCode}
 
 -- The number of each reason, as C sees it.
 abbrev pub reason_number : Reason → ℕ
@@ -40,6 +42,9 @@ reason_number IsPlugged = 16
 reason_number NoRoom = 17
 reason_number BadSubmodule = 18
 reason_number NoPlug = 19
+reason_number NotAsked = 20
+reason_number OtherKind = 21
+reason_number BadCode = 22
 
 -- ---- inputs
 
@@ -166,3 +171,22 @@ why_not_ready_for (Some place) = why_unready place.step
 abbrev pub why_not_ready_at : Option (List ExpectedPlace) → ℕ → ℕ → Reason
 why_not_ready_at None slot subslot = NoRelation
 why_not_ready_at (Some places) slot subslot = why_not_ready_for (place_at slot subslot places)
+
+-- ---- records that the application answers
+
+-- Why octets are refused: a Write is not answered by octets; otherwise they are more than the record has.
+abbrev pub why_no_octets : Want → Reason
+why_no_octets (to_read length) = BadLength
+why_no_octets (to_write octets) = OtherKind
+
+-- Why an answer to what is asked is refused: octets, or that a record was written, which is no answer to a Read, or a refusal whose ErrorCode1 is not
+-- one of an application.
+abbrev pub why_unfit_answer : Want → Gives → Reason
+why_unfit_answer want (gives_octets octets) = why_no_octets want
+why_unfit_answer want gives_done = OtherKind
+why_unfit_answer want (gives_refusal code1 code2) = BadCode
+
+-- Why an answer under a number is refused, if this is asked: nothing is asked under this number, or it is no answer to it.
+abbrev pub why_no_answer : Option Seen → ℕ → Gives → Reason
+why_no_answer None number given = NotAsked
+why_no_answer (Some seen) number given = if seen.number == number then why_unfit_answer seen.want given else NotAsked

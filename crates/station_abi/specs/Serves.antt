@@ -27,7 +27,7 @@ use Rattle.device_frames.specs.declared.event.Event.{Event}
 use Rattle.device_frames.specs.declared.event.Event.TheVariants.{Frame, Application}
 use Rattle.arrayvec.specs.ArrayVec.{ArrayVec}
 use Rattle.device_frames.specs.declared.local.Local.{Local}
-use Rattle.device_frames.specs.declared.local.Local.TheVariants.{Input, Alarm, Status, Diagnosis, Plug, ProviderState, Pull, PullModule, Ready, ReadyAt}
+use Rattle.device_frames.specs.declared.local.Local.TheVariants.{Input, Alarm, Answer, Status, Diagnosis, Plug, ProviderState, Pull, PullModule, Ready, ReadyAt, Refuse, Written}
 use Rattle.device_core.specs.Handled.{change_of}
 use Rattle.device_frames.specs.declared.note.Note.{Note}
 use Rattle.device_frames.specs.Notes.{note_number}
@@ -46,7 +46,9 @@ use Rattle.station_abi.specs.declared.confirmation.Confirmation.TheVariants.{Not
 use Rattle.station_abi.specs.declared.reason.Reason.{Reason}
 use Rattle.station_abi.specs.Confirmed.{confirmed_by, confirmed_in_time, with_confirmation}
 use Rattle.station_abi.specs.Reasons.{reason_number, why_no_alarm, why_no_diagnosis, why_no_input, why_no_plug, why_no_pull, why_no_slot_pull, why_no_status}
-use Rattle.station_abi.specs.Reasons.{why_not_ready, why_not_ready_at}
+use Rattle.station_abi.specs.Reasons.{why_no_answer, why_not_ready, why_not_ready_at}
+use Rattle.asked_records.specs.Answers.{gives_octets, gives_done, gives_refusal}
+use Rattle.asked_records.specs.Asked.{Seen, Want, seen_in, to_read, to_write}
 use Rattle.station_abi.specs.Submodules.{plug_in}
 use Rattle.station_abi.specs.declared.operation.Operation.{Operation}
 use Rattle.station_abi.specs.declared.operation.Operation.TheVariants as operation
@@ -84,7 +86,11 @@ operation_of what =
     if what == 29 then Some operation.PullModule else
     if what == 30 then Some operation.Plug else
     if what == 31 then Some operation.ReadyAt else
-    if what == 32 then Some operation.Expected else None
+    if what == 32 then Some operation.Expected else
+    if what == 33 then Some operation.Asked else
+    if what == 34 then Some operation.Answer else
+    if what == 35 then Some operation.Written else
+    if what == 36 then Some operation.Refuse else None
 
 -- The result of what was done, or of what was refused.
 abbrev pub answer_of : {T : Type 0} → Result T Refusal → ℕ
@@ -214,6 +220,38 @@ abbrev pub IsReadyAt : Option (ℕ × ℕ) → Served → Op → ℕ → Served 
 IsReadyAt (Some place) old asked answer new reported =
     IsSaid old (ReadyAt place.0 place.1) (why_not_ready_at (places_in old.port.device.live.rest.link) place.0 place.1) asked answer new reported
 IsReadyAt None old asked answer new reported = (answer ≡ 9) × (new ≡ old) × (reported ≡ asked)
+
+-- ---- answers of the application to what is asked
+
+-- What the device is asked for its application, as the application sees it.
+abbrev pub question_of : Served → Option Seen
+question_of served = seen_in served.port.device.live.rest.asked
+
+-- The octets of a record that is read.
+abbrev pub IsAnswer : Served → List ℕ → Op → ℕ → Served → Op → Type 0
+IsAnswer old given asked answer new reported =
+    IsSaid old (Answer asked.number (record { items = take 1519 given })) (why_no_answer (question_of old) asked.number (gives_octets given)) asked answer new reported
+
+-- A record was written.
+abbrev pub IsWritten : Served → Op → ℕ → Served → Op → Type 0
+IsWritten old asked answer new reported =
+    IsSaid old (Written asked.number) (why_no_answer (question_of old) asked.number gives_done) asked answer new reported
+
+-- The ErrorCode1 and ErrorCode2 in these octets, if they are two.
+abbrev pub codes_of : List ℕ → Option (ℕ × ℕ)
+codes_of octets = if length octets == 2 then Some (slice_index octets 0, slice_index octets 1) else None
+
+-- A refusal with these codes; 8 if there are none.
+abbrev pub IsRefusalOf : Option (ℕ × ℕ) → Served → Op → ℕ → Served → Op → Type 0
+IsRefusalOf (Some codes) old asked answer new reported =
+    IsSaid old (Refuse asked.number codes.0 codes.1) (why_no_answer (question_of old) asked.number (gives_refusal codes.0 codes.1)) asked answer new reported
+IsRefusalOf None old asked answer new reported = (answer ≡ 8) × (new ≡ old) × (reported ≡ asked)
+
+-- What the operation Refuse does: the octets are the two codes.
+abbrev pub IsRefusal : Served → List ℕ → Op → ℕ → Served → Op → Type 0
+IsRefusal old given asked answer new reported = IsRefusalOf (codes_of given) old asked answer new reported
+
+-- ---- units of time
 
 -- The number of units that remain, what is due, the kind of the first piece of work, and what became of the open alarm. The note is 0, done.
 -- Due is the number of units up to and including the next one with which anything is due.
@@ -452,6 +490,27 @@ abbrev pub IsPlaceOf : Option Refusal → Option ExpectedPlace → Op → ℕ �
 IsPlaceOf (Some refusal) place asked answer reported = (answer ≡ refusal_number refusal) × (reported ≡ asked)
 IsPlaceOf None place asked answer reported = IsPlaceAt place asked answer reported
 
+-- ---- what is asked of the application
+
+-- What is wanted of a record: 1, its octets, of which this number is sent at most; 2, that these octets are written, at most 1,308.
+abbrev pub with_wanted : Want → Op → Op
+with_wanted (to_read length) asked = record asked { wanted = 1; read_length = length }
+with_wanted (to_write octets) asked = with_octets (take 1308 octets) (record asked { wanted = 2 })
+
+-- A question: its number, its record, and what is wanted of it.
+abbrev pub with_question : Seen → Op → Op
+with_question seen asked = with_wanted seen.want (record asked { number = seen.number; slot = seen.slot; subslot = seen.subslot; index = seen.index })
+
+-- What is returned of what is asked; 47 if nothing is.
+abbrev pub IsAskedAt : Option Seen → Op → ℕ → Op → Type 0
+IsAskedAt (Some seen) asked answer reported = (answer ≡ 0) × (reported ≡ with_question seen asked)
+IsAskedAt None asked answer reported = (answer ≡ 47) × (reported ≡ asked)
+
+-- What is returned of what is asked, unless the port refuses it.
+abbrev pub IsAskedOf : Option Refusal → Option Seen → Op → ℕ → Op → Type 0
+IsAskedOf (Some refusal) seen asked answer reported = (answer ≡ refusal_number refusal) × (reported ≡ asked)
+IsAskedOf None seen asked answer reported = IsAskedAt seen asked answer reported
+
 -- ---- the link
 
 -- Which link some octets say, if they say one: what is supported and enabled, what is advertised, and the type of the MAU. 8 if
@@ -527,4 +586,8 @@ Serves (Some operation.Plug) old asked given answer new reported = IsPlug (place
 Serves (Some operation.ReadyAt) old asked given answer new reported = IsReadyAt (place_in asked.slot asked.subslot) old asked answer new reported
 Serves (Some operation.Expected) old asked given answer new reported =
     (new ≡ old) × IsPlaceOf (closed old.port.stage) (place_numbered (places_in old.port.device.live.rest.link) asked.number) asked answer reported
+Serves (Some operation.Asked) old asked given answer new reported = (new ≡ old) × IsAskedOf (closed old.port.stage) (question_of old) asked answer reported
+Serves (Some operation.Answer) old asked given answer new reported = IsAnswer old given asked answer new reported
+Serves (Some operation.Written) old asked given answer new reported = IsWritten old asked answer new reported
+Serves (Some operation.Refuse) old asked given answer new reported = IsRefusal old given asked answer new reported
 Serves None old asked given answer new reported = (answer ≡ 10) × (new ≡ old) × (reported ≡ asked)

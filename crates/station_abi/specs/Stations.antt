@@ -1,5 +1,5 @@
 -- The fixed properties of a device, as a host writes them.
-use Rattle.std.specs.Prelude.{◌&&◌, ◌==◌, ◌%◌, ℕ, Bool, true, nat_le, not, if◌then◌else◌, List, [], ◌∷◌, take, map, slice_index, Option, Some, None}
+use Rattle.std.specs.Prelude.{◌&&◌, ◌==◌, ◌%◌, ℕ, Bool, true, nat_le, not, if◌then◌else◌, List, [], ◌∷◌, take, map, slice_index, Option, Some, None, is_ok}
 use Rattle.std.specs.List.{list_all, list_any}
 use Rattle.pn_values.specs.declared.real.Real.{Real}
 use Rattle.pn_values.specs.declared.identity.Identity.{Identity}
@@ -8,6 +8,9 @@ use Rattle.relations.specs.declared.options.DeviceOptions.{DeviceOptions}
 use Rattle.c_layout.specs.declared.plugged.Module.{Module}
 use Rattle.c_layout.specs.declared.plugged.Submodule.{Submodule}
 use Rattle.c_layout.specs.Modules.{are_parameters, is_module, module_of, parameters_in, submodules_in}
+use Rattle.asked_records.specs.Names.{named_of}
+use Rattle.asked_records.specs.declared.names.RecordName.{RecordName}
+use Rattle.station_abi.specs.declared.c_station.Record.{Record}
 use Rattle.station_abi.specs.declared.c_station.Station.{Station}
 
 -- The modules that are counted.
@@ -18,7 +21,8 @@ modules_in station = take station.module_count station.modules
 
 -- No count is greater than its list can hold.
 abbrev pub has_room : Station → Bool
-has_room station = nat_le station.station_type_length 25 && (nat_le station.module_count 16 && list_all is_module (modules_in station))
+has_room station =
+    nat_le station.station_type_length 25 && (nat_le station.module_count 16 && (list_all is_module (modules_in station) && nat_le station.record_count 16))
 
 -- The MAC address is that of one station: its first octet is even.
 abbrev pub is_single : Station → Bool
@@ -70,11 +74,30 @@ is_described plugged = list_all has_parameters (submodules_in plugged)
 abbrev pub has_interval : Station → Bool
 has_interval station = nat_le station.smallest_interval 65536
 
+-- A record that C describes.
+abbrev pub name_of : Record → RecordName
+name_of written = record {
+  slot = written.slot;
+  subslot = written.subslot;
+  index = written.index;
+  greatest_length = written.greatest_length;
+  is_readable = not (written.is_readable == 0);
+  is_writable = not (written.is_writable == 0);
+}
+
+-- The records that the application answers: those that are counted.
+abbrev pub names_of : Station → List RecordName
+names_of station = map name_of (take station.record_count station.records)
+
+-- Each of them is in its ranges, and no other one has its place and index.
+abbrev pub has_names : Station → Bool
+has_names station = is_ok (named_of (names_of station))
+
 -- ---- why no device is made from a station
 
 -- The first fault of a station; 0 if it has none: 4, a count is greater than its list can hold; 18, the MAC address is
 -- that of a group; 19, slots; 20, subslots; 21, data that no cyclic frame can carry; 22, parameter records; 23, the
--- smallest interval.
+-- smallest interval; 46, records that the application answers.
 abbrev pub fault_of : Station → ℕ
 fault_of station =
     if not (has_room station) then 4 else
@@ -83,7 +106,8 @@ fault_of station =
     (if not (list_all is_parted (modules_in station)) then 20 else
     (if not (list_all is_carried (modules_in station)) then 21 else
     (if not (list_all is_described (modules_in station)) then 22 else
-    (if not (has_interval station) then 23 else 0))))))
+    (if not (has_interval station) then 23 else
+    (if not (has_names station) then 46 else 0)))))))
 
 -- Whether a station that C wrote has no fault.
 abbrev pub is_station : Station → Bool
@@ -126,6 +150,6 @@ options_of station = record {
   numbers_from = numbers_of station;
 }
 
--- The identity, the modules that are plugged, and the options.
+-- The identity, the modules that are plugged, the options, and the records that the application answers.
 abbrev pub station_of : Station → device.Station
-station_of station = record { identity = identity_of station; real = real_of station; options = options_of station }
+station_of station = device.station_named (identity_of station) (real_of station) (options_of station) (names_of station)

@@ -4,28 +4,30 @@ ghost use Rattle.std.specs.List.{list_all};
 ghost use Rattle.c_layout.specs.Modules.{is_module};
 ghost use Rattle.station_abi.specs.Made.{IsMade, why_not_made};
 ghost use Rattle.station_abi.specs.Stations.{fault_of, has_interval, has_room as has_all_room, identity_of, is_single as has_own_mac, is_station};
-ghost use Rattle.station_abi.specs.Stations.{modules_in, numbers_of, options_of, real_of};
+ghost use Rattle.station_abi.specs.Stations.{has_names, modules_in, name_of, names_of, numbers_of, options_of, real_of};
 
 use crate::plugged::{are_carried, are_described, are_parted, are_slots};
 use arrayvec::ArrayVec;
+use asked_records::{NamedRecords, RecordName};
 use c_layout::{
-    BAD_ABI, BAD_DATA, BAD_MAC, BAD_OPTION, BAD_PARAMETER, BAD_SLOT, BAD_STATION, BAD_SUBSLOT,
-    Module, SMALL_ROOM, are_modules, modules,
+    BAD_ABI, BAD_DATA, BAD_MAC, BAD_OPTION, BAD_PARAMETER, BAD_RECORD, BAD_SLOT, BAD_STATION,
+    BAD_SUBSLOT, Module, SMALL_ROOM, are_modules, modules,
 };
 use device_abi::Port;
 use pn_values::{Identity, Mac, Real};
 use relations::DeviceOptions;
 
 /// The version of the header.
-const ABI: u32 = 8;
+const ABI: u32 = 9;
 
 /// The number of octets of the memory for a port.
-const ROOM: usize = 75776;
+const ROOM: usize = 77312;
 
 /// The number of octets of an operation.
-const OP_SIZE: usize = 1672;
+const OP_SIZE: usize = 1680;
 
-/// The identity that a device has from the factory, and the modules that are plugged, at most 16.
+/// The identity that a device has from the factory, the modules that are plugged, at most 16, and the records that its
+/// application answers, at most 16.
 #[repr(C)]
 #[derive(Drop)]
 pub struct Station {
@@ -59,6 +61,22 @@ pub struct Station {
     pub without_services: u32,
     pub module_count: u32,
     pub modules: [Module; 16],
+    pub record_count: u32,
+    pub records: [Record; 16],
+}
+
+/// A record that the application answers.
+#[repr(C)]
+#[derive(Drop)]
+pub struct Record {
+    pub slot: u16,
+    pub subslot: u16,
+    pub index: u16,
+    pub greatest_length: u16,
+    /// Not 0: it can be read.
+    pub is_readable: u16,
+    /// Not 0: it can be written.
+    pub is_writable: u16,
 }
 
 /// Why no device is made from this station, or 0: another version or size of an operation than the library's, too
@@ -85,6 +103,7 @@ pub fn port_of(station: &Station) -> Port
         identity_in(station),
         real_in(station),
         options_in(station),
+        named_in(station),
         station.without_services == 0,
     )
 }
@@ -117,6 +136,9 @@ fn fault_in(station: &Station) -> u32
     if !is_interval(station) {
         return BAD_OPTION;
     }
+    if !are_named(station) {
+        return BAD_RECORD;
+    }
     0
 }
 
@@ -127,6 +149,7 @@ fn has_room(station: &Station) -> bool
     station.station_type_length <= 25
         && station.module_count <= 16
         && are_modules(&station.modules[..station.module_count as usize])
+        && station.record_count <= 16
 }
 
 // Whether the MAC address is that of one station, and not of a group.
@@ -141,6 +164,15 @@ fn is_interval(station: &Station) -> bool
     ensures { result ≡ has_interval station.now }
 {
     station.smallest_interval <= 65536
+}
+
+// Whether the records that the application answers are in their ranges, each once.
+#[inline(never)]
+fn are_named(station: &Station) -> bool
+    requires { station.now.record_count ≤ 16 }
+    ensures { result ≡ has_names station.now }
+{
+    NamedRecords::of(names_in(station).as_slice()).is_ok()
 }
 
 // ---- the values
@@ -172,6 +204,7 @@ fn identity_in(station: &Station) -> Identity
 }
 
 // What the application decides where the device is made.
+#[inline(never)]
 fn options_in(station: &Station) -> DeviceOptions
     ensures { result ≡ options_of station.now }
 {
@@ -193,6 +226,43 @@ fn numbers_in(station: &Station) -> Option<u16>
         return None;
     }
     Some((station.first_number % 65_536) as u16)
+}
+
+// The records that the application answers.
+#[inline(never)]
+fn named_in(station: &Station) -> NamedRecords
+    requires few { station.now.record_count ≤ 16 }
+    requires named { has_names station.now ≡ true }
+    ensures { result ≡ names_of station.now }
+{
+    match NamedRecords::of(names_in(station).as_slice()) {
+        Ok(named) => named,
+        Err(_) => NamedRecords::new(),
+    }
+}
+
+fn names_in(station: &Station) -> ArrayVec<RecordName, 16>
+    requires { station.now.record_count ≤ 16 }
+    ensures { result.items ≡ names_of station.now }
+{
+    let mut names = ArrayVec::new();
+    for written in &station.records[..station.record_count as usize] {
+        names.push(name_in(written));
+    }
+    names
+}
+
+fn name_in(written: &Record) -> RecordName
+    ensures { result ≡ name_of written.now }
+{
+    RecordName {
+        slot: written.slot,
+        subslot: written.subslot,
+        index: written.index,
+        greatest_length: written.greatest_length,
+        is_readable: written.is_readable != 0,
+        is_writable: written.is_writable != 0,
+    }
 }
 
 // The modules that are plugged.

@@ -1,10 +1,12 @@
 //! A station as a host in C drives it: the operations of the library for C.
 //!
-//! `serving` carries out an operation, `modules` those of pulls and plugs, `reason` says why
-//! the device refused what its application said, `confirmation` what became of an open alarm,
-//! `plugged` and `c_station` are what a host writes of a station, `submodule` what it plugs.
+//! `serving` carries out an operation, `modules` those of pulls and plugs, `asking` those of
+//! records that the application answers, `reason` says why the device refused what its
+//! application said, `confirmation` what became of an open alarm, `plugged` and `c_station` are
+//! what a host writes of a station, `submodule` what it plugs.
 #![tactic(auto)]
 
+mod asking;
 mod c_station;
 mod confirmation;
 mod modules;
@@ -14,7 +16,7 @@ mod reason;
 mod serving;
 mod submodule;
 
-pub use c_station::{Station, judge, port_of};
+pub use c_station::{Record, Station, judge, port_of};
 pub use confirmation::Confirmation;
 pub use reason::Reason;
 pub use serving::{hand_out, serve};

@@ -36,6 +36,10 @@ pub enum Operation {
     Plug,
     ReadyAt,
     Expected,
+    Asked,
+    Answer,
+    Written,
+    Refuse,
 }
 
 // The operation of this number, if it exists.
@@ -74,6 +78,10 @@ pub(crate) fn operation_of(what: u32) -> Option<Operation>
         30 => Some(Operation::Plug),
         31 => Some(Operation::ReadyAt),
         32 => Some(Operation::Expected),
+        33 => Some(Operation::Asked),
+        34 => Some(Operation::Answer),
+        35 => Some(Operation::Written),
+        36 => Some(Operation::Refuse),
         _ => None,
     }
 }

@@ -1,13 +1,17 @@
 //! Why a device refuses what its application says.
-ghost use Rattle.std.specs.Prelude.{◌≡◌, Some};
+ghost use Rattle.std.specs.Prelude.{◌≡◌, Some, option_map};
+ghost use Rattle.asked_records.specs.Answers.{gives};
+ghost use Rattle.asked_records.specs.Asked.{seen, seen_in, want_of};
 ghost use Rattle.diagnosis.specs.Existing.{exists as is_one};
 ghost use Rattle.relations.specs.Plugging.{places_in};
 ghost use Rattle.relations.specs.RelationState.{phase_of};
 ghost use Rattle.station_abi.specs.Reasons.{input_size, part_size as size_of_part, reason_number, why_no_alarm, why_no_diagnosis, why_no_input};
+ghost use Rattle.station_abi.specs.Reasons.{why_no_answer, why_no_octets};
 ghost use Rattle.station_abi.specs.Reasons.{why_no_plug, why_no_pull, why_no_slot_pull, why_no_status, why_no_value, why_not_added, why_not_ready, why_not_ready_at, why_not_ready_for};
 ghost use Rattle.station_abi.specs.Reasons.{why_not_removed, why_unchanged, why_unfit, why_unraised, why_unready};
 ghost use Rattle.expected_places.specs.Places.{place_at};
 
+use asked_records::{AskedRecord, Given, Wanted};
 use device_abi::RecordedFlash;
 use device_core::Device;
 use diagnosis::{Change, Diagnosis};
@@ -26,7 +30,7 @@ pub enum Reason {
     NotPlugged = 1,
     /// There is no relation.
     NoRelation = 2,
-    /// An input of another length than that of the submodule, or more than 32 octets of an alarm.
+    /// An input of another length than that of the submodule, more than 32 octets of an alarm, or more octets of a record than it has.
     BadLength = 3,
     /// The relation has no input of this submodule with this length.
     NoPlace = 4,
@@ -60,6 +64,12 @@ pub enum Reason {
     BadSubmodule = 18,
     /// The relation knows of no plug there.
     NoPlug = 19,
+    /// Nothing is asked of the application under this number.
+    NotAsked = 20,
+    /// Octets for a Write, or that it is done for a Read.
+    OtherKind = 21,
+    /// ErrorCode1 is not one of an application.
+    BadCode = 22,
 }
 
 impl Reason {
@@ -324,5 +334,47 @@ fn why_unready(step: Step) -> Reason
         Step::Settled | Step::Pulled => Reason::NoPlug,
         Step::Plugged | Step::Told(_) => Reason::TooEarly,
         Step::Ended(_) | Step::Refused => Reason::TooLate,
+    }
+}
+
+// ---- records that the application answers
+
+/// Why the device refuses an answer to what is asked under this number.
+pub(crate) fn why_no_answer(device: &Recording, number: u32, given: &Given<'_>) -> Reason
+    ensures { result ≡ why_no_answer (seen_in device.now.live.rest.asked) number (gives given.now) }
+{
+    why_no_answer_to(device.asked(), number, given)
+}
+
+// The same if this is asked.
+fn why_no_answer_to(asked: Option<AskedRecord<'_>>, number: u32, given: &Given<'_>) -> Reason
+    ensures { result ≡ why_no_answer (option_map seen asked.entry) number (gives given.now) }
+{
+    match asked {
+        Some(asked) => why_no_answer_at(&asked, number, given),
+        None => Reason::NotAsked,
+    }
+}
+
+fn why_no_answer_at(asked: &AskedRecord<'_>, number: u32, given: &Given<'_>) -> Reason
+    ensures { result ≡ why_no_answer (Some (seen asked.now)) number (gives given.now) }
+{
+    if asked.number != number {
+        return Reason::NotAsked;
+    }
+    match given {
+        Given::Octets(_) => why_no_octets(&asked.wanted),
+        Given::Done => Reason::OtherKind,
+        Given::Refused(_, _) => Reason::BadCode,
+    }
+}
+
+// Why octets are refused: a Write is not answered by octets; otherwise they are more than the record has.
+fn why_no_octets(wanted: &Wanted<'_>) -> Reason
+    ensures { result ≡ why_no_octets (want_of wanted.now) }
+{
+    match wanted {
+        Wanted::Read(_) => Reason::BadLength,
+        Wanted::Write(_) => Reason::OtherKind,
     }
 }

@@ -25,6 +25,7 @@ ghost use Rattle.station_abi.specs.Serves.{IsOutcome, IsSaid, is_refused as is_r
 ghost use Rattle.station_abi.specs.Serves.{noted as is_noted, operation_of as operation_in, with_passed, phase_number};
 ghost use Rattle.station_abi.specs.Serves.{sector_number as number_of, sector_of, settings_octets, value_of};
 
+use crate::asking::{answer, refuse, tell_asked, written};
 use crate::confirmation::{Confirmation, acknowledged_in, is_open, over_by};
 use crate::modules::{plug, pull, pull_module, ready_at, tell_expected};
 use crate::operation::{Operation, operation_of};
@@ -119,6 +120,10 @@ fn perform(operation: Operation, port: &mut Port, op: &mut Op, given: &[u8]) -> 
         Operation::Plug => plug(port, op, given),
         Operation::ReadyAt => ready_at(port, op),
         Operation::Expected => tell_expected(port, op),
+        Operation::Asked => tell_asked(port, op),
+        Operation::Answer => answer(port, op, given),
+        Operation::Written => written(port, op),
+        Operation::Refuse => refuse(port, op, given),
     }
 }
 

@@ -1,10 +1,11 @@
 -- What a device does at a call of others: it changes nothing but the stored answers.
-use Rattle.std.proofs.Common.{◌≡◌, ◌==◌, ◌&&◌, ◌⊎◌, inl, inr, ℕ, Bool, true, false, List, drop, Option, Some, None, Result, Ok, Err, refl, sym, ap, subst, ◌∙◌}
+use Rattle.std.proofs.Common.{◌≡◌, ◌==◌, ◌&&◌, ◌⊎◌, inl, inr, ℕ, Bool, true, false, List, [], drop, Option, Some, None, Result, Ok, Err, refl, sym, ap, subst, ◌∙◌}
 use Rattle.std.proofs.lemmas.Bool.{cond_both, cond-false}
 use Rattle.frame_codec.specs.declared.udp.Caller.{Caller}
 use Rattle.wire.specs.Codec.{◌>>=◌}
 use Rattle.rpc_core.specs.Call.{Asked as Call}
-use Rattle.rpc_core.specs.Cache.{Kept, Reported as Looked, again, kept_more, looked, new as fresh, old as late}
+use Rattle.rpc_core.specs.declared.header.CallHeader.{CallHeader}
+use Rattle.rpc_core.specs.Cache.{Kept, Reported as Looked, again, behind_reported, kept_more, looked, new as fresh, old as late}
 use Rattle.pn_values.specs.declared.real.Real.{Real}
 use Rattle.connect_blocks.specs.declared.control.ControlBlock.{ControlBlock}
 use Rattle.connect_blocks.specs.declared.plug_control.PlugControlBlock.{PlugControlBlock}
@@ -25,11 +26,20 @@ use Rattle.relations.specs.declared.phase.Partner.{Partner}
 use Rattle.device_records.specs.Reading.{implicit_read, relation_read}
 use Rattle.device_records.specs.declared.log_data.entry.LogEntry.{LogEntry}
 use Rattle.device_frames.specs.Heard.{Heard, Unreadable, Elsewhere, Resolves, Reported, Said, Calls, Responds, Garbled}
+use Rattle.device_frames.specs.Sent.{Sent}
+use Rattle.asked_records.specs.Answers.{unanswered_status}
+use Rattle.asked_records.specs.Asked.{AskedState, asks, is_repeat}
+use Rattle.asked_records.specs.Questions.{operation_of as operation_asked}
+use Rattle.asked_records.specs.declared.names.RecordName.{RecordName}
+use Rattle.asked_records.specs.declared.question.Question.{Question}
+use Rattle.asked_records.specs.declared.status.Unanswered.TheVariants.{Busy}
+use Rattle.device_core.specs.Asking.{Asking, asking_of, kept_reply, left_asked, released_by, reply_to}
 use Rattle.device_core.specs.State.{Live, Rest, Station}
-use Rattle.device_core.specs.Handled.{Handled, Refuses, Sets, Writes, WritesEach, Moves, handled, handled_blocks, handled_call, handled_looked, handled_new, handled_said, handled_write, implicitly, is_request, is_running, known_of, partner_of}
+use Rattle.device_core.specs.Handled.{Handled, Refuses, Sets, Writes, WritesEach, Moves, handled, handled_asking, handled_blocks, handled_call, handled_looked, handled_own, handled_question, handled_said, handled_unanswered, handled_write, implicitly, is_request, is_running, known_of, partner_of}
 use Rattle.device_core.specs.Log.{release_log}
 use Rattle.device_core.specs.Modules.{calling_after}
 use Rattle.octets_law.specs.Octets.{activity_of}
+use Rattle.octets_law.proofs.Questions.{IsOwn as HasHeader, asking_own, no_names}
 use Rattle.strangers_law.specs.Calling.{is_among, operation_in}
 use Rattle.strangers_law.proofs.CallingHeard.{IsCallHeard}
 use Rattle.strangers_law.proofs.Harmless.{IsHarmless, Names}
@@ -46,23 +56,28 @@ IsApart (Some link) blocks = Names link blocks ≡ false
 abbrev pub IsStored : List (List ℕ) → Rest → Rest → Type 0
 IsStored others old new = (new ≡ old) ⊎ ((one : Kept) × (is_among one.activity others ≡ true) × (new ≡ record old { calls = kept_more 4 one old.calls }))
 
--- An outcome that asks nothing of the settings, and changes nothing but the stored answers.
-abbrev pub Leaves : List (List ℕ) → Live → Handled → Type 0
-Leaves others live (Refuses note) = Unit {0}
-Leaves others live (Sets asker request in_operation) = ⊥
-Leaves others live (Writes caller address call header value) = ⊥
-Leaves others live (WritesEach caller address call header judged) = ⊥
-Leaves others live (Moves rest sent) = IsStored others live.rest rest
+-- Or the application is asked, if the station names records.
+abbrev pub IsStoredOrAsked : List RecordName → List (List ℕ) → Rest → Rest → Type 0
+IsStoredOrAsked named others old new = IsStored others old new ⊎ ((named ≡ [] → ⊥) × (asked : AskedState) × (new ≡ record old { asked = asked }))
 
--- A rest with these stored answers, this relation and this log.
-abbrev pub with_parts : Rest → List Kept → Option RelationState → List LogEntry → Rest
-with_parts rest calls link log = record rest { calls = calls; link = link; log = log }
+-- An outcome that asks nothing of the settings, and changes nothing but the stored answers and what is asked of the application.
+abbrev pub Leaves : List RecordName → List (List ℕ) → Live → Handled → Type 0
+Leaves named others live (Refuses note) = Unit {0}
+Leaves named others live (Sets asker request in_operation) = ⊥
+Leaves named others live (Writes caller address call header value) = ⊥
+Leaves named others live (WritesEach caller address call header judged) = ⊥
+Leaves named others live (Moves rest sent) = IsStoredOrAsked named others live.rest rest
 
--- The relation and the log are as they were.
-as_was : (rest : Rest) (calls : List Kept) (link : Option RelationState) (log : List LogEntry) → link ≡ rest.link → log ≡ rest.log
-    → with_parts rest calls link log ≡ record rest { calls = calls }
-as_was rest calls link log links logs =
-    ap (λ l. with_parts rest calls l log) links ∙ ap (with_parts rest calls rest.link) logs
+-- A rest with these stored answers, this relation and this log, of whose application this is asked.
+abbrev pub with_parts : Rest → List Kept → Option RelationState → List LogEntry → AskedState → Rest
+with_parts rest calls link log asked = record rest { calls = calls; link = link; log = log; asked = asked }
+
+-- The relation, the log and what is asked are as they were.
+as_was : (rest : Rest) (calls : List Kept) (link : Option RelationState) (log : List LogEntry) (asked : AskedState) → link ≡ rest.link → log ≡ rest.log
+    → asked ≡ rest.asked → with_parts rest calls link log asked ≡ record rest { calls = calls }
+as_was rest calls link log asked links logs same =
+    ap (λ l. with_parts rest calls l log asked) links ∙ ap (λ l. with_parts rest calls rest.link l asked) logs
+    ∙ ap (with_parts rest calls rest.link rest.log) same
 
 -- ---- the operations, with a relation and without one
 
@@ -78,6 +93,21 @@ release_logs (Some link) blocks other time log = by_result (release_of (Some lin
   where
     by_result : (r : Result ControlBlock CallFault) → release_of (Some link) blocks ≡ r
         → release_log (uuid_of (Some link)) (r >>= λ block. Ok (block_bytes (answers.ReleaseRes (done_of block)))) time log ≡ log
+    by_result (Ok block) is = absurd (no_release link blocks block other is)
+    by_result (Err why) is = refl
+
+release_asked : (link : Option RelationState) (blocks : List ℕ) → IsApart link blocks → (asked : AskedState)
+    → left_asked (released_by (release_answer link blocks) (uuid_of link)) asked ≡ asked
+release_asked None blocks other asked = by_result (release_of None blocks)
+  where
+    by_result : (r : Result ControlBlock CallFault)
+        → left_asked (released_by (r >>= λ block. Ok (block_bytes (answers.ReleaseRes (done_of block)))) (uuid_of None)) asked ≡ asked
+    by_result (Ok block) = refl
+    by_result (Err why) = refl
+release_asked (Some link) blocks other asked = by_result (release_of (Some link) blocks) refl
+  where
+    by_result : (r : Result ControlBlock CallFault) → release_of (Some link) blocks ≡ r
+        → left_asked (released_by (r >>= λ block. Ok (block_bytes (answers.ReleaseRes (done_of block)))) (uuid_of (Some link))) asked ≡ asked
     by_result (Ok block) is = absurd (no_release link blocks block other is)
     by_result (Err why) is = refl
 
@@ -145,23 +175,24 @@ IsForeign (Some link) heard = IsHarmless link heard
 
 module _ (others : List (List ℕ)) (station : Station) (live : Live) where
   abbrev Left : Handled → Type 0
-  Left what = Leaves others live what
+  Left what = Leaves station.named others live what
 
   module _ (caller : Caller) (call : Call) (among : is_among call.header.activity others ≡ true) where
     -- What is stored of an answer, while the relation and the log are as they were.
-    stored : (one : Kept) (link : Option RelationState) (log : List LogEntry) → one.activity ≡ call.header.activity → link ≡ live.rest.link
-        → log ≡ live.rest.log
-        → IsStored others live.rest (with_parts live.rest (kept_more 4 one live.rest.calls) link log)
-    stored one link log is links logs =
-        inr (one, subst (λ a. is_among a others ≡ true) (sym is) among, as_was live.rest (kept_more 4 one live.rest.calls) link log links logs)
+    stored : (one : Kept) (link : Option RelationState) (log : List LogEntry) (asked : AskedState) → one.activity ≡ call.header.activity → link ≡ live.rest.link
+        → log ≡ live.rest.log → asked ≡ live.rest.asked
+        → IsStoredOrAsked station.named others live.rest (with_parts live.rest (kept_more 4 one live.rest.calls) link log asked)
+    stored one link log asked is links logs same =
+        inl (inr (one, subst (λ a. is_among a others ≡ true) (sym is) among, as_was live.rest (kept_more 4 one live.rest.calls) link log asked links logs same))
 
     new_left : (blocks : List ℕ) (operation : Operation) → IsApart live.rest.link blocks → (operation ≡ Connect → ⊥)
-        → Left (handled_new station live caller call blocks operation)
+        → Left (handled_own station live caller call blocks operation)
     new_left blocks Connect other none = absurd (none refl)
     new_left blocks Release other none =
-        stored _ _ _ refl (release_stays live.rest.link blocks other) (release_logs live.rest.link blocks other live.rest.units live.rest.log)
+        stored _ _ _ _ refl (release_stays live.rest.link blocks other) (release_logs live.rest.link blocks other live.rest.units live.rest.log)
+        (release_asked live.rest.link blocks other live.rest.asked)
     new_left blocks Read other none =
-        stored _ _ _ refl (by_link live.rest.link refl other read refl) refl
+        stored _ _ _ _ refl (by_link live.rest.link refl other read refl) refl refl
       where
         read : Result (List ℕ) CallFault
         read = relation_read (known_of station live) station.identity live.rest.real live.values.running blocks
@@ -177,32 +208,67 @@ module _ (others : List (List ℕ)) (station : Station) (live : Live) where
         by_result : (r : Result Writing CallFault) → writing_of (uuid_of live.rest.link) live.rest.real blocks ≡ r
             → Left (handled_write station live caller call r)
         by_result (Ok writing) is = absurd (no_writes live.rest.real live.rest.link blocks writing other is)
-        by_result (Err why) is = stored _ _ _ refl refl refl
+        by_result (Err why) is = stored _ _ _ _ refl refl refl refl
     new_left blocks Control other none =
         cond_both (is_plug_control blocks live.rest.link) _ _ Left
-        (λ _. stored _ _ _ refl (plug_end_stays (partner_of caller) station.options.ready_by_application live.rest.link blocks other) refl)
-        (λ _. stored _ _ _ refl (prm_end_stays (partner_of caller) station.options.ready_by_application live.rest.link blocks other) refl)
+        (λ _. stored _ _ _ _ refl (plug_end_stays (partner_of caller) station.options.ready_by_application live.rest.link blocks other) refl refl)
+        (λ _. stored _ _ _ _ refl (prm_end_stays (partner_of caller) station.options.ready_by_application live.rest.link blocks other) refl refl)
     new_left blocks ReadImplicit other none =
-        stored _ _ _ refl (implicit_stays (partner_of caller) live.rest.link blocks read other) refl
+        stored _ _ _ _ refl (implicit_stays (partner_of caller) live.rest.link blocks read other) refl refl
       where
         read : Result (List ℕ) CallFault
         read = implicit_read (known_of station live) station.identity live.rest.real live.values.running blocks
 
+    -- A call for a record of the application is asked, or refused since another one is asked.
+    busy_left : (question : Question) (answer : Sent) → question.header ≡ call.header → (found : Looked)
+        → IsStoredOrAsked station.named others live.rest
+        (record live.rest { calls = behind_reported 4 (kept_reply station.identity question answer) live.rest.calls found })
+    busy_left question answer same fresh =
+        stored (kept_reply station.identity question answer) live.rest.link live.rest.log live.rest.asked
+        (ap (λ (h : CallHeader). h.activity) same) refl refl refl
+    busy_left question answer same (again frame) = inl (inl refl)
+    busy_left question answer same late = inl (inl refl)
+
+    question_left : (question : Question) (asked : Option AskedState) → question.header ≡ call.header → (station.named ≡ [] → ⊥)
+        → Left (handled_question station live question asked)
+    question_left question (Some asked) same named = inr (named, asked, refl)
+    question_left question None same named =
+        busy_left question (reply_to live.values.running.suite.address question (unanswered_status (operation_asked question.request) Busy) []) same
+        (looked question.header.activity question.header.sequence live.rest.calls)
+
+    asking_left : (blocks : List ℕ) (operation : Operation) (asking : Result (Option Asking) CallFault)
+        → asking_of live.rest.real station.named (uuid_of live.rest.link) caller call blocks operation ≡ asking
+        → HasHeader live.rest.real station.named (uuid_of live.rest.link) caller call asking → IsApart live.rest.link blocks → (operation ≡ Connect → ⊥)
+        → Left (handled_asking station live caller call blocks operation asking)
+    asking_left blocks operation (Ok None) is own other none = new_left blocks operation other none
+    asking_left blocks operation (Ok (Some asking)) is own other none =
+        question_left asking.0 (asks asking.0 asking.1 live.rest.asked) own
+        (λ empty. no_names live.rest.real (uuid_of live.rest.link) caller call blocks operation asking
+        (subst (λ n. asking_of live.rest.real n (uuid_of live.rest.link) caller call blocks operation ≡ Ok (Some asking)) empty is))
+    asking_left blocks operation (Err why) is own other none = stored _ _ _ _ refl refl refl refl
+
+    unanswered_left : (blocks : List ℕ) (operation : Operation) → IsApart live.rest.link blocks → (operation ≡ Connect → ⊥)
+        → Left (handled_unanswered station live caller call blocks operation)
+    unanswered_left blocks operation other none =
+        cond_both (is_repeat call.header.activity call.header.sequence live.rest.asked) _ _ Left (λ _. inl (inl refl))
+        (λ _. asking_left blocks operation (asking_of live.rest.real station.named (uuid_of live.rest.link) caller call blocks operation) refl
+        (asking_own live.rest.real station.named (uuid_of live.rest.link) caller call blocks operation) other none)
+
     looked_left : (blocks : List ℕ) (operation : Operation) (found : Looked) → IsApart live.rest.link blocks → (operation ≡ Connect → ⊥)
         → Left (handled_looked station live caller call blocks operation found)
-    looked_left blocks operation fresh other none = new_left blocks operation other none
-    looked_left blocks operation (again frame) other none = inl refl
+    looked_left blocks operation fresh other none = unanswered_left blocks operation other none
+    looked_left blocks operation (again frame) other none = inl (inl refl)
     looked_left blocks operation late other none = tt
 
     blocks_left : (operation : Operation) (blocks : Option (List ℕ)) → call.blocks ≡ blocks
         → ((some : List ℕ) → call.blocks ≡ Some some → IsApart live.rest.link some)
         → (operation ≡ Connect → ⊥) → Left (handled_blocks station live caller call operation blocks)
     blocks_left Connect None is other none = absurd (none refl)
-    blocks_left Release None is other none = inl refl
-    blocks_left Read None is other none = inl refl
-    blocks_left Write None is other none = inl refl
-    blocks_left Control None is other none = inl refl
-    blocks_left ReadImplicit None is other none = inl refl
+    blocks_left Release None is other none = inl (inl refl)
+    blocks_left Read None is other none = inl (inl refl)
+    blocks_left Write None is other none = inl (inl refl)
+    blocks_left Control None is other none = inl (inl refl)
+    blocks_left ReadImplicit None is other none = inl (inl refl)
     blocks_left operation (Some blocks) is other none =
         looked_left blocks operation (looked call.header.activity call.header.sequence live.rest.calls) (other blocks is) none
 
@@ -230,7 +296,7 @@ module _ (others : List (List ℕ)) (station : Station) (live : Live) where
     left (Reported caller address said) hears other =
         cond_both (is_running live.values.running address) _ _ Left (λ _. said_left caller address said hears other) (λ _. tt)
     left (Resolves asker packet) hears other =
-        cond_both (is_request packet.operation && is_running live.values.running packet.target.address) _ _ Left (λ _. inl refl) (λ _. tt)
+        cond_both (is_request packet.operation && is_running live.values.running packet.target.address) _ _ Left (λ _. inl (inl refl)) (λ _. tt)
     left Unreadable hears other = tt
     left Elsewhere hears other = tt
     left heard hears other = absurd hears

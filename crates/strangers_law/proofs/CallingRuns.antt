@@ -24,7 +24,10 @@ use Rattle.end_laws.specs.both.Small as small
 use Rattle.end_laws.specs.both.Small.{Rules}
 use Rattle.end_laws.specs.controller.Small.{small_of}
 use Rattle.end_laws.specs.device.Small as device
-use Rattle.end_laws.specs.device.Small.{IsPlanned, kept_in, link_of}
+use Rattle.asked_records.specs.Asked.{AskedState, question_in}
+use Rattle.asked_records.specs.declared.names.RecordName.{RecordName}
+use Rattle.asked_records.specs.declared.question.Question.{Question}
+use Rattle.end_laws.specs.device.Small.{IsPlanned, asked_in, kept_in, link_of}
 use Rattle.both_ends.specs.startup.Played.{Begins, viewed}
 use Rattle.both_ends.specs.startup.View.{IsMeant, IsMeantAtDevice, move_of, view_of}
 use Rattle.strangers_law.specs.Calling.{AreOthers, CallsLeave, GoesAlike, IsLike, IsOwn}
@@ -36,12 +39,13 @@ use Rattle.strangers_law.proofs.Runs.{leaves_worlds}
 -- ---- what is heard
 
 -- A call that is planned has the activity of the set-up.
-own_heard : (rules : Rules TakenRecord Request) (activity : List ℕ) (real : Real) (heard : Heard) → IsPlanned rules activity real heard → IsOwn activity heard
-own_heard rules activity real (Reported caller address (Calls call)) planned = planned.own
-own_heard rules activity real heard planned = tt
+own_heard : (rules : Rules TakenRecord Request) (activity : List ℕ) (named : List RecordName) (real : Real) (heard : Heard)
+    → IsPlanned rules activity named real heard → IsOwn activity heard
+own_heard rules activity named real (Reported caller address (Calls call)) planned = planned.own
+own_heard rules activity named real heard planned = tt
 
 own_meant : {F : Type 0} (world : World F) (heard : Heard) → IsMeantAtDevice world heard → IsOwn world.controller.setup.activity heard
-own_meant world heard meant = own_heard _ world.controller.setup.activity world.device.live.rest.real heard meant.planned
+own_meant world heard meant = own_heard _ world.controller.setup.activity world.device.station.named world.device.live.rest.real heard meant.planned
 
 setup_still : (old : Controlling) (event : Event) → (step_of old event).controller.setup ≡ old.setup
 unfolding step_of
@@ -205,7 +209,7 @@ module _ {F : Type 0} {S : ℕ} (as_flash : Flash F S) (others : List (List ℕ)
           last = so.last;
           like = record {
             controller = taken.controller ∙ so.like.controller;
-            device = left.like beside.device so.like.device;
+            device = left.like happens.2 beside.device so.like.device;
             sent = taken.sent ∙ so.like.sent;
           };
           few = so.few;
@@ -223,8 +227,17 @@ module _ {F : Type 0} {S : ℕ} (as_flash : Flash F S) (others : List (List ℕ)
   none_kept None none some = absurd cc
   none_kept (Some answer) none some = absurd cc
 
-  like_first : (activity : List ℕ) (device : State F) → kept_of activity device.live.rest.calls ≡ None → IsLike activity others device device
-  like_first activity device none = record { is = refl; kept = refl; recent = λ some. absurd (none_kept (kept_of activity device.live.rest.calls) none some) }
+  none_asked : (question : Question) → None ≡ Some question → ⊥
+  none_asked question is = cc
+
+  like_first : (activity : List ℕ) (device : State F) → kept_of activity device.live.rest.calls ≡ None → question_in device.live.rest.asked ≡ None
+      → IsLike activity others device device
+  like_first activity device none unasked = record {
+    is = refl;
+    kept = refl;
+    recent = λ some. absurd (none_kept (kept_of activity device.live.rest.calls) none some);
+    asked = λ question is. absurd (none_asked question (sym unasked ∙ is));
+  }
 
   pub runs_beside : CallsLeave as_flash → GoesAlike as_flash → (setup : Setup) (identity : Identity) (first : World F)
       → ((run : List (Move × World F)) → AreMade as_flash first run → (one : Move) → IsMeant (last_world first run) one)
@@ -238,7 +251,8 @@ module _ {F : Type 0} {S : ℕ} (as_flash : Flash F S) (others : List (List ℕ)
         last = refl;
         like = record {
           controller = refl;
-          device = like_first first.controller.setup.activity first.device (ap (λ (a : List ℕ). kept_of a first.device.live.rest.calls) own ∙ begins.uncalled);
+          device = like_first first.controller.setup.activity first.device (ap (λ (a : List ℕ). kept_of a first.device.live.rest.calls) own ∙ begins.uncalled)
+              begins.unasked;
           sent = refl;
         };
         few = subst (λ (a : List ℕ). AreOthers a others) (sym own) few;
@@ -257,15 +271,31 @@ module _ {F : Type 0} (others : List (List ℕ)) where
         sent = called.sent;
       }) like.controller
       ∙ ap (λ (kept : Option Answer). record {
-        device = record { kept = option_map kept_in kept; link = option_map link_of called.device.live.rest.link };
+        device =
+            record { kept = option_map kept_in kept; link = option_map link_of called.device.live.rest.link; asked = asked_in called.device.live.rest.asked };
         controller = now;
         sent = called.sent;
       }) (sym like.device.kept)
       ∙ ap (λ (link : Option RelationState). record {
-        device = record { kept = option_map kept_in (kept_of own alone.device.live.rest.calls); link = option_map link_of link };
+        device =
+            record {
+              kept = option_map kept_in
+                  (kept_of own alone.device.live.rest.calls);
+              link = option_map link_of link;
+              asked = asked_in called.device.live.rest.asked;
+            };
         controller = now;
         sent = called.sent;
       }) (sym (ap (λ (d : State F). d.live.rest.link) like.device.is))
+      ∙ ap (λ (asked : AskedState). record {
+        device = record {
+          kept = option_map kept_in (kept_of own alone.device.live.rest.calls);
+          link = option_map link_of alone.device.live.rest.link;
+          asked = asked_in asked;
+        };
+        controller = now;
+        sent = called.sent;
+      }) (sym (ap (λ (d : State F). d.live.rest.asked) like.device.is))
       ∙ ap (λ (sent : List (List ℕ)). record { device = device.small_of own alone.device.live; controller = now; sent = sent }) like.sent
 
   pub same_viewed : (run alone : List (Move × World F)) → AreBeside others run alone → viewed run ≡ viewed alone

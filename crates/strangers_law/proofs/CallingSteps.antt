@@ -16,9 +16,13 @@ use Rattle.device_frames.specs.Sent.{bytes_of}
 use Rattle.device_frames.specs.declared.note.Note.{Note}
 use Rattle.device_core.specs.Faults.{IsAsIn, StepGoesOn, asks_nothing}
 use Rattle.device_core.specs.Handled.{Handled, Refuses, Sets, Writes, WritesEach, Moves, handled}
-use Rattle.device_core.specs.Machine.{Finished, Stepped, finished, handled_step, heard_step, items_in, items_of}
+use Rattle.dcp_core.specs.Set.{plan_of}
+use Rattle.device_core.specs.Asking.{ended_by}
+use Rattle.device_core.specs.Machine.{Finished, Stepped, farewell_at, finished, handled_step, heard_step, items_in, items_of, resets}
 use Rattle.device_core.specs.State.{Live, Rest, State, Station, store_of}
 use Rattle.device_core.specs.Steps.{Steps}
+use Rattle.end_laws.specs.device.Small.{IsAskedOwn}
+use Rattle.octets_law.proofs.Asked.{left_such}
 use Rattle.strangers_law.specs.Calling.{GoesOnAlike, IsLike, IsOwn, IsRecent, with_calls}
 use Rattle.strangers_law.proofs.CallingAlike.{Same, handled_same, swapped}
 use Rattle.strangers_law.proofs.CallingStore.{own_first, own_recent}
@@ -73,6 +77,7 @@ record AreAlike (own : List ℕ) (others : List (List ℕ)) (one two : Stepped) 
   accepted : two.accepted ≡ one.accepted
   kept : kept_of own calls ≡ kept_of own one.live.rest.calls
   recent : IsRecent own others one.live.rest.calls
+  asked : IsAskedOwn own one.live.rest.asked
 
 -- What an event leaves, whatever the settings answer.
 record AreEnds (one two : Finished) : Type 0 where
@@ -80,7 +85,7 @@ record AreEnds (one two : Finished) : Type 0 where
   note : two.note ≡ one.note
 
 module _ (own : List ℕ) (others : List (List ℕ)) (station : Station) (live : Live) (calls : List Kept) (kept : kept_of own calls ≡ kept_of own live.rest.calls)
-    (recent : IsRecent own others live.rest.calls) where
+    (recent : IsRecent own others live.rest.calls) (asked : IsAskedOwn own live.rest.asked) where
   abbrev there : Live
   there = swapped calls live
 
@@ -102,10 +107,20 @@ module _ (own : List ℕ) (others : List (List ℕ)) (station : Station) (live :
   unfolding handled_step
   step_alike outcomes (Refuses note) other same =
       subst (AreSteps outcomes (Refuses note)) (sym same)
-      (record { calls = calls; live = refl; sent = refl; frames = refl; note = refl; accepted = refl; kept = kept; recent = recent })
+      (record { calls = calls; live = refl; sent = refl; frames = refl; note = refl; accepted = refl; kept = kept; recent = recent; asked = asked })
   step_alike outcomes (Sets asker request in_operation) other same =
-      subst (AreSteps outcomes (Sets asker request in_operation)) (sym same)
-      (record { calls = calls; live = refl; sent = refl; frames = refl; note = refl; accepted = refl; kept = kept; recent = recent })
+      subst (AreSteps outcomes (Sets asker request in_operation)) (sym same) (record {
+        calls = calls;
+        live = refl;
+        sent = refl;
+        frames = refl;
+        note = refl;
+        accepted = refl;
+        kept = kept;
+        recent = recent;
+        asked = left_such (λ question. question.header.activity ≡ own) (ended_by (farewell_at (resets (plan_of in_operation request)
+            (carried outcomes live.values (plan_of in_operation request)).answers) live.rest.link)) live.rest.asked asked;
+      })
   step_alike outcomes (Writes caller address call header value) other same =
       subst (AreSteps outcomes (Writes caller address call header value)) (sym same.0) (record {
         calls = _;
@@ -116,6 +131,7 @@ module _ (own : List ℕ) (others : List (List ℕ)) (station : Station) (live :
         accepted = refl;
         kept = stored _ same.1;
         recent = own_recent own others _ live.rest.calls same.1;
+        asked = asked;
       })
   step_alike outcomes (WritesEach caller address call header judged) other same =
       subst (AreSteps outcomes (WritesEach caller address call header judged)) (sym same.0) (record {
@@ -127,10 +143,11 @@ module _ (own : List ℕ) (others : List (List ℕ)) (station : Station) (live :
         accepted = refl;
         kept = stored _ same.1;
         recent = own_recent own others _ live.rest.calls same.1;
+        asked = asked;
       })
   step_alike outcomes (Moves rest sent) other same =
       subst (AreSteps outcomes (Moves rest sent)) (sym same.1)
-      (record { calls = same.0; live = refl; sent = refl; frames = refl; note = refl; accepted = refl; kept = same.2; recent = same.3 })
+      (record { calls = same.0; live = refl; sent = refl; frames = refl; note = refl; accepted = refl; kept = same.2; recent = same.3; asked = same.4 })
 
   -- What is sent, and the note, are the same for any answers of the settings.
   abbrev AreEndsOf : List BlockError → Handled → Handled → Type 0
@@ -177,7 +194,8 @@ module _ (own : List ℕ) (others : List (List ℕ)) (station : Station) (live :
 
 module _ {F : Type 0} {S : ℕ} (as_flash : Flash F S) (own : List ℕ) (others : List (List ℕ)) (old new : State F) (heard : Heard)
     (sent : List (List ℕ)) (said : Note) (is_own : IsOwn own heard) (steps : Steps as_flash old heard sent said new) (calls : List Kept)
-    (kept : kept_of own calls ≡ kept_of own old.live.rest.calls) (recent : IsRecent own others old.live.rest.calls) where
+    (kept : kept_of own calls ≡ kept_of own old.live.rest.calls) (recent : IsRecent own others old.live.rest.calls)
+    (asked : IsAskedOwn own old.live.rest.asked) where
   -- The other state, and what is done in either.
   abbrev other : Live
   other = swapped calls old.live
@@ -189,14 +207,14 @@ module _ {F : Type 0} {S : ℕ} (as_flash : Flash F S) (own : List ℕ) (others 
   other_does = handled old.station other heard
 
   same : Same own others one_does other_does
-  same = handled_same own others old.station old.live calls kept recent heard is_own
+  same = handled_same own others old.station old.live calls kept recent asked heard is_own
 
   items : items_of old.station other heard ≡ items_of old.station old.live heard
-  items = items_same own others old.station old.live calls kept recent one_does other_does same
+  items = items_same own others old.station old.live calls kept recent asked one_does other_does same
 
   alike : AreAlike own others (heard_step steps.outcomes old.station old.live heard) (heard_step steps.outcomes old.station other heard)
   unfolding heard_step
-  alike = step_alike own others old.station old.live calls kept recent steps.outcomes one_does other_does same
+  alike = step_alike own others old.station old.live calls kept recent asked steps.outcomes one_does other_does same
 
   next_live : swapped alike.calls new.live ≡ (heard_step steps.outcomes old.station other heard).live
   next_live = ap (swapped alike.calls) steps.live ∙ sym alike.live
@@ -211,11 +229,11 @@ module _ {F : Type 0} {S : ℕ} (as_flash : Flash F S) (own : List ℕ) (others 
       sym (ap (λ l. l.rest) steps.live) ∙ steps.goes_on.rest in
       ap (λ l. l.rest) next_live
       ∙ ap (λ i. (finished old.station.identity other.rest other_does (carried steps.outcomes old.live.values i).answers).rest) items
-      ∙ rests_alike own others old.station old.live calls kept recent one_does other_does same settled steps.goes_on.answers first
+      ∙ rests_alike own others old.station old.live calls kept recent asked one_does other_does same settled steps.goes_on.answers first
 
   goes_on : StepGoesOn old.station other heard sent said (swapped alike.calls new.live)
   goes_on =
-      let ends = ends_alike own others old.station old.live calls kept recent one_does other_does same steps.goes_on.answers in
+      let ends = ends_alike own others old.station old.live calls kept recent asked one_does other_does same steps.goes_on.answers in
       record {
         answers = steps.goes_on.answers;
         settings = subst (λ i. GoesOn old.live.values i steps.goes_on.answers new.live.values) (sym items) steps.goes_on.settings;
@@ -252,6 +270,7 @@ module _ {F : Type 0} {S : ℕ} (as_flash : Flash F S) (own : List ℕ) (others 
       is = refl;
       kept = alike.kept ∙ ap (λ l. kept_of own l.rest.calls) (sym steps.live);
       recent = subst (λ l. IsRecent own others l.rest.calls) (sym steps.live) alike.recent;
+      asked = subst (λ l. IsAskedOwn own l.rest.asked) (sym steps.live) alike.asked;
     };
   }
 
@@ -260,4 +279,4 @@ pub goes_alike : {F : Type 0} {S : ℕ} (as_flash : Flash F S) (own : List ℕ) 
     → GoesOnAlike as_flash own others alone new heard sent said
 goes_alike as_flash own others old new alone heard sent said like is steps =
     subst (λ a. GoesOnAlike as_flash own others a new heard sent said) (sym like.is)
-    (goes as_flash own others old new heard sent said is steps alone.live.rest.calls like.kept like.recent)
+    (goes as_flash own others old new heard sent said is steps alone.live.rest.calls like.kept like.recent like.asked)

@@ -35,6 +35,7 @@ use Rattle.relations.specs.declared.plugging.PlugAnswer.TheVariants as to_plug
 use Rattle.relations.specs.Plugging.{answered_with, calling_next, ended_by, plug_answer_in, plug_answering, plug_ended}
 use Rattle.relations.specs.RelationState.{RelationState}
 use Rattle.device_core.specs.Modules.{calling_after}
+use Rattle.rpc_core.specs.declared.response.Status.{Status}
 use Rattle.device_core.specs.Several.{Judged}
 use Rattle.device_core.specs.Machine.{effect_link, link_behind, one_link}
 use Rattle.relations.specs.Timers.{is_timed}
@@ -93,9 +94,9 @@ stays_effect : (effect : Effect) (link : Option RelationState) → Stays link (e
 stays_effect (Stores value) link = stays link
 stays_effect (Keeps parameter) link = stays_taking (keeping parameter link) link
 
-stays_one : (result : Result Write CallFault) (link : Option RelationState) → Stays link (one_link result link)
+stays_one : (result : Result Write Status) (link : Option RelationState) → Stays link (one_link result link)
 stays_one (Ok write) link = stays_effect write.effect link
-stays_one (Err why) link = stays link
+stays_one (Err status) link = stays link
 
 pub stays_each : (judged : List Judged) (link : Option RelationState) → Stays link (link_behind judged link)
 stays_each [] link = stays link

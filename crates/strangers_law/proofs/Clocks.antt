@@ -1,5 +1,5 @@
 -- What an event does to the clocks of a relation.
-use Rattle.std.proofs.Common.{◌≡◌, ◌⊎◌, ◌≤◌, ◌+◌, ◌*◌, ◌==◌, ◌++◌, ◌&&◌, inl, inr, ℕ, min, max, nat_le, Bool, true, false, List, [], ◌∷◌}
+use Rattle.std.proofs.Common.{◌≡◌, ◌⊎◌, ◌≤◌, ◌+◌, ◌*◌, ◌==◌, ◌++◌, ◌&&◌, inl, inr, ℕ, min, max, nat_le, Bool, true, false, not, length, List, [], ◌∷◌, Result, Ok, Err}
 use Rattle.std.proofs.Common.{Option, Some, None, refl, sym, ap, subst, ◌∙◌, if◌then◌else◌, arith}
 use Rattle.std.proofs.lemmas.Bool.Decides.{nat_tests}
 use Rattle.pn_values.specs.declared.mac.Mac.{Mac}
@@ -38,8 +38,25 @@ use Rattle.device_core.specs.Handled.{Handled, Refuses, Moves, handled}
 use Rattle.device_core.specs.Handled.{handled_request, is_request, is_running}
 use Rattle.device_core.specs.Machine.{farewells_at, finished, handled_step, heard_step, items_in, link_after, resets}
 use Rattle.device_core.specs.Local.{IsLinkOf, IsPhaseOf, IsRelationOf}
-use Rattle.device_core.proofs.Applied.{local_is}
-use Rattle.strangers_law.specs.Silence.{IsDue, IsTimed, hold_of, left_of, remaining, silence_limit}
+use Rattle.std.proofs.lemmas.Bool.{cond_both}
+use Rattle.arrayvec.specs.ArrayVec.{ArrayVec}
+use Rattle.rpc_core.specs.Cache.{Kept, looked}
+use Rattle.records.specs.calls.Naming.{is_relation}
+use Rattle.asked_records.specs.Answers.{Gives, is_refusal, judged}
+use Rattle.asked_records.specs.Asked.{AskedState, is_of, is_over as is_late, question_in}
+use Rattle.asked_records.specs.Questions.{header_of}
+use Rattle.asked_records.specs.declared.answering.AnswerFault.{AnswerFault}
+use Rattle.asked_records.specs.declared.question.Question.{Question}
+use Rattle.relations.specs.Phases.{Handled as Moving, Named, Unmoved}
+use Rattle.relations.specs.RelationState.{uuid_of}
+use Rattle.relations.specs.Timers.{due_of}
+use Rattle.device_frames.specs.declared.local.Local.{Local}
+use Rattle.device_frames.specs.Relation.{where_due}
+use Rattle.device_core.specs.Asking.{answered_link, ended_by, is_full, is_new, late_in, late_reply, late_sent, left_asked, source_of}
+use Rattle.device_core.specs.Handled.{counted_sent, handled_judged, handled_local, unit_rest, unit_sent}
+use Rattle.octets_law.proofs.Asked.{judged_goes as judged_asked}
+use Rattle.octets_law.proofs.Locals.{by_local}
+use Rattle.strangers_law.specs.Silence.{IsDue, IsTimed, IsUnasked, hold_of, left_of, remaining, silence_limit}
 
 -- ---- numbers
 
@@ -122,11 +139,10 @@ abbrev pub Lasts : RelationState → Option RelationState → Type 0
 Lasts link None = Unit {0}
 Lasts link (Some next) = clock_of next ≡ clock_of link
 
--- What is heard of the device itself, but for a unit: what its application and its neighbour say. And a DCP request or an ARP packet of anybody.
+-- What is heard of the device itself, but for a unit and for its application: what its neighbour says. And a DCP request or an ARP packet of anybody.
 abbrev pub IsBeside : Heard → Type 0
 IsBeside (Asks source request) = Unit {0}
 IsBeside (Met peer) = Unit {0}
-IsBeside (Applied local) = Unit {0}
 IsBeside (Resolves asker packet) = Unit {0}
 IsBeside Unreadable = Unit {0}
 IsBeside Elsewhere = Unit {0}
@@ -187,7 +203,7 @@ module _ (station : Station) (before : Live) (link : RelationState) where
   phase_timed before after (inl same) = ap is_timed same
   phase_timed before after (inr (was, is)) = ap is_timed is ∙ sym (ap is_timed was)
 
-  same_clock : (next : RelationState) → IsLinkOf link next → clock_of next ≡ clock_of link
+  pub same_clock : (next : RelationState) → IsLinkOf link next → clock_of next ≡ clock_of link
   same_clock next same =
       let timed : is_timed next.phase ≡ is_timed link.phase = phase_timed link.phase next.phase same.phase in
       rw (same.request, same.inactive, timed, same.flow.route, same.flow.begun, same.flow.hearing, same.flow.endpoint) refl
@@ -199,11 +215,36 @@ module _ (station : Station) (before : Live) (link : RelationState) where
   goes : (heard : Heard) → IsBeside heard → Done (handled station related heard)
   goes (Asks asker request) beside = requests asker request.service request
   goes (Met peer) beside = λ answers. stands link [] refl
-  goes (Applied local) beside = λ answers. local_goes _ _ ((local_is station related local).link answers)
   goes (Resolves asker packet) beside = resolves asker packet (is_request packet.operation && is_running related.values.running packet.target.address)
   goes Unreadable beside = refuses note.Fault
   goes Elsewhere beside = refuses note.NotMine
   goes heard beside = absurd beside
+
+  -- An answer to a call that does not name the relation leaves it as it is.
+  judged_goes : (given : Gives) (judged : Result Question AnswerFault)
+      → ((question : Question) → judged ≡ Ok question → is_relation (Some link.request.ar.uuid) (header_of question.request).ar_uuid ≡ false)
+      → Done (handled_judged station related given judged)
+  judged_goes given (Ok question) unnamed = λ answers.
+      let is : answered_link question given (Some link) ≡ Some link =
+      ap (λ b. updated (if b && not (is_refusal given) then Named (source_of question) else Unmoved) (Some link)) (unnamed question refl) in
+      subst (λ l. Goes link l (finished station.identity related.rest (handled_judged station related given (Ok question)) answers).sent) (sym is)
+      (stands link _ refl)
+  judged_goes given (Err why) unnamed = refuses note.Refused
+
+  applies : IsUnasked link before.rest.asked → (said : Local (ArrayVec ℕ)) → Done (handled_local station related said)
+  applies unasked said =
+      by_local station related Done said (λ made what it answers. local_goes _ _ (it.link answers)) (λ number given.
+      judged_goes given (judged number given before.rest.asked) (λ question is. unasked question
+      (judged_asked number before.rest.asked.last given before.rest.asked.standing question is)))
+
+step_of_applied : (outcomes : List Outcome) (station : Station) (live : Live) (link : RelationState) (said : Local (ArrayVec ℕ))
+    → IsUnasked link live.rest.asked
+    → let step = heard_step outcomes station (record live { rest = record live.rest { link = Some link } })
+    (Applied said) in Goes link step.live.rest.link step.sent
+unfolding heard_step handled_step
+step_of_applied outcomes station live link said unasked =
+    applies station live link unasked said (carried outcomes live.values (items_in (handled station
+    (record live { rest = record live.rest { link = Some link } }) (Applied said)))).answers
 
 step_of_link : (outcomes : List Outcome) (station : Station) (live : Live) (link : RelationState) (heard : Heard) → IsBeside heard
     → let step = heard_step outcomes station (record live { rest = record live.rest { link = Some link } }) heard in Goes link step.live.rest.link step.sent
@@ -222,9 +263,17 @@ beside_goes outcomes station live link heard is beside =
     subst (λ (l : Live). let step = heard_step outcomes station l heard in Goes link step.live.rest.link step.sent) (same_live live link is)
     (step_of_link outcomes station live link heard beside)
 
+-- What the application says, while it is asked no call that names the relation.
+pub applied_goes : (outcomes : List Outcome) (station : Station) (live : Live) (link : RelationState) (said : Local (ArrayVec ℕ)) → live.rest.link ≡ Some link
+    → IsUnasked link live.rest.asked
+    → Goes link (heard_step outcomes station live (Applied said)).live.rest.link (heard_step outcomes station live (Applied said)).sent
+applied_goes outcomes station live link said is unasked =
+    subst (λ (l : Live). let step = heard_step outcomes station l (Applied said) in Goes link step.live.rest.link step.sent) (same_live live link is)
+    (step_of_applied outcomes station live link said unasked)
+
 -- ---- a unit
 
--- With a unit the relation ends, and its ERR alone is sent; or it is one unit nearer to its end.
+-- With a unit the relation ends, and of it the ERR alone is sent; or it is one unit nearer to its end.
 pub record IsPassed (link next : RelationState) : Type 0 where
   pub request : next.request ≡ link.request
   pub route : next.flow.cyclic.route ≡ link.flow.cyclic.route
@@ -232,11 +281,14 @@ pub record IsPassed (link next : RelationState) : Type 0 where
   pub timed : IsTimed next
   pub left : remaining next + 1 ≡ remaining link
 
-pub record IsOver (link : RelationState) (after : Option RelationState) (sent : List Sent) : Type 0 where
+pub record IsOver (asked : AskedState) (link : RelationState) (after : Option RelationState) (sent : List Sent) : Type 0 where
   pub none : after ≡ None
   pub reason : Abort
   pub cause : IsDue link reason
-  pub says : sent ≡ Ends (farewell_of reason link) ∷ []
+  pub others : List Sent
+  pub few : length others ≤ 1
+  pub late : is_late asked ≡ false → others ≡ []
+  pub says : sent ≡ Ends (farewell_of reason link) ∷ others
 
 pub record IsOn (link : RelationState) (after : Option RelationState) : Type 0 where
   pub next : RelationState
@@ -352,31 +404,61 @@ module _ (link : RelationState) (timed : IsTimed link) (none : ending_of link �
   passes : IsPassed link (unit_later link)
   passes = record { request = refl; route = refl; endpoint = refl; timed = later_timed; left = left_timed (is_timed link.phase) refl }
 
+-- At most one call is refused with a unit, and none if none is over.
+late_few : (address : List ℕ) (late : Option Question) (calls : List Kept) → length (late_sent address late calls) ≤ 1
+late_few address None calls = omega arith
+late_few address (Some question) calls = by_due (is_new (looked question.header.activity question.header.sequence calls))
+  where
+    by_due : (due : Bool) → length (where_due due (late_reply address question ∷ [])) ≤ 1
+    by_due true = omega arith
+    by_due false = omega arith
+
+over_left : (uuid : Option (List ℕ)) (asked : AskedState) → is_late asked ≡ false → is_late (left_asked uuid asked) ≡ false
+over_left None asked not_over = not_over
+over_left (Some uuid) asked not_over = cond_both (is_of uuid asked) _ _ (λ (s : AskedState). is_late s ≡ false) (λ _. refl) (λ _. not_over)
+
+late_none : (address : List ℕ) (count : ℕ) (asked : AskedState) (calls : List Kept) → is_late asked ≡ false → late_sent address (late_in count asked) calls ≡ []
+late_none address count asked calls not_over =
+    ap (λ b. late_sent address (if b && not (is_full count) then question_in asked else None) calls) not_over
+
 tick_of_link : (outcomes : List Outcome) (station : Station) (live : Live) (link : RelationState) → IsTimed link
     → let step = heard_step outcomes station (record live { rest = record live.rest { link = Some link } }) Ticks in
-    IsOver link step.live.rest.link step.sent ⊎ IsOn link step.live.rest.link
+    IsOver live.rest.asked link step.live.rest.link step.sent ⊎ IsOn link step.live.rest.link
 unfolding heard_step handled_step
 tick_of_link outcomes station live link timed = by_ending (ending_of link) refl
   where
+    related : Live
+    related = record live { rest = record live.rest { link = Some link } }
+
+    address : List ℕ
+    address = live.values.running.suite.address
+
+    late : List Sent
+    late = counted_sent address (length (unit_sent related)) (unit_rest related)
+
     by_ending : (ending : Option Abort) → ending_of link ≡ ending
-        → IsOver link (updated (passing_by (ending_of link)) (Some link))
-        (due_frames live.values.running.suite.address (counter_of (units_after 1 live.rest.units)) (due_by link (ending_of link))
-        (updated (passing_by (ending_of link)) (Some link)))
+        → IsOver live.rest.asked link (updated (passing_by (ending_of link)) (Some link))
+        (due_frames address (counter_of (units_after 1 live.rest.units)) (due_by link (ending_of link))
+        (updated (passing_by (ending_of link)) (Some link)) ++ late)
         ⊎ IsOn link (updated (passing_by (ending_of link)) (Some link))
     by_ending (Some why) is = inl (record {
       none = ap (λ e. updated (passing_by e) (Some link)) is;
       reason = why;
       cause = due_now link why timed is;
-      says = ap (λ e. due_frames live.values.running.suite.address (counter_of (units_after 1 live.rest.units)) (due_by link e)
-          (updated (passing_by e) (Some link))) is;
+      others = late;
+      few = late_few address (late_in (length (unit_sent related)) (unit_rest related).asked) live.rest.calls;
+      late = λ not_over. late_none address (length (unit_sent related)) (unit_rest related).asked live.rest.calls
+          (over_left (ended_by (due_of (Some link)).farewell) live.rest.asked not_over);
+      says = ap (λ e. due_frames address (counter_of (units_after 1 live.rest.units)) (due_by link e) (updated (passing_by e) (Some link)) ++ late) is;
     })
     by_ending None is = inr (record { next = unit_later link; is = ap (λ e. updated (passing_by e) (Some link)) is; passed = passes link timed is })
 
 pub tick_goes : (outcomes : List Outcome) (station : Station) (live : Live) (link : RelationState) → live.rest.link ≡ Some link → IsTimed link
-    → IsOver link (heard_step outcomes station live Ticks).live.rest.link (heard_step outcomes station live Ticks).sent
+    → IsOver live.rest.asked link (heard_step outcomes station live Ticks).live.rest.link (heard_step outcomes station live Ticks).sent
     ⊎ IsOn link (heard_step outcomes station live Ticks).live.rest.link
 tick_goes outcomes station live link is timed =
-    subst (λ (l : Live). let step = heard_step outcomes station l Ticks in IsOver link step.live.rest.link step.sent ⊎ IsOn link step.live.rest.link)
+    subst
+    (λ (l : Live). let step = heard_step outcomes station l Ticks in IsOver l.rest.asked link step.live.rest.link step.sent ⊎ IsOn link step.live.rest.link)
     (same_live live link is)
     (tick_of_link outcomes station live link timed)
 
@@ -411,10 +493,19 @@ module _ (station : Station) (before : Live) where
   beside_free (Asks asker request) beside = request_free asker request.service request
   beside_free (Resolves asker packet) beside = resolves_free asker packet (is_request packet.operation && is_running free.values.running packet.target.address)
   beside_free (Met peer) beside = λ answers. refl
-  beside_free (Applied local) beside = (local_is station free local).link
   beside_free Unreadable beside = λ answers. refl
   beside_free Elsewhere beside = λ answers. refl
   beside_free heard beside = absurd beside
+
+  judged_free : (given : Gives) (judged : Result Question AnswerFault) → StaysFree (handled_judged station free given judged)
+  judged_free given (Ok question) = λ answers.
+      cond_both (is_relation (uuid_of None) (header_of question.request).ar_uuid && not (is_refusal given)) (Named (source_of question)) Unmoved
+      (λ (m : Moving). updated m None ≡ None) (λ _. refl) (λ _. refl)
+  judged_free given (Err why) = λ answers. refl
+
+  applies_free : (said : Local (ArrayVec ℕ)) → StaysFree (handled_local station free said)
+  applies_free said =
+      by_local station free StaysFree said (λ made what it answers. it.link answers) (λ number given. judged_free given (judged number given before.rest.asked))
 
 free_live : (live : Live) → live.rest.link ≡ None → record live { rest = record live.rest { link = None } } ≡ live
 free_live live is = sym (ap (λ (l : Option RelationState). record live { rest = record live.rest { link = l } }) is)
@@ -425,6 +516,19 @@ unfolding heard_step handled_step
 step_of_free outcomes station live heard beside =
     beside_free station live heard beside (carried outcomes live.values (items_in
     (handled station (record live { rest = record live.rest { link = None } }) heard))).answers
+
+step_of_applied_free : (outcomes : List Outcome) (station : Station) (live : Live) (said : Local (ArrayVec ℕ))
+    → (heard_step outcomes station (record live { rest = record live.rest { link = None } }) (Applied said)).live.rest.link ≡ None
+unfolding heard_step handled_step
+step_of_applied_free outcomes station live said =
+    applies_free station live said (carried outcomes live.values (items_in
+    (handled station (record live { rest = record live.rest { link = None } }) (Applied said)))).answers
+
+pub free_applied : (outcomes : List Outcome) (station : Station) (live : Live) (said : Local (ArrayVec ℕ)) → live.rest.link ≡ None
+    → (heard_step outcomes station live (Applied said)).live.rest.link ≡ None
+free_applied outcomes station live said is =
+    subst (λ (l : Live). (heard_step outcomes station l (Applied said)).live.rest.link ≡ None) (free_live live is)
+    (step_of_applied_free outcomes station live said)
 
 pub free_beside : (outcomes : List Outcome) (station : Station) (live : Live) (heard : Heard) → IsBeside heard → live.rest.link ≡ None
     → (heard_step outcomes station live heard).live.rest.link ≡ None

@@ -1,13 +1,17 @@
 -- Any events of strangers among any units of time.
-use Rattle.std.proofs.Common.{◌≡◌, ◌⊎◌, ◌+◌, ◌%◌, inl, inr, ℕ, suc, zero, true, false, List, [], ◌∷◌, ◌++◌, map, Option, Some, None, is_some, refl, sym, ap, subst, ◌∙◌, if◌then◌else◌}
+use Rattle.std.proofs.Common.{◌≡◌, ◌⊎◌, ◌+◌, ◌%◌, inl, inr, ℕ, suc, zero, Bool, true, false, length, List, [], ◌∷◌, ◌++◌, map, Option, Some, None, is_some, refl, sym, ap, subst, ◌∙◌, if◌then◌else◌}
 use Rattle.std.specs.List.{AllByRecursion}
 use Rattle.settings_journal.specs.settings_store.Machine.{Outcome}
 use Rattle.relations.specs.Phases.{passing, passing_by, updated}
 use Rattle.relations.specs.RelationState.{RelationState}
 use Rattle.relations.specs.Timers.{due_of, ending_of, unit_later}
 use Rattle.settings_journal.specs.settings_store.State.{Values}
-use Rattle.device_frames.specs.Relation.{due_frames}
-use Rattle.device_frames.specs.Sent.{bytes_of}
+use Rattle.std.proofs.lemmas.List.{append-nil}
+use Rattle.rpc_core.specs.Cache.{Kept, looked}
+use Rattle.asked_records.specs.declared.question.Question.{Question}
+use Rattle.device_frames.specs.Relation.{due_frames, where_due}
+use Rattle.device_frames.specs.Sent.{Sent, IdentifyAnswer, GetAnswer, SetAnswer, ArpReply, CallAnswer, Again, ReadyCall, PlugReadyCall, Ends, Exchanges, bytes_of}
+use Rattle.device_core.specs.Asking.{is_new, late_in, late_reply, late_sent}
 use Rattle.pn_alarms.specs.declared.abort.Abort.{Abort}
 use Rattle.device_frames.specs.declared.event.Event.{Event}
 use Rattle.device_frames.specs.declared.event.Event.TheVariants.{Tick}
@@ -16,9 +20,9 @@ use Rattle.flash_model.specs.declared.flash.Flash.{Ghosts as Flash}
 use Rattle.device_frames.specs.declared.note.Note.{Note}
 use Rattle.device_core.specs.State.{Live, State, Station, counter_of, units_after}
 use Rattle.device_core.specs.Steps.{Steps}
-use Rattle.device_core.specs.Handled.{handled}
+use Rattle.device_core.specs.Handled.{counted_sent, handled, unit_rest, unit_sent}
 use Rattle.device_core.specs.Machine.{first_step, handled_step, heard_step, later_steps, run_of, step_of}
-use Rattle.strangers_law.specs.Device.{AreAnswers, IsLeft, IsStrange, RunsAsAlone, alone, frames_alone, is_unit, marks_of, unit_frames, units_in}
+use Rattle.strangers_law.specs.Device.{AreAnswers, IsLeft, IsStrange, RunsAsAlone, alone, but_answers, frames_alone, frames_of, is_unit, marks_of, unit_frames, units_in}
 use Rattle.strangers_law.specs.Strange.{Marks, is_own}
 use Rattle.strangers_law.proofs.Remaining.{IsAnswer, remains, remains_left, remains_sent, stored_in}
 use Rattle.strangers_law.proofs.Hearing.{strange_harmless}
@@ -63,16 +67,48 @@ tick_left outcomes station one other left = record {
   real = left.real;
 }
 
-tick_frames : (outcomes : List Outcome) (station : Station) (one other : Live) → IsLeft one other
-    → (step_of outcomes station other Tick).frames ≡ (step_of [] station one Tick).frames
+-- The response to a call that is refused with a unit is not one of these.
+but_both : (one two : List Sent) → but_answers (one ++ two) ≡ but_answers one ++ but_answers two
+but_both [] two = refl
+but_both (CallAnswer caller address answer ∷ one) two = but_both one two
+but_both (IdentifyAnswer asker running xid ∷ one) two = ap (λ l. IdentifyAnswer asker running xid ∷ l) (but_both one two)
+but_both (GetAnswer asker running alias request ∷ one) two = ap (λ l. GetAnswer asker running alias request ∷ l) (but_both one two)
+but_both (SetAnswer asker request answers ∷ one) two = ap (λ l. SetAnswer asker request answers ∷ l) (but_both one two)
+but_both (ArpReply asker address target ∷ one) two = ap (λ l. ArpReply asker address target ∷ l) (but_both one two)
+but_both (Again frame ∷ one) two = ap (λ l. Again frame ∷ l) (but_both one two)
+but_both (ReadyCall address ready ∷ one) two = ap (λ l. ReadyCall address ready ∷ l) (but_both one two)
+but_both (PlugReadyCall address ready ∷ one) two = ap (λ l. PlugReadyCall address ready ∷ l) (but_both one two)
+but_both (Ends farewell ∷ one) two = ap (λ l. Ends farewell ∷ l) (but_both one two)
+but_both (Exchanges route frame ∷ one) two = ap (λ l. Exchanges route frame ∷ l) (but_both one two)
+
+but_late : (address : List ℕ) (late : Option Question) (calls : List Kept) → but_answers (late_sent address late calls) ≡ []
+but_late address None calls = refl
+but_late address (Some question) calls = by_due (is_new (looked question.header.activity question.header.sequence calls))
+  where
+    by_due : (due : Bool) → but_answers (where_due due (late_reply address question ∷ [])) ≡ []
+    by_due true = refl
+    by_due false = refl
+
+-- The frames of a unit but for responses are those of the relation.
+tick_own : (outcomes : List Outcome) (station : Station) (live : Live)
+    → frames_of station (step_of outcomes station live Tick) ≡ map (bytes_of station.identity) (but_answers (unit_sent live))
 unfolding heard_of heard_step handled_step
+tick_own outcomes station live =
+    let address = live.values.running.suite.address in
+    ap (map (bytes_of station.identity)) (but_both (unit_sent live) (counted_sent address (length (unit_sent live)) (unit_rest live))
+    ∙ ap (λ l. but_answers (unit_sent live) ++ l) (but_late address (late_in (length (unit_sent live)) (unit_rest live).asked) live.rest.calls)
+    ∙ append-nil (but_answers (unit_sent live)))
+
+tick_frames : (outcomes : List Outcome) (station : Station) (one other : Live) → IsLeft one other
+    → frames_of station (step_of outcomes station other Tick) ≡ frames_of station (step_of [] station one Tick)
 tick_frames outcomes station one other left =
-    ap (λ (l : Option RelationState). map (bytes_of station.identity)
-    (due_frames other.values.running.suite.address (counter_of (units_after 1 other.rest.units)) (due_of l) (updated (passing l) l))) left.link
-    ∙ ap (λ (n : ℕ). map (bytes_of station.identity)
-    (due_frames other.values.running.suite.address (counter_of (units_after 1 n)) (due_of one.rest.link) (updated (passing one.rest.link) one.rest.link))) left.units
-    ∙ ap (λ (v : Values). map (bytes_of station.identity)
-    (due_frames v.running.suite.address (counter_of (units_after 1 one.rest.units)) (due_of one.rest.link) (updated (passing one.rest.link) one.rest.link))) left.values
+    let sent : Values → ℕ → Option RelationState → List (List ℕ) =
+    λ v n l. map (bytes_of station.identity) (but_answers
+    (due_frames v.running.suite.address (counter_of (units_after 1 n)) (due_of l) (updated (passing l) l))) in
+    tick_own outcomes station other
+    ∙ ap (sent other.values other.rest.units) left.link ∙ ap (λ n. sent other.values n one.rest.link) left.units
+    ∙ ap (λ v. sent v one.rest.units one.rest.link) left.values
+    ∙ sym (tick_own [] station one)
 
 -- A relation that a unit leaves is known by the same marks.
 record IsLater (link : RelationState) (now : Option RelationState) : Type 0 where
@@ -129,7 +165,7 @@ module _ (station : Station) where
       subst (λ (e : Event). Runs outcomes (e ∷ events) one other) (sym tick) (
         rest.0,
         ap (λ l. l ++ unit_frames (later_steps outcomes) station (step_of (first_step outcomes) station other Tick).live events) (tick_frames (first_step outcomes) station one other left)
-            ∙ ap (λ l. (step_of [] station one Tick).frames ++ l) rest.1,
+            ∙ ap (λ l. frames_of station (step_of [] station one Tick) ++ l) rest.1,
       )
 
   runs : (outcomes : List (List Outcome)) (events : List Event) (one other : Live) (link : RelationState) → one.rest.link ≡ Some link → IsLeft one other → AreOf (marks_of link) events
@@ -151,7 +187,8 @@ module _ (station : Station) where
       let rest = runs (later_steps outcomes) events one next link exists (left_both one other next left stays) are
       (subst (λ n. is_some (alone n station one).rest.link ≡ true) count some) in (
         subst (λ n. IsLeft (alone n station one) (run_of (later_steps outcomes) station next events).live) (sym count) rest.0,
-        ap (λ b. (if b then (step_of (first_step outcomes) station other event).frames else []) ++ unit_frames (later_steps outcomes) station next events) unit
+        ap (λ b. (if b then frames_of station (step_of (first_step outcomes) station other event) else []) ++ unit_frames
+            (later_steps outcomes) station next events) unit
             ∙ rest.1 ∙ sym (ap (λ n. frames_alone n station one) count),
       )
 

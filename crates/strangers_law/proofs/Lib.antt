@@ -3,6 +3,7 @@ pub mod Responses
 pub mod Refusals
 pub mod Harmless
 pub mod Unnamed
+pub mod AskedBy
 pub mod Remaining
 pub mod Marked
 pub mod Hearing

@@ -1,5 +1,5 @@
 -- What a device does with any event: its count of relations, and the numbers and clocks of its relation.
-use Rattle.std.proofs.Common.{◌≡◌, ◌⊎◌, inl, inr, ℕ, Bool, true, false, List, Option, Some, None, Result, Ok, Err, refl, sym, ap, subst, if◌then◌else◌}
+use Rattle.std.proofs.Common.{◌≡◌, ◌⊎◌, ◌&&◌, inl, inr, ℕ, Bool, true, false, not, List, Option, Some, None, Result, Ok, Err, refl, sym, ap, subst, if◌then◌else◌}
 use Rattle.wire.specs.Codec.{◌>>=◌}
 use Rattle.frame_codec.specs.FrameId.{is_cyclic}
 use Rattle.pn_alarms.specs.declared.abort.Abort.{Abort}
@@ -49,16 +49,27 @@ use Rattle.relations.specs.Plugging.{calling_next, ended_by, is_plug_control, pl
 use Rattle.device_records.specs.Reading.{implicit_read, relation_read}
 use Rattle.device_frames.specs.declared.note.Note.{Note}
 use Rattle.device_frames.specs.declared.note.Note.TheVariants as note
-use Rattle.device_frames.specs.Heard.{Heard, Ticks, Reported, Cyclic, Alarms, LowReplies, LowConfirms}
+use Rattle.arrayvec.specs.ArrayVec.{ArrayVec}
+use Rattle.records.specs.calls.Naming.{is_relation}
+use Rattle.asked_records.specs.Answers.{Gives, is_refusal, judged}
+use Rattle.asked_records.specs.Asked.{AskedState, asks, is_repeat}
+use Rattle.asked_records.specs.Questions.{header_of}
+use Rattle.asked_records.specs.declared.answering.AnswerFault.{AnswerFault}
+use Rattle.asked_records.specs.declared.question.Question.{Question}
+use Rattle.device_frames.specs.declared.local.Local.{Local}
+use Rattle.device_core.specs.Asking.{Asking, asking_of, source_of}
+use Rattle.device_core.specs.Local.{IsRelationOf}
+use Rattle.device_frames.specs.Heard.{Heard, Ticks, Applied, Reported, Cyclic, Alarms, LowReplies, LowConfirms}
 use Rattle.device_frames.specs.Heard.{Said, Calls, Responds, Garbled}
 use Rattle.settings_journal.specs.settings_store.Machine.{Outcome, carried}
 use Rattle.device_core.specs.Handled.{handled_call, handled_effect, handled_looked, handled_low, handled_low_message}
-use Rattle.device_core.specs.Handled.{handled_low_pdu, handled_message, handled_new, handled_pdu, handled_plug_answer, handled_plug_end, handled_prm_end}
+use Rattle.device_core.specs.Handled.{handled_asking, handled_judged, handled_local, handled_low_pdu, handled_message, handled_own, handled_pdu, handled_question, handled_unanswered, handled_plug_answer, handled_plug_end, handled_prm_end}
 use Rattle.device_core.specs.Handled.{handled_received, handled_response, handled_said}
 use Rattle.device_core.specs.Handled.{handled_write, implicitly, is_running, known_of, partner_of, starting_of}
 use Rattle.device_core.specs.Several.{judged_each}
 use Rattle.device_core.specs.Machine.{finished, first_answer, handled_step, heard_step, items_in, link_behind, written_as}
-use Rattle.strangers_law.proofs.Clocks.{IsBeside, Lasts, beside_goes, free_beside, clock_timed, later_timed}
+use Rattle.octets_law.proofs.Locals.{by_local}
+use Rattle.strangers_law.proofs.Clocks.{IsBeside, Lasts, beside_goes, free_beside, clock_timed, later_timed, same_clock}
 use Rattle.strangers_law.proofs.FrameIds.{connect_cyclic, number_few}
 use Rattle.strangers_law.proofs.Unnamed.{no_request}
 use Rattle.strangers_law.specs.Silence.{IsTimed}
@@ -117,7 +128,7 @@ module _ (station : Station) (live : Live) where
   writes : (caller : Caller) (call : Call) (result : Result Writing CallFault) → Done (handled_write station live caller call result)
   writes caller call (Ok (One write)) = effects caller call write.request write.effect
   writes caller call (Ok (Each header entries)) = λ answers.
-      let judged = judged_each (uuid_of live.rest.link) live.rest.real entries in
+      let judged = judged_each station.named (uuid_of live.rest.link) live.rest.real entries in
       inl (
         refl,
         stays_both live.rest.link (link_behind judged live.rest.link) _ (stays_each judged live.rest.link)
@@ -177,25 +188,41 @@ module _ (station : Station) (live : Live) where
             (stays_called result named)),
       )
 
-  calls_new : (caller : Caller) (call : Call) (blocks : List ℕ) (which : Operation) → Done (handled_new station live caller call blocks which)
-  calls_new caller call blocks operation.Connect = λ answers.
+  calls_own : (caller : Caller) (call : Call) (blocks : List ℕ) (which : Operation) → Done (handled_own station live caller call blocks which)
+  calls_own caller call blocks operation.Connect = λ answers.
       connects caller blocks live.rest.link refl (connect_within station.options caller.mac live.rest.link blocks) refl
-  calls_new caller call blocks operation.Release = λ answers. inl (refl, stays_answered Ended (release_of live.rest.link blocks) live.rest.link tt)
-  calls_new caller call blocks operation.Read = λ answers. inl (
+  calls_own caller call blocks operation.Release = λ answers. inl (refl, stays_answered Ended (release_of live.rest.link blocks) live.rest.link tt)
+  calls_own caller call blocks operation.Read = λ answers. inl (
     refl,
     stays_answered (Named (partner_of caller)) (relation_read (known_of station live) station.identity live.rest.real live.values.running blocks) live.rest.link
         (stays_named (partner_of caller) live.rest.link),
   )
-  calls_new caller call blocks operation.Write = writes caller call (writing_of (uuid_of live.rest.link) live.rest.real blocks)
-  calls_new caller call blocks operation.Control =
+  calls_own caller call blocks operation.Write = writes caller call (writing_of (uuid_of live.rest.link) live.rest.real blocks)
+  calls_own caller call blocks operation.Control =
       cond_both (is_plug_control blocks live.rest.link) _ _ Done (λ _. ends_plug caller call blocks) (λ _. ends_parameters caller call blocks)
-  calls_new caller call blocks operation.ReadImplicit = λ answers. inl (
+  calls_own caller call blocks operation.ReadImplicit = λ answers. inl (
     refl,
     stays_answered (implicitly (partner_of caller) live.rest.link blocks) (implicit_read
         (known_of station live) station.identity live.rest.real live.values.running blocks) live.rest.link
         (cond_both (names_relation (uuid_of live.rest.link) blocks) _ _ (λ (m : Event). Stays live.rest.link (updated m live.rest.link))
         (λ _. stays_named (partner_of caller) live.rest.link) (λ _. stays live.rest.link)),
   )
+
+  -- A call for a record of the application changes neither.
+  calls_question : (question : Question) (asked : Option AskedState) → Done (handled_question station live question asked)
+  calls_question question (Some asked) = λ answers. inl (refl, stays live.rest.link)
+  calls_question question None = λ answers. inl (refl, stays live.rest.link)
+
+  calls_asking : (caller : Caller) (call : Call) (blocks : List ℕ) (which : Operation) (asking : Result (Option Asking) CallFault)
+      → Done (handled_asking station live caller call blocks which asking)
+  calls_asking caller call blocks which (Ok None) = calls_own caller call blocks which
+  calls_asking caller call blocks which (Ok (Some asking)) = calls_question asking.0 (asks asking.0 asking.1 live.rest.asked)
+  calls_asking caller call blocks which (Err why) = λ answers. inl (refl, stays live.rest.link)
+
+  calls_new : (caller : Caller) (call : Call) (blocks : List ℕ) (which : Operation) → Done (handled_unanswered station live caller call blocks which)
+  calls_new caller call blocks which =
+      cond_both (is_repeat call.header.activity call.header.sequence live.rest.asked) _ _ Done (λ _ answers. inl (refl, stays live.rest.link))
+      (λ _. calls_asking caller call blocks which (asking_of live.rest.real station.named (uuid_of live.rest.link) caller call blocks which))
 
   calls_looked : (caller : Caller) (call : Call) (blocks : List ℕ) (which : Operation) (found : Looked)
       → Done (handled_looked station live caller call blocks which found)
@@ -310,6 +337,26 @@ module _ (station : Station) (live : Live) where
           subst (λ l. Stays l (heard_step outcomes station live heard).live.rest.link) (sym is)
           (lasts_stay link (heard_step outcomes station live heard).live.rest.link (beside_goes outcomes station live link heard is beside).lasts)
 
+  -- What the application says.
+  relation_stays : (was after : Option RelationState) → IsRelationOf was after → Stays was after
+  relation_stays None after is = subst (Stays None) (sym is) tt
+  relation_stays (Some link) None is = absurd is
+  relation_stays (Some link) (Some next) is = lasts_stay link (Some next) (same_clock station live link next is)
+
+  judged_moves : (given : Gives) (judged : Result Question AnswerFault) → Done (handled_judged station live given judged)
+  judged_moves given (Ok question) = λ answers. inl (
+    refl,
+    cond_both (is_relation (uuid_of live.rest.link) (header_of question.request).ar_uuid && not (is_refusal given)) _ _
+        (λ (m : Event). Stays live.rest.link (updated m live.rest.link)) (λ _. stays_named (source_of question) live.rest.link) (λ _. stays live.rest.link),
+  )
+  judged_moves given (Err why) = refuses note.Refused
+
+  applied : (said : Local (ArrayVec ℕ)) → Done (handled_local station live said)
+  applied said =
+      by_local station live Done said (λ made what it answers. inl
+      (ap (λ (rest : Rest). rest.made) (it.keeps answers), relation_stays live.rest.link _ (it.link answers)))
+      (λ number given. judged_moves given (judged number given live.rest.asked))
+
   tick_moves : (outcomes : List Outcome) → Moves station live.rest (heard_step outcomes station live Ticks).live.rest
   unfolding heard_step handled_step
   tick_moves outcomes = inl (refl, by_link live.rest.link)
@@ -336,4 +383,5 @@ module _ (station : Station) (live : Live) where
   step_moves outcomes (LowConfirms source header message) =
       heard_moves outcomes (LowConfirms source header message) (confirms source header message (has_sent_low live.rest.link))
   step_moves outcomes Ticks = tick_moves outcomes
+  step_moves outcomes (Applied said) = heard_moves outcomes (Applied said) (applied said)
   step_moves outcomes heard = beside_moves outcomes heard tt

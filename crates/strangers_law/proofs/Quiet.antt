@@ -64,6 +64,7 @@ use Rattle.settings_journal.specs.settings_store.Carries.{OneByOne}
 use Rattle.settings_journal.specs.settings_store.State as store
 use Rattle.device_core.specs.State.{Live, Rest, State, Station, alias_in, store_of}
 use Rattle.device_core.specs.Handled.{Handled, Refuses, Sets, Writes, WritesEach, Moves, handled, handled_alarm, handled_answer, handled_low, handled_plug_answer, handled_received, handled_request, handled_said, is_request, is_running}
+use Rattle.device_core.specs.Asking.{ended_by, left_asked}
 use Rattle.device_core.specs.Log.{err_log, with_log}
 use Rattle.device_core.specs.Machine.{farewell_at, farewells_at, handled_step, heard_step, is_signal, items_in, lamp_after, link_after, resets}
 use Rattle.device_core.specs.Steps.{Steps}
@@ -402,7 +403,11 @@ denied_dark (Answer error ∷ items) denied = denied_dark items denied.1
 
 -- The rest after a Set.
 abbrev set_rest : ℕ → Bool → Rest → Rest
-set_rest lamp ends rest = with_log (err_log (farewell_at ends rest.link)) (record rest { lamp = lamp; link = link_after ends rest.link })
+set_rest lamp ends rest = with_log (err_log (farewell_at ends rest.link)) (record rest {
+  lamp = lamp;
+  link = link_after ends rest.link;
+  asked = left_asked (ended_by (farewell_at ends rest.link)) rest.asked;
+})
 
 stays_live : (asker : List ℕ) (outcomes : List Outcome) (station : Station) (live : Live) (what : Handled) → Stays asker live what → (handled_step outcomes station live what).live ≡ live
 unfolding handled_step

@@ -45,8 +45,16 @@ use Rattle.device_frames.specs.Heard.{Heard, Unreadable, Elsewhere, Asks, Resolv
 use Rattle.device_frames.specs.Sent.{Sent, IdentifyAnswer, GetAnswer, SetAnswer, ArpReply, CallAnswer, Again, ReadyCall, PlugReadyCall, Ends, Exchanges}
 use Rattle.settings_journal.specs.settings_store.State.{Values}
 use Rattle.settings_journal.specs.settings_store.Machine.{Outcome, carried, rest_of}
+use Rattle.rpc_core.specs.declared.response.Status.{Status}
+use Rattle.asked_records.specs.Answers.{unanswered_status}
+use Rattle.asked_records.specs.Asked.{AskedState, asks, is_repeat}
+use Rattle.asked_records.specs.Questions.{operation_of as operation_asked}
+use Rattle.asked_records.specs.declared.question.Question.{Question}
+use Rattle.asked_records.specs.declared.status.Unanswered.TheVariants.{Busy}
+use Rattle.device_frames.specs.Relation.{where_due}
+use Rattle.device_core.specs.Asking.{Asking, asking_of, is_new, reply_to}
 use Rattle.device_core.specs.State.{Live, Rest, Station, alias_in}
-use Rattle.device_core.specs.Handled.{Handled, Refuses, Sets, Writes, WritesEach, Moves, handled, handled_alarm, handled_answer, handled_blocks, handled_call, handled_cyclic, handled_looked, handled_low, handled_new, handled_plug_answer, handled_received, handled_request, handled_response, handled_said, handled_write, answer_from, counted_by, kept_behind, implicitly, is_running, is_request, known_of, number_now, partner_of, ready_behind, served, starting_of}
+use Rattle.device_core.specs.Handled.{Handled, Refuses, Sets, Writes, WritesEach, Moves, handled, handled_alarm, handled_answer, handled_blocks, handled_call, handled_cyclic, handled_looked, handled_low, handled_asking, handled_own, handled_plug_answer, handled_question, handled_unanswered, handled_received, handled_request, handled_response, handled_said, handled_write, answer_from, counted_by, kept_behind, implicitly, is_running, is_request, known_of, number_now, partner_of, ready_behind, served, starting_of}
 use Rattle.device_core.specs.Log.{connect_log, with_log}
 use Rattle.device_core.specs.Modules.{call_after, calling_after}
 use Rattle.device_core.specs.Machine.{farewells_at, handled_step, link_after, resets}
@@ -56,7 +64,7 @@ use Rattle.strangers_law.proofs.Unnamed.{IsNoEnd, connect_still, connect_uncount
 
 -- ---- what remains
 
--- The rest of a device, but for the lamp, the stored answers and the log.
+-- The rest of a device, but for the lamp, the stored answers, the log and what is asked.
 pub record RestStays (old new : Rest) : Type 0 where
   pub link : new.link ≡ old.link
   pub units : new.units ≡ old.units
@@ -166,8 +174,9 @@ remains_sent outcomes station live (Moves rest sent) remains = remains.1
 -- ---- a new call
 
 module _ (station : Station) (live : Live) (link : RelationState) (exists : live.rest.link ≡ Some link) where
-  new_remains : (caller : Caller) (call : Call) (blocks : List ℕ) (operation : Operation) → Names link blocks ≡ false → Remains live (handled_new station live caller call blocks operation)
-  new_remains caller call blocks Connect other = (
+  own_remains : (caller : Caller) (call : Call) (blocks : List ℕ) (operation : Operation) → Names link blocks ≡ false
+      → Remains live (handled_own station live caller call blocks operation)
+  own_remains caller call blocks Connect other = (
     record {
       link = subst (λ (l : Option RelationState). updated (making live.rest.real (partner_of caller) station.options (starting_of station live) (connect_within station.options caller.mac l blocks)) l ≡ l)
           (sym exists) (connect_still live.rest.real (partner_of caller) station.options (starting_of station live) caller.mac link blocks);
@@ -188,7 +197,7 @@ module _ (station : Station) (live : Live) (link : RelationState) (exists : live
 
       logged : Rest
       logged = with_log (connect_log blocks answer) live.rest
-  new_remains caller call blocks Release other = (
+  own_remains caller call blocks Release other = (
     record {
       link = subst (λ (l : Option RelationState). updated (answered Ended (release_of l blocks)) l ≡ l) (sym exists) (release_still link blocks other);
       units = refl;
@@ -201,7 +210,7 @@ module _ (station : Station) (live : Live) (link : RelationState) (exists : live
     },
     (tt, tt),
   )
-  new_remains caller call blocks Read other = (
+  own_remains caller call blocks Read other = (
     record {
       link = by_result (relation_read (known_of station live) station.identity live.rest.real live.values.running blocks) refl;
       units = refl;
@@ -219,14 +228,14 @@ module _ (station : Station) (live : Live) (link : RelationState) (exists : live
           → updated (answered (Named (partner_of caller)) r) live.rest.link ≡ live.rest.link
       by_result (Ok octets) is = absurd (no_read (known_of station live) station.identity live.rest.real live.values.running link blocks octets exists other is)
       by_result (Err why) is = refl
-  new_remains caller call blocks Write other =
+  own_remains caller call blocks Write other =
       by_result (writing_of (uuid_of live.rest.link) live.rest.real blocks) refl
     where
       by_result : (r : Result Writing CallFault) → writing_of (uuid_of live.rest.link) live.rest.real blocks ≡ r → Remains live (handled_write station live caller call r)
       by_result (Ok writing) is =
           absurd (no_write link live.rest.real blocks writing other (subst (λ (l : Option RelationState). writing_of (uuid_of l) live.rest.real blocks ≡ Ok writing) exists is))
       by_result (Err why) is = (record { link = refl; units = refl; is_running = refl; statuses = refl; peer = refl; diagnoses = refl; made = refl; real = refl }, (tt, tt))
-  new_remains caller call blocks Control other =
+  own_remains caller call blocks Control other =
       cond_both (is_plug_control blocks live.rest.link) _ _ (Remains live) (λ _. by_end (plug_end_in blocks live.rest.link) refl)
       (λ _. by_result (prm_end_of live.rest.link blocks) refl)
     where
@@ -251,7 +260,7 @@ module _ (station : Station) (live : Live) (link : RelationState) (exists : live
           (updated (answered (Named (partner_of caller)) r) (updated (answered (Parameterized station.options.ready_by_application) r) live.rest.link)) r)
       by_result (Ok block) is = absurd (let e : prm_end_of (Some link) blocks ≡ Ok block = subst (λ (l : Option RelationState). prm_end_of l blocks ≡ Ok block) exists is in let n = none.is in cc)
       by_result (Err why) is = (record { link = refl; units = refl; is_running = refl; statuses = refl; peer = refl; diagnoses = refl; made = refl; real = refl }, (tt, tt))
-  new_remains caller call blocks ReadImplicit other = (
+  own_remains caller call blocks ReadImplicit other = (
     record {
       link = by_result (implicit_read (known_of station live) station.identity live.rest.real live.values.running blocks);
       units = refl;
@@ -275,9 +284,38 @@ module _ (station : Station) (live : Live) (link : RelationState) (exists : live
 
   -- ---- any call, and any response
 
+  -- A call for a record of the application.
+  reply_answers : (due : Bool) (question : Question) (status : Status) (blocks : List ℕ)
+      → AllByRecursion (IsAnswer (stored_in live)) (where_due due (reply_to live.values.running.suite.address question status blocks ∷ []))
+  reply_answers true question status blocks = (tt, tt)
+  reply_answers false question status blocks = tt
+
+  question_remains : (question : Question) (asked : Option AskedState) → Remains live (handled_question station live question asked)
+  question_remains question (Some asked) =
+      (record { link = refl; units = refl; is_running = refl; statuses = refl; peer = refl; diagnoses = refl; made = refl; real = refl }, tt)
+  question_remains question None = (
+    record { link = refl; units = refl; is_running = refl; statuses = refl; peer = refl; diagnoses = refl; made = refl; real = refl },
+    reply_answers (is_new (looked question.header.activity question.header.sequence live.rest.calls)) question
+        (unanswered_status (operation_asked question.request) Busy) [],
+  )
+
+  asking_remains : (caller : Caller) (call : Call) (blocks : List ℕ) (operation : Operation) (asking : Result (Option Asking) CallFault)
+      → Names link blocks ≡ false
+      → Remains live (handled_asking station live caller call blocks operation asking)
+  asking_remains caller call blocks operation (Ok None) other = own_remains caller call blocks operation other
+  asking_remains caller call blocks operation (Ok (Some asking)) other = question_remains asking.0 (asks asking.0 asking.1 live.rest.asked)
+  asking_remains caller call blocks operation (Err why) other =
+      (record { link = refl; units = refl; is_running = refl; statuses = refl; peer = refl; diagnoses = refl; made = refl; real = refl }, (tt, tt))
+
+  unanswered_remains : (caller : Caller) (call : Call) (blocks : List ℕ) (operation : Operation) → Names link blocks ≡ false
+      → Remains live (handled_unanswered station live caller call blocks operation)
+  unanswered_remains caller call blocks operation other =
+      cond_both (is_repeat call.header.activity call.header.sequence live.rest.asked) _ _ (Remains live) (λ _. (stays_as_is live.rest, tt))
+      (λ _. asking_remains caller call blocks operation (asking_of live.rest.real station.named (uuid_of live.rest.link) caller call blocks operation) other)
+
   looked_remains : (caller : Caller) (call : Call) (blocks : List ℕ) (operation : Operation) (found : Looked) → looked call.header.activity call.header.sequence live.rest.calls ≡ found
       → Names link blocks ≡ false → Remains live (handled_looked station live caller call blocks operation found)
-  looked_remains caller call blocks operation new is other = new_remains caller call blocks operation other
+  looked_remains caller call blocks operation new is other = unanswered_remains caller call blocks operation other
   looked_remains caller call blocks operation (again frame) is other = (stays_as_is live.rest, (looked_stored call.header.activity call.header.sequence live.rest.calls frame is, tt))
   looked_remains caller call blocks operation old is other = tt
 

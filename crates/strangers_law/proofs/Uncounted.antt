@@ -1,5 +1,5 @@
 -- What is no call and no frame of a relation leaves the count of relations.
-use Rattle.std.proofs.Common.{◌≡◌, ◌&&◌, Bool, true, false, List, [], ◌∷◌, refl, if◌then◌else◌, ap}
+use Rattle.std.proofs.Common.{◌≡◌, ◌&&◌, Bool, true, false, List, [], ◌∷◌, ℕ, Result, Ok, Err, refl, if◌then◌else◌, ap}
 use Rattle.frame_codec.specs.declared.arp.Arp.{Arp}
 use Rattle.dcp_core.specs.declared.request.Service.{Service}
 use Rattle.dcp_core.specs.declared.request.Service.TheVariants as service
@@ -12,10 +12,15 @@ use Rattle.pn_values.specs.declared.mac.Mac.{Mac}
 use Rattle.pn_values.specs.declared.set_item.BlockError.{BlockError}
 use Rattle.device_frames.specs.declared.note.Note.TheVariants as note
 use Rattle.device_frames.specs.Heard.{Heard, Unreadable, Elsewhere, Asks, Resolves}
-use Rattle.device_frames.specs.Heard.{Met, Applied}
-use Rattle.device_core.specs.Handled.{Handled, Refuses, handled, is_running}
+use Rattle.device_frames.specs.Heard.{Met}
+use Rattle.arrayvec.specs.ArrayVec.{ArrayVec}
+use Rattle.asked_records.specs.Answers.{Gives, judged}
+use Rattle.asked_records.specs.declared.answering.AnswerFault.{AnswerFault}
+use Rattle.asked_records.specs.declared.question.Question.{Question}
+use Rattle.device_frames.specs.declared.local.Local.{Local}
+use Rattle.device_core.specs.Handled.{Handled, Refuses, handled, handled_judged, handled_local, is_running}
 use Rattle.device_core.specs.Machine.{finished}
-use Rattle.device_core.proofs.Applied.{local_is}
+use Rattle.octets_law.proofs.Locals.{by_local}
 use Rattle.strangers_law.proofs.Clocks.{IsBeside}
 
 module _ (station : Station) (live : Live) where
@@ -41,7 +46,15 @@ module _ (station : Station) (live : Live) where
   beside_uncounted (Resolves asker packet) beside =
       resolves_uncounted asker packet (is_request packet.operation && is_running live.values.running packet.target.address)
   beside_uncounted (Met peer) beside = λ answers. refl
-  beside_uncounted (Applied local) beside = λ answers. ap (λ (rest : Rest). rest.made) ((local_is station live local).keeps answers)
   beside_uncounted Unreadable beside = λ answers. refl
   beside_uncounted Elsewhere beside = λ answers. refl
   beside_uncounted heard beside = absurd beside
+
+  judged_uncounted : (given : Gives) (judged : Result Question AnswerFault) → Uncounted (handled_judged station live given judged)
+  judged_uncounted given (Ok question) = λ answers. refl
+  judged_uncounted given (Err why) = λ answers. refl
+
+  pub applied_uncounted : (said : Local (ArrayVec ℕ)) → Uncounted (handled_local station live said)
+  applied_uncounted said =
+      by_local station live Uncounted said (λ made what it answers. ap (λ (rest : Rest). rest.made) (it.keeps answers))
+      (λ number given. judged_uncounted given (judged number given live.rest.asked))

@@ -63,7 +63,8 @@ refused_in standing uuid other e =
     let r : (if not (is_relation standing uuid) then refused else fine) ≡ refused = cond-true _ refused fine no in
     absurd cc
 
-refused_relation : (link : RelationState) (blocks uuid : List ℕ) → Names link blocks ≡ false → part 8 16 blocks ≡ uuid → in_relation (uuid_of (Some link)) uuid ≡ Ok tt → ⊥
+pub refused_relation : (link : RelationState) (blocks uuid : List ℕ) → Names link blocks ≡ false → part 8 16 blocks ≡ uuid
+    → in_relation (uuid_of (Some link)) uuid ≡ Ok tt → ⊥
 refused_relation link blocks uuid other at e = refused_in (uuid_of (Some link)) uuid (unnamed link blocks uuid other at) e
 
 pub no_connect : (uuid : List ℕ) (pieces : List Piece) (request : Request) → request_in (Some uuid) pieces ≡ Ok request → ⊥

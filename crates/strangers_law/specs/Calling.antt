@@ -1,14 +1,16 @@
--- Calls of other stations to a device: they change nothing but the stored answers, and as long as at most three other stations call, the answer that
--- is stored for the controller remains. By their octets alone.
+-- Calls of other stations to a device: they change nothing but the stored answers and what is asked of the application, and as long as at most three
+-- other stations call, the answer that is stored for the controller remains. By their octets alone.
 use Rattle.std.specs.Prelude.{◌≡◌, ◌≤◌, ◌==◌, ◌&&◌, ℕ, Bool, true, false, not, List, [], ◌∷◌, drop, take, length, if◌then◌else◌, None, IsSome}
 use Rattle.std.specs.List.{AllByRecursion, list_any}
 use Rattle.flash_model.specs.declared.flash.Flash.{Ghosts as Flash}
 use Rattle.pn_values.specs.declared.identity.Identity.{Identity}
 use Rattle.rpc_core.specs.Cache.{Kept, is_of, kept_more, kept_of}
+use Rattle.asked_records.specs.Asked.{AskedState}
 use Rattle.device_frames.specs.Heard.{Heard, Reported, Calls}
 use Rattle.device_frames.specs.declared.note.Note.{Note}
 use Rattle.device_core.specs.State.{State}
 use Rattle.device_core.specs.Steps.{Steps}
+use Rattle.end_laws.specs.device.Small.{IsAskedOwn}
 use Rattle.octets_law.specs.Octets.{activity_of, in_order, untagged}
 use Rattle.strangers_law.specs.Quiet.{belongs_in, heard_in, is_call}
 use Rattle.strangers_law.specs.Strange.{same}
@@ -70,19 +72,30 @@ with_calls calls device = record {
   live = record { values = device.live.values; rest = record device.live.rest { calls = calls } };
 }
 
+-- The device with these stored answers, of whose application this is asked.
+abbrev pub with_asked : {F : Type 0} → List Kept → AskedState → State F → State F
+with_asked calls asked device = record {
+  flash = device.flash;
+  station = device.station;
+  live = record { values = device.live.values; rest = record device.live.rest { calls = calls; asked = asked } };
+}
+
 -- A device that others call too, and one that they do not call: both are the same except for the stored answers, and the answer that is stored for
--- this activity is the same.
+-- this activity is the same. The call that the application is asked, if it is asked one, is of this activity.
 pub record IsLike {F : Type 0} (own : List ℕ) (others : List (List ℕ)) (among alone : State F) : Type 0 where
   pub is : alone ≡ with_calls alone.live.rest.calls among
   pub kept : kept_of own alone.live.rest.calls ≡ kept_of own among.live.rest.calls
   pub recent : IsRecent own others among.live.rest.calls
+  pub asked : IsAskedOwn own among.live.rest.asked
 
 -- ---- the laws
 
--- A call of others changes nothing but the stored answers, and the device remains like any device that it was like before.
+-- A call of others changes nothing but the stored answers and what is asked of the application. At a station that names no records that does
+-- not change. If it does not, the device remains like any device that it was like before.
 pub record IsCalled {F : Type 0} (own : List ℕ) (others : List (List ℕ)) (old new : State F) : Type 0 where
-  pub is : new ≡ with_calls new.live.rest.calls old
-  pub like : (alone : State F) → IsLike own others old alone → IsLike own others new alone
+  pub is : new ≡ with_asked new.live.rest.calls new.live.rest.asked old
+  pub unasked : old.station.named ≡ [] → new.live.rest.asked ≡ old.live.rest.asked
+  pub like : new.live.rest.asked ≡ old.live.rest.asked → (alone : State F) → IsLike own others old alone → IsLike own others new alone
 
 -- This holds of each call of at most three other activities, in any state of the device, whatever its flash does.
 abbrev pub CallsLeave : {F : Type 0} {S : ℕ} → Flash F S → Type 0

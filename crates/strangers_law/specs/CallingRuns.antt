@@ -23,11 +23,12 @@ pub data Occurrence : Type 0 where
   Uncalled : (one : Happening) → Occurrence
   Called : (octets : List ℕ) → Occurrence
 
--- The call has one of these other activities. The device takes it as any frame, whatever its flash does. What it sends at it is not among the frames of
--- both ends.
+-- The call has one of these other activities, and the application is not asked it. The device takes it as any frame, whatever its flash does. What it
+-- sends at it is not among the frames of both ends.
 abbrev pub Occurs : {F : Type 0} {S : ℕ} → Flash F S → List (List ℕ) → World F → Occurrence → World F → Type 0
 Occurs as_flash others before (Uncalled one) after = HappensAmong as_flash before one after
-Occurs as_flash others before (Called octets) after = IsCallOf others before.device octets × IsTaken as_flash before octets after
+Occurs as_flash others before (Called octets) after =
+    IsCallOf others before.device octets × IsTaken as_flash before octets after × (after.device.live.rest.asked ≡ before.device.live.rest.asked)
 
 -- Each of these occurs, with the world after it; the world after all.
 abbrev pub AreMadeWithCallers : {F : Type 0} {S : ℕ} → Flash F S → List (List ℕ) → World F → List (Occurrence × World F) → Type 0

@@ -1,7 +1,11 @@
 -- A device whose controller is silent: how long its relation lasts.
-use Rattle.std.specs.Prelude.{◌≡◌, ◌⊎◌, ◌+◌, ◌-◌, ◌*◌, ◌&&◌, ◌||◌, ℕ, Bool, true, false, max}
+use Rattle.std.specs.Prelude.{◌≡◌, ◌≤◌, ◌⊎◌, ◌+◌, ◌-◌, ◌*◌, ◌&&◌, ◌||◌, ℕ, Bool, true, false, max, length}
 use Rattle.std.specs.Prelude.{if◌then◌else◌, List, [], ◌∷◌, take, drop, Option, Some, None}
 use Rattle.std.specs.List.{AllByRecursion}
+use Rattle.records.specs.calls.Naming.{is_relation}
+use Rattle.asked_records.specs.Asked.{AskedState, is_over, question_in}
+use Rattle.asked_records.specs.Questions.{header_of}
+use Rattle.asked_records.specs.declared.question.Question.{Question}
 use Rattle.connects.specs.requests.Request.{Request}
 use Rattle.pn_alarms.specs.declared.abort.Abort.{Abort}
 use Rattle.pn_alarms.specs.declared.abort.Abort.TheVariants.{Other}
@@ -101,21 +105,28 @@ pub record IsStill (link : RelationState) (units : ℕ) (now : Option RelationSt
 abbrev pub IsDue : RelationState → Abort → Type 0
 IsDue link reason = (reason ≡ Other) ⊎ (remaining link ≡ 1)
 
+-- What a unit of time sends after the ERR, while this is asked of the application: nothing, or the response to a call of no relation that
+-- is refused with this unit, since the application did not answer it.
+abbrev pub AreLate : AskedState → List (List ℕ) → Type 0
+AreLate asked frames = (length frames ≤ 1) × (is_over asked ≡ false → frames ≡ [])
+
 -- With an event the relation ends: after it there is no relation, and the first frame that is sent with it is the ERR. With a unit
--- of time no other frame is sent.
-pub record EndsWith (station : Station) (link : RelationState) (event : Event) (step : Stepped) : Type 0 where
+-- of time no other frame of the relation is sent.
+pub record EndsWith (station : Station) (asked : AskedState) (link : RelationState) (event : Event) (step : Stepped) : Type 0 where
   pub none : step.live.rest.link ≡ None
   pub reason : Abort
   pub cause : IsDue link reason
   pub others : List (List ℕ)
   pub says : step.frames ≡ bytes_of station.identity (Ends (farewell_of reason link)) ∷ others
-  pub alone : event ≡ Tick → others ≡ []
+  pub alone : event ≡ Tick → AreLate asked others
 
--- All that is sent is the ERR of the relation, with a reason that is due.
-pub record SaysEnd (station : Station) (link : RelationState) (sent : List (List ℕ)) : Type 0 where
+-- All that is sent of the relation is its ERR, with a reason that is due.
+pub record SaysEnd (station : Station) (asked : AskedState) (link : RelationState) (sent : List (List ℕ)) : Type 0 where
   pub reason : Abort
   pub cause : IsDue link reason
-  pub says : sent ≡ bytes_of station.identity (Ends (farewell_of reason link)) ∷ []
+  pub others : List (List ℕ)
+  pub late : AreLate asked others
+  pub says : sent ≡ bytes_of station.identity (Ends (farewell_of reason link)) ∷ others
 
 -- One of these events ends the relation. With each event before it the relation is still the same, one unit nearer to its end if the event
 -- is a unit.
@@ -123,14 +134,25 @@ abbrev pub EndsAmong : List (List Outcome) → Station → Live → RelationStat
 EndsAmong outcomes station live link [] = ⊥
 EndsAmong outcomes station live link (event ∷ events) =
     let step = step_of (first_step outcomes) station live event in
-    EndsWith station link event step
+    EndsWith station live.rest.asked link event step
     ⊎ ((still : IsStill link (units_in (event ∷ [])) step.live.rest.link) × EndsAmong (later_steps outcomes) station step.live still.next events)
 
--- For any events at which the controller is silent: one of them ends the relation, or it is still the same after all of them, as many
--- units nearer to its end as there are units among them.
+-- The application is asked no call that names this relation. An answer to one starts the activity time again, as the call itself does if the
+-- device answers it.
+abbrev pub IsUnasked : RelationState → AskedState → Type 0
+IsUnasked link asked = (question : Question) → question_in asked ≡ Some question
+    → is_relation (Some link.request.ar.uuid) (header_of question.request).ar_uuid ≡ false
+
+-- The application is asked no call of the relation of the device, if it has one.
+abbrev pub IsUnaskedIn : Option RelationState → AskedState → Type 0
+IsUnaskedIn None asked = Unit {0}
+IsUnaskedIn (Some link) asked = IsUnasked link asked
+
+-- For any events at which the controller is silent, none of whose calls is asked of the application: one of them ends the relation, or it is
+-- still the same after all of them, as many units nearer to its end as there are units among them.
 abbrev pub CountsDown : Type 0
 CountsDown = (station : Station) (live : Live) (link : RelationState) (outcomes : List (List Outcome)) (events : List Event)
-    → live.rest.link ≡ Some link → IsTimed link → AreSilent station link events
+    → live.rest.link ≡ Some link → IsTimed link → IsUnasked link live.rest.asked → AreSilent station link events
     → EndsAmong outcomes station live link events ⊎ IsStill link (units_in events) (run_of outcomes station live events).live.rest.link
 
 -- The clocks are those of the request in each state of a device: a device that starts has no relation, and each event keeps this, of

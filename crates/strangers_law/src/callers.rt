@@ -1,5 +1,5 @@
-//! A device and the calls of other stations: they change nothing but the stored answers, and at most three others leave that of the controller. And
-//! what holds of both ends alone holds with such calls too.
+//! A device and the calls of other stations: they change nothing but the stored answers and what is asked of the application, and at most three others
+//! leave the answer of the controller. And what holds of both ends alone holds with such calls too, if the application is not asked them.
 ghost use Rattle.std.specs.Prelude.{◌≡◌, ◌⊎◌, map};
 ghost use Rattle.relations.specs.declared.phase.Phase.TheVariants.{Exchanging as in_exchange};
 ghost use Rattle.end_laws.specs.both.Steps.{IsPart};
@@ -22,8 +22,8 @@ use pn_values::Identity;
 /// Premise: there are at most three other activities. A device stores the answers of the last four. After calls of four other activities the answer
 /// that is stored for the controller can be gone, and a call that the controller repeats is then carried out again.
 pub fn callers_leave_a_device<F: Flash<S>, const S: usize>()
-    // Such a call changes nothing but the stored answers: not the relation, the settings, the flash, the lamp, the log, nor the time. The device remains
-    // like any device that it was like before.
+    // Such a call changes nothing but the stored answers and what is asked of the application: not the relation, the settings, the flash, the lamp, the
+    // log, nor the time. If the application is not asked it, the device remains like any device that it was like before.
     ensures left { CallsLeave F.Flash }
     // At anything but a call, and at a call of the controller's activity, a device takes the same step as one that others do not call: it sends the same
     // frames, with the same note, and both are alike after it.
@@ -42,7 +42,9 @@ pub fn callers_leave_a_device<F: Flash<S>, const S: usize>()
 /// relation of the device are the same. So a clause of `both_ends` about these holds of the moves in a run with callers too: those of `worlds_start_up`
 /// are here, those of outputs, alarms and diagnoses in `callers_leave_exchanges`.
 ///
-/// Premise: the calls of the whole run have at most three other activities, as `callers_leave_a_device` says.
+/// Premises: the calls of the whole run have at most three other activities, as `callers_leave_a_device` says, and the application is asked none of
+/// them, as it never is at a station that names no records. While it is asked one, the device refuses the controller's own call for a record of the
+/// application as busy, which it asks in a run of both ends alone.
 pub fn callers_leave_both_ends<F: Flash<S>, const S: usize>(setup: &Setup, identity: &Identity)
     // Beside each run with callers there is a run of both ends alone, in which the worlds differ in the stored answers of the others alone.
     ensures runs { RunsGoOnWithCallers F.Flash setup.now identity.now }

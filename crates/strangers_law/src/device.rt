@@ -27,7 +27,7 @@ pub fn strangers_leave_a_device<F: Flash<S>, const S: usize>()
         → Steps F.Flash old (heard_of old.station.identity event) sent said new → old.live.rest.link ≡ Some link → IsStrange old.station link event
         → AreAnswers old.live sent }
     // Any number of them among any units of time: the relation goes on as with the units alone, and with each unit the same frames are
-    // sent.
+    // sent. Only a call that the application was asked, also by a stranger, can have its response with a unit besides.
     ensures alone { RunsAsAlone }
 {
     frames_are_read();

@@ -2,6 +2,8 @@
 #![cfg(test)]
 
 mod answers;
+mod device;
+mod four;
 mod judging;
 mod machine;
 mod names;

@@ -63,6 +63,8 @@ pub(crate) fn asked(what: u32) -> Op {
         sequence: 0,
         confirmed: 0,
         progress: 0,
+        wanted: 0,
+        read_length: 0,
         port_length: 0,
         chassis_length: 0,
         work: 0,

@@ -2,6 +2,7 @@
 //! has no relation, answers Identify from those settings, and changes no octet of the flash (`device_core::cycle_with`: `headline`; the
 //! same for the reference host: `device_abi::play`: `ends`; an image of this device starts: `device_core::cycle`: `left`, `refused`,
 //! `Journal::commit`: `kept`).
+use asked_records::NamedRecords;
 use crate::plant::{as_planned, payload};
 use device_abi::{Operation, Port, play};
 use device_core::{Device, Event, Sink};
@@ -197,7 +198,7 @@ type Chip = MemoryFlash<4096>;
 
 /// A port that starts from a chip.
 fn booted(chip: &Chip) -> Port {
-    let mut port = Port::new(demo_identity(), as_planned(), DeviceOptions::default(), false);
+    let mut port = Port::new(demo_identity(), as_planned(), DeviceOptions::default(), NamedRecords::new(), false);
     for sector in [Sector::First, Sector::Second] {
         port.fill(sector, &chip.sector(sector)[..]).ok().expect("a sector");
     }

@@ -2,6 +2,7 @@
 //! `scripts::life`, which calls the device itself.
 use crate::judge::{Given, Told, Verdict, judge};
 use crate::scripts::{Cycle, OWN, Random, event, stored, unbroken_life};
+use asked_records::NamedRecords;
 use device_core::Event;
 use flash_model::MemoryFlash;
 use frame_codec::Outbox;
@@ -21,6 +22,10 @@ impl Product for Pump {
 
     fn real(&self) -> Real {
         plugged()
+    }
+
+    fn named(&self) -> NamedRecords {
+        NamedRecords::new()
     }
 }
 

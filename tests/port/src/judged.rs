@@ -1,6 +1,6 @@
 //! Stations as a host in C writes them: which are refused, and with which number.
 use c_layout::{Module, Parameter, Submodule};
-use station_abi::{Station, judge};
+use station_abi::{Record, Station, judge};
 
 fn submodule(subslot: u16) -> Submodule {
     Submodule {
@@ -13,7 +13,12 @@ fn submodule(subslot: u16) -> Submodule {
     }
 }
 
-/// Three modules in slots 0 to 2, each with two submodules in subslots 1 and 2; the first of slot 1 has two parameter records.
+/// A record of slot 1 that the application answers, to be read.
+fn record(index: u16) -> Record {
+    Record { slot: 1, subslot: 1, index, greatest_length: 1308, is_readable: 1, is_writable: 0 }
+}
+
+/// Two records of the application, and three modules in slots 0 to 2, each with two submodules in subslots 1 and 2; the first of slot 1 has two parameter records.
 fn station() -> Station {
     let mut station = Station {
         mac: [2, 0, 0, 0, 0, 1],
@@ -43,6 +48,8 @@ fn station() -> Station {
             submodule_count: 2,
             submodules: std::array::from_fn(|place| submodule(place as u16 + 1)),
         }),
+        record_count: 2,
+        records: std::array::from_fn(|place| record(place as u16)),
     };
     let part = &mut station.modules[1].submodules[0];
     part.parameter_count = 2;
@@ -54,12 +61,12 @@ fn station() -> Station {
 fn fault(change: fn(&mut Station)) -> u32 {
     let mut station = station();
     change(&mut station);
-    judge(75776, 8, 1672, &station)
+    judge(77312, 9, 1680, &station)
 }
 
 #[test]
 fn each_fault_has_its_number() {
-    let rows: [(fn(&mut Station), u32); 36] = [
+    let rows: [(fn(&mut Station), u32); 51] = [
         (|_| (), 0),
         (|s| s.station_type_length = 26, 4),
         (|s| s.module_count = 17, 4),
@@ -93,7 +100,22 @@ fn each_fault_has_its_number() {
         (|s| s.smallest_interval = 65536, 0),
         (|s| (s.inputs_begin_bad, s.ready_by_application) = (65535, 2), 0),
         (|s| (s.numbers_go_round, s.first_number) = (2, u32::MAX), 0),
+        (|s| s.record_count = 17, 4),
+        (|s| s.record_count = 16, 0),
+        (|s| s.record_count = 0, 0),
+        (|s| s.records[1].index = 0, 46),
+        (|s| (s.records[1].index, s.records[1].subslot) = (0, 2), 0),
+        (|s| s.records[1].index = 32768, 46),
+        (|s| s.records[1].index = 32767, 0),
+        (|s| s.records[0].greatest_length = 0, 46),
+        (|s| s.records[0].greatest_length = 1309, 46),
+        (|s| s.records[0].greatest_length = 1, 0),
+        (|s| s.records[0].is_readable = 0, 46),
+        (|s| (s.records[0].is_readable, s.records[0].is_writable) = (0, 256), 0),
+        (|s| s.records[2].index = 40000, 0),
         // Of several faults the first in this order is told.
+        (|s| (s.smallest_interval, s.records[0].greatest_length) = (65537, 0), 23),
+        (|s| (s.record_count, s.mac[0]) = (17, 1), 4),
         (|s| (s.smallest_interval, s.modules[1].submodules[0].parameters[1].index) = (65537, 32768), 22),
         (|s| (s.mac[0], s.modules[1].slot) = (1, 16), 18),
         (|s| (s.modules[1].submodules[0].input, s.modules[1].submodules[0].subslot) = (1440, 0), 20),
@@ -106,7 +128,7 @@ fn each_fault_has_its_number() {
 #[test]
 fn another_header_or_a_small_room() {
     let station = station();
-    for (size, abi, op_size, wanted) in [(75776, 7, 1672, 2), (75776, 9, 1672, 2), (75776, 8, 1668, 2), (75775, 8, 1672, 3)] {
+    for (size, abi, op_size, wanted) in [(77312, 8, 1680, 2), (77312, 10, 1680, 2), (77312, 9, 1676, 2), (77311, 9, 1680, 3)] {
         assert_eq!(judge(size, abi, op_size, &station), wanted);
     }
 }

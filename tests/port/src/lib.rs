@@ -3,6 +3,7 @@
 //! The numbers of refusals are those of `include/nandutable.h`, and the octets those of other programs.
 #![cfg(test)]
 
+mod answers;
 mod calls;
 mod confirmed;
 mod cycles;

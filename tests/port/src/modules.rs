@@ -1,5 +1,6 @@
 //! Modules that come and go, as a host in C says it: each reason why the device refuses a pull, a plug and that the application is ready for one,
 //! and how far each place of the relation is. The frames were worked out by hand from IEC 61158-6-10.
+use asked_records::NamedRecords;
 use crate::operations::{asked, lines_of};
 use crate::passed::BEFORE;
 use crate::served::octets;
@@ -180,7 +181,7 @@ fn confirm(port: &mut Port, sequence: u16, number: u16, status: [u8; 4]) {
 /// The demo station, whose application says when it is ready, while it exchanges data.
 fn exchanging() -> Port {
     let options = DeviceOptions { ready_by_application: true, ..DeviceOptions::default() };
-    let mut port = Port::new(demo_identity(), demo(), options, false);
+    let mut port = Port::new(demo_identity(), demo(), options, NamedRecords::new(), false);
     let _ = port.fill(Sector::First, &[0xFF; 4096]);
     let _ = port.fill(Sector::Second, &[0xFF; 4096]);
     assert!(port.boot().is_ok());

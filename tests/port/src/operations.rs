@@ -48,6 +48,8 @@ pub(crate) fn asked(what: u32) -> Op {
         sequence: 0,
         confirmed: 0,
         progress: 0,
+        wanted: 0,
+        read_length: 0,
         port_length: 0,
         chassis_length: 0,
         work: 0,
@@ -69,9 +71,13 @@ fn answer(port: &mut Port, what: u32) -> u32 {
 fn before_a_start_and_behind_a_loss() {
     let mut early = made();
     let mut late = lost();
-    for what in (3..33).filter(|what| *what != 7) {
-        // A plug is described by 12 octets.
-        let octets = vec![0; if what == 30 { 12 } else { 0 }];
+    for what in (3..37).filter(|what| *what != 7) {
+        // A plug is described by 12 octets, and a refusal by two.
+        let octets = vec![0; match what {
+            30 => 12,
+            36 => 2,
+            _ => 0,
+        }];
         assert_eq!(serve(&mut early, &mut asked(what), &octets), 5);
         assert_eq!(serve(&mut late, &mut asked(what), &octets), 14);
     }
@@ -87,7 +93,7 @@ fn before_a_start_and_behind_a_loss() {
 #[test]
 fn no_such_operation_sector_or_slot() {
     let mut port = made();
-    for what in [0, 7, 33, u32::MAX] {
+    for what in [0, 7, 37, u32::MAX] {
         assert_eq!(answer(&mut port, what), 10);
     }
     let mut op = asked(1);
@@ -103,6 +109,11 @@ fn no_such_operation_sector_or_slot() {
     assert_eq!(answer(&mut port, 13), 15);
     assert_eq!(answer(&mut port, 22), 15);
     assert_eq!(answer(&mut port, 32), 45);
+    assert_eq!(answer(&mut port, 33), 47);
+    // A refusal has two codes.
+    for codes in [&[][..], &[0xA0], &[0xA0, 0, 0]] {
+        assert_eq!(serve(&mut port, &mut asked(36), codes), 8);
+    }
 }
 
 #[test]
@@ -375,6 +386,8 @@ fn the_fields_are_those_of_the_header() {
         ("sequence", offset_of!(Op, sequence)),
         ("confirmed", offset_of!(Op, confirmed)),
         ("progress", offset_of!(Op, progress)),
+        ("wanted", offset_of!(Op, wanted)),
+        ("read_length", offset_of!(Op, read_length)),
         ("port_length", offset_of!(Op, port_length)),
         ("chassis_length", offset_of!(Op, chassis_length)),
         ("work", offset_of!(Op, work)),
@@ -387,7 +400,7 @@ fn the_fields_are_those_of_the_header() {
     for (place, (name, offset)) in fields.into_iter().enumerate() {
         assert_eq!((named[place], 4 * place), (name, offset));
     }
-    assert_eq!((offset_of!(Op, octets), size_of::<Op>()), (4 * named.len(), 1672));
+    assert_eq!((offset_of!(Op, octets), size_of::<Op>()), (4 * named.len(), 1680));
 }
 
 #[test]
@@ -416,6 +429,9 @@ fn the_reasons_are_those_of_the_header() {
         ("NO_ROOM", Reason::NoRoom),
         ("BAD_SUBMODULE", Reason::BadSubmodule),
         ("NO_PLUG", Reason::NoPlug),
+        ("NOT_ASKED", Reason::NotAsked),
+        ("OTHER_KIND", Reason::OtherKind),
+        ("BAD_CODE", Reason::BadCode),
     ];
     assert_eq!(numbers, reasons.map(|(name, reason)| (name, reason.number())));
 }

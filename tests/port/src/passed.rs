@@ -1,4 +1,5 @@
 //! Parameter records that are passed on and not kept, as a host in C reads them.
+use asked_records::NamedRecords;
 use crate::operations::asked;
 use crate::served::octets;
 use crate::stations::demo;
@@ -45,7 +46,7 @@ pub(crate) fn exchanging(records_passed_on: bool) -> Port {
 
 /// The same with these options, beside services or alone.
 pub(crate) fn exchanging_with(options: DeviceOptions, serves: bool) -> Port {
-    let mut port = Port::new(demo_identity(), modules(), options, serves);
+    let mut port = Port::new(demo_identity(), modules(), options, NamedRecords::new(), serves);
     let _ = port.fill(Sector::First, &[0xFF; 4096]);
     let _ = port.fill(Sector::Second, &[0xFF; 4096]);
     assert!(port.boot().is_ok());

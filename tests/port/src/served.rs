@@ -1,5 +1,6 @@
 //! A port with the services beside its device: the services answer what the device drops, and units of time do the same however
 //! they are divided. The device and its services as `station` runs them, event by event, are what the port is compared with.
+use asked_records::NamedRecords;
 use crate::operations::asked;
 use crate::stations::demo;
 use device_abi::{Operation, Port, play};
@@ -43,7 +44,7 @@ fn holds(frame: &[u8], digits: &str) -> bool {
 
 /// A port that did not start.
 pub(crate) fn made() -> Port {
-    Port::new(demo_identity(), demo(), DeviceOptions::default(), true)
+    Port::new(demo_identity(), demo(), DeviceOptions::default(), NamedRecords::new(), true)
 }
 
 fn start(mut port: Port) -> Port {
@@ -60,7 +61,7 @@ pub(crate) fn booted() -> Port {
 
 /// The same of a device alone.
 pub(crate) fn alone() -> Port {
-    start(Port::new(demo_identity(), demo(), DeviceOptions::default(), false))
+    start(Port::new(demo_identity(), demo(), DeviceOptions::default(), NamedRecords::new(), false))
 }
 
 /// One that was given the name "pump-1", of which nothing is carried out yet.

@@ -1,4 +1,5 @@
 //! The ports that are tried.
+use asked_records::NamedRecords;
 use crate::calls;
 use pn_values::{Real, demo_identity};
 use relations::DeviceOptions;
@@ -26,7 +27,7 @@ pub(crate) fn demo() -> Real {
 
 /// A port that did not start.
 pub(crate) fn made() -> Port {
-    Port::new(demo_identity(), demo(), DeviceOptions::default(), false)
+    Port::new(demo_identity(), demo(), DeviceOptions::default(), NamedRecords::new(), false)
 }
 
 /// One that started from a chip that was never written.

@@ -8,6 +8,7 @@ use rattle_std::{String, Vec, format};
 use script_runner::{RunFault, run};
 
 mod application;
+mod asked;
 mod calls;
 mod exchange;
 mod faults;

@@ -2,6 +2,7 @@
 //! read from octets (`octets`), holds of it.
 use crate::octets::{Turn, answers, holds, records};
 use crate::otherwise::{RECORDS, as_planned, station};
+use asked_records::{NamedRecords, RecordName};
 use both_ends::begin_world;
 use configurator::plan_from_json;
 use controller_messages::{ControllerOptions, Setup};
@@ -52,6 +53,23 @@ pub(crate) fn makings() -> Station {
         identity: demo_identity(),
         real: as_planned(),
         options: DeviceOptions::default(),
+        named: NamedRecords::new(),
+    }
+}
+
+/// The same, with an application that answers the record with this index of submodule 1 in slot 1.
+fn naming(index: u16) -> Station {
+    let name = RecordName {
+        slot: 1,
+        subslot: 1,
+        index,
+        greatest_length: 4,
+        is_readable: true,
+        is_writable: true,
+    };
+    Station {
+        named: NamedRecords::of(&[name]).ok().expect("a name"),
+        ..makings()
     }
 }
 
@@ -84,8 +102,9 @@ pub(crate) fn world(cut: Option<u32>) -> Net {
         identity,
         real,
         options,
+        named,
     } = makings();
-    let device = Device::boot_with(identity, real, options, flash(cut));
+    let device = Device::boot_named(identity, real, options, named, flash(cut));
     begin_world(Global, device.ok().expect("a station"), setup([1; 16]))
 }
 
@@ -124,14 +143,19 @@ fn scheduled(seed: u64, cut: Option<u32>) -> (Vec<Choice>, Vec<Turn>) {
     (choices, turns)
 }
 
-/// Plays these choices, and returns what the witness learned.
-fn learned(choices: &[Choice], cut: Option<u32>) -> Diary {
+/// Plays these choices with this station, and returns what the witness learned.
+fn learned_with(station: Station, choices: &[Choice], cut: Option<u32>) -> Diary {
     let moves: Vec<Move> = choices.iter().map(|choice| choice.to_move()).collect();
     let mut diary = Diary::default();
-    play(Global, makings(), flash(cut), setup([1; 16]), &moves, &mut diary)
+    play(Global, station, flash(cut), setup([1; 16]), &moves, &mut diary)
         .ok()
         .expect("it starts");
     diary
+}
+
+/// The same, with the station whose application answers no records.
+fn learned(choices: &[Choice], cut: Option<u32>) -> Diary {
+    learned_with(makings(), choices, cut)
 }
 
 /// Whether each frame that came was sent before.
@@ -187,12 +211,25 @@ fn lies_about_turns() {
     assert!(!are_delivered(&lies) && !holds(&lies[1..], &records()));
 }
 
-// What cannot be played: an ARUUID of zeros, and a flash that no device wrote. The witness learns nothing.
+// A record that the application answers, and that nobody reads or writes, changes no turn.
+#[test]
+fn names_alone_change_nothing() {
+    for seed in 0..8 {
+        let (choices, turns) = scheduled(seed, None);
+        let diary = learned_with(naming(0x7FFF), &choices, None);
+        assert_eq!(diary.turns, turns, "seed {seed}");
+    }
+}
+
+// What cannot be played: an ARUUID of zeros, a plan of which the application of the device answers a record, and a flash that no device
+// wrote. The witness learns nothing.
 #[test]
 fn what_is_not_played() {
     let mut diary = Diary::default();
     let unnamed = play(Global, makings(), flash(None), setup([0; 16]), &[], &mut diary);
     assert_eq!(unnamed.err(), Some(PlayFault::CannotMeet));
+    let own = play(Global, naming(2), flash(None), setup([1; 16]), &[], &mut diary);
+    assert_eq!(own.err(), Some(PlayFault::CannotMeet));
     let mut foreign = MemoryFlash::<768>::blank();
     foreign.program(Sector::First, 0, b"PNS\x01\xff\xfe\x06pump-1").expect("a flash");
     foreign.program(Sector::First, 511, &[0]).expect("a flash");

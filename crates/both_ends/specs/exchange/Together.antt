@@ -2,6 +2,7 @@
 -- of its moves, and that the next controller can begin at its device.
 use Rattle.std.specs.Prelude.{◌≡◌, ◌≤◌, ◌<◌, ◌+◌, ℕ, true, false, List, [], length, take, Some, None}
 use Rattle.flash_model.specs.declared.flash.Flash.{Ghosts as Flash}
+use Rattle.asked_records.specs.Asked.{question_in}
 use Rattle.rpc_core.specs.Cache.{kept_of}
 use Rattle.both_ends.specs.startup.request.Request.{request_for}
 use Rattle.relations.specs.Exchanged.{output_in}
@@ -68,8 +69,11 @@ pub record IsBegunAndPlayed {F : Type 0} {S : ℕ} (as_flash : Flash F S) (setup
       → (link : RelationState) → last.device.live.rest.link ≡ Some link → is_exchanging link.phase ≡ true → link.flow.low.alarms.sender.standing ≡ None
       → link.flow.low.waiting ≡ [] → last.controller.live.stands ≡ true
       → last.controller.live.diagnosis ≡ known_at link.flow.low last.device.live.rest.diagnoses
+  -- If the device has no relation, nothing is asked of its application.
+  pub unasked : last.device.live.rest.link ≡ None → question_in last.device.live.rest.asked ≡ None
   -- The device is the same, and has stored no answer to a call of another activity that it had not stored before. So when it has no
-  -- relation, a controller can begin whose calls have such an activity; `told` and `list` hold of its relation if they hold of this one.
+  -- relation, a controller can begin whose calls have such an activity and whose plan has no record that the application answers;
+  -- `told` and `list` hold of its relation if they hold of this one.
   pub station : last.device.station ≡ device.station
   pub others : (activity : List ℕ) → (setup.activity ≡ activity → ⊥) → kept_of activity device.live.rest.calls ≡ None
       → kept_of activity last.device.live.rest.calls ≡ None

@@ -1,11 +1,14 @@
 -- Moves that were played, with the world after each of them.
-use Rattle.std.specs.Prelude.{◌≡◌, ◌<◌, ℕ, true, List, [], ◌∷◌, map, None}
+use Rattle.std.specs.Prelude.{◌≡◌, ◌≤◌, ◌<◌, ℕ, true, List, [], ◌∷◌, map, None}
 use Rattle.std.specs.List.{AllByRecursion}
 use Rattle.pn_values.specs.declared.identity.Identity.{Identity}
 use Rattle.flash_model.specs.declared.flash.Flash.{Ghosts as Flash}
 use Rattle.controller_core.specs.Machine.{first as first_live, opening_of}
 use Rattle.connect_blocks.specs.ArBlock.{is_some_uuid}
 use Rattle.rpc_core.specs.Cache.{kept_of}
+use Rattle.asked_records.specs.Asked.{question_in}
+use Rattle.asked_records.specs.Names.{last_index, named_at}
+use Rattle.asked_records.specs.declared.names.RecordName.{RecordName}
 use Rattle.plans.specs.declared.parts.PlanRecord.{PlanRecord}
 use Rattle.controller_messages.specs.declared.setup.Setup.{Setup}
 use Rattle.network_world.specs.declared.moves.Move.{Move}
@@ -41,10 +44,21 @@ IsPlaced entry = (entry.slot < 65536) × (entry.subslot < 65536)
 abbrev pub ArePlaced : List PlanRecord → Type 0
 ArePlaced records = AllByRecursion IsPlaced records
 
+-- the application answers no record with the slot, the subslot and the index of this one
+abbrev pub IsUnnamed : List RecordName → PlanRecord → Type 0
+IsUnnamed named entry = named_at entry.slot entry.subslot entry.index named ≡ None
+
+-- No record of the plan is one that the application of the station answers. The indices of those are at most 0x7FFF, as each
+-- station checks: so a Write that carries a list is not of one of them.
+pub record AreUnnamed (named : List RecordName) (planned : List PlanRecord) : Type 0 where
+  pub indices : AllByRecursion (λ name. name.index ≤ last_index) named
+  pub records : AllByRecursion (IsUnnamed named) planned
+
 -- A world at the start: the controller was just made from this set-up, and has sent only its opening frame. The device
--- of this identity has no relation, and has stored no answer to a call of the activity of this controller. It may have
--- stored answers to calls of other activities, and all else that earlier relations leave: the log, the units since its
--- start, its settings, the statuses that its application gave, its neighbour and the diagnoses that exist.
+-- of this identity has no relation, asks its application nothing, and has stored no answer to a call of the activity of this
+-- controller. Its application answers no record of the plan. It may have stored answers to calls of other activities, and all else
+-- that earlier relations leave: the log, the units since its start, its settings, the statuses that its application gave, its
+-- neighbour and the diagnoses that exist.
 pub record Begins {F : Type 0} (setup : Setup) (identity : Identity) (world : World F) : Type 0 where
   pub of_setup : world.controller.setup ≡ setup
   pub of_device : world.device.station.identity ≡ identity
@@ -52,6 +66,8 @@ pub record Begins {F : Type 0} (setup : Setup) (identity : Identity) (world : Wo
   pub opened : world.sent ≡ opening_of world.controller ∷ []
   pub uncalled : kept_of setup.activity world.device.live.rest.calls ≡ None
   pub unrelated : world.device.live.rest.link ≡ None
+  pub unasked : question_in world.device.live.rest.asked ≡ None
+  pub unnamed : AreUnnamed world.device.station.named setup.plan.records.items
 
 -- The premises about a set-up and a device: their MAC addresses differ, the ARUUID is not zero, and the plan's records
 -- are parameter records.

@@ -91,7 +91,8 @@ move_of move.Stop = small.AtController
 -- The device hears this. If it is a call, it is one of the plan. Each message that the device then sends is heard as it
 -- is meant, if it can be sent, whatever its flash does.
 pub record IsMeantAtDevice {F : Type 0} (world : World F) (heard : Heard) : Type 0 where
-  pub planned : IsPlanned (rules_of world.controller.setup world.device.station) world.controller.setup.activity world.device.live.rest.real heard
+  pub planned : IsPlanned (rules_of world.controller.setup world.device.station) world.controller.setup.activity world.device.station.named
+      world.device.live.rest.real heard
   pub sent : (outcomes : List Outcome) → AreSendable world.device.station.identity (heard_step outcomes world.device.station world.device.live heard).sent
       → AllByRecursion (IsHeardAs (rules_of world.controller.setup world.device.station) world.device.station.identity)
       (heard_step outcomes world.device.station world.device.live heard).sent

@@ -1,7 +1,8 @@
 //! Both ends of a network, begun and played, with the laws of start-up, outputs, alarms and reported diagnosis.
 ghost use Rattle.std.specs.Prelude.{◌≡◌, ◌<◌, ℕ, None, OnErr, OnOk, length, take};
 ghost use Rattle.rpc_core.specs.Cache.{kept_of};
-ghost use Rattle.both_ends.specs.startup.Played.{CanMeet};
+ghost use Rattle.asked_records.specs.Asked.{question_in};
+ghost use Rattle.both_ends.specs.startup.Played.{AreUnnamed, CanMeet};
 ghost use Rattle.both_ends.specs.exchange.Together.{IsBegunAndCut, IsBegunAndPlayed};
 
 use crate::exchange::alarms::worlds_take_alarms;
@@ -17,7 +18,8 @@ use std::alloc::{AllocError, Global};
 
 /// A world of this device and a controller of this set-up in which these moves were made, and whether memory ran out
 /// before the last one. The device must have this identity, must have stored no answer to a call of the activity of this
-/// set-up, and must have no relation. It may have had any relations before. `can_meet` says whether the two can meet.
+/// set-up, and must have no relation. Nothing may be asked of its application, and it may answer no record of the plan: `are_unnamed`
+/// says whether it does. It may have had any relations before. `can_meet` says whether the two can meet.
 pub fn play_both_ends<F: Flash<S>, const S: usize>(
     alloc: Global,
     device: Device<F, S>,
@@ -27,6 +29,8 @@ pub fn play_both_ends<F: Flash<S>, const S: usize>(
 ) -> (World<F, S>, Result<(), AllocError>)
     requires uncalled { kept_of setup.activity device.live.rest.calls ≡ None }
     requires unrelated { device.live.rest.link ≡ None }
+    requires unasked { question_in device.live.rest.asked ≡ None }
+    requires unnamed { AreUnnamed device.station.named setup.plan.records.items }
     requires known { device.station.identity ≡ identity.now }
     requires meets { CanMeet setup identity.now }
     // If all moves were made, the laws of start-up, outputs, alarms and diagnosis hold, whatever the flash of the device does; and when the

@@ -4,7 +4,7 @@ ghost use Rattle.pn_values.specs.demo.Demo.{demo};
 ghost use Rattle.both_ends.specs.startup.Played.{Begins};
 ghost use Rattle.both_ends.specs.startup.Lawful.{IsLawful};
 
-use crate::startup::{begin_world, can_meet};
+use crate::startup::{begin_world, can_meet, nothing_is_named};
 use arrayvec::ArrayVec;
 use configurator::plan_from_json;
 use controller_messages::{ControllerOptions, Setup};
@@ -132,6 +132,7 @@ fn begun(
         return None
     };
     arm(&mut device, fault);
+    nothing_is_named();
     Some(begin_world(alloc, device, setup))
 }
 

@@ -14,6 +14,7 @@ ghost use Rattle.device_abi.specs.port.State.{IsIdle, IsNext, IsRead, advanced, 
 ghost use Rattle.device_abi.specs.port.State.{past_start as too_late};
 ghost use Rattle.device_abi.specs.port.Steps.{KnowsOrNot, Passes, PassesOrNot, StartsOrNot, Takes, Ticks};
 ghost use Rattle.device_core.specs.Leaps.{live_due_in};
+ghost use Rattle.device_core.specs.State.{station_named};
 ghost use Rattle.frame_codec.specs.Outbox.{boxed};
 ghost use Rattle.relations.specs.RelationState.{phase_of};
 ghost use Rattle.station.specs.Beside.{beside, is_dropped, joined_beside};
@@ -26,6 +27,7 @@ ghost use Rattle.device_abi.specs.port.Pace.{TicksBeside};
 use crate::port::own::OwnFrames;
 use crate::port::{Refusal, Stage};
 use crate::{Recorded, RecordedFlash, leap, skip, step, step_cyclic, step_input, unit};
+use asked_records::NamedRecords;
 use device_core::{Device, Event, Note};
 use flash_model::Sector;
 use frame_codec::{Frame, Outbox};
@@ -126,14 +128,19 @@ impl DevicePort {
 
     // A device that did not start, over a chip whose content is not known yet.
     #[inline(always)]
-    pub(crate) fn new(identity: Identity, real: Real, options: DeviceOptions) -> DevicePort
-        ensures station { result.device.station ≡ record { identity = identity; real = real; options = options } }
+    pub(crate) fn new(
+        identity: Identity,
+        real: Real,
+        options: DeviceOptions,
+        named: NamedRecords,
+    ) -> DevicePort
+        ensures station { result.device.station ≡ station_named identity real options named }
         ensures stage { result.stage ≡ Stage.Made }
         ensures idle { IsIdle result }
         ensures chip { image_of result.device.flash ≡ record { first = erased 4096; second = erased 4096 } }
     {
         DevicePort {
-            device: Device::unstarted(identity, real, options, RecordedFlash::blank()),
+            device: Device::unstarted_named(identity, real, options, named, RecordedFlash::blank()),
             outbox: Outbox::new(),
             stage: Stage::Made,
             calls_past: 0,

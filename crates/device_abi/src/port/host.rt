@@ -152,6 +152,15 @@ fn hand_on(port: &mut Port, local: &Local<Octets<'_, 1519>>)
         Local::ProviderState(is_running) => {
             let _ = port.provider_state(*is_running);
         }
+        Local::Answer(number, octets) => {
+            let _ = port.answer(*number, octets.as_slice());
+        }
+        Local::Written(number) => {
+            let _ = port.written(*number);
+        }
+        Local::Refuse(number, code1, code2) => {
+            let _ = port.refuse(*number, *code1, *code2);
+        }
     }
 }
 

@@ -3,9 +3,11 @@ ghost use Rattle.std.specs.Prelude.{◌≡◌, ◌≤◌, None, Some, IfOk, IfSo
 ghost use Rattle.relations.specs.Exchanged.{output_in, provider_in};
 ghost use Rattle.relations.specs.RelationState.{passed_of, phase_of, taken_of};
 ghost use Rattle.relations.specs.Outputs.{output_of};
+ghost use Rattle.asked_records.specs.Asked.{seen, seen_in};
 ghost use Rattle.device_abi.specs.port.State.{IsRead, IsUnreported, closed};
 
 use crate::port::{Port, Refusal};
+use asked_records::AskedRecord;
 use expected_places::ExpectedPlace;
 use pn_values::Settings;
 use records::TakenRecord;
@@ -101,6 +103,16 @@ impl Port {
     {
         match self.open() {
             Ok(device) => Ok(device.passed_on()),
+            Err(refusal) => Err(refusal),
+        }
+    }
+
+    /// What is asked of the application, if something is.
+    pub fn asked(&self) -> Result<Option<AskedRecord<'_>>, Refusal>
+        ensures { IsRead (closed self.now.port.stage) (λ asked. option_map seen asked ≡ seen_in self.now.port.device.live.rest.asked) result }
+    {
+        match self.open() {
+            Ok(device) => Ok(device.asked()),
             Err(refusal) => Err(refusal),
         }
     }

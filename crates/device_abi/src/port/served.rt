@@ -4,7 +4,8 @@ ghost use Rattle.std.specs.Option.{option_map};
 ghost use Rattle.device_abi.specs.port.State.{IsIdle, IsRead, closed, has_some, has_work as is_left, waiting as waiting_in};
 ghost use Rattle.device_abi.specs.declared.port.stage.Stage.TheVariants.{Booted, Made};
 ghost use Rattle.device_frames.specs.declared.event.Event.TheVariants.{Application, Frame as Framed};
-ghost use Rattle.device_frames.specs.declared.local.Local.TheVariants.{Alarm, Diagnosis, Input, Plug, ProviderState, Pull, PullModule, Ready, ReadyAt, Status};
+ghost use Rattle.device_frames.specs.declared.local.Local.TheVariants.{Alarm, Answer, Diagnosis, Input, Plug, ProviderState, Pull, PullModule, Ready, ReadyAt, Refuse, Status, Written};
+ghost use Rattle.device_core.specs.State.{station_named};
 ghost use Rattle.device_abi.specs.port.Pace.{AreCalm};
 ghost use Rattle.device_abi.specs.port.Served.{IsFetched, IsNextBoth, advanced_both, barred_both, conflicts_of, due_both, frames_of, linked_both, lost_both, or_own as kind_or_own, waiting_both};
 ghost use Rattle.device_abi.specs.port.ServedSteps.{AnswersBoth, HearsBoth, IsOfApplication, KnowsBothOrNot, PassesBothOrNot, PassesOneOrNot, QuietOrNot, SkipsOrNot};
@@ -17,6 +18,7 @@ use crate::port::device::{DevicePort, Passed, Work};
 use crate::port::own::OwnFrames;
 use crate::port::{Refusal, Stage};
 use crate::{Recorded, RecordedFlash};
+use asked_records::NamedRecords;
 use device_core::{Device, Event, Note, Octets};
 use flash_model::Sector;
 use frame_codec::Frame;
@@ -81,17 +83,24 @@ impl Port {
     ghost use Rattle.device_abi.specs.contracts.port.served.Port.{the_row};
     ghost use Rattle.device_abi.specs.port.Served.{FetchesBoth, FetchesCallBoth};
 
-    /// A device that did not start, over a chip whose content is not known yet, with services or alone.
+    /// A device that did not start, over a chip whose content is not known yet, whose application answers these records, with services
+    /// or alone.
     #[inline(always)]
-    pub fn new(identity: Identity, real: Real, options: DeviceOptions, serves: bool) -> Port
-        ensures station { result.port.device.station ≡ record { identity = identity; real = real; options = options } }
+    pub fn new(
+        identity: Identity,
+        real: Real,
+        options: DeviceOptions,
+        named: NamedRecords,
+        serves: bool,
+    ) -> Port
+        ensures station { result.port.device.station ≡ station_named identity real options named }
         ensures stage { result.port.stage ≡ Made }
         ensures fetched { IsFetched result }
         ensures serves { result.serves ≡ serves }
         ensures services { result.services ≡ None }
     {
         Port {
-            port: DevicePort::new(identity, real, options),
+            port: DevicePort::new(identity, real, options, named),
             serves,
             services: None,
             rest: 0,
@@ -365,6 +374,30 @@ impl Port {
         ensures { AnswersBoth self.old (Application (ProviderState is_running)) result self.new }
     {
         self.apply(&Event::provider_state(is_running))
+    }
+
+    /// The application answers the question with this number by the octets of a record.
+    #[inline(never)]
+    pub fn answer(&mut self, number: u32, octets: &[u8]) -> Result<Note, Refusal>
+        ensures { AnswersBoth self.old (Application (Answer number (record { items = take 1519 octets.now }))) result self.new }
+    {
+        self.apply(&Event::answer(number, octets))
+    }
+
+    /// The application has written the record of the question with this number.
+    #[inline(never)]
+    pub fn written(&mut self, number: u32) -> Result<Note, Refusal>
+        ensures { AnswersBoth self.old (Application (Written number)) result self.new }
+    {
+        self.apply(&Event::written(number))
+    }
+
+    /// The application refuses the question with this number, with this ErrorCode1 and ErrorCode2.
+    #[inline(never)]
+    pub fn refuse(&mut self, number: u32, code1: u8, code2: u8) -> Result<Note, Refusal>
+        ensures { AnswersBoth self.old (Application (Refuse number code1 code2)) result self.new }
+    {
+        self.apply(&Event::refuse(number, code1, code2))
     }
 
     // Any event but a frame and a unit of time: of the services it only lets them see the running settings.

@@ -57,10 +57,12 @@ pub record Kept : Type 0 where
   pub sequence : ℕ
   pub frame : List ℕ
 
--- a device: its last response, and its relation, if there is one
+-- a device: its last response, its relation, if there is one, and the sequence number of the call that is asked of its application,
+-- if one is
 pub record Device (T Q : Type 0) : Type 0 where
   pub kept : Option Kept
   pub link : Option (RelationState T Q)
+  pub asked : Option ℕ
 
 -- A controller: it has not asked for the relation yet; it makes the call with this sequence number, which is 0 for
 -- Connect, and one more for each Write and for PrmEnd; it waits for ApplicationReady; it exchanges data; or its

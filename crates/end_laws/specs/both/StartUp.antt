@@ -14,11 +14,12 @@ module _ {T Q : Type 0} where
   abbrev pub last_of : World T Q → List (Move × World T Q) → World T Q
   last_of first run = end_of first run
 
-  -- The start: the device has answered no call since its start and has no relation, the controller looks for it, and
-  -- the frames so far say nothing of a start-up.
+  -- The start: the device has answered no call since its start, has no relation and asks nothing of its application, the controller
+  -- looks for it, and the frames so far say nothing of a start-up.
   pub record Begins (rules : Rules T Q) (first : World T Q) : Type 0 where
     pub uncalled : first.device.kept ≡ None
     pub unrelated : first.device.link ≡ None
+    pub unasked : first.device.asked ≡ None
     pub seeking : first.controller ≡ Seeking
     pub dull : AllByRecursion (IsDull rules) first.sent
 

@@ -49,6 +49,10 @@ abbrev pub Moves : Bool → ℕ → ToController → Controller → Controller �
 Moves skips count heard before after =
     (after ≡ before) ⊎ ((after ≡ Ended) ⊎ ((after ≡ Asking 0) ⊎ (IsNext skips count heard before after ⊎ ((heard ≡ Readies) × (after ≡ Exchanges)))))
 
+-- it stays the same, or it is gone
+abbrev pub IsSameOrNone : {A : Type 0} → Option A → Option A → Type 0
+IsSameOrNone before after = (after ≡ before) ⊎ (after ≡ None)
+
 -- a list has these items of another one, in the same order
 abbrev pub IsPart : {T : Type 0} → List T → List T → Type 0
 IsPart some [] = some ≡ []
@@ -152,7 +156,7 @@ module _ {T Q : Type 0} where
   IsDull rules frame = (rules.to_device frame ≡ Idle) × (rules.to_controller frame ≡ Nothing)
 
   -- A new call: it is answered, and the response is stored. After a PrmEnd that is accepted, ApplicationReady is sent. What is sent
-  -- for a plug says nothing of a start-up.
+  -- for a plug says nothing of a start-up. What is asked of the application stays, or ends with the relation.
   pub record IsAnswered (rules : Rules T Q) (sequence : ℕ) (ask : Ask) (before after : Device T Q) (frames : List (List ℕ)) : Type 0 where
     pub new : IsNew sequence before.kept
     pub positive : Bool
@@ -164,6 +168,16 @@ module _ {T Q : Type 0} where
     pub others : List (List ℕ)
     pub sent : frames ≡ frame ∷ others
     pub readies : AllByRecursion (λ frame. IsDull rules frame ⊎ IsReady rules after frame) others
+    pub asked : IsSameOrNone before.asked after.asked
+
+  -- A new call of the controller's application for a record that the application of the device answers: it is asked, and nothing is
+  -- sent.
+  pub record IsQuestion (sequence : ℕ) (ask : Ask) (before after : Device T Q) (frames : List (List ℕ)) : Type 0 where
+    pub accesses : ask ≡ Accesses
+    pub new : IsNew sequence before.kept
+    pub free : before.asked ≡ None
+    pub becomes : after ≡ record before { asked = Some sequence }
+    pub silent : frames ≡ []
 
   -- The call that was answered last: the same frame is sent again.
   pub record IsAgain (sequence : ℕ) (before after : Device T Q) (frames : List (List ℕ)) : Type 0 where
@@ -189,19 +203,38 @@ module _ {T Q : Type 0} where
     pub dull : AllByRecursion (IsDull rules) frames
 
   -- Anything else: the relation stays as it is, forgets records while data is exchanged, or ends, and the frames say nothing of a
-  -- start-up except ApplicationReady.
+  -- start-up except ApplicationReady. What is asked of the application stays, or is dropped.
   pub record GoesBy (rules : Rules T Q) (before after : Device T Q) (frames : List (List ℕ)) : Type 0 where
     pub keeps : after.kept ≡ before.kept
     pub link : (after.link ≡ before.link) ⊎ ((after.link ≡ None) ⊎ Forgets before.link after.link)
     pub sent : AllByRecursion (λ frame. IsDull rules frame ⊎ IsReady rules after frame) frames
+    pub asked : IsSameOrNone before.asked after.asked
 
-  -- a step of the device that hears this: a call that is older than the last, or that arrives while the device has no
-  -- address, is dropped; a response that confirms nothing says nothing of a start-up
+  -- The call that is asked is answered, by the application or as it gave no answer in time: the response is sent after what else is
+  -- sent then, and stored.
+  pub record Replies (rules : Rules T Q) (before after : Device T Q) (frames : List (List ℕ)) : Type 0 where
+    pub sequence : ℕ
+    pub asked : before.asked ≡ Some sequence
+    pub settled : after.asked ≡ None
+    pub new : IsNew sequence before.kept
+    pub positive : Bool
+    pub frame : List ℕ
+    pub keeps : after.kept ≡ Some (record { sequence = sequence; frame = frame })
+    pub link : (after.link ≡ before.link) ⊎ ((after.link ≡ None) ⊎ Forgets before.link after.link)
+    pub to_device : rules.to_device frame ≡ Idle
+    pub to_controller : SaysAtMost rules (Answers sequence positive) frame
+    pub others : List (List ℕ)
+    pub dull : AllByRecursion (λ frame. IsDull rules frame ⊎ IsReady rules after frame) others
+    pub sent : frames ≡ others ++ frame ∷ []
+
+  -- a step of the device that hears this: a call that is older than the last, that is asked already, or that arrives while the
+  -- device has no address, is dropped; a response that confirms nothing says nothing of a start-up
   abbrev pub DeviceSteps : Rules T Q → ToDevice → Device T Q → Device T Q → List (List ℕ) → Type 0
   DeviceSteps rules (Call sequence ask) before after frames =
-      IsAnswered rules sequence ask before after frames ⊎ (IsAgain sequence before after frames ⊎ Rests before after frames)
+      IsAnswered rules sequence ask before after frames
+      ⊎ (IsAgain sequence before after frames ⊎ (Rests before after frames ⊎ IsQuestion sequence ask before after frames))
   DeviceSteps rules Confirms before after frames = IsConfirmed rules before after frames ⊎ GoesBy rules before after frames
-  DeviceSteps rules Idle before after frames = GoesBy rules before after frames
+  DeviceSteps rules Idle before after frames = GoesBy rules before after frames ⊎ Replies rules before after frames
 
   -- ---- the controller
 

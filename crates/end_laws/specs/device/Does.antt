@@ -1,11 +1,14 @@
 -- What one turn of a device does: nothing; something that is no call; that a response confirms ApplicationReady; that a
--- response is sent again; or that a call is answered, with its operation, its outcome and the relation afterwards.
-use Rattle.std.specs.Prelude.{◌≡◌, ◌⊎◌, ◌++◌, ℕ, Bool, List, [], ◌∷◌, Option, Some, None, option_map, Result, Ok, Err}
+-- response is sent again; that a call is answered, with its operation, its outcome and the relation afterwards; that a call is asked of
+-- the application, or refused while another one is; or that the call that is asked is answered.
+use Rattle.std.specs.Prelude.{◌≡◌, ◌⊎◌, ◌++◌, ℕ, Bool, false, List, [], ◌∷◌, Option, Some, None, option_map, Result, Ok, Err}
 use Rattle.std.specs.List.{AllByRecursion}
 use Rattle.frame_codec.specs.declared.udp.Caller.{Caller}
 use Rattle.rpc_core.specs.Cache.{Kept, kept_more, kept_of, looked, new}
 use Rattle.rpc_core.specs.Call.{Asked as Call}
+use Rattle.rpc_core.specs.Response.{answer_to, is_done}
 use Rattle.rpc_core.specs.Sendable.{IsStatus}
+use Rattle.rpc_core.specs.declared.response.Status.{Status}
 use Rattle.connects.specs.requests.Request.{Request}
 use Rattle.records.specs.declared.status.call_fault.CallFault.{CallFault}
 use Rattle.records.specs.declared.status.operation.Operation.{Operation}
@@ -20,6 +23,12 @@ use Rattle.record_blocks.specs.declared.write_record.IodWriteReq.{IodWriteReq}
 use Rattle.records.specs.declared.writes.writing.Writing.TheVariants.{One, Each}
 use Rattle.records.specs.writes.Asked.{writing_of}
 use Rattle.records.specs.writes.Entry.{Entry}
+use Rattle.asked_records.specs.Answers.{unanswered_status}
+use Rattle.asked_records.specs.Asked.{asked_with, question_in}
+use Rattle.asked_records.specs.declared.names.RecordName.{RecordName}
+use Rattle.asked_records.specs.declared.question.Question.{Question}
+use Rattle.asked_records.specs.declared.question.Request.{Request as Wanted}
+use Rattle.asked_records.specs.declared.status.Unanswered.TheVariants.{Busy}
 use Rattle.expected_places.specs.Machine.{PlugState}
 use Rattle.relations.specs.declared.options.DeviceOptions.{DeviceOptions}
 use Rattle.relations.specs.declared.phase.Partner.{Partner}
@@ -35,13 +44,14 @@ use Rattle.relations.specs.Numbers.{IsNumber}
 use Rattle.device_frames.specs.Heard.{Heard, Calls, Reported}
 use Rattle.device_frames.specs.Sent.{Sent, CallAnswer, Again, Exchanges, ReadyCall, PlugReadyCall}
 use Rattle.pn_values.specs.declared.set_item.BlockError.{BlockError}
+use Rattle.device_core.specs.Asking.{Asking, asking_of, kept_reply, question_of, reply_to}
 use Rattle.device_core.specs.Handled.{answer_from, kept_for, outcome_of, partner_of}
 use Rattle.device_core.specs.Machine.{link_behind, several_answer}
 use Rattle.device_core.specs.Several.{judged_each}
 use Rattle.device_core.specs.State.{Live, Rest, Station}
 use Rattle.end_laws.specs.both.Small as small
 use Rattle.end_laws.specs.both.Small.{ToDevice}
-use Rattle.end_laws.specs.both.Steps.{IsPart}
+use Rattle.end_laws.specs.both.Steps.{IsPart, IsSameOrNone}
 use Rattle.end_laws.specs.device.Orderly.{AreNumbered, IsOrderly, keys_of}
 use Rattle.end_laws.specs.device.Owed.{IsOfPlug, IsOfRelation}
 use Rattle.end_laws.specs.device.Small.{Planned, heard_as, link_of}
@@ -94,12 +104,31 @@ abbrev pub IsKeptOr : Option RelationState → Option RelationState → Type 0
 IsKeptOr before after =
     (option_map link_of after ≡ option_map link_of before) ⊎ ((option_map link_of after ≡ None) ⊎ Forgets before after)
 
--- something happens that is no call, and confirms no ApplicationReady of the relation
+-- something happens that is no call, and confirms no ApplicationReady of the relation; what is asked of the application stays, or is
+-- dropped
 pub record GoesBy (live : Live) (heard : Heard) (after : Rest) (sent : List Sent) : Type 0 where
   pub uncalled : (planned : Planned) → IsUncalled (heard_as planned heard)
   pub calls : after.calls ≡ live.rest.calls
   pub link : IsKeptOr live.rest.link after.link
   pub others : AllByRecursion (IsOther live after.link) sent
+  pub asked : IsSameOrNone (question_in live.rest.asked) (question_in after.asked)
+
+-- The call that is asked of the application is answered, by the application or by the device as no answer came in time: the response is
+-- sent after what else is sent then, and stored. No later call of its activity was answered meanwhile.
+pub record Replies (station : Station) (live : Live) (heard : Heard) (after : Rest) (sent : List Sent) : Type 0 where
+  pub idle : (planned : Planned) → heard_as planned heard ≡ small.Idle
+  pub question : Question
+  pub asked : question_in live.rest.asked ≡ Some question
+  pub settled : question_in after.asked ≡ None
+  pub fresh : looked question.header.activity question.header.sequence live.rest.calls ≡ new
+  pub link : IsKeptOr live.rest.link after.link
+  pub status : Status
+  pub blocks : List ℕ
+  pub keeps : after.calls ≡ kept_more 4
+      (kept_reply station.identity question (reply_to live.values.running.suite.address question status blocks)) live.rest.calls
+  pub first : List Sent
+  pub others : AllByRecursion (IsOther live after.link) first
+  pub sends : sent ≡ first ++ reply_to live.values.running.suite.address question status blocks ∷ []
 
 -- a frame of the exchange
 abbrev pub IsExchange : Sent → Type 0
@@ -175,14 +204,14 @@ with_more source passed values link = restarted source (with_records (record { t
 
 -- A Write of several records is accepted, and the relation has more records, if it accepted and kept any: each record is
 -- carried out and answered by itself, in order.
-pub record WrittenEach (real : Real) (blocks octets : List ℕ) (before after : Option RelationState) : Type 0 where
+pub record WrittenEach (named : List RecordName) (real : Real) (blocks octets : List ℕ) (before after : Option RelationState) : Type 0 where
   pub header : IodWriteReq
   pub entries : List Entry
   pub judged : writing_of (uuid_of before) real blocks ≡ Ok (Each header entries)
   pub answers : List BlockError
-  pub tells : octets ≡ several_answer header (judged_each (uuid_of before) real entries) answers before
+  pub tells : octets ≡ several_answer header (judged_each named (uuid_of before) real entries) answers before
   pub source : Partner
-  pub carried : after ≡ updated (Named source) (link_behind (judged_each (uuid_of before) real entries) before)
+  pub carried : after ≡ updated (Named source) (link_behind (judged_each named (uuid_of before) real entries) before)
   pub passed : PassedOn
   pub values : List TakenRecord
   pub becomes : after ≡ option_map (with_more source passed values) before
@@ -219,7 +248,7 @@ abbrev pub IsEffect : Station → Real → Caller → List ℕ → Result (List 
 IsEffect station real caller blocks (Err fault) which before after = after ≡ before
 IsEffect station real caller blocks (Ok octets) operation.Connect before after = Connected station real caller blocks octets before after
 IsEffect station real caller blocks (Ok octets) operation.Write before after =
-    Written real blocks before after ⊎ (Stored real blocks before after ⊎ WrittenEach real blocks octets before after)
+    Written real blocks before after ⊎ (Stored real blocks before after ⊎ WrittenEach station.named real blocks octets before after)
 IsEffect station real caller blocks (Ok octets) operation.Control before after = Parameterized before after ⊎ PlugEnded before after
 IsEffect station real caller blocks (Ok octets) operation.Release before after = Released before after
 IsEffect station real caller blocks (Ok octets) operation.Read before after = IsRestarted before after
@@ -242,7 +271,7 @@ readied_from address None = []
 readied_from address (Some (Readying ready)) = ReadyCall address ready ∷ []
 readied_from address (Some (Plugging ready)) = PlugReadyCall address ready ∷ []
 
--- a new call is answered, and the response is stored
+-- a new call is answered, and the response is stored; what is asked of the application stays, or is dropped with the relation
 pub record Serves (station : Station) (live : Live) (heard : Heard) (after : Rest) (sent : List Sent) : Type 0 where
   pub caller : Caller
   pub address : List ℕ
@@ -260,10 +289,54 @@ pub record Serves (station : Station) (live : Live) (heard : Heard) (after : Res
   pub readied : AreReadied live after.link ready
   pub keeps : after.calls ≡ kept_more 4 (kept_for station.identity call (answer_from live.values.running.suite.address caller call which outcome)) live.rest.calls
   pub sends : sent ≡ answer_from live.values.running.suite.address caller call which outcome ∷ readied_from live.values.running.suite.address ready
+  pub asked : IsSameOrNone (question_in live.rest.asked) (question_in after.asked)
+
+-- A new call asks for a record of the application. The request is that of the call: a Read, a Write or a Read Implicit.
+pub record IsForRecord (station : Station) (live : Live) (heard : Heard) (asking : Asking) : Type 0 where
+  pub caller : Caller
+  pub address : List ℕ
+  pub call : Call
+  pub is : heard ≡ Reported caller address (Calls call)
+  pub blocks : List ℕ
+  pub counted : call.blocks ≡ Some blocks
+  pub fresh : looked call.header.activity call.header.sequence live.rest.calls ≡ new
+  pub which : Operation
+  pub operation_is : operation_of call.header.operation ≡ Some which
+  pub asks : asking_of live.rest.real station.named (uuid_of live.rest.link) caller call blocks which ≡ Ok (Some asking)
+  pub wanted : Wanted
+  pub name : RecordName
+  pub of_call : asking.0 ≡ question_of caller call wanted name
+
+-- a new call is asked of the application: nothing is sent, and nothing else changes
+pub record Questions (station : Station) (live : Live) (heard : Heard) (after : Rest) (sent : List Sent) : Type 0 where
+  pub asking : Asking
+  pub new_call : IsForRecord station live heard asking
+  pub free : question_in live.rest.asked ≡ None
+  pub becomes : after ≡ record live.rest { asked = asked_with asking.0 asking.1 live.rest.asked }
+  pub silent : sent ≡ []
+
+-- a new call for a record of the application is refused while another one is asked, and the response is stored
+pub record Declines (station : Station) (live : Live) (heard : Heard) (after : Rest) (sent : List Sent) : Type 0 where
+  pub asking : Asking
+  pub new_call : IsForRecord station live heard asking
+  pub other : Question
+  pub busy : question_in live.rest.asked ≡ Some other
+  pub status : Status
+  pub is_busy : status ≡ unanswered_status new_call.which Busy
+  pub sized : IsStatus status
+  pub undone : is_done status ≡ false
+  pub becomes : after ≡ record live.rest {
+    calls = kept_more 4
+        (kept_for station.identity new_call.call (CallAnswer new_call.caller live.values.running.suite.address (answer_to new_call.call status [])))
+        live.rest.calls;
+  }
+  pub sends : sent ≡ CallAnswer new_call.caller live.values.running.suite.address (answer_to new_call.call status []) ∷ []
 
 -- ---- a turn
 
--- What a step of a device does is one of these five.
+-- What a step of a device does is one of these eight.
 abbrev pub Does : Station → Live → Heard → Rest → List Sent → Type 0
 Does station live heard after sent =
-    Rests live after sent ⊎ (GoesBy live heard after sent ⊎ (Confirms live heard after sent ⊎ (Repeats live heard after sent ⊎ Serves station live heard after sent)))
+    Rests live after sent ⊎ (GoesBy live heard after sent ⊎ (Confirms live heard after sent ⊎ (Repeats live heard after sent
+    ⊎ (Serves station live heard after sent ⊎ (Questions station live heard after sent
+    ⊎ (Declines station live heard after sent ⊎ Replies station live heard after sent))))))

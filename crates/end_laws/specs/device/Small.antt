@@ -25,12 +25,17 @@ use Rattle.record_blocks.specs.declared.write_record.IodWriteReq.{IodWriteReq}
 use Rattle.records.specs.writes.Answer.{answer_of, outcomes_of}
 use Rattle.records.specs.writes.Entry.{Entry}
 use Rattle.records.specs.writes.Asked.{writing_of}
+use Rattle.asked_records.specs.Asked.{AskedState, question_in}
+use Rattle.asked_records.specs.Judging.{asked_name}
+use Rattle.asked_records.specs.declared.names.RecordName.{RecordName}
+use Rattle.asked_records.specs.declared.question.Question.{Question}
 use Rattle.relations.specs.declared.phase.Phase.{Phase}
 use Rattle.relations.specs.declared.phase.Phase.TheVariants.{Started, Preparing, Awaiting, Exchanging}
 use Rattle.relations.specs.RelationState.{RelationState}
 use Rattle.relations.specs.Ready.{confirmed_block}
 use Rattle.device_frames.specs.Heard.{Heard, Reported, Said, Calls, Responds, Garbled}
 use Rattle.device_frames.specs.Sent.{Sent, IdentifyAnswer, GetAnswer, SetAnswer, ArpReply, CallAnswer, Again, ReadyCall, PlugReadyCall, Ends, Exchanges, bytes_of}
+use Rattle.device_core.specs.Asking.{write_within}
 use Rattle.device_core.specs.State.{Live}
 use Rattle.device_core.specs.Several.{Judged, judged_each}
 use Rattle.end_laws.specs.both.Small as small
@@ -55,9 +60,21 @@ link_of link = record { phase = phase_in link.phase; request = link.request; tak
 abbrev pub kept_in : Answer → small.Kept
 kept_in answer = record { sequence = answer.sequence; frame = answer.frame }
 
+-- the sequence number of the call that is asked of the application, if one is
+abbrev pub asked_in : AskedState → Option ℕ
+asked_in state = option_map (λ question. question.header.sequence) (question_in state)
+
 -- of the stored responses, the one of the activity of the start-up counts
 abbrev pub small_of : List ℕ → Live → small.Device TakenRecord Request
-small_of activity live = record { kept = option_map kept_in (kept_of activity live.rest.calls); link = option_map link_of live.rest.link }
+small_of activity live = record {
+  kept = option_map kept_in (kept_of activity live.rest.calls);
+  link = option_map link_of live.rest.link;
+  asked = asked_in live.rest.asked;
+}
+
+-- what is asked of the application is a call of this activity
+abbrev pub IsAskedOwn : List ℕ → AskedState → Type 0
+IsAskedOwn activity state = (question : Question) → question_in state ≡ Some question → question.header.activity ≡ activity
 
 -- ---- what it hears
 
@@ -126,49 +143,53 @@ AreDone outcomes = AllByRecursion (λ outcome. is_done outcome.1 ≡ true) outco
 
 -- what a Write of the start-up with these records asks for: the one record; or each of them, and if the response says that
 -- each was written, each was
-abbrev pub IsWritingOf : Rules TakenRecord Request → Real → Option (List ℕ) → ℕ → List TakenRecord → Writing → Type 0
-IsWritingOf rules real standing sequence values (One write) = (value : TakenRecord) × (values ≡ value ∷ []) × (write.effect ≡ Keeps value)
-IsWritingOf rules real standing sequence values (Each header entries) =
-    AreKeeping (judged_each standing real entries) values
+abbrev pub IsWritingOf : Rules TakenRecord Request → List RecordName → Real → Option (List ℕ) → ℕ → List TakenRecord → Writing → Type 0
+IsWritingOf rules named real standing sequence values (One write) = (value : TakenRecord) × (values ≡ value ∷ []) × (write.effect ≡ Keeps value)
+IsWritingOf rules named real standing sequence values (Each header entries) =
+    AreKeeping (judged_each named standing real entries) values
     × ((outcomes : List (IodWriteReq × Status)) → AreOutcomesOf entries outcomes
     → rules.grants sequence (answer_of header ++ outcomes_of outcomes) ≡ true → AreDone outcomes)
 
--- A call with these blocks is one of the start-up, at a device where these modules are plugged. Its Connect is read as the expected
--- request. Its Writes, if they are accepted, store their records, each one. The contents of a PrmEnd or a Release are looked at when it
--- arrives, and so are those of a Read or of another Write, which is a call of the application.
-pub record IsPlannedWrite (rules : Rules TakenRecord Request) (real : Real) (sequence : ℕ) (blocks : List ℕ) : Type 0 where
+-- A call with these blocks is one of the start-up, at a device where these modules are plugged, whose application answers the records
+-- with these names. Its Connect is read as the expected request. Its Writes, if they are accepted, store their records, each one; none
+-- of them is a record of the device's application. The contents of a PrmEnd or a Release are looked at when it arrives, and so are
+-- those of a Read or of another Write, which is a call of the controller's application.
+pub record IsPlannedWrite (rules : Rules TakenRecord Request) (named : List RecordName) (real : Real) (sequence : ℕ) (blocks : List ℕ) : Type 0 where
   pub number : ℕ
   pub is : sequence ≡ number + 1
   pub keeps : (standing : Option (List ℕ)) (writing : Writing) → writing_of standing real blocks ≡ Ok writing →
-      IsWritingOf rules real standing sequence (rules.group number) writing
+      IsWritingOf rules named real standing sequence (rules.group number) writing
+  pub unasked : (standing : Option (List ℕ)) (write : IodWriteReq × List ℕ) → write_within standing blocks ≡ Ok write →
+      asked_name real named write.0.header ≡ None
 
 -- these blocks of a call with this operation are those of the start-up, or of a call of the application
-abbrev pub IsPlannedAs : Rules TakenRecord Request → Real → ℕ → List ℕ → Option Operation → Type 0
-IsPlannedAs rules real sequence blocks (Some operation.Connect) = request_of None blocks ≡ Ok rules.request
-IsPlannedAs rules real sequence blocks (Some operation.Write) = rules.is_planned sequence blocks ≡ true → IsPlannedWrite rules real sequence blocks
-IsPlannedAs rules real sequence blocks (Some operation.Control) = Unit {0}
-IsPlannedAs rules real sequence blocks (Some operation.Release) = Unit {0}
-IsPlannedAs rules real sequence blocks (Some operation.Read) = Unit {0}
-IsPlannedAs rules real sequence blocks (Some operation.ReadImplicit) = ⊥
-IsPlannedAs rules real sequence blocks None = ⊥
+abbrev pub IsPlannedAs : Rules TakenRecord Request → List RecordName → Real → ℕ → List ℕ → Option Operation → Type 0
+IsPlannedAs rules named real sequence blocks (Some operation.Connect) = request_of None blocks ≡ Ok rules.request
+IsPlannedAs rules named real sequence blocks (Some operation.Write) =
+    rules.is_planned sequence blocks ≡ true → IsPlannedWrite rules named real sequence blocks
+IsPlannedAs rules named real sequence blocks (Some operation.Control) = Unit {0}
+IsPlannedAs rules named real sequence blocks (Some operation.Release) = Unit {0}
+IsPlannedAs rules named real sequence blocks (Some operation.Read) = Unit {0}
+IsPlannedAs rules named real sequence blocks (Some operation.ReadImplicit) = ⊥
+IsPlannedAs rules named real sequence blocks None = ⊥
 
 -- a call of the activity of the start-up or of the application, whose blocks have the right counts
-pub record IsPlannedCall (rules : Rules TakenRecord Request) (activity : List ℕ) (real : Real) (call : Call) : Type 0 where
+pub record IsPlannedCall (rules : Rules TakenRecord Request) (activity : List ℕ) (named : List RecordName) (real : Real) (call : Call) : Type 0 where
   pub own : call.header.activity ≡ activity
   pub blocks : List ℕ
   pub counted : call.blocks ≡ Some blocks
-  pub asks : IsPlannedAs rules real call.header.sequence blocks (operation_of call.header.operation)
+  pub asks : IsPlannedAs rules named real call.header.sequence blocks (operation_of call.header.operation)
 
 -- each call that is heard is one of the start-up or of the application
-abbrev pub IsPlannedIn : Rules TakenRecord Request → List ℕ → Real → Said → Type 0
-IsPlannedIn rules activity real (Calls call) = IsPlannedCall rules activity real call
-IsPlannedIn rules activity real (Responds response) = Unit {0}
-IsPlannedIn rules activity real Garbled = Unit {0}
+abbrev pub IsPlannedIn : Rules TakenRecord Request → List ℕ → List RecordName → Real → Said → Type 0
+IsPlannedIn rules activity named real (Calls call) = IsPlannedCall rules activity named real call
+IsPlannedIn rules activity named real (Responds response) = Unit {0}
+IsPlannedIn rules activity named real Garbled = Unit {0}
 
 -- if a call is heard, it is one of the start-up or of the application
-abbrev pub IsPlanned : Rules TakenRecord Request → List ℕ → Real → Heard → Type 0
-IsPlanned rules activity real (Reported caller address said) = IsPlannedIn rules activity real said
-IsPlanned rules activity real other = Unit {0}
+abbrev pub IsPlanned : Rules TakenRecord Request → List ℕ → List RecordName → Real → Heard → Type 0
+IsPlanned rules activity named real (Reported caller address said) = IsPlannedIn rules activity named real said
+IsPlanned rules activity named real other = Unit {0}
 
 -- ---- what it says
 

@@ -62,7 +62,7 @@ use Rattle.device_core.specs.Modules.{plug_of, pull_of, slot_pull_of}
 use Rattle.device_core.specs.State.{Live, Rest, Station}
 use Rattle.device_core.specs.Handled.{kept_for}
 use Rattle.end_laws.specs.device.Orderly.{IsOrderlyIn, keys_of}
-use Rattle.end_laws.specs.device.Owed.{IsOwed}
+use Rattle.end_laws.specs.device.Owed.{IsAskedLater, IsAskedOf, IsOwed}
 use Rattle.end_laws.specs.device.Does.{Does}
 
 -- ---- what stays the same of a relation
@@ -327,20 +327,21 @@ IsTurn real now calls diagnoses later before heard after sent =
 
 -- ---- responses
 
--- a call is answered, and the response is stored
+-- a call is answered, and the response is stored: one that has no answer in time is refused after the frames of the relation
 pub record Answers (identity : Identity) (before after : List Kept) (sent : List Sent) : Type 0 where
   pub call : Call
   pub caller : Caller
   pub address : List ℕ
   pub answer : Response
+  pub first : List Sent
   pub others : List Sent
   pub keeps : after ≡ kept_more 4 (kept_for identity call (CallAnswer caller address answer)) before
-  pub sends : sent ≡ CallAnswer caller address answer ∷ others
+  pub sends : sent ≡ first ++ CallAnswer caller address answer ∷ others
 
 -- ---- a turn
 
 -- one turn of a device: what it does, its kind, what becomes of its diagnoses and of its modules, the response that it stores, that its
--- relation stays in order, and that each message is owed
+-- relation stays in order, that each message is owed, and what is asked of its application: by a relation that exists, if it was before
 pub record Turn (station : Station) (live : Live) (heard : Heard) (after : Rest) (sent : List Sent) : Type 0 where
   pub does : Does station live heard after sent
   pub is : IsTurn live.rest.real.modules.items after.real.modules.items live.rest.calls live.rest.diagnoses after.diagnoses live.rest.link heard after.link sent
@@ -352,6 +353,8 @@ pub record Turn (station : Station) (live : Live) (heard : Heard) (after : Rest)
   pub answers : (after.calls ≡ live.rest.calls) ⊎ Answers station.identity live.rest.calls after.calls sent
   pub orderly : IsOrderlyIn live.rest.link → IsOrderlyIn after.link
   pub owed : AllByRecursion (IsOwed heard live) sent
+  pub asked : IsAskedLater heard live.rest.asked after.asked
+  pub related : IsAskedOf live.rest.link live.rest.asked → IsAskedOf after.link after.asked
 
 -- ---- the number of a relation
 

@@ -1,5 +1,5 @@
 -- The turn of a place that begins after an event or with a unit: what it changes, and what is then sent.
-use Rattle.std.specs.Prelude.{◌≡◌, ◌⊎◌, ◌++◌, ◌∷◌, [], true, ℕ, Option, Some, None}
+use Rattle.std.specs.Prelude.{◌≡◌, ◌⊎◌, ◌++◌, ◌∷◌, [], true, ℕ, Some, None}
 use Rattle.plan_places.specs.declared.report.Plug.{Plug}
 use Rattle.plan_places.specs.Places.{next_waiting, with_state}
 use Rattle.controller_messages.specs.declared.plug_request.PlugRequest.{PlugRequest}

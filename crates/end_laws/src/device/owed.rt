@@ -16,10 +16,11 @@ use crate::device::turn::device_turns;
 /// A device sends only what it owes, as far as responses and ApplicationReady are concerned. This is a law of the
 /// machine by which each step of a device is specified.
 pub fn device_sends_what_it_owes()
-    // If each call that a device hears is one of the start-up or of the application, a response is to a call that it heard, or the one stored
-    // for its activity, and ApplicationReady, also that of a plug, is of the relation that existed, whatever the flash did.
+    // If each call that a device hears is one of the start-up or of the application, a response is to a call that it heard, or to the one
+    // that was asked of its application, or the one stored for its activity, and ApplicationReady, also that of a plug, is of the
+    // relation that existed, whatever the flash did.
     ensures { (rules : Rules TakenRecord Request) (activity : List ℕ) (outcomes : List Outcome) (station : Station) (live : Live)
-        (heard : Heard) → IsPlanned rules activity live.rest.real heard
+        (heard : Heard) → IsPlanned rules activity station.named live.rest.real heard
         → AllByRecursion (IsOwed heard live) (heard_step outcomes station live heard).sent }
 {
     device_turns();

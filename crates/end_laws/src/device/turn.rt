@@ -21,7 +21,7 @@ ghost use Rattle.device_core.specs.Handled.{number_now};
 ghost use Rattle.device_core.specs.Machine.{heard_step};
 ghost use Rattle.end_laws.specs.both.Small.{Rules};
 ghost use Rattle.end_laws.specs.device.Orderly.{keys_of};
-ghost use Rattle.end_laws.specs.device.Small.{IsPlanned};
+ghost use Rattle.end_laws.specs.device.Small.{IsAskedOwn, IsPlanned};
 ghost use Rattle.end_laws.specs.device.Turn.{BeginsNumbered, IsRaise, Turn, alarm_heard, standing_of};
 
 /// Each turn of a device: the operation and the outcome of each response, what is sent, and the relation afterwards. This
@@ -29,20 +29,25 @@ ghost use Rattle.end_laws.specs.device.Turn.{BeginsNumbered, IsRaise, Turn, alar
 /// it.
 pub fn device_turns()
     // If each call that a device hears is one of the start-up or of the application: it does nothing, something that is no call, what the
-    // response to ApplicationReady confirms, or what a call with this operation and this outcome does to the relation, or
-    // it repeats a response; what its outputs and alarms depend on stays the same, or changes as a Connect, a cyclic frame,
-    // an alarm frame, an alarm, a pull, a plug or a unit of time changes it; what is plugged changes by a pull or a plug alone; a
-    // response that is newly stored was sent now; its relation stays in order; and each message is owed. This holds whatever the
-    // flash did.
+    // response to ApplicationReady confirms, or what a call with this operation and this outcome does to the relation, or it repeats a
+    // response, or it asks a call of its application, refuses it while another one is asked, or answers the one that is asked; what its
+    // outputs and alarms depend on stays the same, or changes as a Connect, a cyclic frame, an alarm frame, an alarm, a pull, a plug or a
+    // unit of time changes it; what is plugged changes by a pull or a plug alone; a response that is newly stored was sent now; its
+    // relation stays in order; each message is owed; and what is asked of the application was asked before, or is the call that is heard.
+    // This holds whatever the flash did.
     ensures turn { (rules : Rules TakenRecord Request) (activity : List ℕ) (outcomes : List Outcome) (station : Station) (live : Live)
-        (heard : Heard) → IsPlanned rules activity live.rest.real heard
+        (heard : Heard) → IsPlanned rules activity station.named live.rest.real heard
         → Turn station live heard (heard_step outcomes station live heard).live.rest (heard_step outcomes station live heard).sent }
+    // What is asked of the application is a call of this activity, if it was before.
+    ensures own { (rules : Rules TakenRecord Request) (activity : List ℕ) (outcomes : List Outcome) (station : Station) (live : Live)
+        (heard : Heard) → IsPlanned rules activity station.named live.rest.real heard
+        → IsAskedOwn activity live.rest.asked → IsAskedOwn activity (heard_step outcomes station live heard).live.rest.asked }
     // The number of the next relation is one that the device may give by its options.
     ensures numbered { (station : Station) (live : Live) → IsNumber station.options (number_now station live) }
     // A relation that begins has a number that the device may give by its options: its FrameID of outputs, where the Connect leaves
     // the choice, and its endpoint of alarms are those of this number.
     ensures numbers { (rules : Rules TakenRecord Request) (activity : List ℕ) (outcomes : List Outcome) (station : Station) (live : Live)
-        (heard : Heard) → IsPlanned rules activity live.rest.real heard
+        (heard : Heard) → IsPlanned rules activity station.named live.rest.real heard
         → BeginsNumbered station.options live.rest.link (heard_step outcomes station live heard).live.rest.link }
     // An alarm is raised and sent, or it is refused and nothing changes.
     ensures raises { (outcomes : List Outcome) (station : Station) (live : Live) (slot subslot : ℕ) (octets : List ℕ)

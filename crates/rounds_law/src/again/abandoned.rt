@@ -12,7 +12,7 @@ ghost use Rattle.controller_core.specs.declared.stored.event.Event.TheVariants.{
 ghost use Rattle.controller_core.specs.stored.State.{Controlling};
 ghost use Rattle.controller_core.specs.Machine.{step_of};
 ghost use Rattle.end_laws.specs.hearing.Stations.{IsCalled, IsNumbered};
-ghost use Rattle.rounds_law.specs.Path.{controller_step, device_step, request_to};
+ghost use Rattle.rounds_law.specs.Path.{AsksNothing, controller_step, device_step, request_to};
 ghost use Rattle.rounds_law.specs.Repeating.{completes, counts_on};
 ghost use Rattle.rounds_law.specs.Again.{HasEnded, IsDenial};
 ghost use Rattle.rounds_law.specs.Abandoned.{Awaited, Denies, EndsFor, Expects, IsInPlan, IsNewCall, IsOfRelation, IsReleasing};
@@ -26,9 +26,10 @@ use records::refusals_are_not_done;
 /// What a device without a relation does with the calls of a controller that still has one. These are laws of the machine by which each
 /// step of a device is specified.
 pub fn device_denies_calls(setup: &Setup, identity: &Identity)
-    // If it has the IP address of the plan, it sends a negative response to each Write, PrmEnd and Release that is new to it.
+    // If it has the IP address of the plan, and asks its application nothing, it sends a negative response to each Write, PrmEnd and Release that
+    // is new to it.
     ensures denied { (outcomes : List Outcome) (station : Station) (live : Live) (request : Request)
-        → station.identity ≡ identity.now → live.rest.link ≡ None → is_reached setup.now live ≡ true
+        → station.identity ≡ identity.now → live.rest.link ≡ None → AsksNothing live → is_reached setup.now live ≡ true
         → IsOfRelation request → IsNumbered request → IsNewCall setup.now (sequence_of setup.now.plan request) live
         → AreSendable identity.now (device_step outcomes station live (request_to setup.now identity.now request)).sent
         → Denies setup.now identity.now request live (device_step outcomes station live (request_to setup.now identity.now request)) }

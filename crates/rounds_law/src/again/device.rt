@@ -10,7 +10,7 @@ ghost use Rattle.device_core.specs.State.{Live, Station};
 ghost use Rattle.device_core.specs.Machine.{heard_step};
 ghost use Rattle.controller_messages.specs.declared.request.Request.TheVariants.{Address, Connect};
 ghost use Rattle.both_ends.specs.startup.Played.{CanMeet};
-ghost use Rattle.rounds_law.specs.Path.{IsAddressed, IsIgnored, IsOutputs, device_step, request_to};
+ghost use Rattle.rounds_law.specs.Path.{AsksNothing, IsAddressed, IsIgnored, IsOutputs, device_step, request_to};
 ghost use Rattle.rounds_law.specs.Again.{HasEarlier, IsEnd, IsRefusal, unset_frame};
 
 use crate::device::suite_is_valid;
@@ -39,7 +39,8 @@ pub fn device_keeps_an_earlier_relation(setup: &Setup, identity: &Identity)
         × ((device_step outcomes station live (request_to setup.now identity.now Connect)).live.values ≡ live.values)
         × ((device_step outcomes station live (request_to setup.now identity.now Connect)).live.rest.link ≡ live.rest.link)
         × ((activity : List ℕ) → (activity ≡ setup.now.activity → ⊥) → kept_of activity live.rest.calls ≡ None
-        → kept_of activity (device_step outcomes station live (request_to setup.now identity.now Connect)).live.rest.calls ≡ None) }
+        → kept_of activity (device_step outcomes station live (request_to setup.now identity.now Connect)).live.rest.calls ≡ None)
+        × ((device_step outcomes station live (request_to setup.now identity.now Connect)).live.rest.asked ≡ live.rest.asked) }
     // It refuses the IP suite, and nothing changes.
     ensures unset { CanMeet setup.now identity.now → (outcomes : List Outcome) (station : Station) (live : Live) (left : ℕ)
         → station.identity ≡ identity.now → HasEarlier setup.now left live
@@ -52,11 +53,14 @@ pub fn device_keeps_an_earlier_relation(setup: &Setup, identity: &Identity)
         → AllByRecursion (IsIgnored setup.now) (heard_step outcomes station live Ticks).frames
         × ((heard_step outcomes station live Ticks).live.values ≡ live.values)
         × ((heard_step outcomes station live Ticks).live.rest.calls ≡ live.rest.calls)
-        × (((heard_step outcomes station live Ticks).live.rest.link ≡ None) ⊎ HasEarlier setup.now left (heard_step outcomes station live Ticks).live) }
-    // Without a relation, a unit changes neither the settings nor the stored responses, and nothing is sent.
-    ensures unrelated { (outcomes : List Outcome) (station : Station) (live : Live) → live.rest.link ≡ None
+        × (((heard_step outcomes station live Ticks).live.rest.link ≡ None) ⊎ HasEarlier setup.now left (heard_step outcomes station live Ticks).live)
+        × AsksNothing (heard_step outcomes station live Ticks).live }
+    // Without a relation, and while nothing is asked of the application, a unit changes neither the settings nor the stored responses, and
+    // nothing is sent.
+    ensures unrelated { (outcomes : List Outcome) (station : Station) (live : Live) → live.rest.link ≡ None → AsksNothing live
         → ((heard_step outcomes station live Ticks).frames ≡ []) × ((heard_step outcomes station live Ticks).live.values ≡ live.values)
-        × ((heard_step outcomes station live Ticks).live.rest.calls ≡ live.rest.calls) × ((heard_step outcomes station live Ticks).live.rest.link ≡ None) }
+        × ((heard_step outcomes station live Ticks).live.rest.calls ≡ live.rest.calls) × ((heard_step outcomes station live Ticks).live.rest.link ≡ None)
+        × AsksNothing (heard_step outcomes station live Ticks).live }
     // Without a relation, frames of outputs and an ERR change nothing, and nothing is sent.
     ensures vain { (serial : ℕ) (outcomes : List Outcome) (station : Station) (live : Live) (octets : List ℕ) → station.identity ≡ identity.now
         → live.rest.link ≡ None → IsOutputs setup.now (Some serial) identity.now.mac octets ⊎ IsEnd setup.now serial identity.now.mac octets

@@ -11,7 +11,8 @@ use Rattle.relations.specs.declared.options.DeviceOptions.{DeviceOptions}
 use Rattle.relations.specs.Connect.{connect_answer, connect_blocks}
 use Rattle.relations.specs.Numbers.{endpoint_of}
 use Rattle.device_frames.specs.Sent.{Sent, bytes_of}
-use Rattle.device_core.specs.State.{Live, Rest, station_with}
+use Rattle.asked_records.specs.declared.names.RecordName.{RecordName}
+use Rattle.device_core.specs.State.{Live, Rest, station_named}
 use Rattle.device_core.specs.Handled.{Moves, answer_from, handled_new, number_now}
 use Rattle.controller_messages.specs.declared.setup.Setup.{Setup}
 use Rattle.controller_messages.specs.declared.request.Request.TheVariants as asks
@@ -39,14 +40,15 @@ abbrev pub answer_frame : Setup → Identity → DeviceOptions → ℕ → List 
 answer_frame setup identity options number address = bytes_of identity (answer_message setup identity options number address)
 
 -- A device of this identity, in which the modules of the plan are plugged, with any options and no relation, judges a new call with
--- the plan's Connect and sends this message, from its running address, and no other. It may have been given other modules.
+-- the plan's Connect and sends this message, from its running address, and no other. It may have been given other modules, and its
+-- application may answer any records.
 abbrev pub AnswersSo : Setup → Identity → Type 0
-AnswersSo setup identity = (given : Real) → (options : DeviceOptions) → (device : Live) → device.rest.link ≡ None
+AnswersSo setup identity = (given : Real) → (options : DeviceOptions) → (named : List RecordName) → (device : Live) → device.rest.link ≡ None
     → device.rest.real ≡ setup.plan.real → (rest : Rest)
-    × (handled_new (station_with identity given options) device (caller_of setup.plan.controller) (call_for setup asks.Connect)
+    × (handled_new (station_named identity given options named) device (caller_of setup.plan.controller) (call_for setup asks.Connect)
     (blocks_of setup asks.Connect) Connect
     ≡ Moves rest
-    (answer_message setup identity options (number_now (station_with identity given options) device) device.values.running.suite.address ∷ []))
+    (answer_message setup identity options (number_now (station_named identity given options named) device) device.values.running.suite.address ∷ []))
 
 -- the blocks of the response if the device accepts the plan's request: no module differs
 abbrev pub answer_blocks : Setup → Identity → ℕ → List ℕ

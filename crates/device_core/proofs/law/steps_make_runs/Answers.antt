@@ -1,4 +1,4 @@
-use Rattle.std.proofs.Common.{◌≡◌, sym, subst}
+use Rattle.std.proofs.Common.{sym, subst}
 use Rattle.device_core.specs.State.{Live}
 use Rattle.device_core.specs.Steps.{IsBehindCalls}
 use Rattle.device_core.proofs.Called.{run_called}

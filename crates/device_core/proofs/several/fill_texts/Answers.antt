@@ -13,7 +13,7 @@ loop-entry-preserved c =
     let texts = rw c.judge-judged.ensures at c.put_text.ensures.items in
     record {
       items = rw texts
-          (texts_more (uuid_of c.args.relation.now) c.args.real.now c.loop-entry.plan.items entry c.next.new.self c.loop-entry.left _ is c.loop-entry.invariant.items);
+          (texts_more c.args.named.now (uuid_of c.args.relation.now) c.args.real.now c.loop-entry.plan.items entry c.next.new.self c.loop-entry.left _ is c.loop-entry.invariant.items);
       room = omega (arith, count, c.put_text.ensures.few, c.loop-entry.invariant.room);
     }
 
@@ -23,4 +23,4 @@ loop-entry-smaller c = omega (arith, ap length c.in-Some.ensures.next)
 pub returns-clause-items : goal.returns-clause-items
 returns-clause-items c =
     let none : c.loop-entry.left ≡ [] = rw c.in_default.is at c.next.ensures.ends in
-    texts_end (uuid_of c.args.relation.now) c.args.real.now c.loop-entry.plan.items c.loop-entry.left _ none c.loop-entry.invariant.items
+    texts_end c.args.named.now (uuid_of c.args.relation.now) c.args.real.now c.loop-entry.plan.items c.loop-entry.left _ none c.loop-entry.invariant.items

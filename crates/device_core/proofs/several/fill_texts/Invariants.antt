@@ -6,7 +6,7 @@ use Rattle.device_core.proofs.several.fill_texts.Given as goal
 
 abbrev pub invariant-loop-entry : goal.invariant-loop-entry
 invariant-loop-entry l = record {
-  items : l.plan.items ++ texts_in (judged_each (uuid_of l.relation) l.real l.left) ≡ texts_in (judged_each (uuid_of l.relation) l.real l.entries);
+  items : l.plan.items ++ texts_in (judged_each l.named (uuid_of l.relation) l.real l.left) ≡ texts_in (judged_each l.named (uuid_of l.relation) l.real l.entries);
   room : length l.plan.items + length l.left ≤ 16;
 }
 

@@ -18,8 +18,8 @@ loop-entry-preserved c =
     record {
       uuid = c.put_outcome-unused.ensures.uuid ∙ c.loop-entry.invariant.uuid;
       blocks = rw (blocks, answers, link)
-          (outcomes_more own c.args.real.now c.loop-entry.blocks.items entry others c.loop-entry.left c.loop-entry.unused.now c.loop-entry.relation _ is c.loop-entry.invariant.blocks);
-      link = rw link (link_more own c.args.real.now entry others c.loop-entry.left c.loop-entry.relation _ is c.loop-entry.invariant.link);
+          (outcomes_more c.args.named.now own c.args.real.now c.loop-entry.blocks.items entry others c.loop-entry.left c.loop-entry.unused.now c.loop-entry.relation _ is c.loop-entry.invariant.blocks);
+      link = rw link (link_more c.args.named.now own c.args.real.now entry others c.loop-entry.left c.loop-entry.relation _ is c.loop-entry.invariant.link);
       room = omega (arith, count, c.put_outcome-unused.ensures.len, c.loop-entry.invariant.room);
     }
 
@@ -29,10 +29,10 @@ loop-entry-smaller c = omega (arith, ap length c.in-Some.ensures.next)
 pub returns-clause-blocks : goal.returns-clause-blocks
 returns-clause-blocks c =
     let none : c.loop-entry.left ≡ [] = rw c.in_default.is at c.next.ensures.ends in
-    outcomes_end (uuid_of c.args.relation.now) c.args.real.now c.loop-entry.blocks.items c.loop-entry.left c.loop-entry.unused.now c.loop-entry.relation _ none
+    outcomes_end c.args.named.now (uuid_of c.args.relation.now) c.args.real.now c.loop-entry.blocks.items c.loop-entry.left c.loop-entry.unused.now c.loop-entry.relation _ none
     c.loop-entry.invariant.blocks
 
 pub returns-clause-link : goal.returns-clause-link
 returns-clause-link c =
     let none : c.loop-entry.left ≡ [] = rw c.in_default.is at c.next.ensures.ends in
-    link_end (uuid_of c.args.relation.now) c.args.real.now c.loop-entry.left c.loop-entry.relation _ none c.loop-entry.invariant.link
+    link_end c.args.named.now (uuid_of c.args.relation.now) c.args.real.now c.loop-entry.left c.loop-entry.relation _ none c.loop-entry.invariant.link

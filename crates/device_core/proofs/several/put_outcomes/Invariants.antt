@@ -9,10 +9,10 @@ use Rattle.device_core.proofs.several.put_outcomes.Given as goal
 abbrev pub invariant-loop-entry : goal.invariant-loop-entry
 invariant-loop-entry l = record {
   uuid : uuid_of l.relation ≡ uuid_of l.initial.relation;
-  blocks : l.blocks.items ++ outcomes_of (statuses_of (judged_each (uuid_of l.initial.relation) l.real l.left) l.unused l.relation)
-      ≡ l.initial.blocks.items ++ outcomes_of (statuses_of (judged_each (uuid_of l.initial.relation) l.real l.entries) l.answers l.initial.relation);
-  link : link_behind (judged_each (uuid_of l.initial.relation) l.real l.left) l.relation
-      ≡ link_behind (judged_each (uuid_of l.initial.relation) l.real l.entries) l.initial.relation;
+  blocks : l.blocks.items ++ outcomes_of (statuses_of (judged_each l.named (uuid_of l.initial.relation) l.real l.left) l.unused l.relation)
+      ≡ l.initial.blocks.items ++ outcomes_of (statuses_of (judged_each l.named (uuid_of l.initial.relation) l.real l.entries) l.answers l.initial.relation);
+  link : link_behind (judged_each l.named (uuid_of l.initial.relation) l.real l.left) l.relation
+      ≡ link_behind (judged_each l.named (uuid_of l.initial.relation) l.real l.entries) l.initial.relation;
   room : length l.blocks.items + 64 * length l.left ≤ 1372;
 }
 

@@ -10,6 +10,7 @@ device_so g c = record {
   goes_on = c.device_goes_on.ensures;
   kinds = c.turns_are_of_a_kind.ensures.event;
   turns = c.device_turns.ensures.turn;
+  owns = c.device_turns.ensures.own;
   keys = record {
     sent = c.device_turns.ensures.sent_keys;
     changed = c.device_turns.ensures.changed_keys;
@@ -50,7 +51,6 @@ hears_so g c = record {
   plug_can = c.plug_calls_are_heard.ensures.sent;
   plug_at_controller = c.plug_calls_are_heard.ensures.controller;
   response_at_controller = c.responses_are_heard.ensures.controller;
-  response_long = c.responses_are_heard.ensures.long;
   chosen = c.answers_choose_well.ensures;
   response_no_call = c.calls_and_responses_differ.ensures.answered;
 }

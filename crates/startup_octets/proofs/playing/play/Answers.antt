@@ -25,9 +25,9 @@ returns-in_err-world-clause-turns g c =
     ([], c.args.moves.now, sym (append-nil (g.W.Witness.log c.args.witness.now)), tt, refl, rw (p.1) tt)
 
 pub returns-in_err-world-clause-meets : goal.returns-in_err-world-clause-meets
-returns-in_err-world-clause-meets g c = λ can.
+returns-in_err-world-clause-meets g c = λ can unnamed.
     let p = err_from_is_err_and c.from_residual.result c.from_residual.ensures.1 in
-    rw (p.1, p.2) (c.in_err-world.ensures.meets can)
+    rw (p.1, p.2) (c.in_err-world.ensures.meets can unnamed)
 
 pub returns-in_err-world-clause-starts : goal.returns-in_err-world-clause-starts
 returns-in_err-world-clause-starts g c = λ left.

@@ -19,8 +19,6 @@ heard_so g c = record {
   call_at_controller = c.calls_are_heard.ensures.controller;
   response_at_controller = c.responses_are_heard.ensures.controller;
   response_at_device = c.responses_are_heard.ensures.device;
-  long_at_controller = c.responses_are_heard.ensures.long;
-  long_at_device = c.responses_are_heard.ensures.unread;
   ready_at_controller = c.ready_calls_are_heard.ensures.controller;
   ready_at_device = c.ready_calls_are_heard.ensures.device;
   plug_can = c.plug_calls_are_heard.ensures.sent;
@@ -43,6 +41,7 @@ goes_so g c = record {
   device_on = c.device_goes_on.ensures;
   orderly = λ rules activity outcomes station live heard planned. (c.device_turns.ensures.turn rules activity outcomes station live heard planned).orderly;
   owed = c.device_sends_what_it_owes.ensures;
+  asked = λ rules activity outcomes station live heard planned. (c.device_turns.ensures.turn rules activity outcomes station live heard planned).asked;
   relation = c.start_up_is_kept.ensures.relation;
 }
 

@@ -7,13 +7,16 @@ pub returns-clause-counts : goal.returns-clause-counts
 returns-clause-counts c = counts_down
 
 pub returns-clause-ends : goal.returns-clause-ends
-returns-clause-ends c = λ station live link outcomes events exists timed silent many. ends_in_time station live link outcomes events exists timed silent many
+returns-clause-ends c = λ station live link outcomes events exists timed unasked silent many.
+    ends_in_time station live link outcomes events exists timed unasked silent many
 
 pub returns-clause-heard : goal.returns-clause-heard
-returns-clause-heard c = λ station live link outcomes events exists timed many. ends_or_hears station live link outcomes events exists timed many
+returns-clause-heard c = λ station live link outcomes events exists timed unasked many.
+    ends_or_hears station live link outcomes events exists timed unasked many
 
 pub returns-clause-unplugged : goal.returns-clause-unplugged
-returns-clause-unplugged c = λ station live outcomes events timed none many. ends_unplugged station live outcomes events timed none many
+returns-clause-unplugged c = λ station live outcomes events timed unasked none many.
+    ends_unplugged station live outcomes events timed unasked none many
 
 pub returns-clause-timed : goal.returns-clause-timed
 returns-clause-timed c = stay_timed

@@ -24,6 +24,7 @@ laws g c = record {
   known = c.worlds_take_alarms.ensures.known;
   plugged = c.worlds_take_alarms.ensures.plugged;
   station = c.later_worlds_begin.ensures.station;
+  unasked = c.later_worlds_begin.ensures.unasked;
   others = c.later_worlds_begin.ensures.others;
 }
 

@@ -3,7 +3,7 @@ use Rattle.std.proofs.Common.{ℕ}
 use Rattle.arrayvec.specs.ArrayVec.{ArrayVec}
 use Rattle.pn_values.specs.declared.real.RealSubmodule.{RealSubmodule}
 use Rattle.device_frames.specs.declared.event.Event.TheVariants.{Application}
-use Rattle.device_frames.specs.declared.local.Local.TheVariants.{Alarm, Input, Plug}
+use Rattle.device_frames.specs.declared.local.Local.TheVariants.{Alarm, Answer, Input, Plug}
 use Rattle.device_abi.proofs.PortHanded.{answered_in, copied_in, heard_in, whole_in}
 use Rattle.device_abi.proofs.port.host.hand_on.Goals as goal
 
@@ -38,3 +38,13 @@ returns-in-Ready c = rw c.in-Ready.is (answered_in _ _ _ _ c.ready.ensures)
 
 pub returns-in-ProviderState : goal.returns-in-ProviderState
 returns-in-ProviderState c = rw c.in-ProviderState.is (answered_in _ _ _ _ c.provider_state.ensures)
+
+pub returns-in-Answer : goal.returns-in-Answer
+returns-in-Answer c =
+    rw c.in-Answer.is (whole_in (λ (octets : ArrayVec ℕ). Application (Answer c.in-Answer.number octets)) _ _ _ _ c.as_slice-in-Answer.ensures.value c.as_slice-in-Answer.ensures.few (answered_in _ _ _ _ c.answer.ensures))
+
+pub returns-in-Written : goal.returns-in-Written
+returns-in-Written c = rw c.in-Written.is (answered_in _ _ _ _ c.written.ensures)
+
+pub returns-in-Refuse : goal.returns-in-Refuse
+returns-in-Refuse c = rw c.in-Refuse.is (answered_in _ _ _ _ c.refuse.ensures)

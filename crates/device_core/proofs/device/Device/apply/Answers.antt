@@ -62,3 +62,15 @@ returns-in-ProviderState-clause-frames g c = rw c.in-ProviderState.is (ap (map (
 
 pub returns-in-ProviderState-clause-sendable : goal.returns-in-ProviderState-clause-sendable
 returns-in-ProviderState-clause-sendable g c = rw c.in-ProviderState.is (none_sendable c.args.self.now.station.identity _ refl)
+
+pub returns-in-Answer-clause-state : goal.returns-in-Answer-clause-state
+returns-in-Answer-clause-state g c = rw (c.in-Answer.is, ← c.as_slice-in-Answer.ensures.value) c.answer.ensures.state
+
+pub returns-in-Answer-clause-frames : goal.returns-in-Answer-clause-frames
+returns-in-Answer-clause-frames g c = rw (c.in-Answer.is, ← c.as_slice-in-Answer.ensures.value) c.answer.ensures.frames
+
+pub returns-in-Answer-clause-sendable : goal.returns-in-Answer-clause-sendable
+returns-in-Answer-clause-sendable g c = rw (c.in-Answer.is, ← c.as_slice-in-Answer.ensures.value) c.answer.ensures.sendable
+
+pub returns-in-Answer-clause-note : goal.returns-in-Answer-clause-note
+returns-in-Answer-clause-note g c = rw (c.in-Answer.is, ← c.as_slice-in-Answer.ensures.value) c.answer.ensures.note

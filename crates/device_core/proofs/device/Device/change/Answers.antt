@@ -1,31 +1,32 @@
 -- The alarm that became active, and after it the ApplicationReady of a plug.
-use Rattle.std.proofs.Common.{◌≡◌, ◌++◌, ℕ, List, Option, option_map, map, refl, sym, ap, subst, ◌∙◌}
+use Rattle.std.proofs.Common.{List, option_map, map, ap, subst, ◌∙◌}
 use Rattle.lldp.specs.Views.{peer_as}
 use Rattle.module_diff.specs.declared.changes.Affected.{Affected}
-use Rattle.module_diff.specs.Changes.{affected_by}
+use Rattle.asked_records.specs.Asked.{dropped_at}
 use Rattle.diagnosis.specs.Existing.{remaining}
 use Rattle.relations.specs.exchange.Statuses.{remaining_statuses}
 use Rattle.relations.specs.RelationState.{flow_of}
 use Rattle.device_frames.specs.Relation.{low_alarms_of, plug_calls, where_due}
 use Rattle.device_frames.specs.Sendable.{AreSendable}
 use Rattle.device_frames.specs.Sent.{Sent, bytes_of}
-use Rattle.device_core.specs.State.{Rest, State}
+use Rattle.device_core.specs.State.{Rest}
 use Rattle.device_core.proofs.Changing.{both_boxed, rest_changed, sent_changed}
 use Rattle.device_core.proofs.Sendable.{all_sendable}
 use Rattle.device_core.proofs.device.Device.change.Goals as goal
 
 pub returns-clause-state : goal.returns-clause-state
 returns-clause-state g c =
-    let rest : Rest = record { lamp = c.self.inside.lamp; calls = c.self.inside.answers.kept; link = c.self.inside.relation; units = c.self.inside.units; is_running = c.self.inside.is_running; statuses = c.self.inside.statuses.items; log = c.self.inside.log; peer = option_map peer_as c.self.inside.neighbour; diagnoses = c.self.inside.diagnoses; made = c.self.inside.made; real = c.self.inside.real } in
+    let rest : Rest = record { lamp = c.self.inside.lamp; calls = c.self.inside.answers.kept; link = c.self.inside.relation; units = c.self.inside.units; is_running = c.self.inside.is_running; statuses = c.self.inside.statuses.items; log = c.self.inside.log; peer = option_map peer_as c.self.inside.neighbour; diagnoses = c.self.inside.diagnoses; made = c.self.inside.made; real = c.self.inside.real; asked = c.self.inside.asked } in
     let d_is = c.forget.ensures ∙ ap (λ (a : Affected). remaining a c.self.inside.diagnoses) c.affected-affected.ensures in
+    let a_is = c.drop_at.ensures.state ∙ ap (λ (a : Affected). dropped_at a c.self.inside.asked) c.affected-affected.ensures in
     let s_is = c.forget_statuses.ensures ∙ ap (λ (a : Affected). remaining_statuses a c.self.inside.statuses.items) c.affected-affected.ensures in
     rw (← c.self.view_is)
-    (ap (λ (r : Rest). record { flash = c.self.inside.store.flash; station = record { identity = c.self.inside.identity; real = c.self.inside.given; options = c.self.inside.options }; live = record { values = c.self.inside.store.values; rest = r } })
-    (rest_changed rest c.args.change.now c.forget.new.self c.change_modules-outgoing.new.self d_is c.change_modules-outgoing.ensures.state c.forget_statuses.new.statuses.items s_is))
+    (ap (λ (r : Rest). record { flash = c.self.inside.store.flash; station = record { identity = c.self.inside.identity; real = c.self.inside.given; options = c.self.inside.options; named = c.self.inside.named }; live = record { values = c.self.inside.store.values; rest = r } })
+    (rest_changed rest c.args.change.now c.forget.new.self c.change_modules-outgoing.new.self d_is c.change_modules-outgoing.ensures.state c.forget_statuses.new.statuses.items c.drop_at.new.self s_is a_is))
 
 pub returns-clause-frames : goal.returns-clause-frames
 returns-clause-frames g c =
-    let rest : Rest = record { lamp = c.self.inside.lamp; calls = c.self.inside.answers.kept; link = c.self.inside.relation; units = c.self.inside.units; is_running = c.self.inside.is_running; statuses = c.self.inside.statuses.items; log = c.self.inside.log; peer = option_map peer_as c.self.inside.neighbour; diagnoses = c.self.inside.diagnoses; made = c.self.inside.made; real = c.self.inside.real } in
+    let rest : Rest = record { lamp = c.self.inside.lamp; calls = c.self.inside.answers.kept; link = c.self.inside.relation; units = c.self.inside.units; is_running = c.self.inside.is_running; statuses = c.self.inside.statuses.items; log = c.self.inside.log; peer = option_map peer_as c.self.inside.neighbour; diagnoses = c.self.inside.diagnoses; made = c.self.inside.made; real = c.self.inside.real; asked = c.self.inside.asked } in
     let d_is = c.forget.ensures ∙ ap (λ (a : Affected). remaining a c.self.inside.diagnoses) c.affected-affected.ensures in
     let address_is = c.address-address.ensures.value ∙ ap (λ s. s.suite.address) c.running.ensures in
     let it = sent_changed rest c.args.change.now c.forget.new.self c.change_modules-outgoing.new.self d_is c.change_modules-outgoing.ensures.state c.self.inside.store.values c.address-address.result
@@ -38,7 +39,7 @@ returns-clause-frames g c =
 
 pub returns-clause-sendable : goal.returns-clause-sendable
 returns-clause-sendable g c =
-    let rest : Rest = record { lamp = c.self.inside.lamp; calls = c.self.inside.answers.kept; link = c.self.inside.relation; units = c.self.inside.units; is_running = c.self.inside.is_running; statuses = c.self.inside.statuses.items; log = c.self.inside.log; peer = option_map peer_as c.self.inside.neighbour; diagnoses = c.self.inside.diagnoses; made = c.self.inside.made; real = c.self.inside.real } in
+    let rest : Rest = record { lamp = c.self.inside.lamp; calls = c.self.inside.answers.kept; link = c.self.inside.relation; units = c.self.inside.units; is_running = c.self.inside.is_running; statuses = c.self.inside.statuses.items; log = c.self.inside.log; peer = option_map peer_as c.self.inside.neighbour; diagnoses = c.self.inside.diagnoses; made = c.self.inside.made; real = c.self.inside.real; asked = c.self.inside.asked } in
     let d_is = c.forget.ensures ∙ ap (λ (a : Affected). remaining a c.self.inside.diagnoses) c.affected-affected.ensures in
     let address_is = c.address-address.ensures.value ∙ ap (λ s. s.suite.address) c.running.ensures in
     let it = sent_changed rest c.args.change.now c.forget.new.self c.change_modules-outgoing.new.self d_is c.change_modules-outgoing.ensures.state c.self.inside.store.values c.address-address.result

@@ -1,5 +1,5 @@
 -- The response, and after it the alarm of the next change.
-use Rattle.std.proofs.Common.{◌≡◌, ◌++◌, map, sym, ap, ◌∙◌}
+use Rattle.std.proofs.Common.{sym}
 use Rattle.std.proofs.lemmas.List.{map-append}
 use Rattle.relations.specs.Diagnosed.{report_one, reporting}
 use Rattle.relations.specs.Phases.{updated}

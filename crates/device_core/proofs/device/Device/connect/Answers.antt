@@ -1,5 +1,5 @@
 -- A Connect is answered, counted if it was accepted, and logged if it was refused.
-use Rattle.std.proofs.Common.{◌≡◌, refl, sym, ap, ◌∙◌}
+use Rattle.std.proofs.Common.{refl, sym, ap, ◌∙◌}
 use Rattle.device_core.specs.Log.{connect_log}
 use Rattle.device_core.specs.Handled.{count_after}
 use Rattle.device_core.proofs.Logged.{connected_count, connected_log}

@@ -1,10 +1,8 @@
 -- Which of the two it is, is known by its BlockType.
 use Rattle.std.proofs.Common.{◌≡◌, true, false, sym, ap, subst, ◌∙◌}
 use Rattle.std.proofs.lemmas.Bool.{cond-true, cond-false}
-use Rattle.frame_codec.specs.Outbox.{boxed}
 use Rattle.relations.specs.Plugging.{is_plug_control}
 use Rattle.device_core.specs.Behind.{CanSend, behind, called, frames_of, parameters_ended, plug_ended}
-use Rattle.device_core.specs.Handled.{Handled}
 use Rattle.records.specs.declared.status.operation.Operation.TheVariants.{Control}
 use Rattle.device_core.proofs.device.Device.control.Goals as goal
 

@@ -1,5 +1,5 @@
 -- A PrmEnd after a plug is answered, and the next ApplicationReady of a plug follows, if one is called.
-use Rattle.std.proofs.Common.{◌≡◌, ℕ, List, [], ◌∷◌, ◌++◌, map, Option, Result, Ok, Err, IfOk, IfErr, refl, sym, ap, subst, ◌∙◌}
+use Rattle.std.proofs.Common.{◌≡◌, ℕ, List, [], Option, Result, Ok, Err, IfOk, IfErr, refl, sym, subst}
 use Rattle.connect_blocks.specs.declared.plug_control.PlugControlBlock.{PlugControlBlock}
 use Rattle.records.specs.declared.status.call_fault.CallFault.{CallFault}
 use Rattle.relations.specs.Plugging.{plug_end_answer, plug_end_in, plug_ending}

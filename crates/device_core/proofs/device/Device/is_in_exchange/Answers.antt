@@ -1,5 +1,5 @@
 -- The phase says it.
-use Rattle.std.proofs.Common.{sym, ap, ◌∙◌}
+use Rattle.std.proofs.Common.{ap, ◌∙◌}
 use Rattle.device_core.specs.Behind.{exchanging_of}
 use Rattle.device_core.proofs.Changing.{exchanging_as}
 use Rattle.device_core.proofs.device.Device.is_in_exchange.Goals as goal

@@ -1,5 +1,5 @@
 -- It is refused, or the modules change.
-use Rattle.std.proofs.Common.{◌≡◌, ◌&&◌, nat_lt, true, false, List, Option, map, is_some, unwrap_or, option_map, refl, sym, ap, ◌∙◌}
+use Rattle.std.proofs.Common.{◌≡◌, ◌&&◌, nat_lt, true, false, List, Option, map, is_some, option_map, refl, sym, ap, ◌∙◌}
 use Rattle.lldp.specs.Views.{peer_as}
 use Rattle.pn_values.specs.declared.real.RealModule.{RealModule}
 use Rattle.module_diff.specs.declared.changes.RealChange.{RealChange}
@@ -111,7 +111,7 @@ returns-clause-state g c =
     let fits : is_crowded (affected_by change) old.live.rest.link ≡ false =
     rw (c.affected.ensures, c.pull_of-change.ensures) at (sym c.is_refused.ensures ∙ c.if-is_refused.false) in
     let it = modules_changed old.station old.live change made real some fits in
-    rw (it, outside_is c.args.slot (pulled c.args.slot c.args.subslot real) real some) (rw (← c.self.view_is) (c.change.ensures.state ∙ state_changed c.self.inside.store.flash (record { identity = c.self.inside.identity; real = c.self.inside.given; options = c.self.inside.options }) c.self.inside.store.values (record { lamp = c.self.inside.lamp; calls = c.self.inside.answers.kept; link = c.self.inside.relation; units = c.self.inside.units; is_running = c.self.inside.is_running; statuses = c.self.inside.statuses.items; log = c.self.inside.log; peer = option_map peer_as c.self.inside.neighbour; diagnoses = c.self.inside.diagnoses; made = c.self.inside.made; real = c.self.inside.real }) c.pull_of-change.result _ c.pull.new.real.modules.items _ c.pull_of-change.ensures c.pull.ensures.state))
+    rw (it, outside_is c.args.slot (pulled c.args.slot c.args.subslot real) real some) (rw (← c.self.view_is) (c.change.ensures.state ∙ state_changed c.self.inside.store.flash (record { identity = c.self.inside.identity; real = c.self.inside.given; options = c.self.inside.options; named = c.self.inside.named }) c.self.inside.store.values (record { lamp = c.self.inside.lamp; calls = c.self.inside.answers.kept; link = c.self.inside.relation; units = c.self.inside.units; is_running = c.self.inside.is_running; statuses = c.self.inside.statuses.items; log = c.self.inside.log; peer = option_map peer_as c.self.inside.neighbour; diagnoses = c.self.inside.diagnoses; made = c.self.inside.made; real = c.self.inside.real; asked = c.self.inside.asked }) c.pull_of-change.result _ c.pull.new.real.modules.items _ c.pull_of-change.ensures c.pull.ensures.state))
 
 pub returns-clause-frames : goal.returns-clause-frames
 returns-clause-frames g c =

@@ -1,5 +1,5 @@
 -- It is refused, or the modules change.
-use Rattle.std.proofs.Common.{◌≡◌, ◌&&◌, nat_lt, true, false, List, Option, map, is_some, unwrap_or, refl, sym, ap, ◌∙◌}
+use Rattle.std.proofs.Common.{◌≡◌, ◌&&◌, nat_lt, true, false, List, Option, map, is_some, refl, sym, ap, ◌∙◌}
 use Rattle.pn_values.specs.declared.real.RealModule.{RealModule}
 use Rattle.module_diff.specs.declared.changes.RealChange.{RealChange}
 use Rattle.module_diff.specs.Changes.{affected_by, slot_pulled}

@@ -1,5 +1,5 @@
 -- A Read Implicit is answered; one that names the relation shows that the controller is alive.
-use Rattle.std.proofs.Common.{◌≡◌, refl, sym, ap, ◌∙◌}
+use Rattle.std.proofs.Common.{refl, sym, ap, ◌∙◌}
 use Rattle.relations.specs.Phases.{answered}
 use Rattle.device_core.specs.Handled.{implicitly, partner_of}
 use Rattle.device_core.proofs.Served.{came_as, same_moving}

@@ -1,5 +1,4 @@
 -- At most one of both is due.
-use Rattle.std.proofs.Common.{◌≡◌, ◌++◌, List, [], map, refl, sym, ap, subst, ◌∙◌}
 use Rattle.std.proofs.lemmas.List.{append-nil}
 use Rattle.device_frames.specs.Relation.{ready_calls, where_due}
 use Rattle.device_core.proofs.device.Device.send_calls.Goals as goal

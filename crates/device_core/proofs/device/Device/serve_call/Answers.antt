@@ -72,6 +72,6 @@ returns-in-New-clause-steps g c = λ heard is.
     let counted : call.blocks ≡ Some c.in-Some-blocks.blocks.now = rw c.in-Some-blocks.is refl in
     let reported : looked call.header.activity call.header.sequence here.live.rest.calls ≡ new =
     rw (← c.self.view_is) (rw c.in-New.is at c.look.ensures.reported) in
-    c.serve_new.ensures.steps heard
+    c.serve_unanswered.ensures.steps heard
     (is ∙ ap (handled_call here.station here.live caller call) some ∙ ap (handled_blocks here.station here.live caller call operation) counted
     ∙ ap (handled_looked here.station here.live caller call c.in-Some-blocks.blocks.now operation) reported)

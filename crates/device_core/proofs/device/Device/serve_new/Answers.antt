@@ -1,36 +1,46 @@
--- No operation except a Write asks anything of the settings.
-use Rattle.std.proofs.Common.{refl, sym, ap, ◌∙◌}
+-- A new call by what it asks of the application.
+use Rattle.std.proofs.Common.{◌≡◌, None, Some, Ok, Err, refl, sym, ap, ◌∙◌}
 use Rattle.rpc_core.specs.Call.{asked}
-use Rattle.records.specs.declared.status.operation.Operation.TheVariants as operation
-use Rattle.device_core.specs.Handled.{handled_new}
-use Rattle.device_core.proofs.Handled.{control_asks_nothing, control_done}
-use Rattle.device_core.proofs.Served.{new_steps}
+use Rattle.relations.specs.RelationState.{uuid_of}
+use Rattle.asked_records.specs.Asked.{asks}
+use Rattle.device_core.specs.Asking.{asking_of}
+use Rattle.device_core.specs.Handled.{handled_asking, handled_question}
+use Rattle.device_core.proofs.Handled.{question_asks_nothing, question_done}
+use Rattle.device_core.proofs.Steps.{inactive_steps}
 use Rattle.device_core.proofs.device.Device.serve_new.Goals as goal
 
-pub returns-in-Connect-clause-steps : goal.returns-in-Connect-clause-steps
-returns-in-Connect-clause-steps g c = new_steps g.F.Flash c.args.self.now _ c.args.serving.now.caller.now (asked c.args.serving.now.call.now)
-    c.args.serving.now.blocks.now _ operation.Connect _ _ c.requires.stored c.in-Connect.is refl c.connect.ensures.state c.connect.ensures.frames c.connect.ensures.note c.connect.ensures.sendable
-
-pub returns-in-Release-clause-steps : goal.returns-in-Release-clause-steps
-returns-in-Release-clause-steps g c = new_steps g.F.Flash c.args.self.now _ c.args.serving.now.caller.now (asked c.args.serving.now.call.now)
-    c.args.serving.now.blocks.now _ operation.Release _ _ c.requires.stored c.in-Release.is refl c.release.ensures.state c.release.ensures.frames c.release.ensures.note c.release.ensures.sendable
-
-pub returns-in-Read-clause-steps : goal.returns-in-Read-clause-steps
-returns-in-Read-clause-steps g c = new_steps g.F.Flash c.args.self.now _ c.args.serving.now.caller.now (asked c.args.serving.now.call.now)
-    c.args.serving.now.blocks.now _ operation.Read _ _ c.requires.stored c.in-Read.is refl c.read.ensures.state c.read.ensures.frames c.read.ensures.note c.read.ensures.sendable
-
-pub returns-in-Control-clause-steps : goal.returns-in-Control-clause-steps
-returns-in-Control-clause-steps g c = new_steps g.F.Flash c.args.self.now _ c.args.serving.now.caller.now (asked c.args.serving.now.call.now)
-    c.args.serving.now.blocks.now _ operation.Control _ _ c.requires.stored c.in-Control.is
-    (control_asks_nothing c.args.self.now.station c.args.self.now.live c.args.serving.now.caller.now (asked c.args.serving.now.call.now) c.args.serving.now.blocks.now)
-    c.control.ensures.state c.control.ensures.frames (c.control.ensures.note ∙ sym (control_done c.args.self.now.station c.args.self.now.live c.args.serving.now.caller.now (asked c.args.serving.now.call.now) c.args.serving.now.blocks.now)) c.control.ensures.sendable
-
-pub returns-in-ReadImplicit-clause-steps : goal.returns-in-ReadImplicit-clause-steps
-returns-in-ReadImplicit-clause-steps g c = new_steps g.F.Flash c.args.self.now _ c.args.serving.now.caller.now (asked c.args.serving.now.call.now)
-    c.args.serving.now.blocks.now _ operation.ReadImplicit _ _ c.requires.stored c.in-ReadImplicit.is refl c.read_implicit.ensures.state c.read_implicit.ensures.frames c.read_implicit.ensures.note c.read_implicit.ensures.sendable
-
-pub returns-in-Write-clause-steps : goal.returns-in-Write-clause-steps
-returns-in-Write-clause-steps g c = λ heard is.
+pub returns-in-Ok-None-clause-steps : goal.returns-in-Ok-None-clause-steps
+returns-in-Ok-None-clause-steps g c = λ heard is.
     let old = c.args.self.now in
     let serving = c.args.serving.now in
-    c.write.ensures.steps heard (is ∙ ap (handled_new old.station old.live serving.caller.now (asked serving.call.now) serving.blocks.now) c.in-Write.is)
+    let call = asked serving.call.now in
+    let asks_it : asking_of old.live.rest.real old.station.named (uuid_of old.live.rest.link) serving.caller.now call serving.blocks.now serving.operation ≡ Ok None =
+    rw (← c.self.view_is) (rw (← c.uuid.ensures) (rw (c.in-Ok-None.is, c.in-Ok-None.field-0-is) at c.asking_of.ensures.value)) in
+    c.serve_own.ensures.steps heard
+    (is ∙ ap (handled_asking old.station old.live serving.caller.now call serving.blocks.now serving.operation) asks_it)
+
+pub returns-in-Ok-Some-clause-steps : goal.returns-in-Ok-Some-clause-steps
+returns-in-Ok-Some-clause-steps g c = λ heard is.
+    let old = c.args.self.now in
+    let serving = c.args.serving.now in
+    let call = asked serving.call.now in
+    let question = c.in-Ok-Some.question in
+    let octets = c.in-Ok-Some.octets.now in
+    let asks_it : asking_of old.live.rest.real old.station.named (uuid_of old.live.rest.link) serving.caller.now call serving.blocks.now serving.operation ≡ Ok (Some (question, octets)) =
+    rw (← c.self.view_is) (rw (← c.uuid.ensures) (rw (c.in-Ok-Some.is, c.in-Ok-Some.field-0-is) at c.asking_of.ensures.value)) in
+    inactive_steps g.F.Flash old _ heard (handled_question old.station old.live question (asks question octets old.live.rest.asked)) _ _ c.requires.stored
+    (is ∙ ap (handled_asking old.station old.live serving.caller.now call serving.blocks.now serving.operation) asks_it)
+    (question_asks_nothing old.station old.live question (asks question octets old.live.rest.asked))
+    c.ask.ensures.state c.ask.ensures.frames
+    (c.ask.ensures.note ∙ sym (question_done old.station old.live question (asks question octets old.live.rest.asked))) c.ask.ensures.sendable
+
+pub returns-in-Err-clause-steps : goal.returns-in-Err-clause-steps
+returns-in-Err-clause-steps g c = λ heard is.
+    let old = c.args.self.now in
+    let serving = c.args.serving.now in
+    let call = asked serving.call.now in
+    let asks_it : asking_of old.live.rest.real old.station.named (uuid_of old.live.rest.link) serving.caller.now call serving.blocks.now serving.operation ≡ Err c.in-Err.fault =
+    rw (← c.self.view_is) (rw (← c.uuid.ensures) (rw c.in-Err.is at c.asking_of.ensures.value)) in
+    inactive_steps g.F.Flash old _ heard (handled_asking old.station old.live serving.caller.now call serving.blocks.now serving.operation (Err c.in-Err.fault)) _ _ c.requires.stored
+    (is ∙ ap (handled_asking old.station old.live serving.caller.now call serving.blocks.now serving.operation) asks_it)
+    refl c.refuse.ensures.state c.refuse.ensures.frames c.refuse.ensures.note c.refuse.ensures.sendable

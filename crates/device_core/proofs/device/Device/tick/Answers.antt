@@ -1,41 +1,35 @@
--- What a unit brings is sent, of the relation as it is a unit later: only inputs, or all that is due.
-use Rattle.std.proofs.Common.{◌∙◌, refl}
+-- A unit of time: first of the relation, and then of what is asked.
+use Rattle.std.proofs.Common.{length, refl, ◌∙◌}
+use Rattle.std.proofs.lemmas.List.{map-append}
+use Rattle.device_frames.specs.Sent.{bytes_of}
+use Rattle.device_core.specs.Handled.{counted_sent, unit_rest, unit_sent}
+use Rattle.device_core.proofs.Counting.{count_sent}
+use Rattle.device_core.proofs.Sendable.{all_sendable}
 use Rattle.device_core.proofs.device.Device.tick.Goals as goal
-
-pub returns-then-is_inputs-clause-frames : goal.returns-then-is_inputs-clause-frames
-returns-then-is_inputs-clause-frames g c =
-    let relation = c.elapse-elapsed.new.self in
-    rw (← c.self.view_is) (rw (
-      c.send_inputs.ensures.frames,
-      c.elapse-elapsed.ensures.due ∙ c.is_inputs.ensures.due relation c.if-is_inputs.true,
-      c.elapse-elapsed.ensures.state ∙ c.is_inputs.ensures.left relation c.if-is_inputs.true,
-    ) refl)
-
-pub returns-then-is_inputs-clause-state : goal.returns-then-is_inputs-clause-state
-returns-then-is_inputs-clause-state g c =
-    let relation = c.elapse-elapsed.new.self in
-    rw (← c.self.view_is) (rw (
-      c.elapse-elapsed.ensures.due ∙ c.is_inputs.ensures.due relation c.if-is_inputs.true,
-      c.elapse-elapsed.ensures.state ∙ c.is_inputs.ensures.left relation c.if-is_inputs.true,
-      c.saturating_sub-self-inside.ensures,
-    ) refl)
-
-pub returns-then-is_inputs-clause-sendable : goal.returns-then-is_inputs-clause-sendable
-returns-then-is_inputs-clause-sendable g c =
-    let relation = c.elapse-elapsed.new.self in
-    rw (← c.self.view_is) (rw (
-      c.elapse-elapsed.ensures.due ∙ c.is_inputs.ensures.due relation c.if-is_inputs.true,
-      c.elapse-elapsed.ensures.state ∙ c.is_inputs.ensures.left relation c.if-is_inputs.true,
-    ) c.send_inputs.ensures.sendable)
-
-pub returns-clause-frames : goal.returns-clause-frames
-returns-clause-frames g c =
-    rw (← c.self.view_is) (rw (c.bring.ensures.frames, c.elapse-elapsed.ensures.due, c.elapse-elapsed.ensures.state) refl)
 
 pub returns-clause-state : goal.returns-clause-state
 returns-clause-state g c =
-    rw (← c.self.view_is) (rw (c.bring.ensures.state, c.elapse-elapsed.ensures.due, c.elapse-elapsed.ensures.state, c.saturating_sub-self-inside.ensures) refl)
+    let old = c.args.self.now in
+    let sent = unit_sent old.live in
+    let address = old.live.values.running.suite.address in
+    let count = count_sent (bytes_of old.station.identity) c.pass_unit_of_relation.new.outbox.items sent c.pass_unit_of_relation.ensures.frames in
+    rw (c.pass_unit_of_relation.ensures.state, count) at c.count_asked.ensures.state
+
+pub returns-clause-frames : goal.returns-clause-frames
+returns-clause-frames g c =
+    let old = c.args.self.now in
+    let sent = unit_sent old.live in
+    let address = old.live.values.running.suite.address in
+    let f = bytes_of old.station.identity in
+    let count = count_sent f c.pass_unit_of_relation.new.outbox.items sent c.pass_unit_of_relation.ensures.frames in
+    let frames = rw (c.pass_unit_of_relation.ensures.state, count, c.pass_unit_of_relation.ensures.frames) at c.count_asked.ensures.frames in
+    frames ∙ rw (map-append f sent (counted_sent address (length sent) (unit_rest old.live))) refl
 
 pub returns-clause-sendable : goal.returns-clause-sendable
 returns-clause-sendable g c =
-    rw (← c.self.view_is) (rw (c.elapse-elapsed.ensures.due, c.elapse-elapsed.ensures.state) c.bring.ensures.sendable)
+    let old = c.args.self.now in
+    let sent = unit_sent old.live in
+    let address = old.live.values.running.suite.address in
+    let count = count_sent (bytes_of old.station.identity) c.pass_unit_of_relation.new.outbox.items sent c.pass_unit_of_relation.ensures.frames in
+    all_sendable old.station.identity sent (counted_sent address (length sent) (unit_rest old.live)) c.pass_unit_of_relation.ensures.sendable
+    (rw (c.pass_unit_of_relation.ensures.state, count) at c.count_asked.ensures.sendable)

@@ -28,6 +28,7 @@ returns-in-Err-clause-steps g c = λ heard is.
     let call = asked c.args.serving.now.call.now in
     let made : writing_of (uuid_of old.live.rest.link) old.live.rest.real c.args.serving.now.blocks.now ≡ Err c.in-Err.fault =
     rw (← c.self.view_is) (rw (← c.uuid.ensures) (sym c.judge_write.ensures.value ∙ c.in-Err.is)) in
+    let here = c.requires.operation in
     inactive_steps g.F.Flash old _ heard (handled_write old.station old.live c.args.serving.now.caller.now call (Err c.in-Err.fault)) _ _ c.requires.stored
     (is ∙ ap (handled_write old.station old.live c.args.serving.now.caller.now call) made)
-    refl c.refuse_write.ensures.state c.refuse_write.ensures.frames c.refuse_write.ensures.note c.refuse_write.ensures.sendable
+    refl (rw here at c.refuse.ensures.state) (rw here at c.refuse.ensures.frames) c.refuse.ensures.note (rw here at c.refuse.ensures.sendable)

@@ -1,5 +1,5 @@
 -- The texts are asked of the settings, and the answer has the outcome of each record.
-use Rattle.std.proofs.Common.{◌≡◌, refl, sym, ap, ◌∙◌}
+use Rattle.std.proofs.Common.{◌≡◌, refl, ◌∙◌}
 use Rattle.rpc_core.specs.Call.{asked}
 use Rattle.relations.specs.RelationState.{uuid_of}
 use Rattle.device_core.specs.Handled.{WritesEach}
@@ -11,7 +11,7 @@ use Rattle.device_core.proofs.device.Device.write_each.Goals as goal
 pub returns-clause-steps : goal.returns-clause-steps
 returns-clause-steps g c =
     let header = c.args.header.now in
-    let judged = judged_each (uuid_of c.self.inside.relation) c.self.inside.real c.args.entries.now in
+    let judged = judged_each c.self.inside.named (uuid_of c.self.inside.relation) c.self.inside.real c.args.entries.now in
     let answers = c.carry_out-answers.result.items in
     let plan : c.fill_texts.new.plan.items ≡ texts_in judged = c.fill_texts.ensures.items in
     let link : c.put_outcomes.new.relation ≡ link_behind judged c.self.inside.relation = c.put_outcomes.ensures.link in

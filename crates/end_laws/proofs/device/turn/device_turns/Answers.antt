@@ -1,10 +1,15 @@
 use Rattle.end_laws.proofs.DeviceNumbers.{number_now_is}
 use Rattle.end_laws.proofs.DeviceOrderly.{after_keys, changed_keys, changed_standing}
+use Rattle.end_laws.proofs.DeviceTurns.{step_own}
 use Rattle.end_laws.proofs.DeviceWalk.{step_numbers, step_raises, step_turns}
 use Rattle.end_laws.proofs.device.turn.device_turns.Goals as goal
 
 pub returns-clause-turn : goal.returns-clause-turn
 returns-clause-turn c = λ rules activity outcomes station live heard plan. step_turns rules activity outcomes station live heard plan
+
+pub returns-clause-own : goal.returns-clause-own
+returns-clause-own c = λ rules activity outcomes station live heard plan own.
+    step_own rules activity outcomes station live heard plan (step_turns rules activity outcomes station live heard plan).asked own
 
 pub returns-clause-raises : goal.returns-clause-raises
 returns-clause-raises c = λ outcomes station live slot subslot octets. step_raises outcomes station live slot subslot octets

@@ -32,9 +32,9 @@ hears c station request same called numbered =
     ∙ own_heard identity setup.plan.controller.mac (calls_at setup.plan.controller.address) setup.plan.station.suite.address (Calls call)))
 
 pub returns-clause-denied : goal.returns-clause-denied
-returns-clause-denied c = λ outcomes station live request same none reached of numbered unheard sendable.
-    denied c.args.setup.now c.args.identity.now outcomes station live request (hears c station request same (called_of request of) numbered) of same none unheard
-    reached c.refusals_are_not_done.ensures sendable
+returns-clause-denied c = λ outcomes station live request same none nothing reached of numbered unheard sendable.
+    denied c.args.setup.now c.args.identity.now outcomes station live request (hears c station request same (called_of request of) numbered)
+    of same none nothing unheard reached c.refusals_are_not_done.ensures sendable
 
 pub returns-clause-unreached : goal.returns-clause-unreached
 returns-clause-unreached c = λ outcomes station live request same away called numbered.

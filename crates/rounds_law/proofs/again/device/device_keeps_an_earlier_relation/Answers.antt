@@ -13,6 +13,7 @@ use Rattle.rounds_law.specs.Path.{request_to}
 use Rattle.rounds_law.proofs.AgainIgnored.{HeardLaws}
 use Rattle.rounds_law.proofs.AgainKept.{refuses}
 use Rattle.rounds_law.proofs.AgainUnits.{earlier_last, earlier_unit, no_relation_unit}
+use Rattle.rounds_law.proofs.AskedUnits.{none_repeated}
 use Rattle.rounds_law.proofs.AgainUnset.{own_asked, unset_so}
 use Rattle.rounds_law.proofs.AgainVain.{said_in_vain}
 use Rattle.rounds_law.proofs.DeviceCallingSteps.{address_runs, own_heard}
@@ -27,7 +28,8 @@ returns-clause-refused c = λ meets some outcomes station live left same address
     let hears = c.calls_are_heard.ensures.device identity setup identity.mac call real c.stations_are_real.ensures.device
     (c.calls_can_be_sent.ensures.call setup Connect real tt tt)
     ∙ own_heard identity setup.plan.controller.mac (calls_at setup.plan.controller.address) setup.plan.station.suite.address (Calls call) in
-    refuses setup identity station live outcomes earlier.link same addressed earlier.has uncalled c.refusals_are_not_done.ensures
+    refuses setup identity station live outcomes earlier.link same addressed earlier.has uncalled
+    (none_repeated live setup.activity 0 earlier.unasked) c.refusals_are_not_done.ensures
     (subst (λ (i : Identity). heard_of i (comes (request_to setup identity Connect))
     ≡ Reported (caller_of setup.plan.controller) setup.plan.station.suite.address (Calls call)) (sym same) hears)
     (address_runs setup live addressed some) sendable
@@ -68,7 +70,7 @@ returns-clause-last c = λ outcomes station live same earlier.
     earlier_last c.args.setup.now c.stations_are_real.ensures.setup outcomes station live earlier
 
 pub returns-clause-unrelated : goal.returns-clause-unrelated
-returns-clause-unrelated c = λ outcomes station live none. no_relation_unit outcomes station live none
+returns-clause-unrelated c = λ outcomes station live none nothing. no_relation_unit outcomes station live none nothing
 
 pub returns-clause-vain : goal.returns-clause-vain
 returns-clause-vain c = λ serial. said_in_vain serial c.formats_are_sound.ensures.ethernet c.formats_are_sound.ensures.layers c.args.setup.now c.args.identity.now

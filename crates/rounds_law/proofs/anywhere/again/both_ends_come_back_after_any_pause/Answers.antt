@@ -81,6 +81,7 @@ pub returns-clause-again : goal.returns-clause-again
 returns-clause-again g c = λ can apart patience silence pause active holds long_pause enough plant at.
     anywhere_again g.F.Flash c.args.identity.now silence c.stations_are_real.ensures.device (record {
       real_time = c.frames_are_read.ensures.real_time;
+      responses = c.responses_are_heard.ensures.controller;
       ready = c.ready_calls_are_heard.ensures.controller;
       ready_can = c.calls_can_be_sent.ensures.ready;
       plug = c.plug_calls_are_heard.ensures.controller;

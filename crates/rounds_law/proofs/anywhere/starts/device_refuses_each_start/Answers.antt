@@ -16,7 +16,7 @@ use Rattle.rounds_law.proofs.DeviceCallingSteps.{address_runs, own_heard}
 use Rattle.rounds_law.proofs.anywhere.starts.device_refuses_each_start.Goals as goal
 
 pub returns-clause-connect : goal.returns-clause-connect
-returns-clause-connect c = λ meets some outcomes station live link same addressed has uncalled sendable.
+returns-clause-connect c = λ meets some outcomes station live link same addressed has uncalled unasked sendable.
     let setup = c.args.setup.now in
     let identity = c.args.identity.now in
     let real = c.stations_are_real.ensures.setup in
@@ -24,7 +24,7 @@ returns-clause-connect c = λ meets some outcomes station live link same address
     let hears = c.calls_are_heard.ensures.device identity setup identity.mac call real c.stations_are_real.ensures.device
     (c.calls_can_be_sent.ensures.call setup Connect real tt tt)
     ∙ own_heard identity setup.plan.controller.mac (calls_at setup.plan.controller.address) setup.plan.station.suite.address (Calls call) in
-    refuses setup identity station live outcomes link same addressed has uncalled c.refusals_are_not_done.ensures
+    refuses setup identity station live outcomes link same addressed has uncalled unasked c.refusals_are_not_done.ensures
     (subst (λ (i : Identity). heard_of i (comes (request_to setup identity Connect))
     ≡ Reported (caller_of setup.plan.controller) setup.plan.station.suite.address (Calls call)) (sym same) hears)
     (address_runs setup live addressed some) sendable

@@ -17,6 +17,7 @@ returns c = record {
       let call = c.calls_can_be_sent.ensures.call setup (Write number) good tt (omega (arith, number_few setup.plan number below few)) in
       let fits = fit_each setup.plan.real setup.plan.records.items can.records c.plan_is_placed.ensures good.plan.short_records writable in
       write_answered c.blocks_are_read.ensures.read c.blocks_are_read.ensures.long setup identity good.ar few fits has_address number below call.header
-      outcomes station live age own of_plan.plugged addressed serial relation (heard_of station.identity (comes (request_to setup identity (Write number))))
+      outcomes station live age own of_plan.plugged of_plan.names addressed serial relation
+      (heard_of station.identity (comes (request_to setup identity (Write number))))
       (write_heard c.calls_are_heard.ensures.device setup identity station.identity number good c.stations_are_real.ensures.device call own);
 }

@@ -140,3 +140,36 @@ returns-in-Plug-clause-lost c handed there gone = rw c.in-Plug.is (always_tells 
 pub returns-in-Expected-clause-obeys : goal.returns-in-Expected-clause-obeys
 unfolding said
 returns-in-Expected-clause-obeys c plans network right are plain = rw c.in-Expected.is (always_obeys _ _ _ _ _ _ (c.expected.ensures network are) c.always-in-Expected.ensures)
+
+pub returns-in-Asked-clause-obeys : goal.returns-in-Asked-clause-obeys
+unfolding said
+returns-in-Asked-clause-obeys c plans network right are plain =
+    rw c.in-Asked.is (always_obeys _ _ _ _ _ _ (c.asked.ensures network are) c.always-in-Asked.ensures)
+
+pub returns-in-AnswerRead-clause-obeys : goal.returns-in-AnswerRead-clause-obeys
+unfolding said
+returns-in-AnswerRead-clause-obeys c plans network right are plain =
+    let said = rw c.of-in-AnswerRead.ensures.value at (c.say-in-AnswerRead.ensures.obeys network are) in
+    rw c.in-AnswerRead.is (always_obeys _ _ _ _ _ _ said c.always-in-AnswerRead.ensures)
+
+pub returns-in-AnswerRead-clause-lost : goal.returns-in-AnswerRead-clause-lost
+returns-in-AnswerRead-clause-lost c handed there gone =
+    rw c.in-AnswerRead.is (always_tells _ _ _ (c.say-in-AnswerRead.ensures.lost there gone) c.always-in-AnswerRead.ensures)
+
+pub returns-in-AnswerWrite-clause-obeys : goal.returns-in-AnswerWrite-clause-obeys
+unfolding said
+returns-in-AnswerWrite-clause-obeys c plans network right are plain =
+    rw c.in-AnswerWrite.is (always_obeys _ _ _ _ _ _ (c.say-in-AnswerWrite.ensures.obeys network are) c.always-in-AnswerWrite.ensures)
+
+pub returns-in-AnswerWrite-clause-lost : goal.returns-in-AnswerWrite-clause-lost
+returns-in-AnswerWrite-clause-lost c handed there gone =
+    rw c.in-AnswerWrite.is (always_tells _ _ _ (c.say-in-AnswerWrite.ensures.lost there gone) c.always-in-AnswerWrite.ensures)
+
+pub returns-in-Refuse-clause-obeys : goal.returns-in-Refuse-clause-obeys
+unfolding said
+returns-in-Refuse-clause-obeys c plans network right are plain =
+    rw c.in-Refuse.is (always_obeys _ _ _ _ _ _ (c.say-in-Refuse.ensures.obeys network are) c.always-in-Refuse.ensures)
+
+pub returns-in-Refuse-clause-lost : goal.returns-in-Refuse-clause-lost
+returns-in-Refuse-clause-lost c handed there gone =
+    rw c.in-Refuse.is (always_tells _ _ _ (c.say-in-Refuse.ensures.lost there gone) c.always-in-Refuse.ensures)

@@ -2,7 +2,7 @@
 use Rattle.std.proofs.Common.{◌≡◌, ◌++◌, drop, length, map, true}
 use Rattle.std.specs.List.{list_all}
 use Rattle.c_layout.specs.Modules.{is_submodule, submodule_of}
-use Rattle.c_layout.proofs.plugged.submodules.Given as goal
+use Rattle.c_layout.proofs.plugged.put_submodules.Given as goal
 
 abbrev pub invariant-loop-submodule : goal.invariant-loop-submodule
 invariant-loop-submodule l = record {

@@ -1,0 +1,4 @@
+pub mod Keeping
+pub mod Turns
+pub mod Given
+pub mod Runs

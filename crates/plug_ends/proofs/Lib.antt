@@ -1,0 +1,12 @@
+pub mod CallsTurns
+pub mod CallsFrames
+pub mod CallsAlone
+pub mod CallsRuns
+pub mod CallsWorlds
+pub mod CallsHeard
+pub mod CallsFine
+pub mod DeviceGoes
+pub mod DevicePlaces
+pub mod DeviceTurns
+pub mod Written
+pub mod DeviceRuns
