@@ -88,7 +88,7 @@ opening_is c = refl
 -- ---- calls
 
 -- a call that the cache does not have is later than the last response
-new_kept : (activity : List ℕ) (sequence : ℕ) (calls : List Answer) → looked activity sequence calls ≡ new
+pub new_kept : (activity : List ℕ) (sequence : ℕ) (calls : List Answer) → looked activity sequence calls ≡ new
     → IsNew sequence (option_map kept_in (kept_of activity calls))
 new_kept activity sequence calls e = by_kept (kept_of activity calls) e
   where
