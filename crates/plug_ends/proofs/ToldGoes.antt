@@ -224,6 +224,9 @@ pub record IsStepOf (slot subslot : ℕ) (live : Live) (heard : Heard) (before a
   pub goes : Goes slot subslot live heard before after raised now
   pub numbers : AreNumberedFrom 0 (raised ++ now)
 
+none_before : (n : ℕ) → n ≡ 0 + n
+none_before n = omega arith
+
 -- As far as before, or touched.
 abbrev Via : Step → Step → Type 0
 Via step middle = (middle ≡ step) ⊎ ((middle ≡ Pulled) ⊎ (middle ≡ Plugged))
@@ -259,7 +262,7 @@ module _ (live : Live) (heard : Heard) (before after : Option RelationState) (li
       subst (λ (xs : List AlarmNotification). AreNumberedFrom 0 (raised ++ xs)) (sym it.0) (subst (λ (xs : List AlarmNotification). AreNumberedFrom 0 xs) (sym (append-nil raised)) numbers)
   numbers_by (inr it) =
       subst (λ (xs : List AlarmNotification). AreNumberedFrom 0 (raised ++ xs)) (sym it.1)
-      (numbered_more 0 raised (alarm_of number it.0) numbers (specifier_is number (length raised) it.0 told.specifier))
+      (numbered_more 0 raised (alarm_of number it.0) numbers (specifier_is number (length raised) it.0 told.specifier ∙ ap (λ (n : ℕ). n % 0x800) (none_before (length raised))))
 
   abbrev To : Type 0
   To = IsStepOf slot subslot live heard before after raised now next

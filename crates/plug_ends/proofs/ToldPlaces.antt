@@ -251,12 +251,12 @@ module _ (slot subslot : ℕ) (before : Holding) (queued : QueuedAlarm) (rest : 
 
   quiet_from : (step : Step) → step_at slot subslot before.plugs.places ≡ Some step → (Plugged ≡ step → ⊥) → list_any (touches slot subslot) (queued ∷ rest) ≡ false
       → (list_any (touches slot subslot) rest ≡ false → Waits slot subslot step rest) → From step
-  quiet_from step here other quiet as =
+  quiet_from step here other quiet rests =
       let kept = quiet_sent step here other quiet in
       record {
         outcome = inl kept;
         waits = waits_if slot subslot (step_at slot subslot After_it.plugs.places) step rest kept.step_is
-            (as (or_parts (touches slot subslot queued) (list_any (touches slot subslot) rest) quiet).1);
+            (rests (or_parts (touches slot subslot queued) (list_any (touches slot subslot) rest) quiet).1);
       }
 
   pulled_from : (step_at slot subslot After_it.plugs.places ≡ Some Pulled) → From Pulled

@@ -293,20 +293,38 @@ plug_queued made asks has later slot subslot kind covered =
 
 -- ---- numbers
 
+with_both : (number many : ℕ) → number ≡ many % 2048 → (number + 0x2800 + 0x8000) % 0x800 ≡ many % 0x800
+with_both number many e = omega (arith, e)
+
+with_first : (number many : ℕ) → number ≡ many % 2048 → (number + 0x2800 + 0) % 0x800 ≡ many % 0x800
+with_first number many e = omega (arith, e)
+
+with_second : (number many : ℕ) → number ≡ many % 2048 → (number + 0 + 0x8000) % 0x800 ≡ many % 0x800
+with_second number many e = omega (arith, e)
+
+with_none : (number many : ℕ) → number ≡ many % 2048 → (number + 0 + 0) % 0x800 ≡ many % 0x800
+with_none number many e = omega (arith, e)
+
 -- The SequenceNumber of an alarm.
 pub specifier_is : (number many : ℕ) (queued : QueuedAlarm) → number ≡ many % 2048 → (alarm_of number queued).alarm_specifier % 0x800 ≡ many % 0x800
 specifier_is number many queued e = by_flags queued.is_any_at_submodule queued.is_any_in_relation
   where
     by_flags : (one other : Bool) → (number + flag one 0x2800 + flag other 0x8000) % 0x800 ≡ many % 0x800
-    by_flags true true = omega (arith, e)
-    by_flags true false = omega (arith, e)
-    by_flags false true = omega (arith, e)
-    by_flags false false = omega (arith, e)
+    by_flags true true = with_both number many e
+    by_flags true false = with_first number many e
+    by_flags false true = with_second number many e
+    by_flags false false = with_none number many e
+
+none_more : (first : ℕ) → first + 0 ≡ first
+none_more first = omega arith
+
+one_more : (first many : ℕ) → first + suc many ≡ suc first + many
+one_more first many = omega arith
 
 pub numbered_more : (first : ℕ) (alarms : List AlarmNotification) (alarm : AlarmNotification) → AreNumberedFrom first alarms
     → alarm.alarm_specifier % 0x800 ≡ (first + length alarms) % 0x800 → AreNumberedFrom first (alarms ++ alarm ∷ [])
-numbered_more first [] alarm all e = (e ∙ ap (λ (n : ℕ). n % 0x800) (omega arith), tt)
-numbered_more first (one ∷ alarms) alarm all e = (all.0, numbered_more (suc first) alarms alarm all.1 (e ∙ ap (λ (n : ℕ). n % 0x800) (omega arith)))
+numbered_more first [] alarm all e = (e ∙ ap (λ (n : ℕ). n % 0x800) (none_more first), tt)
+numbered_more first (one ∷ alarms) alarm all e = (all.0, numbered_more (suc first) alarms alarm all.1 (e ∙ ap (λ (n : ℕ). n % 0x800) (one_more first (length alarms))))
 
 -- ---- what was reported
 
