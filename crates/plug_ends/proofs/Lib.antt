@@ -10,3 +10,8 @@ pub mod DevicePlaces
 pub mod DeviceTurns
 pub mod Written
 pub mod DeviceRuns
+pub mod ToldQueue
+pub mod ToldPlaces
+pub mod ToldSends
+pub mod ToldGoes
+pub mod ToldRuns
