@@ -15,3 +15,13 @@ pub mod ToldPlaces
 pub mod ToldSends
 pub mod ToldGoes
 pub mod ToldRuns
+pub mod PluggedLists
+pub mod PluggedNumbers
+pub mod PluggedWrites
+pub mod PluggedWorlds
+pub mod PluggedState
+pub mod PluggedDevice
+pub mod PluggedWritten
+pub mod PluggedTurns
+pub mod PluggedRuns
+pub mod PluggedDone

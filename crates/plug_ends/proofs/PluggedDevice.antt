@@ -117,9 +117,11 @@ plug_small : (setup : Setup) (caller : Caller) (address : List ℕ) (request : P
     → (ask : Ask) × (heard_as planned (hears_plug setup caller address request) ≡ small.Call request.sequence ask)
 unfolding operation_of
 plug_small setup caller address request number is planned =
-    let asked = by_test (planned request.sequence (plug_blocks setup request request.step)) in
-    (asked.0, ap (λ (step : PlugStep). device.asked_by planned request.sequence (plug_blocks setup request request.step) (operation_of (plug_operation step))) is
-    ∙ asked.1)
+    let asked = by_test (planned request.sequence (plug_blocks setup request request.step)) in (
+      asked.0,
+      ap (λ (step : PlugStep). device.asked_by planned request.sequence (plug_blocks setup request request.step) (operation_of (plug_operation step))) is
+          ∙ asked.1,
+    )
   where
     by_test : (b : Bool) → (ask : Ask) × (written_by b request.sequence ≡ small.Call request.sequence ask)
     by_test true = (_, refl)
@@ -142,6 +144,10 @@ longer {A} (y ∷ xs) x e = longer xs x (rest e)
   where
     rest : y ∷ xs ≡ y ∷ (xs ++ x ∷ []) → xs ≡ xs ++ x ∷ []
     rest f = cc
+
+-- the records of a relation, as a start-up sees it
+abbrev taken_of : Option (small.RelationState TakenRecord Request) → Option (List TakenRecord)
+taken_of link = option_map (λ (l : small.RelationState TakenRecord Request). l.taken) link
 
 -- ---- one step of the device, while the Write of a record waits
 
@@ -309,15 +315,15 @@ module _ (so : PluggedSo) (c : Controlling) (station : Station) (live : Live) (s
   abbrev Frames : List (List ℕ) → Type 0
   Frames frames = AllByRecursion Shows frames
 
+  abbrev frames : List (List ℕ)
+  frames = (heard_step outcomes station live heard).frames
+
+  abbrev Steps : ToDevice → Type 0
+  Steps what = DeviceSteps rules what (device.small_of c.setup.activity live) (device.small_of c.setup.activity after) frames
+
   pub frames_show : Frames (heard_step outcomes station live heard).frames
   frames_show = by_steps (heard_as (is_planned c.setup) heard) refl steps
     where
-      abbrev frames : List (List ℕ)
-      frames = (heard_step outcomes station live heard).frames
-
-      abbrev Steps : ToDevice → Type 0
-      Steps what = DeviceSteps rules what (device.small_of c.setup.activity live) (device.small_of c.setup.activity after) frames
-
       are : (fs : List (List ℕ)) → frames ≡ fs → Frames fs → Frames frames
       are fs same all = subst (λ (xs : List (List ℕ)). Frames xs) (sym same) all
 
@@ -384,9 +390,6 @@ module _ (so : PluggedSo) (c : Controlling) (station : Station) (live : Live) (s
       number_of sequence ask e = same_call sequence request.sequence ask asked.0 (sym e ∙ asked.1)
 
       -- nothing changed
-      abbrev taken_of : Option (small.RelationState TakenRecord Request) → Option (List TakenRecord)
-      taken_of link = option_map (λ (l : small.RelationState TakenRecord Request). l.taken) link
-
       taken_small : (link : Option RelationState) → taken_of (option_map link_of link) ≡ taken_in link
       taken_small None = refl
       taken_small (Some link) = refl

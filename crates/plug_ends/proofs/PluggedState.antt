@@ -31,7 +31,7 @@ use Rattle.end_laws.specs.both.Steps.{IsNew}
 use Rattle.end_laws.specs.controller.Small.{is_positive, said_to}
 use Rattle.both_ends.specs.startup.Played.{AreUnnamed}
 use Rattle.both_ends.specs.startup.View.{rules_of}
-use Rattle.plug_ends.specs.Asked.{HearsEnd, IsEndedAt, WasPlug}
+use Rattle.plug_ends.proofs.AskedWords.{HearsEnd, WasPlug}
 use Rattle.plug_ends.specs.Places.{step_in, taken_at}
 use Rattle.plug_ends.specs.Plugged.{EndsWith, IsElsewhere, records_at}
 use Rattle.plug_ends.specs.Told.{LastPlug, concerns_any}
@@ -71,22 +71,22 @@ grants_answers setup sequence frame grants =
 module _ (slot subslot : ℕ) where
   -- The parameters of each plug that ended belong to this place, and then to an earlier plug than this number.
   abbrev pub AreEndedBefore : List AlarmNotification → Station → List (List ℕ) → ℕ → Type 0
-  AreEndedBefore alarms station sent number = (frame : List ℕ) (other : ℕ) → WasIn sent frame → HearsEnd station.identity frame other
-      → (at : ℕ) × (below : ℕ) × WasPlug at below other alarms × (at ≡ slot → below ≡ subslot → other < number)
+  AreEndedBefore raised station sent number = (frame : List ℕ) (other : ℕ) → WasIn sent frame → HearsEnd station.identity frame other
+      → (at : ℕ) × (below : ℕ) × WasPlug at below other raised × (at ≡ slot → below ≡ subslot → other < number)
 
   -- No parameters of a plug ended yet; or it is a Write of the application elsewhere; or a record of another place, or of a later plug.
   abbrev pub IsWriteBy : List AlarmNotification → Setup → Station → List (List ℕ) → Sent → Type 0
-  IsWriteBy alarms setup station sent (Requests to request) = (frame : List ℕ) (number : ℕ) → WasIn sent frame → HearsEnd station.identity frame number → ⊥
-  IsWriteBy alarms setup station sent (Accesses to request octets) = IsMac to × IsRecordCall request octets × IsElsewhere slot subslot request
-  IsWriteBy alarms setup station sent (Parametrizes to request) =
-      IsMac to × IsPlugCall request × IsStepAt setup.plan request.slot request.subslot request.step × WasPlug request.slot request.subslot request.number alarms
-      × (request.slot ≡ slot → request.subslot ≡ subslot → (number : ℕ) → request.step ≡ Record number → AreEndedBefore alarms station sent request.number)
-  IsWriteBy alarms setup station sent message = ⊥
+  IsWriteBy raised setup station sent (Requests to request) = (frame : List ℕ) (number : ℕ) → WasIn sent frame → HearsEnd station.identity frame number → ⊥
+  IsWriteBy raised setup station sent (Accesses to request octets) = IsMac to × IsRecordCall request octets × IsElsewhere slot subslot request
+  IsWriteBy raised setup station sent (Parametrizes to request) =
+      IsMac to × IsPlugCall request × IsStepAt setup.plan request.slot request.subslot request.step × WasPlug request.slot request.subslot request.number raised
+      × (request.slot ≡ slot → request.subslot ≡ subslot → (number : ℕ) → request.step ≡ Record number → AreEndedBefore raised station sent request.number)
+  IsWriteBy raised setup station sent message = ⊥
 
-  pub record IsKnownWrite (alarms : List AlarmNotification) (setup : Setup) (station : Station) (sent : List (List ℕ)) (frame : List ℕ) : Type 0 where
+  pub record IsKnownWrite (raised : List AlarmNotification) (setup : Setup) (station : Station) (sent : List (List ℕ)) (frame : List ℕ) : Type 0 where
     pub message : Sent
     pub is : frame ≡ bytes_of setup message
-    pub by : IsWriteBy alarms setup station sent message
+    pub by : IsWriteBy raised setup station sent message
 
   -- ---- the state
 
@@ -106,7 +106,7 @@ module _ (slot subslot : ℕ) where
   abbrev pub all_of : Setup → List TakenRecord
   all_of setup = records_at slot subslot setup.plan.records.items
 
-  pub record Joined (c : Controlling) (station : Station) (live : Live) (sent : List (List ℕ)) (alarms raised : List AlarmNotification) : Type 0 where
+  pub record Joined (c : Controlling) (station : Station) (live : Live) (sent : List (List ℕ)) (raised : List AlarmNotification) : Type 0 where
     pub asked : (link : RelationState) → live.rest.link ≡ Some link → (request : PlugRequest) → c.live.access.plug ≡ Some request
         → request.slot ≡ slot → request.subslot ≡ subslot → step_in slot subslot link ≡ Some (Told request.number)
         → AskedSo c.setup live sent (taken_at slot subslot link.taken) request
@@ -118,7 +118,7 @@ module _ (slot subslot : ℕ) where
     pub settled : (link : RelationState) → live.rest.link ≡ Some link → step_in slot subslot link ≡ Some Settled → concerns_any slot subslot raised ≡ true
         → EndsWith (taken_at slot subslot link.taken) (all_of c.setup) × (number : ℕ) × LastPlug slot subslot number raised × HasEnd station sent number
     pub late : is_ended c.live.phase ≡ true → (frame : List ℕ) → WasIn sent frame → (new : IsNewIn c.setup station live frame) → (new.ask ≡ small.Parameterized → ⊥)
-        → (new.ask ≡ small.Releases → ⊥) → IsKnownWrite alarms c.setup station sent frame
+        → (new.ask ≡ small.Releases → ⊥) → IsKnownWrite raised c.setup station sent frame
     pub own : (request : PlugRequest) → c.live.access.plug ≡ Some request → IsStepAt c.setup.plan request.slot request.subslot request.step
     pub unnamed : AreUnnamed station.named c.setup.plan.records.items
     pub idle : (answer : small.Kept) → kept_for c.setup live ≡ Some answer → (rules_of c.setup station).to_device answer.frame ≡ small.Idle

@@ -48,6 +48,7 @@ use Rattle.plug_ends.proofs.CallsFrames.{idle_call}
 use Rattle.plug_ends.proofs.CallsHeard.{IsFineAt, fine_from, fine_unrefused}
 use Rattle.plug_ends.proofs.CallsRuns.{all_at, all_both, all_map, heard_said, kept_for, number_said, plain_said}
 use Rattle.plug_ends.proofs.CallsTurns.{IsAsked, IsUnrefused, none_some, number_in, present_by, present_of, some_same}
+use Rattle.plug_ends.proofs.ToldRuns.{HeardWith}
 use Rattle.plug_ends.proofs.PluggedNumbers.{IsAccessMade, IsPlugMade, IsSameOr, NoneIsMade, Numbers}
 
 -- ---- moves
@@ -59,8 +60,9 @@ IsFrom world heard =
     ⊎ ((caller : Caller) (address : List ℕ) (said : Said) → heard ≡ Reported caller address said → ⊥)
 
 -- The device hears something.
-pub record DeviceMoved {F : Type 0} {S : ℕ} (as_flash : Flash F S) (before after : World F) : Type 0 where
+pub record DeviceMoved {F : Type 0} {S : ℕ} (as_flash : Flash F S) (before : World F) (one : Move) (after : World F) : Type 0 where
   pub heard : Heard
+  pub by : HeardWith before one heard
   pub meant : IsMeantAtDevice before heard
   pub made : AtDevice as_flash before heard after
   pub from : IsFrom before heard
@@ -73,70 +75,80 @@ pub record ControllerMoved {F : Type 0} (before after : World F) : Type 0 where
   pub unrefused : IsUnrefused before.controller.setup event
   pub happens : after ≡ at_controller before event
 
-abbrev pub Moved : {F : Type 0} {S : ℕ} → Flash F S → World F → World F → Type 0
-Moved as_flash before after = (after ≡ before) ⊎ (DeviceMoved as_flash before after ⊎ ControllerMoved before after)
+abbrev pub Moved : {F : Type 0} {S : ℕ} → Flash F S → World F → Move → World F → Type 0
+Moved as_flash before one after = (after ≡ before) ⊎ (DeviceMoved as_flash before one after ⊎ ControllerMoved before after)
 
 module _ (so : FineSo) (setup : Setup) {F : Type 0} {S : ℕ} (as_flash : Flash F S) (before after : World F) (both : Both so setup before) where
   no_tick : (caller : Caller) (address : List ℕ) (said : Said) → Ticks ≡ Reported caller address said → ⊥
   no_tick caller address said e = absurd cc
 
-  by_device : (heard : Heard) → IsFrom before heard → IsMeantAtDevice before heard → AtDevice as_flash before heard after → Moved as_flash before after
-  by_device heard from meant made = inr (inl (record { heard = heard; meant = meant; made = made; from = from }))
+  by_device : (one : Move) (heard : Heard) → HeardWith before one heard → IsFrom before heard → IsMeantAtDevice before heard → AtDevice as_flash before heard after
+      → Moved as_flash before one after
+  by_device one heard by from meant made = inr (inl (record { heard = heard; by = by; meant = meant; made = made; from = from }))
 
-  by_controller : (one : Event) → IsEventFrom before.device.station.identity.mac before.controller.setup one → IsUnrefused before.controller.setup one
-      → IsMeantAtController before one → after ≡ at_controller before one → Moved as_flash before after
-  by_controller one from unrefused meant happens =
-      inr (inr (record { event = one; meant = meant; from = from; unrefused = unrefused; happens = happens }))
+  by_controller : (one : Move) (event : Event) → IsEventFrom before.device.station.identity.mac before.controller.setup event
+      → IsUnrefused before.controller.setup event → IsMeantAtController before event → after ≡ at_controller before event → Moved as_flash before one after
+  by_controller one event from unrefused meant happens =
+      inr (inr (record { event = event; meant = meant; from = from; unrefused = unrefused; happens = happens }))
 
-  comes_to_device : (frame : List ℕ) → WasSent before frame → (skipped : Bool)
+  comes_to_device : (number : ℕ) (frame : List ℕ) → slice_get before.sent number ≡ Some frame → (skipped : Bool)
       → IsMeantAtDevice before (heard_of before.device.station.identity (Frame (record { items = frame })))
-      → Comes as_flash skipped before Device frame after → Moved as_flash before after
-  comes_to_device frame sent true meant happens = inl happens
-  comes_to_device frame sent false meant happens = by_device _ (inl (frame, sent, refl)) meant happens
+      → Comes as_flash skipped before Device frame after → Moved as_flash before (move.Deliver Device number) after
+  comes_to_device number frame there true meant happens = inl happens
+  comes_to_device number frame there false meant happens =
+      by_device (move.Deliver Device number) _ (frame, there, refl) (inl (frame, record { number = number; is = there }, refl)) meant happens
 
   to_device : (number : ℕ) (found : Option (List ℕ)) → slice_get before.sent number ≡ found
       → ((frame : List ℕ) → found ≡ Some frame → IsMeantAtDevice before (heard_of before.device.station.identity (Frame (record { items = frame }))))
-      → Delivers as_flash found before Device after → Moved as_flash before after
+      → Delivers as_flash found before Device after → Moved as_flash before (move.Deliver Device number) after
   to_device number None there meant happens = inl happens
   to_device number (Some frame) there meant happens =
-      comes_to_device frame (record { number = number; is = there }) (is_skipped before.device before.controller Device frame) (meant frame refl) happens
+      comes_to_device number frame there (is_skipped before.device before.controller Device frame) (meant frame refl) happens
 
-  comes_to_controller : (frame : List ℕ) → IsFineAt before.controller.setup before.device.station.identity frame → (skipped : Bool)
+  comes_to_controller : (one : Move) (frame : List ℕ) → IsFineAt before.controller.setup before.device.station.identity frame → (skipped : Bool)
       → IsMeantAtController before (controller.Frame (record { items = frame })) → Comes as_flash skipped before Controller frame after
-      → Moved as_flash before after
-  comes_to_controller frame fine true meant happens = inl happens
-  comes_to_controller frame fine false meant happens =
+      → Moved as_flash before one after
+  comes_to_controller one frame fine true meant happens = inl happens
+  comes_to_controller one frame fine false meant happens =
       let heard = heard_by before.controller.setup.plan.controller frame in
-      by_controller (controller.Frame (record { items = frame })) (fine_from before.device.station.identity.mac heard fine)
+      by_controller one (controller.Frame (record { items = frame })) (fine_from before.device.station.identity.mac heard fine)
       (λ refusal e. fine_unrefused before.device.station.identity.mac heard fine refusal e) meant happens
 
   to_controller : (number : ℕ) (found : Option (List ℕ)) → slice_get before.sent number ≡ found
       → ((frame : List ℕ) → found ≡ Some frame → IsMeantAtController before (controller.Frame (record { items = frame })))
-      → Delivers as_flash found before Controller after → Moved as_flash before after
+      → Delivers as_flash found before Controller after → Moved as_flash before (move.Deliver Controller number) after
   to_controller number None there meant happens = inl happens
   to_controller number (Some frame) there meant happens =
-      comes_to_controller frame (all_at (IsFineAt before.controller.setup before.device.station.identity) before.sent both.fine.frames number frame there)
+      comes_to_controller (move.Deliver Controller number) frame
+      (all_at (IsFineAt before.controller.setup before.device.station.identity) before.sent both.fine.frames number frame there)
       (is_skipped before.device before.controller Controller frame) (meant frame refl) happens
 
-  pub moved : (one : Move) → IsMeant before one → Happens as_flash before one after → Moved as_flash before after
+  pub moved : (one : Move) → IsMeant before one → Happens as_flash before one after → Moved as_flash before one after
   moved (move.Deliver Device number) meant happens = to_device number (slice_get before.sent number) refl meant happens
   moved (move.Deliver Controller number) meant happens = to_controller number (slice_get before.sent number) refl meant happens
-  moved (move.Tick Device) meant happens = by_device Ticks (inr no_tick) meant happens
-  moved (move.Tick Controller) meant happens = by_controller controller.Tick tt tt meant happens
-  moved (move.Application local) meant happens = by_device (Applied local) (inr (λ caller address said e. absurd cc)) meant happens
-  moved (move.Neighbour neighbour) meant happens = by_device (Met (option_map peer_as neighbour)) (inr (λ caller address said e. absurd cc)) meant happens
-  moved (move.Give slot subslot value) meant happens = by_controller (controller.Give slot subslot value) tt tt meant happens
-  moved (move.OutputStatus slot subslot is_good) meant happens = by_controller (controller.Status slot subslot is_good) tt tt meant happens
-  moved (move.Read slot subslot index) meant happens = by_controller (controller.Read slot subslot index) tt tt meant happens
-  moved (move.Write slot subslot index octets) meant happens = by_controller (controller.Write slot subslot index octets) tt tt meant happens
-  moved move.Stop meant happens = by_controller controller.Stop tt tt meant happens
+  moved (move.Tick Device) meant happens = by_device (move.Tick Device) Ticks refl (inr no_tick) meant happens
+  moved (move.Tick Controller) meant happens = by_controller (move.Tick Controller) controller.Tick tt tt meant happens
+  moved (move.Application local) meant happens =
+      by_device (move.Application local) (Applied local) refl (inr (λ caller address said e. absurd cc)) meant happens
+  moved (move.Neighbour neighbour) meant happens =
+      by_device (move.Neighbour neighbour) (Met (option_map peer_as neighbour)) refl (inr (λ caller address said e. absurd cc)) meant happens
+  moved (move.Give slot subslot value) meant happens =
+      by_controller (move.Give slot subslot value) (controller.Give slot subslot value) tt tt meant happens
+  moved (move.OutputStatus slot subslot is_good) meant happens =
+      by_controller (move.OutputStatus slot subslot is_good) (controller.Status slot subslot is_good) tt tt meant happens
+  moved (move.Read slot subslot index) meant happens =
+      by_controller (move.Read slot subslot index) (controller.Read slot subslot index) tt tt meant happens
+  moved (move.Write slot subslot index octets) meant happens =
+      by_controller (move.Write slot subslot index octets) (controller.Write slot subslot index octets) tt tt meant happens
+  moved move.Stop meant happens = by_controller move.Stop controller.Stop tt tt meant happens
 
 -- ---- the call that waits
 
 abbrev pub IsPresentAs : ControllerLive → Sent → Type 0
 IsPresentAs live (Requests to request) = live.asked ≡ Some request
-IsPresentAs live (Accesses to request octets) = (live.access.waiting ≡ Some request) × (live.access.plug ≡ None) × (octets ≡ live.access.octets)
-IsPresentAs live (Parametrizes to request) = (live.asked ≡ None) × (live.access.plug ≡ Some request)
+IsPresentAs live (Accesses to request octets) =
+    (live.access.waiting ≡ Some request) × (live.access.plug ≡ None) × (octets ≡ live.access.octets) × (to ≡ live.device)
+IsPresentAs live (Parametrizes to request) = (live.asked ≡ None) × (live.access.plug ≡ Some request) × (to ≡ live.device)
 IsPresentAs live message = ⊥
 
 pub present_as : (live : ControllerLive) (message : Sent) → present_of live ≡ Some message → IsPresentAs live message
@@ -146,12 +158,12 @@ present_as live message e = by_asked live.asked refl e
         → present_by live.device None None live.access.octets waiting ≡ Some message → IsPresentAs live message
     by_waiting None f g is = absurd (none_some message is)
     by_waiting (Some request) f g is =
-        subst (λ (m : Sent). IsPresentAs live m) (some_same (Accesses live.device request live.access.octets) message is) (f, g, refl)
+        subst (λ (m : Sent). IsPresentAs live m) (some_same (Accesses live.device request live.access.octets) message is) (f, g, refl, refl)
 
     by_plug : (plug : Option PlugRequest) → live.access.plug ≡ plug → live.asked ≡ None
         → present_by live.device None plug live.access.octets live.access.waiting ≡ Some message → IsPresentAs live message
     by_plug None f g is = by_waiting live.access.waiting refl f is
-    by_plug (Some request) f g is = subst (λ (m : Sent). IsPresentAs live m) (some_same (Parametrizes live.device request) message is) (g, f)
+    by_plug (Some request) f g is = subst (λ (m : Sent). IsPresentAs live m) (some_same (Parametrizes live.device request) message is) (g, f, refl)
 
     by_asked : (asked : Option Asking) → live.asked ≡ asked
         → present_by live.device asked live.access.plug live.access.octets live.access.waiting ≡ Some message → IsPresentAs live message
@@ -256,14 +268,11 @@ module _ (rules : Rules TakenRecord Request) where
       → ((answer : small.Kept) → before.kept ≡ Some answer → IsIdle answer.frame) → AllByRecursion IsIdle frames
   steps_idle heard before after frames steps kept = by_steps heard steps
     where
-      abbrev Other : List ℕ → Type 0
-      Other frame = IsDull rules frame ⊎ IsReady rules after frame
-
       are : (fs : List (List ℕ)) → frames ≡ fs → AllByRecursion IsIdle fs → AllByRecursion IsIdle frames
       are fs same all = subst (λ (xs : List (List ℕ)). AllByRecursion IsIdle xs) (sym same) all
 
-      others : (fs : List (List ℕ)) → AllByRecursion Other fs → AllByRecursion IsIdle fs
-      others fs all = all_to Other IsIdle (other_idle after) fs all
+      others : (fs : List (List ℕ)) → AllByRecursion (λ f. IsDull rules f ⊎ IsReady rules after f) fs → AllByRecursion IsIdle fs
+      others fs all = all_to (λ f. IsDull rules f ⊎ IsReady rules after f) IsIdle (other_idle after) fs all
 
       goes : GoesBy rules before after frames → AllByRecursion IsIdle frames
       goes it = others frames it.sent
@@ -451,6 +460,12 @@ module _ (setup : Setup) (good : IsSetup setup) (station : Station) (mac : Mac) 
   none_waits : (request : Asking) → after.live.asked ≡ Some request → (other : PlugRequest) → after.live.access.plug ≡ Some other → ⊥
   none_waits request e other f = none_some request (sym (beside_alone setup.plan after.live other steady f).0 ∙ e)
 
+  abbrev Below : Sent → ℕ → Type 0
+  Below message sequence =
+      (sequence < next_of after)
+      × ((request : PlugRequest) → after.live.access.plug ≡ Some request
+      → (sequence < request.sequence) ⊎ IsPlugFrame after.setup request (bytes_of setup message))
+
   new_frame : (message : Sent) → Now message → IsNumberedFrame (rules_of after.setup station) after (bytes_of setup message)
   new_frame message now sequence ask e = by_asked now.1
     where
@@ -461,15 +476,10 @@ module _ (setup : Setup) (good : IsSetup setup) (station : Station) (mac : Mac) 
       is_number : sequence ≡ number_in setup.plan message
       is_number = number_said setup message sequence ask says
 
-      abbrev Goal : Type 0
-      Goal = (sequence < next_of after)
-          × ((request : PlugRequest) → after.live.access.plug ≡ Some request
-          → (sequence < request.sequence) ⊎ IsPlugFrame after.setup request (bytes_of setup message))
-
       same_below : (number : ℕ) → sequence ≡ number → number < next_of after → sequence < next_of after
       same_below number same less = omega (arith, same, less)
 
-      by_message : (m : Sent) → m ≡ message → IsPresentAs after.live m → Goal
+      by_message : (m : Sent) → m ≡ message → IsPresentAs after.live m → Below message sequence
       by_message (Requests to request) same is = (
         same_below (sequence_of setup.plan request) (is_number ∙ ap (λ (x : Sent). number_in setup.plan x) (sym same))
             (start_below (sequence_of setup.plan request)
@@ -496,7 +506,7 @@ module _ (setup : Setup) (good : IsSetup setup) (station : Station) (mac : Mac) 
       by_message (Replies route priority header) same is = absurd is
       by_message (Ends route header reason) same is = absurd is
 
-      by_asked : IsAsked after.live message → Goal
+      by_asked : IsAsked after.live message → Below message sequence
       by_asked (inl present) = by_message message refl (present_as after.live message present)
       by_asked (inr plain) = absurd (plain_said setup message plain sequence ask says)
 

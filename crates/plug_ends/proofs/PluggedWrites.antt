@@ -22,6 +22,7 @@ use Rattle.im_records.specs.Writable.{is_writable}
 use Rattle.im_records.specs.Writes.{command_of}
 use Rattle.records.specs.declared.status.call_fault.CallFault.{CallFault}
 use Rattle.records.specs.declared.status.call_fault.CallFault.TheVariants as fault
+use Rattle.records.specs.calls.Single.{single_of}
 use Rattle.records.specs.reads.Parameters.{parameter_length}
 use Rattle.records.specs.declared.writes.taken.TakenRecord.{TakenRecord}
 use Rattle.records.specs.declared.writes.write.Effect.{Effect}
@@ -157,16 +158,13 @@ module _ (read : (block : Block) (rest : List ℕ) → CanBeWritten block → bl
   unfolding writing_of
   blocks_own standing writing e =
       let blocks = block_bytes (variant.IodWriteReq asked) ++ octets in
-      let one = bind_ok (single_of_it blocks) (λ x. or_fault fault.BlockForm (in_iod_write_req x.0) >>= λ request. handled_writing standing real request x.1)
+      let one = bind_ok (single_of kind.IodWriteReq blocks) (λ x. or_fault fault.BlockForm (in_iod_write_req x.0) >>= λ request. handled_writing standing real request x.1)
       writing e in
       let same : one.0 ≡ (variant.IodWriteReq asked, octets) =
       ok_is one.0 (variant.IodWriteReq asked, octets) (sym (single_is kind.IodWriteReq blocks one.0 one.1) ∙ read (variant.IodWriteReq asked) octets can) in
       writing_own standing writing
       (subst (λ (x : Block × List ℕ). (or_fault fault.BlockForm (in_iod_write_req x.0) >>= λ request. handled_writing standing real request x.1) ≡ Ok writing)
       same one.2)
-    where
-      abbrev single_of_it : List ℕ → Result (Block × List ℕ) CallFault
-      single_of_it all = Rattle.records.specs.calls.Single.single_of kind.IodWriteReq all
 
   one_same : (one other : Write) → One one ≡ One other → one ≡ other
   one_same one other e = cc

@@ -25,10 +25,11 @@ pub record WritesAt (slot subslot : ℕ) (request : RecordRequest) : Type 0 wher
   pub slot_is : request.slot ≡ slot
   pub subslot_is : request.subslot ≡ subslot
 
--- It is not: it is a Read, or for another submodule; its slot and subslot have 16 bits.
+-- It is not: it is a Read, or for another submodule. Its slot, subslot and index have 16 bits.
 pub record IsElsewhere (slot subslot : ℕ) (request : RecordRequest) : Type 0 where
   pub slot_sized : request.slot < 65536
   pub subslot_sized : request.subslot < 65536
+  pub index_sized : request.index < 65536
   pub other : WritesAt slot subslot request → ⊥
 
 -- Nothing but the plan's records is written at a submodule: the device keeps what its relation accepts and passes none of it on to its
