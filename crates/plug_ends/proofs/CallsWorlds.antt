@@ -75,7 +75,7 @@ uncalled_nothing setup (Rattle.controller_messages.specs.Heard.Refuses refusal) 
 uncalled_nothing setup (Rattle.controller_messages.specs.Heard.Calls caller call) un = absurd un
 uncalled_nothing setup heard un = refl
 
-opening_said : (so : CallsSo) (setup : Setup) (station : Station) (to : Mac) → IsSetup setup → IsSaidAs setup station (Requests to asks.Identify)
+pub opening_said : (so : CallsSo) (setup : Setup) (station : Station) (to : Mac) → IsSetup setup → IsSaidAs setup station (Requests to asks.Identify)
 opening_said so setup station to good = (
   uncalled_nothing setup _ (so.uncalled setup.plan.controller identify_multicast setup.plan.controller.mac None _ _ multicast_six good.mac tt),
   inl (unreported_idle (is_planned setup) _ (so.unreported station.identity identify_multicast setup.plan.controller.mac None _ _ multicast_six good.mac tt)),

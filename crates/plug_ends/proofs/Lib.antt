@@ -23,5 +23,6 @@ pub mod PluggedState
 pub mod PluggedDevice
 pub mod PluggedWritten
 pub mod PluggedTurns
-pub mod PluggedRuns
 pub mod PluggedDone
+pub mod PluggedRuns
+pub mod PluggedLaw

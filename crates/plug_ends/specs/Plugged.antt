@@ -3,6 +3,8 @@ use Rattle.std.specs.Prelude.{◌≡◌, ◌<◌, ◌++◌, false, ℕ, List, ma
 use Rattle.std.specs.List.{AllByRecursion, filter}
 use Rattle.records.specs.declared.writes.taken.TakenRecord.{TakenRecord}
 use Rattle.plans.specs.declared.parts.PlanRecord.{PlanRecord}
+use Rattle.plan_places.specs.declared.place.PlaceState.TheVariants.{Ready}
+use Rattle.plan_places.specs.Places.{Told, state_at}
 use Rattle.plan_places.specs.Records.{is_record_of}
 use Rattle.relations.specs.RelationState.{RelationState, passes_on}
 use Rattle.controller_messages.specs.declared.record_request.RecordRequest.{RecordRequest}
@@ -43,3 +45,7 @@ pub record IsUndisturbed {F : Type 0} (slot subslot : ℕ) (world : World F) : T
 -- So it is after each move of a run.
 abbrev pub AreUndisturbed : {F : Type 0} → ℕ → ℕ → List (Move × World F) → Type 0
 AreUndisturbed slot subslot run = AllByRecursion (λ one. IsUndisturbed slot subslot one.1) run
+
+-- The controller says of a submodule that it is there again after a plug.
+abbrev pub IsReadyAt : ℕ → ℕ → Told → Type 0
+IsReadyAt slot subslot places = (number : ℕ) × (state_at slot subslot places ≡ Some (Ready number))
