@@ -113,7 +113,7 @@ frame_call so identity setup to call good mac can planned sequence ask e =
     by_test false f = absurd (idle_call sequence ask f)
 
 -- the Write of a record is a call, and no end of parameters
-plug_small : (setup : Setup) (caller : Caller) (address : List ℕ) (request : PlugRequest) (number : ℕ) → request.step ≡ Record number → (planned : Planned)
+pub plug_small : (setup : Setup) (caller : Caller) (address : List ℕ) (request : PlugRequest) (number : ℕ) → request.step ≡ Record number → (planned : Planned)
     → (ask : Ask) × (heard_as planned (hears_plug setup caller address request) ≡ small.Call request.sequence ask)
 unfolding operation_of
 plug_small setup caller address request number is planned =
@@ -138,7 +138,7 @@ response_is mine mac endpoint answer response e = by_tests (pointwise nat_eq mac
     by_tests true false f = absurd cc
     by_tests false d f = absurd cc
 
-longer : {A : Type 0} (xs : List A) (x : A) → xs ≡ xs ++ x ∷ [] → ⊥
+pub longer : {A : Type 0} (xs : List A) (x : A) → xs ≡ xs ++ x ∷ [] → ⊥
 longer [] x e = absurd cc
 longer {A} (y ∷ xs) x e = longer xs x (rest e)
   where
@@ -193,7 +193,7 @@ module _ (so : PluggedSo) (c : Controlling) (station : Station) (live : Live) (s
     pub address : List ℕ
     pub is : heard ≡ hears_plug c.setup caller address request
 
-  its_call : (frame : List ℕ) → IsPlugFrame c.setup request frame → heard ≡ heard_of station.identity (Frame (record { items = frame })) → (sequence : ℕ) (ask : Ask)
+  pub its_call : (frame : List ℕ) → IsPlugFrame c.setup request frame → heard ≡ heard_of station.identity (Frame (record { items = frame })) → (sequence : ℕ) (ask : Ask)
       → heard_as (is_planned c.setup) heard ≡ small.Call sequence ask → IsItsCall
   its_call frame plug e sequence ask f =
       let there : heard ≡ heard_of station.identity (Frame (record { items = call_frame c.setup plug.to (plug_call c.setup request) })) =

@@ -257,7 +257,7 @@ all_to P Q to (x ∷ xs) all = (to x all.0, all_to P Q to xs all.1)
 -- ---- the frames of a device say nothing to a device
 
 module _ (rules : Rules TakenRecord Request) where
-  abbrev IsIdle : List ℕ → Type 0
+  abbrev pub IsIdle : List ℕ → Type 0
   IsIdle frame = rules.to_device frame ≡ small.Idle
 
   other_idle : (after : small.Device TakenRecord Request) (frame : List ℕ) → IsDull rules frame ⊎ IsReady rules after frame → IsIdle frame

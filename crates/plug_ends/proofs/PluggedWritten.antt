@@ -209,7 +209,7 @@ read_write : operation_of 2 ≡ Some operation.Write → ⊥
 unfolding operation_of
 read_write e = absurd cc
 
-control_write : operation_of 4 ≡ Some operation.Write → ⊥
+pub control_write : operation_of 4 ≡ Some operation.Write → ⊥
 unfolding operation_of
 control_write e = absurd cc
 
