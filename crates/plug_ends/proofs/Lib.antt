@@ -15,3 +15,4 @@ pub mod ToldPlaces
 pub mod ToldSends
 pub mod ToldGoes
 pub mod ToldRuns
+pub mod ToldReady
