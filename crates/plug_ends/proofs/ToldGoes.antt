@@ -51,7 +51,7 @@ use Rattle.plug_ends.specs.Places.{step_at, step_in, taken_at}
 use Rattle.plug_ends.specs.Told.{AreNumberedFrom, IsPlugAt, LastPlug, concerns_any}
 use Rattle.plug_ends.proofs.DeviceGoes.{Alters, Holding, IsMade, LinkGoes, Tells, end_last, end_specifier, held, holding_of}
 use Rattle.plug_ends.proofs.DevicePlaces.{AreCalled, beside_at, covered_at, restated_at}
-use Rattle.plug_ends.proofs.DeviceTurns.{AltersAt, AnswersAt, EndsAt, IsSameAt, PlaceGoes, TakesAt, TellsAt, called_on, later_same, place_on}
+use Rattle.plug_ends.proofs.DeviceTurns.{AltersAt, AnswersAt, EndsAt, IsSameAt, PlaceGoes, TakesAt, TellsAt, called_on, place_on}
 use Rattle.plug_ends.proofs.ToldPlaces.{Becomes, HasTold, IsKept, IsTold, IsTouched, Outcome, WaitsFor, has_told_more, outcome_told}
 use Rattle.plug_ends.proofs.ToldQueue.{IsPlugQueued, IsReached, LastQueued, Waits, numbered_more, or_none, plug_queued, reached_so, specifier_is, touches, waits_more}
 use Rattle.plug_ends.proofs.ToldSends.{IsSending, Says, SendsChange, SendsMore, alters_send, place_so, says_so, silent_by, tells_send}

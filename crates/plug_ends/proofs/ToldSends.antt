@@ -251,7 +251,7 @@ module _ (link middle : RelationState) (same : holding_of middle ≡ holding_of 
                 (full ∙ none_more) last specifier);
           }
 
-  telling_sends : IsTelling is_sent middle.flow flow → SendsMore link (told_link link middle same is_sent flow)
+  telling_sends : IsTelling is_sent flow middle.flow → SendsMore link (told_link link middle same is_sent flow)
   telling_sends (inl it) = next_sends it.0 it.1
   telling_sends (inr (inl it)) = begun_sends it.0 it.1 it.2 it.3
   telling_sends (inr (inr it)) = diagnosed_sends it.0 it.1 it.2 it.3 it.4
