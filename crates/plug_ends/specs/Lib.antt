@@ -1,3 +1,4 @@
 pub mod Calls
 pub mod Taken
 pub mod Places
+pub mod Told
