@@ -27,7 +27,7 @@ use Rattle.controller_messages.specs.declared.plug_request.PlugStep.TheVariants.
 use Rattle.controller_messages.specs.declared.request.Request.{Request}
 use Rattle.controller_messages.specs.declared.request.Request.TheVariants as asks
 use Rattle.controller_messages.specs.declared.setup.Setup.{Setup}
-use Rattle.controller_messages.specs.PlugRequests.{is_plug_answer, plug_answer}
+use Rattle.controller_messages.specs.PlugRequests.{is_plug_answer, is_plug_ready, plug_answer}
 use Rattle.controller_messages.specs.Sent.{Sent, Requests, Accesses, Parametrizes, Agrees, Cycles, Confirms, Replies, Ends, ready_answer}
 use Rattle.controller_core.specs.stored.State.{Live}
 use Rattle.controller_core.specs.Machine.{is_end_of, state_of_step, step_from}
@@ -94,10 +94,11 @@ abbrev pub StepsBy : Setup → (Response → Type 0) → Option PlugRequest → 
 StepsBy setup IsResponse before after = (after ≡ before) ⊎ ((after ≡ None) ⊎ (Begins setup.plan after ⊎ Follows setup IsResponse before after))
 
 -- An answer to the ApplicationReady of a plug.
-pub record IsConfirming (alarms : List AlarmNotification) (v : View) (states : States) (answer : Response) : Type 0 where
+pub record IsConfirming (setup : Setup) (alarms : List AlarmNotification) (v : View) (states : States) (answer : Response) : Type 0 where
   pub call : Call
   pub block : PlugControlBlock
   pub is : answer ≡ plug_answer call block
+  pub right : is_plug_ready setup block ≡ true
   pub slot : ℕ
   pub subslot : ℕ
   pub done : Done alarms v states slot subslot block.alarm_sequence_number
@@ -109,15 +110,15 @@ pub record IsOfStart (answer : Response) : Type 0 where
   pub is : answer ≡ ready_answer call block
 
 -- A message that is sent.
-abbrev pub IsSaid : List AlarmNotification → View → States → Sent → Type 0
-IsSaid alarms v states (Parametrizes device request) = (v.plug ≡ Some request) × (device ≡ v.device)
-IsSaid alarms v states (Agrees caller answer) = IsOfStart answer ⊎ IsConfirming alarms v states answer
-IsSaid alarms v states (Requests device request) = Unit {0}
-IsSaid alarms v states (Accesses device request octets) = Unit {0}
-IsSaid alarms v states (Cycles route shown counter) = Unit {0}
-IsSaid alarms v states (Confirms route priority header ack) = Unit {0}
-IsSaid alarms v states (Replies route priority header) = Unit {0}
-IsSaid alarms v states (Ends route header reason) = Unit {0}
+abbrev pub IsSaid : Setup → List AlarmNotification → View → States → Sent → Type 0
+IsSaid setup alarms v states (Parametrizes device request) = (v.plug ≡ Some request) × (device ≡ v.device)
+IsSaid setup alarms v states (Agrees caller answer) = IsOfStart answer ⊎ IsConfirming setup alarms v states answer
+IsSaid setup alarms v states (Requests device request) = Unit {0}
+IsSaid setup alarms v states (Accesses device request octets) = Unit {0}
+IsSaid setup alarms v states (Cycles route shown counter) = Unit {0}
+IsSaid setup alarms v states (Confirms route priority header ack) = Unit {0}
+IsSaid setup alarms v states (Replies route priority header) = Unit {0}
+IsSaid setup alarms v states (Ends route header reason) = Unit {0}
 
 -- One of these.
 pub record IsIn {A : Type 0} (x : A) (xs : List A) : Type 0 where
@@ -141,18 +142,18 @@ all_as : {A : Type 0} (P Q : A → Type 0) → ((x : A) → P x → Q x) → (xs
 all_as P Q to [] all = tt
 all_as P Q to (x ∷ xs) all = (to x all.0, all_as P Q to xs all.1)
 
-plain_said : (alarms : List AlarmNotification) (v : View) (states : States) (message : Sent) → IsPlain message → IsSaid alarms v states message
-plain_said alarms v states (Parametrizes device request) plain = absurd plain
-plain_said alarms v states (Agrees caller answer) plain = inl (record { call = plain.0; block = plain.1; is = plain.2 })
-plain_said alarms v states (Requests device request) plain = tt
-plain_said alarms v states (Accesses device request octets) plain = tt
-plain_said alarms v states (Cycles route shown counter) plain = tt
-plain_said alarms v states (Confirms route priority header ack) plain = tt
-plain_said alarms v states (Replies route priority header) plain = tt
-plain_said alarms v states (Ends route header reason) plain = tt
+plain_said : (setup : Setup) (alarms : List AlarmNotification) (v : View) (states : States) (message : Sent) → IsPlain message → IsSaid setup alarms v states message
+plain_said setup alarms v states (Parametrizes device request) plain = absurd plain
+plain_said setup alarms v states (Agrees caller answer) plain = inl (record { call = plain.0; block = plain.1; is = plain.2 })
+plain_said setup alarms v states (Requests device request) plain = tt
+plain_said setup alarms v states (Accesses device request octets) plain = tt
+plain_said setup alarms v states (Cycles route shown counter) plain = tt
+plain_said setup alarms v states (Confirms route priority header ack) plain = tt
+plain_said setup alarms v states (Replies route priority header) plain = tt
+plain_said setup alarms v states (Ends route header reason) plain = tt
 
-all_plain : (alarms : List AlarmNotification) (v : View) (states : States) (sent : List Sent) → ArePlain sent → AllByRecursion (IsSaid alarms v states) sent
-all_plain alarms v states sent plain = all_as IsPlain (IsSaid alarms v states) (plain_said alarms v states) sent plain
+all_plain : (setup : Setup) (alarms : List AlarmNotification) (v : View) (states : States) (sent : List Sent) → ArePlain sent → AllByRecursion (IsSaid setup alarms v states) sent
+all_plain setup alarms v states sent plain = all_as IsPlain (IsSaid setup alarms v states) (plain_said setup alarms v states) sent plain
 
 module _ {A : Type 0} (x : A) where
   in_front : (xs more : List A) → IsIn x xs → IsIn x (more ++ xs)
@@ -559,7 +560,7 @@ pub record Reached (setup : Setup) (live : Live) (alarms : List AlarmNotificatio
   pub base : Base setup.plan all v states
   pub ends : (at below number : ℕ) → Ended alarms live.access.plug states0 at below number → Ended all v.plug states at below number
   pub dones : (at below number : ℕ) → Done alarms (view_of live) states0 at below number → Done all v states at below number
-  pub said : AllByRecursion (IsSaid all v states) sent
+  pub said : AllByRecursion (IsSaid setup all v states) sent
   pub steps : StepsBy setup IsResponse live.access.plug v.plug
   pub sends : (r : PlugRequest) → v.plug ≡ Some r → (live.access.plug ≡ Some r) ⊎ IsIn (Parametrizes v.device r) sent
   pub device : (v.device ≡ live.device) ⊎ (live.access.plug ≡ None)
@@ -597,7 +598,7 @@ module _ (setup : Setup) (live : Live) (alarms : List AlarmNotification) (states
     base = p.base;
     ends = p.ends;
     dones = p.dones;
-    said = all_more (IsSaid all v p.states) more sent (all_plain all v p.states more plain) p.said;
+    said = all_more (IsSaid setup all v p.states) more sent (all_plain setup all v p.states more plain) p.said;
     steps = p.steps;
     sends = λ r e. by_sends r (p.sends r e);
     device = p.device;
@@ -614,7 +615,7 @@ module _ (setup : Setup) (live : Live) (alarms : List AlarmNotification) (states
     base = p.base;
     ends = p.ends;
     dones = p.dones;
-    said = all_more (IsSaid all v p.states) sent more p.said (all_plain all v p.states more plain);
+    said = all_more (IsSaid setup all v p.states) sent more p.said (all_plain setup all v p.states more plain);
     steps = p.steps;
     sends = λ r e. by_sends r (p.sends r e);
     device = p.device;
@@ -782,9 +783,9 @@ module _ (setup : Setup) (live : Live) (alarms : List AlarmNotification) (states
         base = asked_base setup.plan all v p.states p.base first last own unready upper;
         ends = λ s ss n ended. asked_ended setup.plan all v p.states p.base first last own unready upper s ss n (p.ends s ss n ended);
         dones = λ s ss n done. asked_done setup.plan all v p.states p.base first last own unready upper s ss n (p.dones s ss n done);
-        said = all_more (IsSaid all (asked_view plug.slot plug.subslot plug.number first v)
+        said = all_more (IsSaid setup all (asked_view plug.slot plug.subslot plug.number first v)
             (states_with plug.slot plug.subslot (state_of_step first.step plug.number) p.states)) sent (Parametrizes v.device first ∷ [])
-            (all_as (IsSaid all v p.states) (IsSaid all (asked_view plug.slot plug.subslot plug.number first v)
+            (all_as (IsSaid setup all v p.states) (IsSaid setup all (asked_view plug.slot plug.subslot plug.number first v)
             (states_with plug.slot plug.subslot (state_of_step first.step plug.number) p.states))
             (still last own unready upper) sent p.said) ((refl, refl), tt);
         steps = inr (inr (inl (record { request = first; is = refl; first = refl })));
@@ -796,8 +797,8 @@ module _ (setup : Setup) (live : Live) (alarms : List AlarmNotification) (states
       still : LastPlug plug.slot plug.subslot plug.number all → IsOwn setup.plan plug.slot plug.subslot (first_asked setup sequence plug).step
           → ((n : ℕ) → p.states plug.slot plug.subslot ≡ Ready n → ⊥)
           → ((n : ℕ) → Ended all v.plug p.states plug.slot plug.subslot n → IsRecord (first_asked setup sequence plug).step → n < plug.number)
-          → (message : Sent) → IsSaid all v p.states message
-          → IsSaid all (asked_view plug.slot plug.subslot plug.number (first_asked setup sequence plug) v)
+          → (message : Sent) → IsSaid setup all v p.states message
+          → IsSaid setup all (asked_view plug.slot plug.subslot plug.number (first_asked setup sequence plug) v)
           (states_with plug.slot plug.subslot (state_of_step (first_asked setup sequence plug).step plug.number) p.states) message
       still last own unready upper (Parametrizes device request) said = absurd (none_some (sym none ∙ said.0))
       still last own unready upper (Agrees caller answer) (inl start) = inl start
@@ -805,6 +806,7 @@ module _ (setup : Setup) (live : Live) (alarms : List AlarmNotification) (states
         call = confirms.call;
         block = confirms.block;
         is = confirms.is;
+        right = confirms.right;
         slot = confirms.slot;
         subslot = confirms.subslot;
         done = asked_done setup.plan all v p.states p.base (first_asked setup sequence plug) last own unready upper confirms.slot confirms.subslot
@@ -817,9 +819,10 @@ module _ (setup : Setup) (live : Live) (alarms : List AlarmNotification) (states
       still last own unready upper (Replies route priority header) said = tt
       still last own unready upper (Ends route header reason) said = tt
 
-  ready_so : (caller : Caller) (call : Call) (block : PlugControlBlock) → is_awaited block.alarm_sequence_number live.places ≡ true
+  ready_so : (caller : Caller) (call : Call) (block : PlugControlBlock) → is_plug_ready setup block ≡ true
+      → is_awaited block.alarm_sequence_number live.places ≡ true
       → P alarms (ready_view block.alarm_sequence_number (view_of live)) (Agrees caller (plug_answer call block) ∷ [])
-  ready_so caller call block e =
+  ready_so caller call block right e =
       let number = block.alarm_sequence_number in
       let awaited = awaited_by states number live.places.places base.by e in
       let last : LastPlug awaited.slot awaited.subslot number alarms =
@@ -833,6 +836,7 @@ module _ (setup : Setup) (live : Live) (alarms : List AlarmNotification) (states
           call = call;
           block = block;
           is = refl;
+          right = right;
           slot = awaited.slot;
           subslot = awaited.subslot;
           done = record {

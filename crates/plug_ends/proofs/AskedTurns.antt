@@ -160,7 +160,8 @@ pub record Closed (setup : Setup) (live : Live) (alarms : List AlarmNotification
       → next_waiting v.places ≡ Some plug → P all v sent
       → P all (asked_view plug.slot plug.subslot plug.number (first_asked setup sequence plug) v)
       (sent ++ Parametrizes v.device (first_asked setup sequence plug) ∷ [])
-  pub ready : (caller : Caller) (call : Call) (block : PlugControlBlock) → is_awaited block.alarm_sequence_number live.places ≡ true
+  pub ready : (caller : Caller) (call : Call) (block : PlugControlBlock) → is_plug_ready setup block ≡ true
+      → is_awaited block.alarm_sequence_number live.places ≡ true
       → P alarms (ready_view block.alarm_sequence_number (view_of live)) (Agrees caller (plug_answer call block) ∷ [])
   pub alarm : (alarm : AlarmNotification) → live.stands ≡ true → Fine (alarms ++ alarm ∷ [])
       → P (alarms ++ alarm ∷ []) (viewed live.access.plug (told_by (report_in alarm) live.places) live.stands live.device) []
@@ -451,12 +452,12 @@ module _ (setup : Setup) (live : Live) (alarms : List AlarmNotification) (Fine :
           → Goes alarms (if b then record { live = plug_readied live block.alarm_sequence_number; sent = Agrees caller (plug_answer call block) ∷ [] }
           else stays live)
       by_test true e =
-          let awaited = (and_parts (is_plug_ready setup block) (is_plug_awaited live number) e).1 in
+          let both = and_parts (is_plug_ready setup block) (is_plug_awaited live number) e in
           record {
             so = subst (λ (plug : Option PlugRequest). P alarms (viewed plug (places_readied number live.places) live.stands live.device)
                 (Agrees caller (plug_answer call block) ∷ []))
                 (sym (plug_by (is_end_of number live.access.plug)))
-                (c.ready caller call block (and_parts (is_exchanging live.phase) (is_awaited number live.places) awaited).1);
+                (c.ready caller call block both.0 (and_parts (is_exchanging live.phase) (is_awaited number live.places) both.1).1);
           }
       by_test false e = rests
 

@@ -56,7 +56,7 @@ pub record FineSo : Type 0 where
       → IsPlanned rules activity station.named live.rest.real heard → AllByRecursion (IsOwed heard live) (heard_step outcomes station live heard).sent
 
 -- the response that is stored after a step
-kept_after : (rules : Rules TakenRecord Request) (P : List ℕ → Type 0) (heard : ToDevice) (before after : small.Device TakenRecord Request)
+pub kept_after : (rules : Rules TakenRecord Request) (P : List ℕ → Type 0) (heard : ToDevice) (before after : small.Device TakenRecord Request)
     (frames : List (List ℕ)) → DeviceSteps rules heard before after frames
     → ((answer : small.Kept) → before.kept ≡ Some answer → P answer.frame) → AllByRecursion P frames → (answer : small.Kept) → after.kept ≡ Some answer
     → P answer.frame
@@ -89,7 +89,7 @@ kept_after rules P heard before after frames steps was all = by_steps heard step
     by_steps small.Idle (inl it) = same it.keeps
     by_steps small.Idle (inr it) = stored it.sequence it.frame it.others [] it.keeps it.sent
 
-all_joined : (P : List ℕ → Type 0) (one other : List (List ℕ)) → AllByRecursion P one → AllByRecursion P other → AllByRecursion P (one ++ other)
+pub all_joined : (P : List ℕ → Type 0) (one other : List (List ℕ)) → AllByRecursion P one → AllByRecursion P other → AllByRecursion P (one ++ other)
 all_joined P [] other first second = second
 all_joined P (x ∷ one) other first second = (first.0, all_joined P one other first.1 second)
 
