@@ -3,7 +3,7 @@
 use Rattle.std.proofs.Common.{◌≡◌, ◌<◌, ◌==◌, ◌&&◌, ◌++◌, ◌%◌, ◌/◌, ℕ, Bool, true, false, List, [], ◌∷◌, length, drop, Result, Ok, Err, refl, sym, ap, subst, ◌∙◌, arith}
 use Rattle.std.specs.Prelude.{if◌then◌else◌, nat_lt}
 use Rattle.std.proofs.lemmas.Bool.{eq-eqb, eqb-true}
-use Rattle.byteorder.specs.Endian.{big_bytes, big_number}
+use Rattle.wire.specs.Formats.{big_number}
 use Rattle.wire.specs.blocks.Fields.{blank, number_at, number_bytes, octet_bytes}
 use Rattle.wire.specs.declared.blocks.fault.BlockFault.{BlockFault}
 use Rattle.wire.specs.declared.blocks.fault.BlockFault.TheVariants.{Field, Length}

@@ -1,6 +1,6 @@
 -- What the device hears in the frames of both ends: a PrmEnd after a plug, and the confirmation of its ApplicationReady, are messages of the
 -- controller; it hears no call and no response in its own frames.
-use Rattle.std.proofs.Common.{◌≡◌, ◌⊎◌, inl, inr, ◌<◌, ◌==◌, ◌&&◌, ℕ, Bool, true, false, cond, List, [], ◌∷◌, length, map, Option, Some, None, Result, Ok, Err}
+use Rattle.std.proofs.Common.{◌≡◌, ◌⊎◌, inl, inr, ◌<◌, ◌==◌, ◌&&◌, ◌||◌, ℕ, Bool, true, false, cond, List, [], ◌∷◌, length, map, Option, Some, None, Result, Ok, Err}
 use Rattle.std.proofs.Common.{refl, sym, ap, subst, ◌∙◌, arith}
 use Rattle.std.specs.Prelude.{if◌then◌else◌, nat_eq}
 use Rattle.std.specs.List.{AllByRecursion}
@@ -10,9 +10,10 @@ use Rattle.wire.specs.Codec.{◌>>=◌}
 use Rattle.wire.specs.declared.blocks.fault.BlockFault.{BlockFault}
 use Rattle.wire.specs.declared.blocks.fault.BlockFault.TheVariants.{Field}
 use Rattle.wire.proofs.Fields.{bind_ok, ok_is}
-use Rattle.byteorder.specs.Endian.{big_number}
 use Rattle.pn_values.specs.declared.identity.Identity.{Identity}
 use Rattle.pn_values.specs.declared.mac.Mac.{Mac}
+use Rattle.frame_codec.specs.declared.arp.Arp.{Arp}
+use Rattle.frame_codec.specs.declared.arp.ArpOperation.TheVariants.{Reply}
 use Rattle.frame_codec.specs.declared.arp.Holder.{Holder}
 use Rattle.frame_codec.specs.declared.udp.Caller.{Caller}
 use Rattle.frame_codec.specs.declared.udp.Endpoint.{Endpoint}
@@ -47,7 +48,7 @@ use Rattle.relations.specs.Plugging.{answer_to, answer_to_call, block_in, done_b
 use Rattle.relations.specs.Plugging.{is_plug_answer as is_answer_to_plug}
 use Rattle.relations.specs.RelationState.{RelationState}
 use Rattle.device_frames.specs.declared.event.Event.TheVariants.{Frame}
-use Rattle.device_frames.specs.Heard.{Calls, Elsewhere, Garbled, Heard, Reported, Resolves, Responds, Said, heard_of, is_own}
+use Rattle.device_frames.specs.Heard.{Calls, Elsewhere, Garbled, Heard, Reported, Resolves, Responds, Said, broadcast, heard_of, is_own}
 use Rattle.device_frames.specs.Sendable.{IsSendable}
 use Rattle.device_frames.specs.Sent.{Sent, IdentifyAnswer, GetAnswer, SetAnswer, ArpReply, CallAnswer, Again, ReadyCall, PlugReadyCall, Ends}
 use Rattle.device_frames.specs.Sent.{Exchanges, bytes_of, plug_ready_frame, ready_frame, response_frame}
@@ -262,7 +263,9 @@ pub record FramesSo : Type 0 where
       → heard_of other (comes (plug_ready_frame identity address ready))
       ≡ own_reported other identity.mac ready.partner.mac (calls_at address) (calls_at ready.partner.address) Garbled
   pub packet : (other identity : Identity) (asker : Mac) (address : List ℕ) (target : Holder)
-      → IsDevice identity → IsMac asker → IsAddress address → IsHolder target → IsQuietAt other (bytes_of identity (ArpReply asker address target))
+      → IsDevice identity → IsMac asker → IsAddress address → IsHolder target
+      → heard_of other (comes (bytes_of identity (ArpReply asker address target)))
+      ≡ all_hears other asker (Resolves identity.mac (record { operation = Reply; sender = record { mac = identity.mac; address = address }; target = target }))
   pub read_back : (kind : ℕ) (block : PlugControlBlock) (tail : List ℕ) → (plug_control kind).Fits block
       → (plug_control kind).read ((plug_control kind).write block tail) ≡ Ok (block, tail)
 
@@ -284,6 +287,10 @@ elsewhere_quiet false port heard e = tt
 garbled_quiet : (b : Bool) (caller : Caller) (address : List ℕ) → IsQuiet (cond b (Reported caller address Garbled) Elsewhere)
 garbled_quiet true caller address = tt
 garbled_quiet false caller address = tt
+
+resolves_quiet : (b : Bool) (asker : Mac) (arp : Arp) → IsQuiet (cond b (Resolves asker arp) Elsewhere)
+resolves_quiet true asker arp = tt
+resolves_quiet false asker arp = tt
 
 -- what is reported to this device
 call_is : (b : Bool) (source : Caller) (to : List ℕ) (call found : Call) (caller : Caller) (address : List ℕ)
@@ -586,7 +593,9 @@ module _ (so : FramesSo) (setup : Setup) (identity : Identity) (good : IsSetup s
     message_quiet (IdentifyAnswer asker running xid) owed can = data_quiet asker identity.mac None _ _ can.destination real tt
     message_quiet (GetAnswer asker running alias request) owed can = data_quiet asker identity.mac None _ _ can.destination real tt
     message_quiet (SetAnswer asker request answers) owed can = data_quiet asker identity.mac None _ _ can.destination real tt
-    message_quiet (ArpReply asker address target) owed can = so.packet identity identity asker address target real can.destination can.content.0.1 can.content.1
+    message_quiet (ArpReply asker address target) owed can =
+        subst (λ (h : Heard). IsQuiet h) (sym (so.packet identity identity asker address target real can.destination can.content.0.1 can.content.1))
+        (resolves_quiet (is_own identity asker || pointwise nat_eq asker.octets broadcast) _ _)
     message_quiet (CallAnswer caller address answer) owed can =
         subst (λ (h : Heard). IsQuiet h)
         (sym (so.response identity identity caller address answer real (record { mac = can.0.destination; endpoint = can.0.content.1 }) can.0.content.0.0 can.1))

@@ -10,3 +10,13 @@ pub mod DevicePlaces
 pub mod DeviceTurns
 pub mod Written
 pub mod DeviceRuns
+pub mod AskedWords
+pub mod AskedLists
+pub mod AskedPlaces
+pub mod AskedRecords
+pub mod AskedBlocks
+pub mod AskedTurns
+pub mod AskedKeeps
+pub mod AskedKinds
+pub mod AskedFrames
+pub mod AskedWorlds
