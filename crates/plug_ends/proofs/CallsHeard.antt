@@ -263,7 +263,7 @@ module _ (so : HeardSo) (setup : Setup) (identity : Identity) (good : IsSetup se
 
   -- ---- of the device
 
-  ready_can_be : (link : RelationState) (ready : Ready) → link.request ≡ request_for setup.plan setup.ar → ready.header ≡ (ready_of link).header
+  pub ready_can_be : (link : RelationState) (ready : Ready) → link.request ≡ request_for setup.plan setup.ar → ready.header ≡ (ready_of link).header
       → ready.block ≡ (ready_of link).block
       → CanBeCalled controllers (ready_call ready)
   ready_can_be link ready made header block =
@@ -278,7 +278,7 @@ module _ (so : HeardSo) (setup : Setup) (identity : Identity) (good : IsSetup se
       (ap (λ (h : CallHeader). h.interface) header)
       (ap (λ (b : ControlBlock). length b.ar_uuid) block ∙ (ap (λ (r : Asked_for). length r.ar.uuid) made ∙ good.ar))
 
-  plug_can_be : (link : RelationState) (call : PlugCall) (ready : PlugReady) → link.request ≡ request_for setup.plan setup.ar → call.sequence < 4294967296
+  pub plug_can_be : (link : RelationState) (call : PlugCall) (ready : PlugReady) → link.request ≡ request_for setup.plan setup.ar → call.sequence < 4294967296
       → ready.header ≡ (ready_for link call).header → ready.block ≡ (ready_for link call).block → CanBeCalled controllers (plug_ready_call ready)
   plug_can_be link call ready made few header block =
       so.plug_can ready
