@@ -832,19 +832,22 @@ module _ (setup : Setup) (live : Live) (alarms : List AlarmNotification) (states
         base = ready_base setup.plan alarms (view_of live) states base number;
         ends = ready_ended setup.plan alarms (view_of live) states base number;
         dones = ready_done setup.plan alarms (view_of live) states base number;
-        said = (inr (record {
-          call = call;
-          block = block;
-          is = refl;
-          right = right;
-          slot = awaited.slot;
-          subslot = awaited.subslot;
-          done = record {
-            was = last_was awaited.slot awaited.subslot number alarms last;
-            ready = λ up plug. ap (λ (b : Bool). cond b (Ready number) (states awaited.slot awaited.subslot)) awaited.told;
-            there = λ up. ready_there awaited.slot awaited.subslot number live.places awaited.there;
-          };
-        }), tt);
+        said = (
+          inr (record {
+            call = call;
+            block = block;
+            is = refl;
+            right = right;
+            slot = awaited.slot;
+            subslot = awaited.subslot;
+            done = record {
+              was = last_was awaited.slot awaited.subslot number alarms last;
+              ready = λ up plug. ap (λ (b : Bool). cond b (Ready number) (states awaited.slot awaited.subslot)) awaited.told;
+              there = λ up. ready_there awaited.slot awaited.subslot number live.places awaited.there;
+            };
+          }),
+          tt,
+        );
         steps = by_end (is_end_of number live.access.plug);
         sends = λ r f. inl (unplug_some (is_end_of number live.access.plug) live.access.plug r f);
         device = inl refl;

@@ -830,8 +830,7 @@ module _ (so : AskedSo) {F : Type 0} where
           let there : World F = record { device = before.device; controller = with_live c turn.live; sent = before.sent ++ frames } in
           let same : after ≡ there =
           happens ∙ (ap (λ (next : Controlling). record { device = before.device; controller = next; sent = before.sent ++ (step_of c one).frames }) (controller_is c one)
-          ∙ ap (λ (fs : List (List ℕ)). record { device = before.device; controller = with_live c turn.live; sent = before.sent ++ fs }) (frames_are c one)) in
-          (
+          ∙ ap (λ (fs : List (List ℕ)). record { device = before.device; controller = with_live c turn.live; sent = before.sent ++ fs }) (frames_are c one)) in (
             subst (λ (w : World F). AskingAt w all) (sym same) now_asking,
             subst (λ (w : World F). AskedBy before w) (sym same) now_steps,
           )

@@ -149,7 +149,7 @@ module _ (so : PluggedSo) (asking : AskedSo) (device_so : DeviceSo) (hears : Hea
   first_base = record {
     both = first_both so.fine setup as_flash first relation identity good real begins;
     telling = first_telling device_so hears setup identity good can first begins modules none slot subslot;
-    asked = first_asked asking setup identity good can first begins;
+    asked = first_asked asking setup identity good real first begins;
   }
 
   plans : ArePlans so.fine setup first run
@@ -160,8 +160,8 @@ module _ (so : PluggedSo) (asking : AskedSo) (device_so : DeviceSo) (hears : Hea
       → concerns_any slot subslot (reported_over first run) ≡ true
       → EndsWith (taken_at slot subslot link.taken) (records_at slot subslot setup.plan.records.items)
   records_so strict calm link is step some =
-      let all = run_joined so asking device_so hears law setup good placed can.records as_flash slot subslot strict first [] [] first_base
-      (first_joined so slot subslot setup identity good first begins) (first_calm so slot subslot setup identity good first begins) run made meant sized plans calm few in
+      let all = run_joined so asking device_so hears law setup good placed can.records as_flash slot subslot first [] [] first_base
+      (first_joined so slot subslot setup identity good first begins) strict (first_calm so slot subslot setup identity good first begins) run made meant sized plans calm few in
       subst (λ (s : Setup). EndsWith (taken_at slot subslot link.taken) (all_of slot subslot s)) of_setup (all.settled link is step some).0
     where
       of_setup : (last_world first run).controller.setup ≡ setup

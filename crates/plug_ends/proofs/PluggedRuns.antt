@@ -1,8 +1,9 @@
 -- The records of one submodule after a plug, over any run of worlds.
-use Rattle.std.proofs.Common.{◌≡◌, ◌⊎◌, inl, inr, ◌==◌, ◌≤◌, ◌<◌, ◌++◌, ℕ, Bool, true, false, List, [], ◌∷◌, length, map, Option, Some, None, refl, sym, ap, subst, ◌∙◌, append-nil, append_assoc, arith}
+use Rattle.std.proofs.Common.{◌≡◌, ◌⊎◌, inl, inr, ◌==◌, ◌≤◌, ◌<◌, ◌+◌, ◌++◌, ℕ, Bool, true, false, List, [], ◌∷◌, length, map, Option, Some, None, refl, sym, ap, subst, ◌∙◌, append-nil, append_assoc, arith}
 use Rattle.std.specs.Prelude.{if◌then◌else◌, slice_get}
 use Rattle.std.specs.List.{AllByRecursion}
 use Rattle.std.proofs.lemmas.Bool.{and_parts, eq-eqb}
+use Rattle.std.proofs.lemmas.List.{length-append}
 use Rattle.flash_model.specs.declared.flash.Flash.{Ghosts as Flash}
 use Rattle.pn_values.specs.declared.identity.Identity.{Identity}
 use Rattle.frame_codec.specs.declared.udp.Caller.{Caller}
@@ -27,7 +28,7 @@ use Rattle.controller_messages.specs.Heard.{heard_of as heard_by}
 use Rattle.controller_messages.specs.Requests.{write_count}
 use Rattle.controller_core.specs.declared.stored.event.Event.{Event}
 use Rattle.controller_core.specs.stored.State.{Controlling, Live as ControllerLive, with_live}
-use Rattle.controller_core.specs.Machine.{step_of, turn_of}
+use Rattle.controller_core.specs.Machine.{step_from, step_of, turn_of}
 use Rattle.network_world.specs.declared.moves.Move.{Move}
 use Rattle.network_world.specs.World.{AreMade, AtDevice, Happens, World, at_controller, is_ended, last_world}
 use Rattle.end_laws.specs.turns.Alarms.{AreAllTaken, AreTakenInOrder}
@@ -61,8 +62,14 @@ use Rattle.plug_ends.proofs.PluggedNumbers.{event_numbers}
 use Rattle.plug_ends.proofs.PluggedState.{EndsNow, Grants, Joined, PlugTurns, WasIn}
 use Rattle.plug_ends.proofs.PluggedTurns.{controller_joined, device_joined}
 use Rattle.plug_ends.proofs.PluggedWorlds.{ControllerMoved, DeviceMoved, Moved, Numbered, controller_numbered, moved}
-use Rattle.plug_ends.proofs.PluggedWritten.{IsBeginning, Known}
+use Rattle.plug_ends.proofs.PluggedWritten.{Known}
 use Rattle.plug_ends.proofs.ToldRuns.{Telling, device_goes, first_few, first_telling, one_telling}
+
+few_front : {A : Type 0} (xs ys all : List A) → xs ++ ys ≡ all → length all ≤ 2048 → length xs ≤ 2048
+few_front xs ys all e few =
+    let long = length-append xs ys in
+    let same = ap (λ (zs : List _). length zs) e in
+    omega (arith, long, same, few)
 
 -- ---- nothing is reported while the device rests
 
@@ -78,6 +85,9 @@ rest_none before after same =
 
 rest_raised : {F : Type 0} (before after : World F) (raised : List AlarmNotification) → after.device ≡ before.device → raised ++ reported_with before after ≡ raised
 rest_raised before after raised same = ap (λ (xs : List AlarmNotification). raised ++ xs) (rest_none before after same) ∙ append-nil raised
+
+true_false : true ≡ false → ⊥
+true_false e = absurd cc
 
 few_all : (count : ℕ) → count ≤ 2048 → count ≤ 32768
 few_all count few = omega (arith, few)
@@ -109,7 +119,7 @@ module _ (so : PluggedSo) (asking : AskedSo) (device_so : DeviceSo) (hears : Hea
     abbrev taken_now : List AlarmNotification
     taken_now = taken ++ taken_with low_priority before one
 
-    c : Controlling
+    abbrev c : Controlling
     c = before.controller
 
     few_before : length raised ≤ 2048
@@ -135,6 +145,7 @@ module _ (so : PluggedSo) (asking : AskedSo) (device_so : DeviceSo) (hears : Hea
 
     asked_all : AskedAt taken_now after × AskedGoes before after
     asked_all = one_asked asking as_flash before after raised taken base.telling.follows base.asked one happens meant numbers_now
+        (few_front taken_now prefix_now.0 raised_now prefix_now.1 few)
 
     pub base_now : Base after raised_now taken_now
     base_now = record { both = both_now; telling = telling_now; asked = asked_all.0 }
@@ -160,6 +171,7 @@ module _ (so : PluggedSo) (asking : AskedSo) (device_so : DeviceSo) (hears : Hea
         (subst (λ (fs : List (List ℕ)). IsDone slot subslot before.device.station after.device.live fs raised_now) (sym hears_it.behind) now)
 
     controller_done_now : (it : ControllerMoved before after) → DoneAt before raised → DoneAt after raised_now
+    unfolding step_of
     controller_done_now it was =
         let same = ap (λ (w : World F). w.device) it.happens in
         subst (λ (xs : List AlarmNotification). DoneAt after xs) (sym (rest_raised before after raised same))
@@ -181,10 +193,8 @@ module _ (so : PluggedSo) (asking : AskedSo) (device_so : DeviceSo) (hears : Hea
 
     -- ---- its records
 
-    module _ (was : JoinedAt before raised) (calm : IsUndisturbed slot subslot before) (calm_now : IsUndisturbed slot subslot after) where
-      starting : Rattle.controller_core.specs.declared.stored.state.State.State → Type 0
-      starting phase = IsBeginning phase
-
+    module _ (was : JoinedAt before raised) (strict : setup.plan.continue_on_refused_record ≡ false) (calm : IsUndisturbed slot subslot before)
+        (calm_now : IsUndisturbed slot subslot after) where
       known : Known before.controller before.device.station before.sent taken slot subslot
       known = record {
         request = base.asked.request;
@@ -303,18 +313,26 @@ module _ (so : PluggedSo) (asking : AskedSo) (device_so : DeviceSo) (hears : Hea
                 hears = it_next.hears;
                 own = (and_parts _ _ it_next.answers).0;
                 number = Rattle.std.proofs.lemmas.Bool.eqb-true it_next.response.header.sequence it_next.request.sequence (and_parts _ _ it_next.answers).1;
-                done = it_next.positive;
+                done = by_positive it_next.positive;
               };
               request = it_next.next;
               is = it_next.is;
               slot_is = it_next.slot;
               subslot_is = it_next.subslot;
               number_is = it_next.same;
-              step = it_next.from;
+              step = it_next.from
+                  ∙ (ap (λ (s : ℕ). step_from before.controller.setup.plan s it_next.request.subslot (it_next.number + 1)) (sym it_next.slot)
+                  ∙ ap (λ (s : ℕ). step_from before.controller.setup.plan it_next.next.slot s (it_next.number + 1)) (sym it_next.subslot));
               sequence = it_next.sequence;
               ended = λ frame number there hears_end. by_end (it_next.ended frame number (now_sent frame there) hears_end);
             })))
               where
+                by_positive : (Rattle.rpc_core.specs.Response.is_done it_next.response.status ≡ true) ⊎ (before.controller.setup.plan.continue_on_refused_record ≡ true)
+                    → Rattle.rpc_core.specs.Response.is_done it_next.response.status ≡ true
+                by_positive (inl done) = done
+                by_positive (inr goes_on) =
+                    absurd (true_false (sym goes_on ∙ (ap (λ (s : Setup). s.plan.continue_on_refused_record) base.both.fine.of_setup ∙ strict)))
+
                 by_end : {frame : List ℕ} {number : ℕ} → WasSent before frame ⊎ ((it_next.next.step ≡ PrmEnd) × (it_next.next.number ≡ number))
                     → WasIn before.sent frame ⊎ ((it_next.next.step ≡ PrmEnd) × (it_next.next.number ≡ number))
                 by_end {frame} (inl sent) = inl (sent_in frame sent)
@@ -335,9 +353,6 @@ module _ (so : PluggedSo) (asking : AskedSo) (device_so : DeviceSo) (hears : Hea
 
         stays_ended : is_ended before.controller.live.phase ≡ true → is_ended next.phase ≡ true
         stays_ended e = ended_on so.fine.calls before.controller it.event base.both.held.reached e
-
-        true_false : true ≡ false → ⊥
-        true_false e = absurd cc
 
         going_before : is_ended next.phase ≡ false → is_ended before.controller.live.phase ≡ false
         going_before e = by_ended (is_ended before.controller.live.phase) refl
@@ -428,11 +443,11 @@ module _ (so : PluggedSo) (asking : AskedSo) (device_so : DeviceSo) (hears : Hea
       × DoneAt (last_world one.1 run) ((raised ++ now) ++ reported_over one.1 run))
       (append_assoc taken more (taken_over low_priority one.1 run)) all)
 
-  pub run_joined : (w : World F) (raised taken : List AlarmNotification) → Base w raised taken → JoinedAt w raised → IsUndisturbed slot subslot w
+  pub run_joined : (w : World F) (raised taken : List AlarmNotification) → Base w raised taken → JoinedAt w raised → (setup.plan.continue_on_refused_record ≡ false) → IsUndisturbed slot subslot w
       → (run : List (Move × World F)) → AreMade as_flash w run → AreMeant w run → AreSizedMoves run → ArePlans so.fine setup w run → AreUndisturbed slot subslot run
       → length (raised ++ reported_over w run) ≤ 2048 → JoinedAt (last_world w run) (raised ++ reported_over w run)
-  run_joined w raised taken base was calm [] made meant sized plans calms few = subst (λ (xs : List AlarmNotification). JoinedAt w xs) (sym (append-nil raised)) was
-  run_joined w raised taken base was calm (one ∷ run) made meant sized plans calms few =
+  run_joined w raised taken base was strict calm [] made meant sized plans calms few = subst (λ (xs : List AlarmNotification). JoinedAt w xs) (sym (append-nil raised)) was
+  run_joined w raised taken base was strict calm (one ∷ run) made meant sized plans calms few =
       let now = reported_with w one.1 in
       let few_one = few_here raised now (reported_over one.1 run) few in
       let few_all_runs : length ((raised ++ now) ++ reported_over one.1 run) ≤ 2048 =
@@ -440,4 +455,4 @@ module _ (so : PluggedSo) (asking : AskedSo) (device_so : DeviceSo) (hears : Hea
       subst (λ (xs : List AlarmNotification). JoinedAt (last_world one.1 run) xs) (append_assoc raised now (reported_over one.1 run))
       (run_joined one.1 (raised ++ now) (taken ++ taken_with low_priority w one.0)
       (base_now w one.1 raised taken base one.0 made.0 meant.0 sized.0 plans.0 few_one)
-      (joined_now w one.1 raised taken base one.0 made.0 meant.0 sized.0 plans.0 few_one was calm calms.0) calms.0 run made.1 meant.1 sized.1 plans.1 calms.1 few_all_runs)
+      (joined_now w one.1 raised taken base one.0 made.0 meant.0 sized.0 plans.0 few_one was strict calm calms.0) strict calms.0 run made.1 meant.1 sized.1 plans.1 calms.1 few_all_runs)

@@ -401,15 +401,15 @@ module _ (so : PluggedSo) (slot subslot : ℕ) (c : Controlling) (station : Stat
   fresh_before : (frame : List ℕ) → IsNewIn c.setup station after frame → IsNewIn c.setup station live frame
   fresh_before frame it = record { sequence = it.sequence; ask = it.ask; is = it.is; new = new_before it.sequence it.new }
 
-  end_more : (number : ℕ) → HasEnd slot subslot station sent number → HasEnd slot subslot station (sent ++ frames) number
-  end_more number it = (it.0, in_more sent frames it.0 it.1, it.2)
+  has_more : (number : ℕ) → HasEnd slot subslot station sent number → HasEnd slot subslot station (sent ++ frames) number
+  has_more number it = (it.0, in_more sent frames it.0 it.1, it.2)
 
-  in_raised : (at below other : ℕ) → WasPlug at below other alarms → WasPlug at below other raised
-  in_raised at below other plug = subst (λ (xs : List AlarmNotification). WasPlug at below other xs) prefix.1 (was_more at below other alarms prefix.0 plug)
+  raised_has : (at below other : ℕ) → WasPlug at below other alarms → WasPlug at below other raised
+  raised_has at below other plug = subst (λ (xs : List AlarmNotification). WasPlug at below other xs) prefix.1 (was_more at below other alarms prefix.0 plug)
 
   too_many : (at below number : ℕ) → number ≡ length raised → WasPlug at below number alarms → ⊥
   too_many at below number count plug =
-      let few = was_few at below number raised (in_raised at below number plug) in
+      let few = was_few at below number raised (raised_has at below number plug) in
       not_less few count
     where
       not_less : number < length raised → number ≡ length raised → ⊥
@@ -533,14 +533,14 @@ module _ (so : PluggedSo) (slot subslot : ℕ) (c : Controlling) (station : Stat
           record_same : Record number ≡ Record n → number ≡ n
           record_same f = cc
 
-      abbrev Ends : ℕ → Type 0
-      Ends n = EndsWith later (records_at slot subslot (take (suc n) c.setup.plan.records.items))
+      abbrev IsAtEnd : ℕ → Type 0
+      IsAtEnd n = EndsWith later (records_at slot subslot (take (suc n) c.setup.plan.records.items))
 
       record_asked : Since → (More → IsNew request.sequence (kept_for c.setup after) → ⊥) → AskedSo slot subslot c.setup after (sent ++ frames) later request
       record_asked how over = record {
         new = λ is_new. by_new how is_new;
-        granted = λ n is frame there grants. subst Ends (number_is n is) (by_split frame grants (split_in sent frames frame there));
-        again = λ n is answer e grants. subst Ends (number_is n is)
+        granted = λ n is frame there grants. subst IsAtEnd (number_is n is) (by_split frame grants (split_in sent frames frame there));
+        again = λ n is answer e grants. subst IsAtEnd (number_is n is)
             (shown_ends how answer.frame grants
             (kept_shows so c station live sent outcomes heard good real planned meant sendable steps from numbered keeps request waits number step_is own placed parameters
             was.unnamed answer e grants));
@@ -551,7 +551,7 @@ module _ (so : PluggedSo) (slot subslot : ℕ) (c : Controlling) (station : Stat
               (old.new (new_before request.sequence is_new))
           by_new (inr one) is_new = absurd (over one.0 is_new)
 
-          by_split : (frame : List ℕ) → Grants c.setup request.sequence frame → WasIn sent frame ⊎ WasIn frames frame → Ends number
+          by_split : (frame : List ℕ) → Grants c.setup request.sequence frame → WasIn sent frame ⊎ WasIn frames frame → IsAtEnd number
           by_split frame grants (inl there) =
               old_ends how (old.granted number step_is frame there grants)
               (λ is_new. none_granted is_new frame (all_at _ sent held.holds.frames there.0 frame there.1) grants)
@@ -665,18 +665,18 @@ module _ (so : PluggedSo) (slot subslot : ℕ) (c : Controlling) (station : Stat
     next_same : (other : RelationState) → after.rest.link ≡ Some other → other ≡ next
     next_same other e = some_same other next (sym e ∙ after_is)
 
-    abbrev later : List TakenRecord
-    later = taken_at slot subslot next.taken
+    abbrev then_taken : List TakenRecord
+    then_taken = taken_at slot subslot next.taken
 
-    record At : Type 0 where
-      asked : (request : PlugRequest) → c.live.access.plug ≡ Some request → request.slot ≡ slot → request.subslot ≡ subslot
-          → step_in slot subslot next ≡ Some (Told request.number) → AskedSo slot subslot c.setup after (sent ++ frames) later request
-      told_at : (number : ℕ) → step_in slot subslot next ≡ Some (Told number) → (frame : List ℕ) → WasIn (sent ++ frames) frame
-          → HearsEnd station.identity frame number → IsNewIn c.setup station after frame → EndsWith later (all_of slot subslot c.setup)
-      ended : (number : ℕ) → step_in slot subslot next ≡ Some (Ended number)
-          → EndsWith later (all_of slot subslot c.setup) × HasEnd slot subslot station (sent ++ frames) number
-      settled : step_in slot subslot next ≡ Some Settled → concerns_any slot subslot (raised ++ now) ≡ true
-          → EndsWith later (all_of slot subslot c.setup) × (number : ℕ) × LastPlug slot subslot number (raised ++ now) × HasEnd slot subslot station (sent ++ frames) number
+    pub record At : Type 0 where
+      pub asked : (request : PlugRequest) → c.live.access.plug ≡ Some request → request.slot ≡ slot → request.subslot ≡ subslot
+          → step_in slot subslot next ≡ Some (Told request.number) → AskedSo slot subslot c.setup after (sent ++ frames) then_taken request
+      pub told_at : (number : ℕ) → step_in slot subslot next ≡ Some (Told number) → (frame : List ℕ) → WasIn (sent ++ frames) frame
+          → HearsEnd station.identity frame number → IsNewIn c.setup station after frame → EndsWith then_taken (all_of slot subslot c.setup)
+      pub ended : (number : ℕ) → step_in slot subslot next ≡ Some (Ended number)
+          → EndsWith then_taken (all_of slot subslot c.setup) × HasEnd slot subslot station (sent ++ frames) number
+      pub settled : step_in slot subslot next ≡ Some Settled → concerns_any slot subslot (raised ++ now) ≡ true
+          → EndsWith then_taken (all_of slot subslot c.setup) × (number : ℕ) × LastPlug slot subslot number (raised ++ now) × HasEnd slot subslot station (sent ++ frames) number
 
     -- it is not told, not ended and not settled
     elsewhere : (step : Step) → step_in slot subslot next ≡ Some step → ((number : ℕ) → step ≡ Told number → ⊥) → ((number : ℕ) → step ≡ Ended number → ⊥)
@@ -698,8 +698,8 @@ module _ (so : PluggedSo) (slot subslot : ℕ) (c : Controlling) (station : Stat
 
     -- as far as before, with the same records
     module _ (link : RelationState) (before_is : live.rest.link ≡ Some link) (step_same : step_in slot subslot next ≡ step_in slot subslot link) where
-      told_same_at : later ≡ taken_at slot subslot link.taken → (number : ℕ) → step_in slot subslot link ≡ Some (Told number) → (frame : List ℕ)
-          → WasIn (sent ++ frames) frame → HearsEnd station.identity frame number → IsNewIn c.setup station after frame → EndsWith later (all_of slot subslot c.setup)
+      told_same_at : then_taken ≡ taken_at slot subslot link.taken → (number : ℕ) → step_in slot subslot link ≡ Some (Told number) → (frame : List ℕ)
+          → WasIn (sent ++ frames) frame → HearsEnd station.identity frame number → IsNewIn c.setup station after frame → EndsWith then_taken (all_of slot subslot c.setup)
       told_same_at same number told_is frame there hears is_new =
           subst (λ (xs : List TakenRecord). EndsWith xs (all_of slot subslot c.setup)) (sym same)
           (was.told link before_is number told_is frame
@@ -724,26 +724,26 @@ module _ (so : PluggedSo) (slot subslot : ℕ) (c : Controlling) (station : Stat
               or_false (concerns_any slot subslot one) (concerns_any slot subslot other) e
               (sym (Rattle.std.proofs.lemmas.List.Folds.list_any-append (Rattle.plug_ends.specs.Told.concerns slot subslot) one other) ∙ f)
 
-      kept_at : later ≡ taken_at slot subslot link.taken → concerns_any slot subslot now ≡ false → At
+      kept_at : then_taken ≡ taken_at slot subslot link.taken → concerns_any slot subslot now ≡ false → At
       kept_at same quiet = record {
         asked = λ request waits at below told_is.
             asked_kept link next before_is after_is request waits at below (was.asked link before_is request waits at below (sym step_same ∙ told_is)) same;
         told_at = λ number told_is. told_same_at same number (sym step_same ∙ told_is);
         ended = λ number is.
             let it = was.ended link before_is number (sym step_same ∙ is) in
-            (subst (λ (xs : List TakenRecord). EndsWith xs (all_of slot subslot c.setup)) (sym same) it.0, end_more number it.1);
+            (subst (λ (xs : List TakenRecord). EndsWith xs (all_of slot subslot c.setup)) (sym same) it.0, has_more number it.1);
         settled = λ is some.
             let it = was.settled link before_is (sym step_same ∙ is) (concerned quiet some) in (
               subst (λ (xs : List TakenRecord). EndsWith xs (all_of slot subslot c.setup)) (sym same) it.0,
               it.1,
               last_more quiet it.1 it.2,
-              end_more it.1 it.3,
+              has_more it.1 it.3,
             );
       }
 
       -- a Write is accepted
       taken_there : (write : TakesRecords live heard live.rest.link after.rest.link)
-          → later ≡ taken_at slot subslot link.taken ++ taken_at slot subslot write.values → concerns_any slot subslot now ≡ false → At
+          → then_taken ≡ taken_at slot subslot link.taken ++ taken_at slot subslot write.values → concerns_any slot subslot now ≡ false → At
       taken_there write since quiet = record {
         asked = λ request waits at below told_is.
             asked_taken link next before_is after_is request waits at below (was.asked link before_is request waits at below (sym step_same ∙ told_is)) write;
@@ -754,14 +754,14 @@ module _ (so : PluggedSo) (slot subslot : ℕ) (c : Controlling) (station : Stat
         ended = λ number is.
             let it = was.ended link before_is number (sym step_same ∙ is) in
             let same = same_since_at write link next before_is after_is since number (told link before_is (Ended number) (sym step_same ∙ is)) it.1 in
-            (subst (λ (xs : List TakenRecord). EndsWith xs (all_of slot subslot c.setup)) (sym same) it.0, end_more number it.1);
+            (subst (λ (xs : List TakenRecord). EndsWith xs (all_of slot subslot c.setup)) (sym same) it.0, has_more number it.1);
         settled = λ is some.
             let it = was.settled link before_is (sym step_same ∙ is) (concerned quiet some) in
             let same = same_since_at write link next before_is after_is since it.1 it.2 it.3 in (
               subst (λ (xs : List TakenRecord). EndsWith xs (all_of slot subslot c.setup)) (sym same) it.0,
               it.1,
               last_more quiet it.1 it.2,
-              end_more it.1 it.3,
+              has_more it.1 it.3,
             );
       }
 
@@ -815,7 +815,7 @@ module _ (so : PluggedSo) (slot subslot : ℕ) (c : Controlling) (station : Stat
           ended = λ other e. (
             subst (λ (xs : List TakenRecord). EndsWith xs (all_of slot subslot c.setup)) (sym it.taken) ends,
             subst (λ (n : ℕ). HasEnd slot subslot station (sent ++ frames) n) (ended_same number other (some_same (Ended number) (Ended other) (sym it.now ∙ e)))
-                (end_more number (came_in.0, came_in.1, hears)),
+                (has_more number (came_in.0, came_in.1, hears)),
           );
           settled = λ e. absurd (ended_settled number (some_same (Ended number) Settled (sym it.now ∙ e)));
         }
@@ -839,7 +839,7 @@ module _ (so : PluggedSo) (slot subslot : ℕ) (c : Controlling) (station : Stat
                 it.call.number,
                 subst (λ (xs : List AlarmNotification). LastPlug slot subslot it.call.number xs)
                     (sym (ap (λ (xs : List AlarmNotification). raised ++ xs) silent ∙ append-nil raised)) last,
-                end_more it.call.number old.1,
+                has_more it.call.number old.1,
               );
             }
 
@@ -852,7 +852,7 @@ module _ (so : PluggedSo) (slot subslot : ℕ) (c : Controlling) (station : Stat
         step_of : (other : RelationState) (step : Option Step) → after.rest.link ≡ Some other → step_in slot subslot other ≡ step → step_in slot subslot next ≡ step
         step_of other step e f = ap (λ (l : RelationState). step_in slot subslot l) (sym (next_same other e)) ∙ f
 
-        since_of : (other : RelationState) (taken : List TakenRecord) → after.rest.link ≡ Some other → taken_at slot subslot other.taken ≡ taken → later ≡ taken
+        since_of : (other : RelationState) (taken : List TakenRecord) → after.rest.link ≡ Some other → taken_at slot subslot other.taken ≡ taken → then_taken ≡ taken
         since_of other taken e f = ap (λ (l : RelationState). taken_at slot subslot l.taken) (sym (next_same other e)) ∙ f
 
         none_link : {A : Type 0} (x : A) → None ≡ Some x → ⊥
@@ -952,9 +952,9 @@ module _ (so : PluggedSo) (slot subslot : ℕ) (c : Controlling) (station : Stat
       asked_small : Small
       asked_small = by_wanted question.request asking.asks
 
-      same_call : (one other : Caller) (here there : List ℕ) (call asked_call : Call) → Reported one here (Calls call) ≡ Reported other there (Calls asked_call)
+      same_call : (one other : Caller) (first second : List ℕ) (call asked_call : Call) → Reported one first (Calls call) ≡ Reported other second (Calls asked_call)
           → call ≡ asked_call
-      same_call one other here there call asked_call e = cc
+      same_call one other first second call asked_call e = cc
 
       module _ (frame : List ℕ) (there : WasIn sent frame) (is : heard ≡ heard_of station.identity (Frame (record { items = frame }))) where
         below : (asking.call.header.sequence < next_of c)
@@ -964,12 +964,12 @@ module _ (so : PluggedSo) (slot subslot : ℕ) (c : Controlling) (station : Stat
             all_at _ sent numbered_before.frames there.0 frame there.1 asking.call.header.sequence asked_small.0
             (ap (λ (h : Heard). heard_as (is_planned c.setup) h) (sym is) ∙ asked_small.1)
 
-        here : sequence < next_of c
-        here = subst (λ (n : ℕ). n < next_of c) is_number below.0
+        now_below : sequence < next_of c
+        now_below = subst (λ (n : ℕ). n < next_of c) is_number below.0
 
         by_less : (request : PlugRequest) → c.live.access.plug ≡ Some request → asking.call.header.sequence < request.sequence → Asks
         by_less request waits less = inr (
-          here,
+          now_below,
           λ other f. subst (λ (r : PlugRequest). sequence < r.sequence) (some_same request other (sym waits ∙ f))
               (subst (λ (n : ℕ). n < request.sequence) is_number less),
         )
@@ -995,7 +995,7 @@ module _ (so : PluggedSo) (slot subslot : ℕ) (c : Controlling) (station : Stat
             ∙ asking.asks)))
 
         by_plug : (plug : Option PlugRequest) → c.live.access.plug ≡ plug → Asks
-        by_plug None f = inr (here, λ request g. absurd (none_some request (sym f ∙ g)))
+        by_plug None f = inr (now_below, λ request g. absurd (none_some request (sym f ∙ g)))
         by_plug (Some request) f = by_below (below.1 request f)
           where
             by_below : (asking.call.header.sequence < request.sequence) ⊎ IsPlugFrame c.setup request frame → Asks
@@ -1033,9 +1033,9 @@ module _ (so : PluggedSo) (slot subslot : ℕ) (c : Controlling) (station : Stat
 
   -- ---- the state afterwards
 
-  late_now : is_ended c.live.phase ≡ true → (frame : List ℕ) → WasIn (sent ++ frames) frame → (is_new : IsNewIn c.setup station after frame)
+  late_then : is_ended c.live.phase ≡ true → (frame : List ℕ) → WasIn (sent ++ frames) frame → (is_new : IsNewIn c.setup station after frame)
       → (is_new.ask ≡ small.Parameterized → ⊥) → (is_new.ask ≡ small.Releases → ⊥) → IsKnownWrite slot subslot (raised ++ now) c.setup station (sent ++ frames) frame
-  late_now over frame there is_new no_end no_release =
+  late_then over frame there is_new no_end no_release =
       let it = was.late over frame (call_before frame there is_new.sequence is_new.ask is_new.is) (fresh_before frame is_new) no_end no_release in
       record { message = it.message; is = it.is; by = by_message it.message it.by }
     where
@@ -1067,7 +1067,7 @@ module _ (so : PluggedSo) (slot subslot : ℕ) (c : Controlling) (station : Stat
     told = λ next is. (place_at next is).told_at;
     ended = λ next is. (place_at next is).ended;
     settled = λ next is. (place_at next is).settled;
-    late = late_now;
+    late = late_then;
     own = was.own;
     unnamed = was.unnamed;
     idle = kept_after rules (IsIdle rules) (heard_as (is_planned c.setup) heard) (device.small_of c.setup.activity live) (device.small_of c.setup.activity after) frames

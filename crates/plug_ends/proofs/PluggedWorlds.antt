@@ -514,7 +514,7 @@ module _ (setup : Setup) (good : IsSetup setup) (station : Station) (mac : Mac) 
   controller_numbered = record {
     frames = all_joined (IsNumberedFrame (rules_of after.setup station) after) sent (map (bytes_of setup) messages)
         (all_to (IsNumberedFrame (rules_of before.setup station) before) (IsNumberedFrame (rules_of after.setup station) after) old_frame sent was.frames)
-        (all_map Now (IsNumberedFrame (rules_of after.setup station) after) (bytes_of setup) new_frame messages
+        (all_map (λ m. IsSaidAs setup station m × IsAsked after.live m × IsAimedAt mac m) (IsNumberedFrame (rules_of after.setup station) after) (bytes_of setup) new_frame messages
         (all_both (IsSaidAs setup station) (λ m. IsAsked after.live m × IsAimedAt mac m) messages said
         (all_both (IsAsked after.live) (IsAimedAt mac) messages made aimed)));
     kept = λ answer e. below answer.sequence (was.kept answer (ap (λ (s : Setup). kept_for s live) (before_of ∙ sym after_of) ∙ e));

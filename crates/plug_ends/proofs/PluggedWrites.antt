@@ -114,7 +114,7 @@ module _ (read : (block : Block) (rest : List ℕ) → CanBeWritten block → bl
     where
       by_test : (b : Bool) → cond b (stored asked.header.index all) (kept real asked all) ≡ Some effect → IsOwn effect
       by_test true e value f = absurd (text_stores (command_of asked.header.index all) effect value e f)
-      by_test false e = kept_own all effect e
+      by_test false e value f = kept_own all effect e value f
 
   written_own : (effect : Effect) → written real asked octets ≡ Ok effect → IsOwn effect
   unfolding written

@@ -54,6 +54,7 @@ use Rattle.plug_ends.specs.Places.{taken_at}
 use Rattle.plug_ends.specs.Plugged.{IsElsewhere}
 use Rattle.plug_ends.specs.Taken.{IsWriteOf, TakesOne, hears_plug, taken_in}
 use Rattle.plug_ends.specs.Told.{LastPlug}
+use Rattle.plug_ends.proofs.AskedKinds.{IsStarting}
 use Rattle.plug_ends.proofs.AskedLists.{last_upper, last_was, plug_here, was_more}
 use Rattle.plug_ends.proofs.AskedWords.{HearsEnd, IsEndedAt, IsRecord, WasPlug}
 use Rattle.plug_ends.proofs.CallsFrames.{IsFrame}
@@ -89,14 +90,8 @@ split_in (x ∷ sent) more frame (suc number, e) = later (split_in sent more fra
 
 -- ---- the start-up
 
--- A start-up goes on: a request of it may wait.
-abbrev pub IsBeginning : State → Type 0
-IsBeginning Exchanging = ⊥
-IsBeginning (Ended cause) = ⊥
-IsBeginning phase = Unit {0}
-
 beginning : (plan : _) (phase : State) (asked : Option Asking) (request : Asking) → IsInStep plan phase asked → asked ≡ Some request → is_ended phase ≡ false
-    → IsBeginning phase
+    → IsStarting phase
 beginning plan Looking asked request step is going = tt
 beginning plan Addressing asked request step is going = tt
 beginning plan Connecting asked request step is going = tt
@@ -115,7 +110,7 @@ pub record Known (c : Controlling) (station : Station) (sent : List (List ℕ)) 
   pub request : (request : PlugRequest) → c.live.access.plug ≡ Some request → WasPlug request.slot request.subslot request.number alarms
   pub ends : (frame : List ℕ) (number : ℕ) → WasIn sent frame → HearsEnd station.identity frame number
       → (at : ℕ) × (below : ℕ) × IsEndedAt alarms c.live at below number
-  pub starts : IsBeginning c.live.phase → (frame : List ℕ) (number : ℕ) → WasIn sent frame → HearsEnd station.identity frame number → ⊥
+  pub starts : IsStarting c.live.phase → (frame : List ℕ) (number : ℕ) → WasIn sent frame → HearsEnd station.identity frame number → ⊥
   pub unwritten : (request : RecordRequest) → c.live.access.waiting ≡ Some request → IsElsewhere slot subslot request
   pub aimed : IsAimed c.live
 
@@ -241,9 +236,11 @@ module _ (so : PluggedSo) (slot subslot : ℕ) (c : Controlling) (station : Stat
     }
 
     pub write_no_end : write_fresh.ask ≡ small.Parameterized → ⊥
+    unfolding asked write_fresh
     write_no_end e = asked.no_end e
 
     pub write_no_release : write_fresh.ask ≡ small.Releases → ⊥
+    unfolding asked write_fresh
     write_no_release e = asked.no_release e
 
     module _ (link next : RelationState) (before_is : live.rest.link ≡ Some link) (after_is : after.rest.link ≡ Some next)

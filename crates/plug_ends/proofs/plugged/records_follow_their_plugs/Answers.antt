@@ -1,12 +1,13 @@
 use Rattle.both_ends.proofs.ExchangeLaw.{DeviceSo}
 use Rattle.both_ends.proofs.ExchangeMessages.{HearsSo}
+use Rattle.plug_ends.proofs.AskedFrames.{FramesSo}
 use Rattle.plug_ends.proofs.AskedWorlds.{AskedSo}
 use Rattle.plug_ends.proofs.CallsFine.{FineSo}
 use Rattle.plug_ends.proofs.CallsHeard.{HeardSo}
 use Rattle.plug_ends.proofs.CallsRuns.{CallsSo}
 use Rattle.plug_ends.proofs.PluggedDevice.{PluggedSo}
 use Rattle.plug_ends.proofs.PluggedLaw.{records_so, there_so}
-use Rattle.plug_ends.proofs.records.records_follow_their_plugs.Goals as goal
+use Rattle.plug_ends.proofs.plugged.records_follow_their_plugs.Goals as goal
 
 -- the laws of the crates below
 calls_so : (g : _) → goal.After-alarms_are_taken_in_order g → CallsSo
@@ -111,6 +112,33 @@ hears_so g c = record {
   response_at_controller = c.responses_are_heard.ensures.controller;
   chosen = c.answers_choose_well.ensures;
   response_no_call = c.calls_and_responses_differ.ensures.answered;
+}
+
+frames_so : (g : _) → goal.After-alarms_are_taken_in_order g → FramesSo
+frames_so g c = record {
+  heard = heard_so g c;
+  unreported = c.datagrams_alone_are_calls.ensures.device;
+  call = c.calls_are_heard.ensures.device;
+  agreed = c.ready_answers_are_heard.ensures.device;
+  response = c.responses_are_heard.ensures.device;
+  ready = c.ready_calls_are_heard.ensures.device;
+  plug = c.plug_calls_are_heard.ensures.device;
+  packet = c.packets_are_heard.ensures.device;
+  read_back = c.plug_controls_are_read_back.ensures;
+}
+
+asked_so : (g : _) → goal.After-alarms_are_taken_in_order g → AskedSo
+asked_so g c = record {
+  device = device_so g c;
+  frames = frames_so g c;
+  begins = λ setup. (c.controller_goes_on.ensures.begins setup.plan).0;
+  goes_on = c.controller_goes_on.ensures.goes_on;
+  kinds = c.turns_are_of_a_kind.ensures.event;
+  follows = c.turns_begin_beside.ensures.follows;
+  due_so = c.turns_begin_beside.ensures.begins;
+  flows = c.turns_begin_beside.ensures.flows;
+  aimed_first = c.messages_are_addressed.ensures.first;
+  aimed = c.messages_are_addressed.ensures.next;
 }
 
 pub returns-clause-records : goal.returns-clause-records

@@ -14,6 +14,7 @@ ghost use Rattle.plug_ends.specs.Told.{concerns_any};
 
 use block_codec::blocks_are_read;
 use both_ends::{answers_choose_well, worlds_start_up};
+use connect_blocks::plug_controls_are_read_back;
 use controller_messages::Setup;
 use end_laws::{
     alarms_are_heard, alarms_are_taken_in_order, calls_are_heard, calls_can_be_sent,
@@ -95,6 +96,7 @@ pub fn records_follow_their_plugs<F: Flash<S>, const S: usize>(setup: &Setup, id
     ready_answers_are_heard();
     calls_and_responses_differ();
     blocks_are_read();
+    plug_controls_are_read_back();
     refusals_are_not_done();
     confirmations_are_heard();
     alarms_are_heard();
