@@ -91,14 +91,14 @@ settled_found slot subslot (place ∷ places) all step e = by_for (is_for slot s
     by_for false rest f = rest f
 
 module _ (slot subslot : ℕ) (request : Request) (partner : Partner) (rows : Listed DiffModule DiffSubmodule) (options : DeviceOptions) (starting : Starting) where
-  abbrev made : RelationState
-  made = made_of request partner rows options starting
+  abbrev made_link : RelationState
+  made_link = made_of request partner rows options starting
 
-  made_settled : (step : Step) → step_in slot subslot made ≡ Some step → step ≡ Settled
+  made_settled : (step : Step) → step_in slot subslot made_link ≡ Some step → step ≡ Settled
   made_settled step e =
-      settled_found slot subslot made.plugs.places (all_settled rows (wanted_in request.expected.modules.items request.expected.submodules.items)) step e
+      settled_found slot subslot made_link.plugs.places (all_settled rows (wanted_in request.expected.modules.items request.expected.submodules.items)) step e
 
-  made_told : ToldAt slot subslot [] made
+  made_told : ToldAt slot subslot [] made_link
   made_told = record {
     called = opened_called request.expected rows;
     specifier = refl;
@@ -206,6 +206,13 @@ module _ (laws : KeysSo) (slot subslot : ℕ) (live : Live) (heard : Heard) (aft
   live_told = by_both live.rest.link after refl refl
 
 -- ---- worlds
+
+-- The alarms of its first move are among those of a run.
+pub first_few : (raised now later : List AlarmNotification) → length (raised ++ (now ++ later)) ≤ 2048 → length (raised ++ now) ≤ 2048
+first_few raised now later few =
+    let all : length ((raised ++ now) ++ later) ≤ 2048 = subst (λ (xs : List AlarmNotification). length xs ≤ 2048) (sym (append_assoc raised now later)) few in
+    let long = length-append (raised ++ now) later in
+    omega (arith, all, long)
 
 module _ {F : Type 0} where
   -- The alarms of a relation, and a place of it.
@@ -382,13 +389,6 @@ module _ {F : Type 0} where
         )
 
   -- ---- any run
-
-  -- The alarms of its first move are among those of a run.
-  pub first_few : (raised now later : List AlarmNotification) → length (raised ++ (now ++ later)) ≤ 2048 → length (raised ++ now) ≤ 2048
-  first_few raised now later few =
-      let all : length ((raised ++ now) ++ later) ≤ 2048 = subst (λ (xs : List AlarmNotification). length xs ≤ 2048) (sym (append_assoc raised now later)) few in
-      let long = length-append (raised ++ now) later in
-      omega (arith, all, long)
 
   pub run_telling : DeviceSo → HearsSo → {S : ℕ} (as_flash : Flash F S) (slot subslot : ℕ) (w : World F) (raised taken : List AlarmNotification) → Telling slot subslot w raised taken
       → (run : List (Move × World F)) → AreMade as_flash w run → AreMeant w run → AreSizedMoves run → length (raised ++ reported_over w run) ≤ 2048
