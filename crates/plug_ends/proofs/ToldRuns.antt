@@ -1,5 +1,5 @@
 -- A place of the relation of a device over any moves of its world: how far it is, and what was reported of it.
-use Rattle.std.proofs.Common.{◌≡◌, ◌⊎◌, inl, inr, ◌++◌, ◌+◌, ◌≤◌, ℕ, Bool, true, false, cond, List, [], ◌∷◌, length, map, Option, Some, None, option_map, refl, sym, ap, subst, ◌∙◌, append-nil, append_assoc}
+use Rattle.std.proofs.Common.{◌≡◌, ◌⊎◌, inl, inr, ◌++◌, ◌≤◌, ℕ, Bool, true, false, cond, List, [], ◌∷◌, length, Option, Some, None, option_map, refl, sym, ap, subst, ◌∙◌, append-nil, append_assoc}
 use Rattle.std.proofs.Common.{arith}
 use Rattle.std.specs.Prelude.{slice_get, unwrap_or}
 use Rattle.std.specs.List.{AllByRecursion}
@@ -30,7 +30,6 @@ use Rattle.relations.specs.Phases.{made_of, updated}
 use Rattle.relations.specs.Plugging.{modules_changing}
 use Rattle.relations.specs.RelationState.{RelationState}
 use Rattle.device_frames.specs.declared.event.Event.TheVariants.{Frame}
-use Rattle.device_frames.specs.declared.local.Local.TheVariants as local
 use Rattle.device_frames.specs.Heard.{Applied, Heard, Met, Ticks, heard_of}
 use Rattle.device_frames.specs.Sent.{Sent}
 use Rattle.device_core.specs.State.{Live, State}
@@ -58,10 +57,10 @@ use Rattle.both_ends.proofs.ExchangeMessages.{HearsSo}
 use Rattle.both_ends.proofs.ExchangeStated.{modules_so}
 use Rattle.both_ends.proofs.ExchangeTurns.{IsSameOr, IsTurn, way_of}
 use Rattle.plug_ends.specs.Places.{step_at, step_in}
-use Rattle.plug_ends.specs.Told.{AreNumberedFrom, concerns_any}
+use Rattle.plug_ends.specs.Told.{AreNumberedFrom}
 use Rattle.plug_ends.proofs.DeviceGoes.{IsMade, LinkGoes, step_link_goes}
 use Rattle.plug_ends.proofs.DeviceRuns.{IsSettled, all_settled, opened_called}
-use Rattle.plug_ends.proofs.ToldGoes.{Goes, IsStepOf, ToldAt, low_goes, step_told}
+use Rattle.plug_ends.proofs.ToldGoes.{Goes, ToldAt, low_goes, step_told}
 use Rattle.plug_ends.proofs.ToldPlaces.{HasTold}
 use Rattle.plug_ends.proofs.ToldQueue.{Waits}
 
