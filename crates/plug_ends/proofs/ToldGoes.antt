@@ -1,5 +1,5 @@
 -- A place of a relation over a step of its device: how far it is, which records were accepted there, and what is reported of it.
-use Rattle.std.proofs.Common.{◌≡◌, ◌⊎◌, inl, inr, ◌==◌, ◌&&◌, ◌||◌, ◌++◌, ◌+◌, ◌%◌, ◌≤◌, ℕ, Bool, true, false, cond, List, [], ◌∷◌, length, map, Option, Some, None, option_map}
+use Rattle.std.proofs.Common.{◌≡◌, ◌⊎◌, inl, inr, ◌==◌, ◌&&◌, ◌||◌, ◌++◌, ◌+◌, ◌%◌, ◌≤◌, ℕ, Bool, true, false, cond, List, [], ◌∷◌, length, Option, Some, None, option_map}
 use Rattle.std.proofs.Common.{refl, sym, ap, subst, ◌∙◌, append-nil, arith}
 use Rattle.std.specs.Prelude.{if◌then◌else◌}
 use Rattle.std.specs.List.{list_any}
@@ -11,7 +11,6 @@ use Rattle.rpc_core.specs.Cache.{Kept as Answer}
 use Rattle.wire.specs.blocks.modules.Lists.{Listed}
 use Rattle.connect_blocks.specs.declared.module_diff.DiffModule.{DiffModule}
 use Rattle.connect_blocks.specs.declared.module_diff.DiffSubmodule.{DiffSubmodule}
-use Rattle.records.specs.declared.writes.taken.TakenRecord.{TakenRecord}
 use Rattle.module_diff.specs.declared.changes.Affected.{Affected}
 use Rattle.module_diff.specs.declared.changes.ChangeKind.{ChangeKind}
 use Rattle.module_diff.specs.declared.changes.ChangeKind.TheVariants as made_is
@@ -20,7 +19,6 @@ use Rattle.module_diff.specs.Diff.{is_listed}
 use Rattle.module_diff.specs.Plugged.{module_ident, submodule_ident}
 use Rattle.diagnosis.specs.declared.diagnosis.Diagnosis.{Diagnosis}
 use Rattle.diagnosis.specs.declared.queue.QueuedAlarm.{QueuedAlarm}
-use Rattle.diagnosis.specs.alarms.Alarms.{Low}
 use Rattle.diagnosis.specs.Queue.{after_next, alarm_of, alarmed, is_next, module_queued}
 use Rattle.pn_alarms.specs.declared.message.Notice.TheVariants as notice
 use Rattle.expected_places.specs.declared.place.ExpectedPlace.{ExpectedPlace}
@@ -31,29 +29,29 @@ use Rattle.expected_places.specs.Places.{is_for, place_at, places_restated}
 use Rattle.relations.specs.exchange.Diagnosis.{begins_with_one, diagnosed, diagnoses_begun, is_diagnosed, next_reported}
 use Rattle.relations.specs.exchange.Flow.{Flow}
 use Rattle.relations.specs.Diagnosed.{diagnosing}
-use Rattle.relations.specs.Phases.{exchanging_from, made_of, updated, with_flow}
-use Rattle.relations.specs.Plugging.{asks, first_sent, modules_changing, places_then, plugs_after, reported_as, rows_now, step_by}
+use Rattle.relations.specs.Phases.{exchanging_from, updated, with_flow}
+use Rattle.relations.specs.Plugging.{asks, first_sent, places_then, reported_as, rows_now, step_by}
 use Rattle.relations.specs.RelationState.{RelationState}
-use Rattle.relations.specs.Timers.{plugs_later, unit_later}
+use Rattle.relations.specs.Timers.{unit_later}
 use Rattle.device_frames.specs.Heard.{Heard}
 use Rattle.device_frames.specs.Sent.{Sent}
 use Rattle.device_core.specs.State.{Live}
 use Rattle.end_laws.specs.device.Orderly.{keys_of}
-use Rattle.end_laws.specs.device.Turn.{Begins, Changes, Diagnoses, HearsLowData, Makes, heard_low_in}
-use Rattle.both_ends.specs.exchange.Over.{number_in, reported_by}
+use Rattle.end_laws.specs.device.Turn.{Makes, heard_low_in}
+use Rattle.both_ends.specs.exchange.Over.{reported_by}
 use Rattle.both_ends.specs.exchange.Sized.{NoneIsAtZero}
 use Rattle.both_ends.proofs.ExchangeKeys.{KeysSo}
-use Rattle.both_ends.proofs.ExchangeLowTied.{ack_last, reported_over_is, reported_same}
+use Rattle.both_ends.proofs.ExchangeLowTied.{ack_last}
 use Rattle.both_ends.proofs.ExchangeStated.{later_keys}
-use Rattle.both_ends.proofs.ExchangeTied.{may_be, way_before}
+use Rattle.both_ends.proofs.ExchangeTied.{may_be}
 use Rattle.both_ends.proofs.ExchangeTurns.{IsSameOr, IsTurn, Way, way_of}
 use Rattle.plug_ends.specs.Places.{step_at, step_in, taken_at}
 use Rattle.plug_ends.specs.Told.{AreNumberedFrom, IsPlugAt, LastPlug, concerns_any}
-use Rattle.plug_ends.proofs.DeviceGoes.{Alters, Holding, IsMade, LinkGoes, Tells, end_last, end_specifier, held, holding_of}
+use Rattle.plug_ends.proofs.DeviceGoes.{Alters, IsMade, LinkGoes, Tells, end_last, end_specifier, holding_of}
 use Rattle.plug_ends.proofs.DevicePlaces.{AreCalled, beside_at, covered_at, restated_at}
-use Rattle.plug_ends.proofs.DeviceTurns.{AltersAt, AnswersAt, EndsAt, IsSameAt, PlaceGoes, TakesAt, TellsAt, called_on, place_on}
-use Rattle.plug_ends.proofs.ToldPlaces.{Becomes, HasTold, IsKept, IsTold, IsTouched, Outcome, WaitsFor, has_told_more, outcome_told}
-use Rattle.plug_ends.proofs.ToldQueue.{IsPlugQueued, IsReached, LastQueued, Waits, numbered_more, or_none, plug_queued, reached_so, specifier_is, touches, waits_more}
+use Rattle.plug_ends.proofs.DeviceTurns.{AnswersAt, EndsAt, IsSameAt, PlaceGoes, TakesAt, called_on, place_on}
+use Rattle.plug_ends.proofs.ToldPlaces.{Becomes, HasTold, IsKept, Outcome, has_told_more, outcome_told}
+use Rattle.plug_ends.proofs.ToldQueue.{IsPlugQueued, IsReached, Waits, numbered_more, or_none, plug_queued, reached_so, specifier_is, touches, waits_more}
 use Rattle.plug_ends.proofs.ToldSends.{IsSending, Says, SendsChange, SendsMore, alters_send, place_so, says_so, silent_by, tells_send}
 
 some_is : {A : Type 0} (x y : A) → Some x ≡ Some y → x ≡ y

@@ -1,5 +1,5 @@
 -- The alarms of low priority that wait: which of them reports a pull or plug of a submodule, and what it reports as it is sent.
-use Rattle.std.proofs.Common.{◌≡◌, ◌⊎◌, inl, inr, ◌==◌, ◌&&◌, ◌||◌, ◌++◌, ◌+◌, ◌%◌, ◌<◌, ℕ, suc, Bool, true, false, cond, List, [], ◌∷◌, length, map, take, zero}
+use Rattle.std.proofs.Common.{◌≡◌, ◌==◌, ◌&&◌, ◌||◌, ◌++◌, ◌+◌, ◌%◌, ◌<◌, ℕ, suc, Bool, true, false, cond, List, [], ◌∷◌, length, map, take, zero}
 use Rattle.std.proofs.Common.{Option, Some, None, refl, sym, ap, subst, ◌∙◌, append_assoc, arith}
 use Rattle.std.specs.Prelude.{nat_le, nat_lt, not}
 use Rattle.std.specs.List.{list_any}
@@ -13,16 +13,14 @@ use Rattle.module_diff.specs.declared.changes.RealChange.{RealChange}
 use Rattle.module_diff.specs.Changes.{added, affected_by, covers, is_pluggable, is_sized, plugged_with, pulled, reaches, subslot_by}
 use Rattle.diagnosis.specs.declared.diagnosis.Diagnosis.{Diagnosis}
 use Rattle.diagnosis.specs.declared.module_change.ModuleChange.{ModuleChange}
-use Rattle.diagnosis.specs.declared.module_change.ModuleChangeKind.{ModuleChangeKind}
 use Rattle.diagnosis.specs.declared.module_change.ModuleChangeKind.TheVariants as kind_is
 use Rattle.diagnosis.specs.declared.notice.Notice.{Notice}
 use Rattle.diagnosis.specs.declared.queue.LowChange.{LowChange}
 use Rattle.diagnosis.specs.declared.queue.LowChange.TheVariants as change_is
 use Rattle.diagnosis.specs.declared.queue.QueuedAlarm.{QueuedAlarm}
-use Rattle.diagnosis.specs.Notices.{flag, type_of}
-use Rattle.diagnosis.specs.Queue.{alarm_of, alarmed, change_type, diagnosis_queued, kind_by, kind_type, module_queued, plugs_at, queued_specifier, reach_of, slot_of, subslot_of}
+use Rattle.diagnosis.specs.Notices.{flag}
+use Rattle.diagnosis.specs.Queue.{alarm_of, alarmed, change_type, diagnosis_queued, kind_by, kind_type, module_queued, plugs_at, slot_of, subslot_of}
 use Rattle.diagnosis.specs.Queue.{is_plug, waits_for_plug}
-use Rattle.plan_places.specs.declared.place.PlaceState.TheVariants.{There}
 use Rattle.plan_places.specs.declared.report.PlaceReport.{PlaceReport}
 use Rattle.plan_places.specs.declared.report.PlaceReport.TheVariants as reports
 use Rattle.plan_places.specs.Reports.{plug_of as plug_in, pulled_at, report_by_type}
@@ -35,7 +33,7 @@ use Rattle.end_laws.specs.device.Turn.{change_by, modules_after}
 use Rattle.both_ends.specs.exchange.Sized.{NoneIsAtZero}
 use Rattle.both_ends.specs.exchange.Told.{reaches_at}
 use Rattle.both_ends.proofs.ExchangeReal.{pull_past_zero}
-use Rattle.plug_ends.specs.Told.{AreNumberedFrom, IsPlugAt, LastPlug, concerns, concerns_any, is_about_any, report_in}
+use Rattle.plug_ends.specs.Told.{AreNumberedFrom, IsPlugAt, LastPlug, concerns, concerns_any, is_about_any}
 use Rattle.plug_ends.proofs.DeviceTurns.{reach_there}
 
 some_is : {A : Type 0} (x y : A) → Some x ≡ Some y → x ≡ y

@@ -1,5 +1,5 @@
 -- Each ApplicationReady of a plug that a step of a device sends is that of the call which is active after the step.
-use Rattle.std.proofs.Common.{◌≡◌, ◌&&◌, ◌++◌, ℕ, Bool, true, false, List, [], ◌∷◌, length, Option, Some, None, is_some, option_map, Result, Ok, Err, refl, sym, ap, ◌∙◌}
+use Rattle.std.proofs.Common.{◌≡◌, ◌&&◌, ◌++◌, ℕ, Bool, true, false, List, [], ◌∷◌, length, Option, Some, None, is_some, option_map, Result, Ok, Err, refl, sym}
 use Rattle.std.specs.List.{AllByRecursion}
 use Rattle.std.proofs.lemmas.Bool.{cond_both}
 use Rattle.arrayvec.specs.ArrayVec.{ArrayVec}
@@ -40,7 +40,7 @@ use Rattle.pn_alarms.specs.Message.{ToDevice}
 use Rattle.cyclic_data.specs.declared.exchange.received.Received.{Received}
 use Rattle.cyclic_data.specs.declared.exchange.received.Received.TheVariants as received
 use Rattle.cyclic_data.specs.declared.exchange.route.Route.{Route}
-use Rattle.asked_records.specs.Answers.{Gives, answer_blocks, answer_status, gives_done, gives_octets, gives_refusal, judged}
+use Rattle.asked_records.specs.Answers.{Gives, gives_done, gives_octets, gives_refusal, judged}
 use Rattle.asked_records.specs.Asked.{AskedState, asks, is_repeat}
 use Rattle.asked_records.specs.declared.answering.AnswerFault.{AnswerFault}
 use Rattle.asked_records.specs.declared.question.Question.{Question}
@@ -70,12 +70,12 @@ use Rattle.device_frames.specs.Heard.{Heard, Ticks, Unreadable, Elsewhere, Asks,
 use Rattle.device_frames.specs.Heard.{Said, Calls, Responds, Garbled}
 use Rattle.device_frames.specs.Relation.{alarms_of, due_frames, farewells_in, frames_in, inputs_of, low_alarms_of, low_replies_of, plug_call_in, plug_calls}
 use Rattle.device_frames.specs.Relation.{ready_calls, replies_of, where_due}
-use Rattle.device_frames.specs.Sent.{Sent, IdentifyAnswer, GetAnswer, SetAnswer, ArpReply, Again, Ends, PlugReadyCall}
+use Rattle.device_frames.specs.Sent.{Sent, SetAnswer, PlugReadyCall}
 use Rattle.device_core.specs.State.{Live, Station, alias_in, counter_of, units_after}
 use Rattle.device_core.specs.Asking.{Asking, asking_of, is_new, late_in, late_reply, late_sent}
-use Rattle.device_core.specs.Handled.{Handled, change_of, counted_sent, handled, handled_alarm, handled_answer, handled_asking, handled_blocks, handled_call}
+use Rattle.device_core.specs.Handled.{Handled, change_of, handled, handled_alarm, handled_answer, handled_asking, handled_blocks, handled_call}
 use Rattle.device_core.specs.Handled.{handled_change, handled_effect, handled_input, handled_judged, handled_local, handled_looked, handled_low}
-use Rattle.device_core.specs.Handled.{handled_low_pdu, handled_modules, handled_next_call, handled_notice, handled_own, handled_pdu, handled_plug_answer, handled_plug_end}
+use Rattle.device_core.specs.Handled.{handled_low_pdu, handled_modules, handled_notice, handled_own, handled_pdu, handled_plug_answer, handled_plug_end}
 use Rattle.device_core.specs.Handled.{handled_prm_end, handled_question, handled_received, handled_request, handled_said, handled_write, is_request, is_running, kept_status}
 use Rattle.device_core.specs.Handled.{may_be_diagnosed, partner_of, ready_behind, ticked, unit_rest, unit_sent}
 use Rattle.device_core.specs.Machine.{farewells_at, finished, handled_step, heard_step, items_in, resets}

@@ -1,5 +1,5 @@
 -- A place of the relation of a device over any moves of its world: how far it is, and what was reported of it.
-use Rattle.std.proofs.Common.{◌≡◌, ◌⊎◌, inl, inr, ◌++◌, ◌+◌, ◌≤◌, ℕ, Bool, true, false, cond, List, [], ◌∷◌, length, map, Option, Some, None, option_map, refl, sym, ap, subst, ◌∙◌, append-nil, append_assoc}
+use Rattle.std.proofs.Common.{◌≡◌, ◌⊎◌, inl, inr, ◌++◌, ◌≤◌, ℕ, Bool, true, false, cond, List, [], ◌∷◌, length, Option, Some, None, option_map, refl, sym, ap, subst, ◌∙◌, append-nil, append_assoc}
 use Rattle.std.proofs.Common.{arith}
 use Rattle.std.specs.Prelude.{slice_get, unwrap_or}
 use Rattle.std.specs.List.{AllByRecursion}
@@ -30,7 +30,6 @@ use Rattle.relations.specs.Phases.{made_of, updated}
 use Rattle.relations.specs.Plugging.{modules_changing}
 use Rattle.relations.specs.RelationState.{RelationState}
 use Rattle.device_frames.specs.declared.event.Event.TheVariants.{Frame}
-use Rattle.device_frames.specs.declared.local.Local.TheVariants as local
 use Rattle.device_frames.specs.Heard.{Applied, Heard, Met, Ticks, heard_of}
 use Rattle.device_frames.specs.Sent.{Sent}
 use Rattle.device_core.specs.State.{Live, State}
@@ -58,10 +57,10 @@ use Rattle.both_ends.proofs.ExchangeMessages.{HearsSo}
 use Rattle.both_ends.proofs.ExchangeStated.{modules_so}
 use Rattle.both_ends.proofs.ExchangeTurns.{IsSameOr, IsTurn, way_of}
 use Rattle.plug_ends.specs.Places.{step_at, step_in}
-use Rattle.plug_ends.specs.Told.{AreNumberedFrom, concerns_any}
+use Rattle.plug_ends.specs.Told.{AreNumberedFrom}
 use Rattle.plug_ends.proofs.DeviceGoes.{IsMade, LinkGoes, step_link_goes}
 use Rattle.plug_ends.proofs.DeviceRuns.{IsSettled, all_settled, opened_called}
-use Rattle.plug_ends.proofs.ToldGoes.{Goes, IsStepOf, ToldAt, low_goes, step_told}
+use Rattle.plug_ends.proofs.ToldGoes.{Goes, ToldAt, low_goes, step_told}
 use Rattle.plug_ends.proofs.ToldPlaces.{HasTold}
 use Rattle.plug_ends.proofs.ToldQueue.{Waits}
 
@@ -91,14 +90,14 @@ settled_found slot subslot (place ∷ places) all step e = by_for (is_for slot s
     by_for false rest f = rest f
 
 module _ (slot subslot : ℕ) (request : Request) (partner : Partner) (rows : Listed DiffModule DiffSubmodule) (options : DeviceOptions) (starting : Starting) where
-  abbrev made : RelationState
-  made = made_of request partner rows options starting
+  abbrev made_link : RelationState
+  made_link = made_of request partner rows options starting
 
-  made_settled : (step : Step) → step_in slot subslot made ≡ Some step → step ≡ Settled
+  made_settled : (step : Step) → step_in slot subslot made_link ≡ Some step → step ≡ Settled
   made_settled step e =
-      settled_found slot subslot made.plugs.places (all_settled rows (wanted_in request.expected.modules.items request.expected.submodules.items)) step e
+      settled_found slot subslot made_link.plugs.places (all_settled rows (wanted_in request.expected.modules.items request.expected.submodules.items)) step e
 
-  made_told : ToldAt slot subslot [] made
+  made_told : ToldAt slot subslot [] made_link
   made_told = record {
     called = opened_called request.expected rows;
     specifier = refl;
@@ -206,6 +205,13 @@ module _ (laws : KeysSo) (slot subslot : ℕ) (live : Live) (heard : Heard) (aft
   live_told = by_both live.rest.link after refl refl
 
 -- ---- worlds
+
+-- The alarms of its first move are among those of a run.
+pub first_few : (raised now later : List AlarmNotification) → length (raised ++ (now ++ later)) ≤ 2048 → length (raised ++ now) ≤ 2048
+first_few raised now later few =
+    let all : length ((raised ++ now) ++ later) ≤ 2048 = subst (λ (xs : List AlarmNotification). length xs ≤ 2048) (sym (append_assoc raised now later)) few in
+    let long = length-append (raised ++ now) later in
+    omega (arith, all, long)
 
 module _ {F : Type 0} where
   -- The alarms of a relation, and a place of it.
@@ -382,13 +388,6 @@ module _ {F : Type 0} where
         )
 
   -- ---- any run
-
-  -- The alarms of its first move are among those of a run.
-  pub first_few : (raised now later : List AlarmNotification) → length (raised ++ (now ++ later)) ≤ 2048 → length (raised ++ now) ≤ 2048
-  first_few raised now later few =
-      let all : length ((raised ++ now) ++ later) ≤ 2048 = subst (λ (xs : List AlarmNotification). length xs ≤ 2048) (sym (append_assoc raised now later)) few in
-      let long = length-append (raised ++ now) later in
-      omega (arith, all, long)
 
   pub run_telling : DeviceSo → HearsSo → {S : ℕ} (as_flash : Flash F S) (slot subslot : ℕ) (w : World F) (raised taken : List AlarmNotification) → Telling slot subslot w raised taken
       → (run : List (Move × World F)) → AreMade as_flash w run → AreMeant w run → AreSizedMoves run → length (raised ++ reported_over w run) ≤ 2048

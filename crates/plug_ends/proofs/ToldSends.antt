@@ -1,7 +1,7 @@
 -- The alarms of low priority of a relation over a step of its device: what waits, and which one is sent.
-use Rattle.std.proofs.Common.{◌≡◌, ◌⊎◌, inl, inr, ◌==◌, ◌&&◌, ◌++◌, ◌+◌, ◌-◌, ◌%◌, ◌<◌, ℕ, Bool, true, false, cond, List, [], ◌∷◌, length, map, take, Option, Some, None, refl, sym, ap, subst, ◌∙◌}
+use Rattle.std.proofs.Common.{◌≡◌, ◌⊎◌, inl, inr, ◌&&◌, ◌++◌, ◌+◌, ◌-◌, ◌%◌, ◌<◌, ℕ, Bool, true, false, cond, List, [], ◌∷◌, length, map, take, Option, Some, None, refl, sym, ap, subst, ◌∙◌}
 use Rattle.std.proofs.Common.{append-nil, arith}
-use Rattle.std.specs.Prelude.{if◌then◌else◌, nat_le, nat_lt, unwrap_or}
+use Rattle.std.specs.Prelude.{nat_lt, unwrap_or}
 use Rattle.std.specs.List.{list_any}
 use Rattle.std.proofs.lemmas.Bool.{leb-false, lt-ltb, true≢false}
 use Rattle.pn_values.specs.declared.real.RealModule.{RealModule}
@@ -18,9 +18,7 @@ use Rattle.diagnosis.specs.declared.module_change.ModuleChange.{ModuleChange}
 use Rattle.diagnosis.specs.declared.queue.QueuedAlarm.{QueuedAlarm}
 use Rattle.diagnosis.specs.alarms.Alarms.{Low, is_full as is_low_full, noted}
 use Rattle.diagnosis.specs.alarms.Own.{is_own}
-use Rattle.diagnosis.specs.Queue.{after_next, alarm_of, begun, changed, diagnosis_queued, is_next, is_reported, module_queued, module_waits, queued, waits_with}
-use Rattle.pn_alarms.specs.Device.{end_with}
-use Rattle.pn_alarms.specs.Ends.{DeviceEnd}
+use Rattle.diagnosis.specs.Queue.{after_next, alarm_of, begun, diagnosis_queued, is_next, is_reported, module_queued, module_waits, queued, waits_with}
 use Rattle.expected_places.specs.declared.place.ExpectedPlace.{ExpectedPlace}
 use Rattle.expected_places.specs.declared.place.Step.{Step}
 use Rattle.expected_places.specs.Machine.{PlugState, is_hit}
@@ -40,7 +38,7 @@ use Rattle.both_ends.proofs.ExchangeNextTold.{IsNextTold, NextIs, next_is}
 use Rattle.both_ends.proofs.ExchangeOwn.{hit_by_keys}
 use Rattle.plug_ends.specs.Places.{step_at, step_in, taken_at}
 use Rattle.plug_ends.proofs.DeviceGoes.{Alters, Holding, IsTelling, Tells, holding_of}
-use Rattle.plug_ends.proofs.ToldPlaces.{Becomes, IsKept, WaitsFor, next_at, waits_if}
+use Rattle.plug_ends.proofs.ToldPlaces.{Becomes, WaitsFor, next_at, waits_if}
 use Rattle.plug_ends.proofs.ToldQueue.{Waits, first_untouched, one_untouched, touches}
 
 some_is : {A : Type 0} (x y : A) → Some x ≡ Some y → x ≡ y
