@@ -92,7 +92,7 @@ all_map : {A B : Type 0} (P : A → Type 0) (Q : B → Type 0) (f : A → B) →
 all_map P Q f to [] all = tt
 all_map P Q f to (x ∷ xs) all = (to x all.0, all_map P Q f to xs all.1)
 
-all_both : {A : Type 0} (P R : A → Type 0) → (xs : List A) → AllByRecursion P xs → AllByRecursion R xs → AllByRecursion (λ x. P x × R x) xs
+pub all_both : {A : Type 0} (P R : A → Type 0) → (xs : List A) → AllByRecursion P xs → AllByRecursion R xs → AllByRecursion (λ x. P x × R x) xs
 all_both P R [] one other = tt
 all_both P R (x ∷ xs) one other = ((one.0, other.0), all_both P R xs one.1 other.1)
 
