@@ -166,6 +166,11 @@ pub record Closed (setup : Setup) (live : Live) (alarms : List AlarmNotification
   pub alarm : (alarm : AlarmNotification) → live.stands ≡ true → Fine (alarms ++ alarm ∷ [])
       → P (alarms ++ alarm ∷ []) (viewed live.access.plug (told_by (report_in alarm) live.places) live.stands live.device) []
 
+-- no frame is delivered
+abbrev pub IsNoFrame : Event → Type 0
+IsNoFrame (event.Frame bytes) = ⊥
+IsNoFrame other = Unit {0}
+
 -- An alarm of high priority is a process alarm, and reports nothing of places.
 high_quiet : (alarm : AlarmNotification) → alarm.alarm_type ≡ 2 → place_report (report_as High alarm) ≡ None
 high_quiet alarm e = by_api (alarm.api == 0)
@@ -649,11 +654,6 @@ module _ (setup : Setup) (live : Live) (alarms : List AlarmNotification) (Fine :
   ticked_goes = either (is_spent live) (quit_goes why.NoProgress (later live) live.phase refl) (again_goes (is_again live) (due_so (is_again live) (later live)))
 
   -- ---- events
-
-  -- no frame is delivered
-  abbrev pub IsNoFrame : Event → Type 0
-  IsNoFrame (event.Frame bytes) = ⊥
-  IsNoFrame other = Unit {0}
 
   pub event_goes : (one : Event) → IsNoFrame one → Goes alarms (turn_of setup live one)
   event_goes (event.Frame bytes) plain = absurd plain

@@ -1,5 +1,5 @@
 -- Over any run of worlds: what the controller asks of its places after their plugs, and what it confirmed.
-use Rattle.std.proofs.Common.{◌≡◌, ◌⊎◌, inl, inr, ◌<◌, ◌≤◌, ◌+◌, ◌++◌, ℕ, zero, suc, Bool, true, false, List, [], ◌∷◌, length, map, Option, Some, None, option_map, refl}
+use Rattle.std.proofs.Common.{◌≡◌, ◌⊎◌, inl, inr, ◌<◌, ◌≤◌, ◌&&◌, ◌+◌, ◌++◌, ℕ, zero, suc, Bool, true, false, List, [], ◌∷◌, length, map, Option, Some, None, option_map, refl}
 use Rattle.std.proofs.Common.{sym, ap, subst, ◌∙◌, append-nil, append_assoc, arith}
 use Rattle.std.specs.Prelude.{slice_get, if◌then◌else◌}
 use Rattle.std.specs.List.{AllByRecursion}
@@ -75,7 +75,7 @@ use Rattle.plug_ends.specs.Calls.{WasSent}
 use Rattle.plug_ends.specs.Told.{AreNumberedFrom, LastPlug}
 use Rattle.plug_ends.proofs.AskedFrames.{FramesSo, IsAskedBy, IsCalledAt, IsCalledBy, IsDoneOf, IsEndOf, IsQuietAt, IsReadAs, IsSmallIn, asked_later, confirms_number}
 use Rattle.plug_ends.proofs.AskedFrames.{messages_quiet, quiet_called, quiet_done, quiet_end, said_done, said_end, said_mine, start_no_number}
-use Rattle.plug_ends.proofs.AskedKeeps.{AreFew, Base, Done, Ended, Follows as FollowsBy, Begins as BeginsBy, IsIn as IsAmong, IsSaid, Reached, StepsBy, reached_closed}
+use Rattle.plug_ends.proofs.AskedKeeps.{AreFew, Base, Done, Ended, Follows as FollowsBy, Begins as BeginsBy, IsConfirming, IsIn as IsAmong, IsOfStart, IsSaid, Reached, StepsBy, reached_closed}
 use Rattle.plug_ends.proofs.AskedKinds.{IsBefore, IsStarting, PhaseGoes, asked_connects, event_phase, plugged_exchanges, unplugged_starting}
 use Rattle.plug_ends.proofs.AskedLists.{last_was, none_was, was_few}
 use Rattle.plug_ends.proofs.AskedPlaces.{States, state_by, there_by}
@@ -590,15 +590,15 @@ module _ (so : AskedSo) {F : Type 0} where
       steady : IsSteady c.setup.plan turn.live
       steady = (so.goes_on c.setup c.live one asking.steady).in_step
 
-      small : (number : ℕ) → number < length all → number < 65536
-      small number lt = by_length (length all) lt few.1
+      is_small : (number : ℕ) → number < length all → number < 65536
+      is_small number lt = by_length (length all) lt few.1
         where
           by_length : (n : ℕ) → number < n → n ≤ 2048 → number < 65536
           by_length n less most = omega arith
 
       small_said : (message : said.Sent) → IsSaid c.setup all (view_of turn.live) reached.states message → IsSmallIn message
       small_said (said.Parametrizes to request) is =
-          small request.number (was_few request.slot request.subslot request.number all (reached.base.request request is.0))
+          is_small request.number (was_few request.slot request.subslot request.number all (reached.base.request request is.0))
       small_said (said.Requests to request) is = tt
       small_said (said.Accesses to request octets) is = tt
       small_said (said.Agrees caller answer) is = tt
@@ -637,29 +637,29 @@ module _ (so : AskedSo) {F : Type 0} where
                 ∙ (ap (λ (m : said.Sent). bytes_of c.setup m) (sym is.is) ∙ found.2);
           }
 
+      done_by : (number : ℕ) (answer : Response) → IsReadAs 0x8113 answer.blocks number
+          → IsOfStart answer ⊎ IsConfirming c.setup all (view_of turn.live) reached.states answer → DoneSome all (view_of turn.live) reached.states number
+      done_by number answer read (inl start) =
+          absurd (start_no_number so.frames c.setup station.identity asking.good asking.real start.call start.block number
+          (subst (λ (one_answer : Response). IsReadAs 0x8113 one_answer.blocks number) start.is read))
+      done_by number answer read (inr confirming) = record {
+        slot = confirming.slot;
+        subslot = confirming.subslot;
+        done = subst (λ (n : ℕ). Done all (view_of turn.live) reached.states confirming.slot confirming.subslot n)
+            (confirms_number so.frames c.setup station.identity asking.good asking.real confirming.call confirming.block number confirming.right
+            (is_small confirming.block.alarm_sequence_number
+            (was_few confirming.slot confirming.subslot confirming.block.alarm_sequence_number all confirming.done.was))
+            (subst (λ (one_answer : Response). IsReadAs 0x8113 one_answer.blocks number) confirming.is read))
+            confirming.done;
+      }
+
       new_done : (frame : List ℕ) (number : ℕ) → WasIn frames frame → HearsDone station.identity frame number
           → DoneSome all (view_of turn.live) reached.states number
       new_done frame number was done =
           let found = get_mapped (bytes_of c.setup) IsSent turn.sent was.number frame sent_so was.is in
           let is = said_done so.frames c.setup station.identity asking.good asking.real found.0 number found.1.0
           (subst (λ (f : List ℕ). HearsDone station.identity f number) (sym found.2) done) in
-          by_said is (subst (λ (m : said.Sent). IsSaid c.setup all (view_of turn.live) reached.states m) is.is found.1.1)
-        where
-          by_said : (is : IsDoneOf _ number) → IsSaid c.setup all (view_of turn.live) reached.states (said.Agrees is.caller is.answer)
-              → DoneSome all (view_of turn.live) reached.states number
-          by_said is (inl start) =
-              absurd (start_no_number so.frames c.setup station.identity asking.good asking.real start.call start.block number
-              (subst (λ (answer : Response). IsReadAs 0x8113 answer.blocks number) start.is is.read))
-          by_said is (inr confirming) = record {
-            slot = confirming.slot;
-            subslot = confirming.subslot;
-            done = subst (λ (n : ℕ). Done all (view_of turn.live) reached.states confirming.slot confirming.subslot n)
-                (confirms_number so.frames c.setup station.identity asking.good asking.real confirming.call confirming.block number confirming.right
-                (small confirming.block.alarm_sequence_number
-                (was_few confirming.slot confirming.subslot confirming.block.alarm_sequence_number all confirming.done.was))
-                (subst (λ (answer : Response). IsReadAs 0x8113 answer.blocks number) confirming.is is.read))
-                confirming.done;
-          }
+          done_by number is.answer is.read (subst (λ (m : said.Sent). IsSaid c.setup all (view_of turn.live) reached.states m) is.is found.1.1)
 
       said_called : (messages : List said.Sent) → AllByRecursion (IsAimedAt station.identity.mac) messages
           → AllByRecursion (IsCalledAt c.setup.plan.controller.mac station.identity) (map (bytes_of c.setup) messages)
