@@ -251,21 +251,21 @@ module _ (so : PluggedSo) (c : Controlling) (station : Station) (live : Live) (s
     owed = so.fine.owed rules c.setup.activity outcomes station live heard planned
 
     abbrev Each : Sent → Type 0
-    Each message = IsHeardAs rules station.identity message × IsSendable station.identity message × IsOwed heard live message × (IsPositive message → OneMore)
+    Each message = IsHeardAs rules station.identity message × (IsSendable station.identity message × (IsOwed heard live message × (IsPositive message → OneMore)))
 
     nothing_says : (positive : Bool) → small.Nothing ≡ small.Answers request.sequence positive → ⊥
     nothing_says positive e = nothing_answers request.sequence positive e
 
     message_shows : (message : Sent) → Each message → Shows (bytes_of station.identity message)
     message_shows (CallAnswer caller address answer) each = λ grants.
-        let can = each.1 in
+        let can = each.1.0 in
         let heard_it = so.fine.heard.response c.setup.plan.controller station.identity caller address answer real
         (record { mac = can.0.destination; endpoint = can.0.content.1 }) can.0.content.0.0 can.1 in
         let same : answer ≡ grants.response =
         response_is c.setup.plan.controller caller.mac caller.endpoint answer grants.response (sym heard_it ∙ grants.hears) in
-        inl (each.3 (ap (λ (r : Response). is_done r.status) same ∙ grants.done), is_new)
+        inl (each.1.1.1 (ap (λ (r : Response). is_done r.status) same ∙ grants.done), is_new)
     message_shows (Again frame) each = λ grants.
-        let it = each.2 in
+        let it = each.1.1.0 in
         let plan : IsPlannedCall rules c.setup.activity station.named live.rest.real it.call =
         subst (λ (h : Heard). IsPlanned rules c.setup.activity station.named live.rest.real h) it.is planned in
         inr (
@@ -286,9 +286,9 @@ module _ (so : PluggedSo) (c : Controlling) (station : Station) (live : Live) (s
     all_show : AllByRecursion Shows (heard_step outcomes station live heard).frames
     unfolding heard_step handled_step
     all_show =
-        all_map (λ m. IsHeardAs rules station.identity m × IsSendable station.identity m × IsOwed heard live m × (IsPositive m → OneMore)) Shows (bytes_of station.identity) message_shows (heard_step outcomes station live heard).sent
+        all_map (λ m. IsHeardAs rules station.identity m × (IsSendable station.identity m × (IsOwed heard live m × (IsPositive m → OneMore)))) Shows (bytes_of station.identity) message_shows (heard_step outcomes station live heard).sent
         (all_both (IsHeardAs rules station.identity)
-        (λ m. IsSendable station.identity m × IsOwed heard live m × (IsPositive m → OneMore)) (heard_step outcomes station live heard).sent meant
+        (λ m. IsSendable station.identity m × (IsOwed heard live m × (IsPositive m → OneMore))) (heard_step outcomes station live heard).sent meant
         (all_both (IsSendable station.identity) (λ m. IsOwed heard live m × (IsPositive m → OneMore)) (heard_step outcomes station live heard).sent sendable
         (all_both (IsOwed heard live) (λ m. IsPositive m → OneMore) (heard_step outcomes station live heard).sent owed positives)))
 

@@ -1035,6 +1035,7 @@ module _ (so : PluggedSo) (slot subslot : ℕ) (c : Controlling) (station : Stat
 
   late_then : is_ended c.live.phase ≡ true → (frame : List ℕ) → WasIn (sent ++ frames) frame → (is_new : IsNewIn c.setup station after frame)
       → (is_new.ask ≡ small.Parameterized → ⊥) → (is_new.ask ≡ small.Releases → ⊥) → IsKnownWrite slot subslot (raised ++ now) c.setup station (sent ++ frames) frame
+  unfolding fresh_before
   late_then over frame there is_new no_end no_release =
       let it = was.late over frame (call_before frame there is_new.sequence is_new.ask is_new.is) (fresh_before frame is_new) no_end no_release in
       record { message = it.message; is = it.is; by = by_message it.message it.by }

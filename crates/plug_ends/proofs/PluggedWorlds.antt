@@ -424,7 +424,7 @@ module _ (setup : Setup) (good : IsSetup setup) (station : Station) (mac : Mac) 
 
   -- those that are sent now
   abbrev Now : Sent → Type 0
-  Now message = IsSaidAs setup station message × IsAsked after.live message × IsAimedAt mac message
+  Now message = IsSaidAs setup station message × (IsAsked after.live message × IsAimedAt mac message)
 
   after_least : write_count setup.plan + 2 ≤ next_of after
   after_least = omega (arith, after_is)
@@ -467,7 +467,7 @@ module _ (setup : Setup) (good : IsSetup setup) (station : Station) (mac : Mac) 
       → (sequence < request.sequence) ⊎ IsPlugFrame after.setup request (bytes_of setup message))
 
   new_frame : (message : Sent) → Now message → IsNumberedFrame (rules_of after.setup station) after (bytes_of setup message)
-  new_frame message now sequence ask e = by_asked now.1
+  new_frame message now sequence ask e = by_asked now.1.0
     where
       says : Rattle.both_ends.specs.startup.View.says_to_device setup message ≡ small.Call sequence ask
       says = heard_said setup station message now.0 sequence ask
@@ -491,7 +491,7 @@ module _ (setup : Setup) (good : IsSetup setup) (station : Station) (mac : Mac) 
         λ other f. absurd (none_some other (sym is.1 ∙ f)),
       )
       by_message (Parametrizes to request) same is =
-          let towards = subst (λ (x : Sent). IsAimedAt mac x) (sym same) now.2 in (
+          let towards = subst (λ (x : Sent). IsAimedAt mac x) (sym same) now.1.1 in (
             same_below request.sequence (is_number ∙ ap (λ (x : Sent). number_in setup.plan x) (sym same)) (plug_now request is.1),
             λ other f. inr (subst (λ (r : PlugRequest). IsPlugFrame after.setup r (bytes_of setup message)) (some_same request other (sym is.1 ∙ f)) (record {
               to = to;
@@ -514,7 +514,7 @@ module _ (setup : Setup) (good : IsSetup setup) (station : Station) (mac : Mac) 
   controller_numbered = record {
     frames = all_joined (IsNumberedFrame (rules_of after.setup station) after) sent (map (bytes_of setup) messages)
         (all_to (IsNumberedFrame (rules_of before.setup station) before) (IsNumberedFrame (rules_of after.setup station) after) old_frame sent was.frames)
-        (all_map (λ m. IsSaidAs setup station m × IsAsked after.live m × IsAimedAt mac m) (IsNumberedFrame (rules_of after.setup station) after) (bytes_of setup) new_frame messages
+        (all_map (λ m. IsSaidAs setup station m × (IsAsked after.live m × IsAimedAt mac m)) (IsNumberedFrame (rules_of after.setup station) after) (bytes_of setup) new_frame messages
         (all_both (IsSaidAs setup station) (λ m. IsAsked after.live m × IsAimedAt mac m) messages said
         (all_both (IsAsked after.live) (IsAimedAt mac) messages made aimed)));
     kept = λ answer e. below answer.sequence (was.kept answer (ap (λ (s : Setup). kept_for s live) (before_of ∙ sym after_of) ∙ e));
