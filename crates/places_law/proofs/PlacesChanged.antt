@@ -116,30 +116,6 @@ all_seen (change ∷ changes) (alarm ∷ alarms) all slot subslot before =
     ap (λ (b : Bool). seen_by alarms slot subslot b) (one_seen change alarm all.0 slot subslot before)
     ∙ all_seen changes alarms all.1 slot subslot (change_after change slot subslot before)
 
--- ---- where something was reported, the first state does not matter
-
-by_or : (a b : Bool) → (a || b) ≡ true → (a ≡ true) ⊎ ((a ≡ false) × (b ≡ true))
-by_or true b e = inl refl
-by_or false b e = inr (refl, e)
-
-one_same : (o : Option PlaceReport) (slot subslot : ℕ) (one other : Bool) → concerns_any slot subslot o ≡ true → seen_after o slot subslot one ≡ seen_after o slot subslot other
-one_same None slot subslot one other e = absurd cc
-one_same (Some report) slot subslot one other e =
-    ap (λ (b : Bool). cond b (is_amiss (reported_state report)) one) e ∙ sym (ap (λ (b : Bool). cond b (is_amiss (reported_state report)) other) e)
-
-pub seen_same : (alarms : List AlarmNotification) (slot subslot : ℕ) (one other : Bool) → is_reported slot subslot alarms ≡ true → seen_by alarms slot subslot one ≡ seen_by alarms slot subslot other
-seen_same [] slot subslot one other e = absurd cc
-seen_same (alarm ∷ alarms) slot subslot one other e = by_first (by_or (reports_at slot subslot alarm) (is_reported slot subslot alarms) e)
-    (λ f. seen_same alarms slot subslot (seen_after (place_report (report_as Low alarm)) slot subslot one) (seen_after (place_report (report_as Low alarm)) slot subslot other) f)
-  where
-    by_first : (reports_at slot subslot alarm ≡ true) ⊎ ((reports_at slot subslot alarm ≡ false) × (is_reported slot subslot alarms ≡ true))
-        → (is_reported slot subslot alarms ≡ true → seen_by alarms slot subslot (seen_after (place_report (report_as Low alarm)) slot subslot one)
-        ≡ seen_by alarms slot subslot (seen_after (place_report (report_as Low alarm)) slot subslot other))
-        → seen_by alarms slot subslot (seen_after (place_report (report_as Low alarm)) slot subslot one)
-        ≡ seen_by alarms slot subslot (seen_after (place_report (report_as Low alarm)) slot subslot other)
-    by_first (inl here) so = ap (λ (b : Bool). seen_by alarms slot subslot b) (one_same (place_report (report_as Low alarm)) slot subslot one other here)
-    by_first (inr later) so = so later.1
-
 -- ---- a pull or a plug
 
 is_outside : (slot : ℕ) (o : Option (List RealModule)) (now : List RealModule) → outside slot o ≡ Some now → o ≡ Some now
