@@ -470,6 +470,7 @@ module _ {F : Type 0} where
 
     run_agrees : ElsewhereSo → (Apart : Type 0) → Apart → (w : World F) (raised taken : List AlarmNotification) → Agreeing Apart w raised taken
         → (run : List (Move × World F)) → AreMade as_flash w run → AreMeant w run → AreSizedMoves run → Agreeing Apart (last_world w run) (raised ++ reported_over w run) (taken ++ taken_over low_priority w run)
+    unfolding one_shows
     run_agrees elsewhere Apart alone w raised taken is [] made meant sized =
         subst (λ (xs : List AlarmNotification). Agreeing Apart w xs (taken ++ [])) (sym (append-nil raised))
         (subst (λ (xs : List AlarmNotification). Agreeing Apart w raised xs) (sym (append-nil taken)) is)
