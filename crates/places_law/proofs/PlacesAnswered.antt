@@ -1,13 +1,12 @@
 -- Each positive response to the Connect that is in a network is that of the relation of its device: if no module differs in it, nothing
 -- that the Connect expects differed as the relation was made.
-use Rattle.std.proofs.Common.{◌≡◌, ◌⊎◌, inl, inr, ◌==◌, ◌&&◌, ◌++◌, ◌<◌, ℕ, Bool, true, false, cond, List, [], ◌∷◌, map, Option, Some, None, option_map, Result, Ok, Err, refl, sym, ap, subst, ◌∙◌, arith}
+use Rattle.std.proofs.Common.{◌≡◌, ◌⊎◌, inl, inr, ◌==◌, ◌&&◌, ◌++◌, ◌<◌, ℕ, Bool, true, cond, List, [], ◌∷◌, map, Option, Some, None, option_map, Result, Ok, Err, refl, sym, ap, subst, ◌∙◌, arith}
 use Rattle.std.specs.Prelude.{nat_eq, unwrap_or}
 use Rattle.std.specs.List.{AllByRecursion}
 use Rattle.std.specs.Cmp.Lexicographic.{pointwise}
 use Rattle.std.proofs.lemmas.Bool.{and_parts, eqb-true}
 use Rattle.flash_model.specs.declared.flash.Flash.{Ghosts as Flash}
 use Rattle.settings_journal.specs.settings_store.Machine.{Outcome}
-use Rattle.pn_values.specs.declared.identity.Identity.{Identity}
 use Rattle.pn_values.specs.declared.real.RealModule.{RealModule}
 use Rattle.frame_codec.specs.declared.udp.Caller.{Caller}
 use Rattle.record_blocks.specs.declared.alarm_notification.AlarmNotification.{AlarmNotification}
@@ -19,13 +18,12 @@ use Rattle.records.specs.declared.status.operation.Operation.TheVariants as oper
 use Rattle.records.specs.status.Operation.{operation_of}
 use Rattle.records.specs.declared.writes.taken.TakenRecord.{TakenRecord}
 use Rattle.diagnosis.specs.declared.reports.priority.Priority.TheVariants.{Low as low_priority}
-use Rattle.module_diff.specs.Diff.{diff_of, is_listed}
 use Rattle.connects.specs.requests.Request.{Request}
 use Rattle.relations.specs.RelationState.{RelationState}
 use Rattle.relations.specs.Connect.{connect_blocks, connect_of, differing_of}
-use Rattle.device_frames.specs.Heard.{Heard, Reported, Calls}
+use Rattle.device_frames.specs.Heard.{Heard}
 use Rattle.device_frames.specs.Sendable.{IsSendable}
-use Rattle.device_frames.specs.Sent.{Again, CallAnswer, Sent, bytes_of}
+use Rattle.device_frames.specs.Sent.{CallAnswer, Sent, bytes_of}
 use Rattle.device_core.specs.State.{Live, Rest, Station}
 use Rattle.device_core.specs.Handled.{answer_from, outcome_of}
 use Rattle.device_core.specs.Machine.{handled_step, heard_step}
@@ -40,10 +38,9 @@ use Rattle.end_laws.specs.both.Small as small
 use Rattle.end_laws.specs.both.Small.{Rules, ToDevice}
 use Rattle.end_laws.specs.both.Steps.{DeviceSteps, IsAnswered, IsDull, IsNew, IsReady, SaysAtMost}
 use Rattle.end_laws.specs.controller.Small.{is_positive, said_to, says_written}
-use Rattle.end_laws.specs.device.Does.{Does, Declines, IsEffect, IsUncalled, Serves, readied_from}
+use Rattle.end_laws.specs.device.Does.{Does, IsEffect, IsUncalled, Serves, readied_from}
 use Rattle.end_laws.specs.device.Small.{IsPlanned, IsPlannedAs, IsPlannedCall, asked_by, heard_as, kept_in, small_of, written_by}
-use Rattle.end_laws.specs.hearing.Stations.{IsCaller, IsDevice, IsSetup}
-use Rattle.both_ends.specs.startup.request.Request.{request_for}
+use Rattle.end_laws.specs.hearing.Stations.{IsCaller, IsDevice}
 use Rattle.both_ends.specs.startup.View.{IsMeantAtDevice, IsSaidAs, is_planned, rules_of}
 use Rattle.both_ends.specs.exchange.Sized.{AreSizedModules}
 use Rattle.both_ends.proofs.ExchangeFollows.{kept_at, unlinked}

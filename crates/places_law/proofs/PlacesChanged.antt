@@ -1,5 +1,5 @@
 -- What a pull or a plug makes of the submodules that a Connect expects, and what its alarm reports of them.
-use Rattle.std.proofs.Common.{◌≡◌, ◌⊎◌, inl, inr, ◌==◌, ◌&&◌, ◌||◌, ◌++◌, ℕ, Bool, true, false, cond, not, List, [], ◌∷◌, Option, Some, None, refl, sym, ap, subst, ◌∙◌, arith}
+use Rattle.std.proofs.Common.{◌≡◌, ◌==◌, ◌&&◌, ◌++◌, ℕ, Bool, true, false, cond, not, List, [], ◌∷◌, Option, Some, None, refl, sym, ap, subst, ◌∙◌, arith}
 use Rattle.std.specs.Prelude.{nat_lt}
 use Rattle.std.proofs.lemmas.Bool.{and_parts, eqb-true, ne_eqb, true≢false}
 use Rattle.pn_values.specs.declared.real.RealModule.{RealModule}
@@ -21,7 +21,6 @@ use Rattle.diagnosis.specs.Notices.{type_of}
 use Rattle.diagnosis.specs.Queue.{alarmed, kind_type}
 use Rattle.plan_places.specs.declared.report.PlaceReport.{PlaceReport}
 use Rattle.plan_places.specs.declared.report.PlaceReport.TheVariants as reports
-use Rattle.plan_places.specs.Places.{reported_state}
 use Rattle.plan_places.specs.Reports.{place_report, plug_of as plug_in, pulled_at, report_by_type}
 use Rattle.device_core.specs.Modules.{outside, plug_of, pull_of, slot_pull_of}
 use Rattle.device_frames.specs.declared.local.Local.TheVariants as local
@@ -33,7 +32,7 @@ use Rattle.both_ends.specs.exchange.Told.{AreReports, IsReport, ReportsModule}
 use Rattle.both_ends.proofs.ExchangeLists.{some_is}
 use Rattle.both_ends.proofs.ExchangeOwn.{empty_own, is_expected, own_is, same_listed}
 use Rattle.both_ends.proofs.ExchangeReal.{plug_same, pull_past_zero, pull_same, slot_pull_same}
-use Rattle.places_law.specs.Agreed.{ArePluggedApart, concerns_any, is_amiss, is_reported, reports_at}
+use Rattle.places_law.specs.Agreed.{ArePluggedApart}
 use Rattle.places_law.proofs.PlacesApart.{eqb_turned, plug_apart, pull_apart, pull_gone, slot_pull_apart, slot_pull_gone}
 use Rattle.places_law.proofs.PlacesSeen.{seen_after, seen_by}
 

@@ -1,6 +1,6 @@
 -- What the response to the Connect of a plan tells its controller: if it says that no module differs, no submodule is listed, and what was
 -- plugged then was as expected.
-use Rattle.std.proofs.Common.{◌≡◌, ◌==◌, ◌&&◌, ◌||◌, ◌++◌, ◌+◌, ◌<◌, ◌≤◌, ℕ, suc, Bool, true, false, cond, List, [], ◌∷◌, length, map, Option, Some, None, Result, Ok, Err, refl, sym, ap, subst, ◌∙◌, append-nil, append_assoc, arith}
+use Rattle.std.proofs.Common.{◌≡◌, ◌==◌, ◌++◌, ◌+◌, ◌<◌, ℕ, suc, Bool, true, false, cond, List, [], ◌∷◌, length, map, Some, Result, Ok, Err, refl, sym, ap, subst, ◌∙◌, append-nil, append_assoc, arith}
 use Rattle.std.specs.List.{filter, list_all}
 use Rattle.std.proofs.lemmas.Bool.{and_parts, eqb-true, false≢true}
 use Rattle.pn_values.specs.declared.identity.Identity.{Identity}
@@ -8,10 +8,7 @@ use Rattle.pn_values.specs.declared.real.Real.{Real}
 use Rattle.pn_values.specs.declared.real.RealModule.{RealModule}
 use Rattle.wire.specs.Codec.{IsSound, ◌>>=◌}
 use Rattle.wire.specs.Formats.{big_bytes, framed, number as octets_of, raw, then_by}
-use Rattle.wire.specs.Whole.{everything}
-use Rattle.wire.specs.Checks.{variant}
 use Rattle.wire.specs.blocks.Fields.{body, number_bytes}
-use Rattle.wire.specs.blocks.modules.Lists.{Listed}
 use Rattle.wire.specs.declared.blocks.fault.BlockFault.{BlockFault}
 use Rattle.wire.specs.declared.blocks.fault.BlockFault.TheVariants.{Truncated}
 use Rattle.wire.proofs.Fields.{bind_ok, number_sound, ok_is}
@@ -23,26 +20,26 @@ use Rattle.connect_blocks.specs.declared.module_diff.DiffModule.{DiffModule}
 use Rattle.connect_blocks.specs.declared.module_diff.DiffSubmodule.{DiffSubmodule}
 use Rattle.block_codec.specs.declared.block.Block.{Block}
 use Rattle.block_codec.specs.declared.block.Block.TheVariants as is
-use Rattle.block_codec.specs.Block.{block, block_bytes, block_of, body_of, fields_of, front, in_alarm_cr_block_res, kind_of}
+use Rattle.block_codec.specs.Block.{block, block_bytes, block_of, body_of, fields_of, front, kind_of}
 use Rattle.block_codec.specs.Kinds.{number_of, type_of}
 use Rattle.block_codec.specs.Writable.{CanBeWritten}
 use Rattle.module_diff.specs.Diff.{diff_of, differs, is_listed, lists, module_row, submodules_of_all, Wanted, wanted_in}
 use Rattle.connects.specs.requests.Request.{Request}
 use Rattle.connects.specs.declared.answers.connect.Found.{Found}
 use Rattle.connects.specs.answers.AlarmRelation.{alarm_relation}
-use Rattle.connects.specs.answers.Connect.{found_in, is_looked_for, is_whole, next_found, nothing, with_block, with_diff}
+use Rattle.connects.specs.answers.Connect.{found_in, is_looked_for, is_whole, nothing, with_block, with_diff}
 use Rattle.connects.specs.answers.OtherBlock.{other_block}
 use Rattle.connects.specs.answers.Usable.{is_usable, is_usable_module, is_usable_submodule}
 use Rattle.relations.specs.Connect.{alarm_answer, connect_blocks, differing_of, rows_of}
 use Rattle.relations.specs.Numbers.{endpoint_of}
-use Rattle.plan_places.specs.Listed.{behind_of, is_listed_behind, is_listed_by, is_listed_in}
+use Rattle.plan_places.specs.Listed.{behind_of, is_listed_by, is_listed_in}
 use Rattle.controller_messages.specs.declared.setup.Setup.{Setup}
 use Rattle.end_laws.specs.hearing.Stations.{IsDevice, IsSetup}
 use Rattle.both_ends.specs.startup.request.Request.{request_for}
 use Rattle.both_ends.specs.exchange.Sized.{AreSizedModules}
 use Rattle.both_ends.proofs.ExchangeLists.{some_is}
-use Rattle.both_ends.proofs.StartupAnswerFound.{FindsKnown, ReadsAlarms, alarm_for, alarm_found, found_next, not_empty}
-use Rattle.places_law.proofs.PlacesRows.{planned_wanted, rows_written, usable_none, wanted_for}
+use Rattle.both_ends.proofs.StartupAnswerFound.{FindsKnown, ReadsAlarms, alarm_found, found_next, not_empty}
+use Rattle.places_law.proofs.PlacesRows.{planned_wanted, rows_written, usable_none}
 
 -- ---- what a response tells
 
@@ -71,8 +68,8 @@ kinded read = read >>= λ x. with_kind x.0 (framed_by x.0 x.1)
 abbrev plain : Result ((ℕ × Block) × List ℕ) BlockFault → Result (Block × List ℕ) BlockFault
 plain read = read >>= λ x. Ok (x.0.1, x.1)
 
-behind_same : {A : Type 0} (x y : A) (rest more : List ℕ) → ◌≡◌ {A = Result (A × List ℕ) BlockFault} (Ok (x, rest)) (Ok (y, more)) → rest ≡ more
-behind_same {A = A} x y rest more e = ap (λ (p : A × List ℕ). p.1) (ok_is {F = BlockFault} (x, rest) (y, more) e)
+rest_same : {A : Type 0} (x y : A) (rest more : List ℕ) → ◌≡◌ {A = Result (A × List ℕ) BlockFault} (Ok (x, rest)) (Ok (y, more)) → rest ≡ more
+rest_same {A = A} x y rest more e = ap (λ (p : A × List ℕ). p.1) (ok_is {F = BlockFault} (x, rest) (y, more) e)
 
 -- a block that can be read can be skipped
 skipped : (bytes : List ℕ) (one : Block) (rest : List ℕ) → block_of bytes ≡ front one rest → behind_of (other_block.read bytes) ≡ Some rest
@@ -84,9 +81,9 @@ skipped bytes one rest e =
     let d = bind_ok ((octets_of Truncated 2).read b.0.1) (λ x. (raw Truncated x.0).read x.1 >>= λ cut. (body_of (type_of b.0.0)).read cut.0 >>= λ value. Ok (value, cut.1)) c.0 c.1 in
     let f = bind_ok ((raw Truncated d.0.0).read d.0.1) (λ cut. (body_of (type_of b.0.0)).read cut.0 >>= λ value. Ok (value, cut.1)) c.0 d.2 in
     let g = bind_ok ((body_of (type_of b.0.0)).read f.0.0) (λ value. Ok (value, f.0.1)) c.0 f.2 in
-    let cut = behind_same g.0 c.0.0 f.0.1 c.0.1 g.2 in
-    let framed_rest = behind_same (b.0.0, c.0.0) a.0.0 c.0.1 a.0.1 c.2 in
-    let last = behind_same a.0.0.1 one a.0.1 rest a.2 in
+    let cut = rest_same g.0 c.0.0 f.0.1 c.0.1 g.2 in
+    let framed_rest = rest_same (b.0.0, c.0.0) a.0.0 c.0.1 a.0.1 c.2 in
+    let last = rest_same a.0.0.1 one a.0.1 rest a.2 in
     rw (b.1, d.1, f.1) (ap (λ (xs : List ℕ). Some xs) {x = f.0.1} {y = rest} (◌∙◌ {a = f.0.1} cut (framed_rest ∙ last)))
 
 -- what follows a block that lists nothing
@@ -144,9 +141,9 @@ module _ (slot subslot : ℕ) where
   abbrev IsUnlisted : Result (Block × List ℕ) BlockFault → Type 0
   IsUnlisted read = is_listed_by slot subslot (plain (with_kind 0x8103 read)) ≡ false
 
-  by_fields : (r : Result AlarmCrBlockRes BlockFault) (behind : List ℕ) → IsUnlisted ((r >>= λ v. Ok (is.AlarmCrBlockRes v)) >>= λ value. Ok (value, behind))
-  by_fields (Ok v) behind = refl
-  by_fields (Err fault) behind = refl
+  by_fields : (r : Result AlarmCrBlockRes BlockFault) (rest : List ℕ) → IsUnlisted ((r >>= λ v. Ok (is.AlarmCrBlockRes v)) >>= λ value. Ok (value, rest))
+  by_fields (Ok v) rest = refl
+  by_fields (Err fault) rest = refl
 
   by_cut : (r : Result (List ℕ × List ℕ) BlockFault)
       → IsUnlisted (r >>= λ cut. ((body alarm_cr_block_res).read cut.0 >>= λ v. Ok (is.AlarmCrBlockRes v)) >>= λ value. Ok (value, cut.1))
@@ -177,8 +174,8 @@ some_block one rest =
     subst (λ (bytes : List ℕ). (length (bytes ++ rest) == 0) ≡ false) (sym there.3) (not_empty there.0 (there.1 ∷ there.2 ++ rest))
 
 -- the blocks, one after the other
-behind_one_another : (first second third fourth rest : List ℕ) → ((first ++ (second ++ third)) ++ fourth) ++ rest ≡ first ++ (second ++ (third ++ (fourth ++ rest)))
-behind_one_another first second third fourth rest =
+one_after_another : (first second third fourth rest : List ℕ) → ((first ++ (second ++ third)) ++ fourth) ++ rest ≡ first ++ (second ++ (third ++ (fourth ++ rest)))
+one_after_another first second third fourth rest =
     append_assoc (first ++ (second ++ third)) fourth rest
     ∙ (append_assoc first (second ++ third) (fourth ++ rest) ∙ ap (λ (more : List ℕ). first ++ more) (append_assoc second third (fourth ++ rest)))
 
@@ -254,7 +251,7 @@ module _ (so : BlocksSo) (setup : Setup) (identity : Identity) (good : IsSetup s
       let one = record nothing { relation = true } in
       let two = record one { input = true } in
       let three = record two { output = Some (0xC000 + number) } in
-      ap (λ (bytes : List ℕ). found_in 400 bytes nothing) (behind_one_another (block_bytes relation_block) (block_bytes input_block) (block_bytes output_block) (alarm_answer number) differing)
+      ap (λ (bytes : List ℕ). found_in 400 bytes nothing) (one_after_another (block_bytes relation_block) (block_bytes input_block) (block_bytes output_block) (alarm_answer number) differing)
       ∙ (one_found 399 relation_block (block_bytes input_block ++ (block_bytes output_block ++ (alarm_answer number ++ differing))) nothing relation_is relation_can
       ∙ (one_found 398 input_block (block_bytes output_block ++ (alarm_answer number ++ differing)) one input_is input_can
       ∙ (one_found 397 output_block (alarm_answer number ++ differing) two output_is output_can
@@ -264,7 +261,7 @@ module _ (so : BlocksSo) (setup : Setup) (identity : Identity) (good : IsSetup s
   unfolding connect_blocks
   blocks_unlisted differing slot subslot =
       ap (λ (bytes : List ℕ). is_listed_in 400 bytes slot subslot)
-      (behind_one_another (block_bytes relation_block) (block_bytes input_block) (block_bytes output_block) (alarm_answer number) differing)
+      (one_after_another (block_bytes relation_block) (block_bytes input_block) (block_bytes output_block) (alarm_answer number) differing)
       ∙ (one_unlisted 399 relation_block (block_bytes input_block ++ (block_bytes output_block ++ (alarm_answer number ++ differing))) slot subslot refl relation_can
       ∙ (one_unlisted 398 input_block (block_bytes output_block ++ (alarm_answer number ++ differing)) slot subslot refl input_can
       ∙ (one_unlisted 397 output_block (alarm_answer number ++ differing) slot subslot refl output_can

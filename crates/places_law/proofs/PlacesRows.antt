@@ -1,7 +1,7 @@
 -- The rows of the modules that differ from those of a plan: they can be written, and a row of a submodule is not usable.
 use Rattle.std.proofs.Common.{◌≡◌, ◌==◌, ◌&&◌, ◌||◌, ◌++◌, ◌+◌, ◌*◌, ◌<◌, ◌≤◌, ℕ, zero, suc, Bool, true, false, cond, not, List, [], ◌∷◌, length, map, take, drop, Option, Some, None, refl, sym, ap, subst, ◌∙◌, length-append, arith}
 use Rattle.std.specs.Prelude.{sum_by}
-use Rattle.std.specs.List.{AllByRecursion, filter, list_all, list_any}
+use Rattle.std.specs.List.{AllByRecursion, filter, list_all}
 use Rattle.std.proofs.lemmas.Bool.{and_right, false≢true}
 use Rattle.std.proofs.lemmas.List.{length-map}
 use Rattle.std.proofs.lemmas.List.Sums.{sum_by-cons}
@@ -16,11 +16,10 @@ use Rattle.connect_blocks.specs.declared.expected.ExpectedSubmodule.{ExpectedSub
 use Rattle.connect_blocks.specs.declared.module_diff.DiffModule.{DiffModule}
 use Rattle.connect_blocks.specs.declared.module_diff.DiffSubmodule.{DiffSubmodule}
 use Rattle.connect_blocks.specs.ModuleDiff.{diff_module, diff_modules, diff_submodule, module_diff, own_of}
-use Rattle.block_codec.specs.declared.block.Block.{Block}
 use Rattle.block_codec.specs.declared.block.Block.TheVariants as is
 use Rattle.block_codec.specs.Block.{fields_of}
 use Rattle.block_codec.specs.Writable.{CanBeWritten}
-use Rattle.module_diff.specs.Diff.{Wanted, diff_of, differs, has_subslot, ident_or_zero, is_as_expected, is_proper, listed, lists, module_row, module_state, submodule_row, submodule_state, submodules_of, submodules_of_all, wanted_in}
+use Rattle.module_diff.specs.Diff.{Wanted, differs, has_subslot, ident_or_zero, is_as_expected, is_proper, listed, lists, module_row, module_state, submodule_row, submodule_state, submodules_of, submodules_of_all, wanted_in}
 use Rattle.module_diff.specs.Plugged.{module_ident, submodule_ident}
 use Rattle.plans.specs.Parts.{data_in_slot, data_of, module_of, submodule_of}
 use Rattle.connects.specs.answers.Usable.{is_usable_submodule}
