@@ -1,3 +1,6 @@
+pub mod PlacesRows
+pub mod PlacesOctets
+pub mod PlacesAnswered
 pub mod PlacesSeen
 pub mod PlacesShown
 pub mod PlacesApart

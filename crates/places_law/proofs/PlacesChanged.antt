@@ -1,5 +1,5 @@
 -- What a pull or a plug makes of the submodules that a Connect expects, and what its alarm reports of them.
-use Rattle.std.proofs.Common.{◌≡◌, ◌⊎◌, inl, inr, ◌==◌, ◌&&◌, ◌||◌, ◌++◌, ℕ, Bool, true, false, cond, not, List, [], ◌∷◌, Option, Some, None, refl, sym, ap, subst, ◌∙◌, arith}
+use Rattle.std.proofs.Common.{◌≡◌, ◌==◌, ◌&&◌, ◌++◌, ℕ, Bool, true, false, cond, not, List, [], ◌∷◌, Option, Some, None, refl, sym, ap, subst, ◌∙◌, arith}
 use Rattle.std.specs.Prelude.{nat_lt}
 use Rattle.std.proofs.lemmas.Bool.{and_parts, eqb-true, ne_eqb, true≢false}
 use Rattle.pn_values.specs.declared.real.RealModule.{RealModule}
@@ -21,7 +21,6 @@ use Rattle.diagnosis.specs.Notices.{type_of}
 use Rattle.diagnosis.specs.Queue.{alarmed, kind_type}
 use Rattle.plan_places.specs.declared.report.PlaceReport.{PlaceReport}
 use Rattle.plan_places.specs.declared.report.PlaceReport.TheVariants as reports
-use Rattle.plan_places.specs.Places.{reported_state}
 use Rattle.plan_places.specs.Reports.{place_report, plug_of as plug_in, pulled_at, report_by_type}
 use Rattle.device_core.specs.Modules.{outside, plug_of, pull_of, slot_pull_of}
 use Rattle.device_frames.specs.declared.local.Local.TheVariants as local
@@ -33,7 +32,7 @@ use Rattle.both_ends.specs.exchange.Told.{AreReports, IsReport, ReportsModule}
 use Rattle.both_ends.proofs.ExchangeLists.{some_is}
 use Rattle.both_ends.proofs.ExchangeOwn.{empty_own, is_expected, own_is, same_listed}
 use Rattle.both_ends.proofs.ExchangeReal.{plug_same, pull_past_zero, pull_same, slot_pull_same}
-use Rattle.places_law.specs.Agreed.{ArePluggedApart, concerns_any, is_amiss, is_reported, reports_at}
+use Rattle.places_law.specs.Agreed.{ArePluggedApart}
 use Rattle.places_law.proofs.PlacesApart.{eqb_turned, plug_apart, pull_apart, pull_gone, slot_pull_apart, slot_pull_gone}
 use Rattle.places_law.proofs.PlacesSeen.{seen_after, seen_by}
 
@@ -115,30 +114,6 @@ all_seen (change ∷ changes) [] all slot subslot before = absurd all
 all_seen (change ∷ changes) (alarm ∷ alarms) all slot subslot before =
     ap (λ (b : Bool). seen_by alarms slot subslot b) (one_seen change alarm all.0 slot subslot before)
     ∙ all_seen changes alarms all.1 slot subslot (change_after change slot subslot before)
-
--- ---- where something was reported, the first state does not matter
-
-by_or : (a b : Bool) → (a || b) ≡ true → (a ≡ true) ⊎ ((a ≡ false) × (b ≡ true))
-by_or true b e = inl refl
-by_or false b e = inr (refl, e)
-
-one_same : (o : Option PlaceReport) (slot subslot : ℕ) (one other : Bool) → concerns_any slot subslot o ≡ true → seen_after o slot subslot one ≡ seen_after o slot subslot other
-one_same None slot subslot one other e = absurd cc
-one_same (Some report) slot subslot one other e =
-    ap (λ (b : Bool). cond b (is_amiss (reported_state report)) one) e ∙ sym (ap (λ (b : Bool). cond b (is_amiss (reported_state report)) other) e)
-
-pub seen_same : (alarms : List AlarmNotification) (slot subslot : ℕ) (one other : Bool) → is_reported slot subslot alarms ≡ true → seen_by alarms slot subslot one ≡ seen_by alarms slot subslot other
-seen_same [] slot subslot one other e = absurd cc
-seen_same (alarm ∷ alarms) slot subslot one other e = by_first (by_or (reports_at slot subslot alarm) (is_reported slot subslot alarms) e)
-    (λ f. seen_same alarms slot subslot (seen_after (place_report (report_as Low alarm)) slot subslot one) (seen_after (place_report (report_as Low alarm)) slot subslot other) f)
-  where
-    by_first : (reports_at slot subslot alarm ≡ true) ⊎ ((reports_at slot subslot alarm ≡ false) × (is_reported slot subslot alarms ≡ true))
-        → (is_reported slot subslot alarms ≡ true → seen_by alarms slot subslot (seen_after (place_report (report_as Low alarm)) slot subslot one)
-        ≡ seen_by alarms slot subslot (seen_after (place_report (report_as Low alarm)) slot subslot other))
-        → seen_by alarms slot subslot (seen_after (place_report (report_as Low alarm)) slot subslot one)
-        ≡ seen_by alarms slot subslot (seen_after (place_report (report_as Low alarm)) slot subslot other)
-    by_first (inl here) so = ap (λ (b : Bool). seen_by alarms slot subslot b) (one_same (place_report (report_as Low alarm)) slot subslot one other here)
-    by_first (inr later) so = so later.1
 
 -- ---- a pull or a plug
 

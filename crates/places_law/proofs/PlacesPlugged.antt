@@ -54,17 +54,16 @@ use Rattle.places_law.proofs.PlacesChanged.{IsSeenChange, change_after, changed_
 
 -- ---- the invariant
 
--- What was reported in a relation, and what waits, leads from some first places to those that differ now.
-pub record IsPlacedIn (real : List RealModule) (request : Request) (low : Low) (raised : List AlarmNotification) : Type 0 where
-  pub first : ℕ → ℕ → Bool
+-- What was reported in a relation, and what waits, leads from these first places to those that differ now.
+pub record IsPlacedIn (first : ℕ → ℕ → Bool) (real : List RealModule) (request : Request) (low : Low) (raised : List AlarmNotification) : Type 0 where
   pub changes : List LowChange
   pub reports : AreReports changes raised
   pub are : (slot subslot : ℕ) → is_expected request.expected slot subslot ≡ true
       → changes_after (changes ++ map change_in low.waiting) slot subslot (first slot subslot) ≡ is_listed slot subslot (diff_of request.expected real)
 
-pub record ArePlaced (real : List RealModule) (link : Option RelationState) (raised : List AlarmNotification) : Type 0 where
+pub record ArePlaced (first : ℕ → ℕ → Bool) (real : List RealModule) (link : Option RelationState) (raised : List AlarmNotification) : Type 0 where
   pub apart : ArePluggedApart real
-  pub placed : (l : RelationState) → link ≡ Some l → IsPlacedIn real l.request l.flow.low raised
+  pub placed : (l : RelationState) → link ≡ Some l → IsPlacedIn first real l.request l.flow.low raised
 
 more_reports : (changes : List LowChange) (alarms : List AlarmNotification) (change : LowChange) (alarm : AlarmNotification) → AreReports changes alarms → IsReport change alarm
     → AreReports (changes ++ change ∷ []) (alarms ++ alarm ∷ [])
@@ -92,7 +91,7 @@ first_quiet real zero notices slot subslot before = refl
 first_quiet real (suc n) [] slot subslot before = refl
 first_quiet real (suc n) (one ∷ notices) slot subslot before = first_quiet real n notices slot subslot before
 
-module _ (real : List RealModule) (request : Request) (raised : List AlarmNotification) where
+module _ (first : ℕ → ℕ → Bool) (real : List RealModule) (request : Request) (raised : List AlarmNotification) where
   -- what waits after more alarms wait
   after_more : (changes : List LowChange) (ws more : List QueuedAlarm) (slot subslot : ℕ) (before : Bool)
       → changes_after (changes ++ map change_in (ws ++ more)) slot subslot before
@@ -102,43 +101,41 @@ module _ (real : List RealModule) (request : Request) (raised : List AlarmNotifi
       ∙ (ap (λ (xs : List LowChange). changes_after xs slot subslot before) (sym (append_assoc changes (map change_in ws) (map change_in more)))
       ∙ changes_more (changes ++ map change_in ws) (map change_in more) slot subslot before)
 
-  same_placed : (low next : Low) → next.waiting ≡ low.waiting → IsPlacedIn real request low raised → IsPlacedIn real request next raised
+  same_placed : (low next : Low) → next.waiting ≡ low.waiting → IsPlacedIn first real request low raised → IsPlacedIn first real request next raised
   same_placed low next waiting is = record {
-    first = is.first;
     changes = is.changes;
     reports = is.reports;
-    are = λ slot subslot there. ap (λ (ws : List QueuedAlarm). changes_after (is.changes ++ map change_in ws) slot subslot (is.first slot subslot)) waiting ∙ is.are slot subslot there;
+    are = λ slot subslot there. ap (λ (ws : List QueuedAlarm). changes_after (is.changes ++ map change_in ws) slot subslot (first slot subslot)) waiting ∙ is.are slot subslot there;
   }
 
-  quiet_placed : (low next : Low) (more : List QueuedAlarm) → AreQuiet more → next.waiting ≡ low.waiting ++ more → IsPlacedIn real request low raised → IsPlacedIn real request next raised
+  quiet_placed : (low next : Low) (more : List QueuedAlarm) → AreQuiet more → next.waiting ≡ low.waiting ++ more → IsPlacedIn first real request low raised → IsPlacedIn first real request next raised
   quiet_placed low next more quiet waiting is = record {
-    first = is.first;
     changes = is.changes;
     reports = is.reports;
     are = λ slot subslot there.
-        ap (λ (ws : List QueuedAlarm). changes_after (is.changes ++ map change_in ws) slot subslot (is.first slot subslot)) waiting
-        ∙ (after_more is.changes low.waiting more slot subslot (is.first slot subslot)
-        ∙ (quiet slot subslot (changes_after (is.changes ++ map change_in low.waiting) slot subslot (is.first slot subslot)) ∙ is.are slot subslot there));
+        ap (λ (ws : List QueuedAlarm). changes_after (is.changes ++ map change_in ws) slot subslot (first slot subslot)) waiting
+        ∙ (after_more is.changes low.waiting more slot subslot (first slot subslot)
+        ∙ (quiet slot subslot (changes_after (is.changes ++ map change_in low.waiting) slot subslot (first slot subslot)) ∙ is.are slot subslot there));
   }
 
   -- a change of diagnosis waits, if there is room
-  queued_placed : (low : Low) (one : QueuedAlarm) → AreQuiet (one ∷ []) → IsPlacedIn real request low raised → IsPlacedIn real request (queued one low) raised
+  queued_placed : (low : Low) (one : QueuedAlarm) → AreQuiet (one ∷ []) → IsPlacedIn first real request low raised → IsPlacedIn first real request (queued one low) raised
   queued_placed low one quiet is = by_room (nat_lt (length low.waiting) 64) refl
     where
-      by_room : (b : Bool) → nat_lt (length low.waiting) 64 ≡ b → IsPlacedIn real request (queued one low) raised
+      by_room : (b : Bool) → nat_lt (length low.waiting) 64 ≡ b → IsPlacedIn first real request (queued one low) raised
       by_room true e =
           quiet_placed low (queued one low) (one ∷ []) quiet (ap (λ (b : Bool). unwrap_or (cond b (Some (low.waiting ++ one ∷ [])) None) low.waiting) e) is
       by_room false e = same_placed low (queued one low) (ap (λ (b : Bool). unwrap_or (cond b (Some (low.waiting ++ one ∷ [])) None) low.waiting) e) is
 
   -- the next change is reported, if it can be
   next_placed : (low : Low) (now : List AlarmNotification) → ((rests : after_next low ≡ low) → now ≡ [])
-      → ((told : IsNextTold low) → now ≡ alarm_of low.alarms.sender.specifier told.alarm ∷ []) → IsPlacedIn real request low raised → IsPlacedIn real request (after_next low) (raised ++ now)
+      → ((told : IsNextTold low) → now ≡ alarm_of low.alarms.sender.specifier told.alarm ∷ []) → IsPlacedIn first real request low raised → IsPlacedIn first real request (after_next low) (raised ++ now)
   next_placed low now silent tells is = by_next (next_is low)
     where
-      by_next : NextIs low → IsPlacedIn real request (after_next low) (raised ++ now)
+      by_next : NextIs low → IsPlacedIn first real request (after_next low) (raised ++ now)
       by_next (inl rests) =
-          subst (λ (l : Low). IsPlacedIn real request l (raised ++ now)) (sym rests.0)
-          (subst (λ (xs : List AlarmNotification). IsPlacedIn real request low xs) (sym (ap (λ (xs : List AlarmNotification). raised ++ xs) (silent rests.0) ∙ append-nil raised)) is)
+          subst (λ (l : Low). IsPlacedIn first real request l (raised ++ now)) (sym rests.0)
+          (subst (λ (xs : List AlarmNotification). IsPlacedIn first real request low xs) (sym (ap (λ (xs : List AlarmNotification). raised ++ xs) (silent rests.0) ∙ append-nil raised)) is)
       by_next (inr told) =
           let change = told.alarm.change in
           let later : Low = record low {
@@ -146,40 +143,37 @@ module _ (real : List RealModule) (request : Request) (raised : List AlarmNotifi
             waiting = told.rest;
             sent = Some (record { change = told.alarm.change; number = low.alarms.sender.specifier });
           } in
-          subst (λ (l : Low). IsPlacedIn real request l (raised ++ now)) (sym told.is)
-          (subst (λ (xs : List AlarmNotification). IsPlacedIn real request later (raised ++ xs)) (sym (tells told)) (record {
-            first = is.first;
+          subst (λ (l : Low). IsPlacedIn first real request l (raised ++ now)) (sym told.is)
+          (subst (λ (xs : List AlarmNotification). IsPlacedIn first real request later (raised ++ xs)) (sym (tells told)) (record {
             changes = is.changes ++ change ∷ [];
             reports = more_reports is.changes raised change (alarm_of low.alarms.sender.specifier told.alarm) is.reports (alarm_reports low.alarms.sender.specifier told.alarm told.alarm.change refl);
             are = λ slot subslot there.
-                ap (λ (xs : List LowChange). changes_after xs slot subslot (is.first slot subslot)) (append_assoc is.changes (change ∷ []) (map change_in told.rest))
-                ∙ (ap (λ (ws : List QueuedAlarm). changes_after (is.changes ++ map change_in ws) slot subslot (is.first slot subslot)) (sym told.waits) ∙ is.are slot subslot there);
+                ap (λ (xs : List LowChange). changes_after xs slot subslot (first slot subslot)) (append_assoc is.changes (change ∷ []) (map change_in told.rest))
+                ∙ (ap (λ (ws : List QueuedAlarm). changes_after (is.changes ++ map change_in ws) slot subslot (first slot subslot)) (sym told.waits) ∙ is.are slot subslot there);
           }))
 
   -- the modules changed where nothing is expected
   elsewhere_placed : (now : List RealModule) (low next : Low) → next.waiting ≡ low.waiting
       → ((slot subslot : ℕ) → is_expected request.expected slot subslot ≡ true → is_listed slot subslot (diff_of request.expected now) ≡ is_listed slot subslot (diff_of request.expected real))
-      → IsPlacedIn real request low raised → IsPlacedIn now request next raised
+      → IsPlacedIn first real request low raised → IsPlacedIn first now request next raised
   elsewhere_placed now low next waiting same is = record {
-    first = is.first;
     changes = is.changes;
     reports = is.reports;
     are = λ slot subslot there.
-        ap (λ (ws : List QueuedAlarm). changes_after (is.changes ++ map change_in ws) slot subslot (is.first slot subslot)) waiting ∙ (is.are slot subslot there ∙ sym (same slot subslot there));
+        ap (λ (ws : List QueuedAlarm). changes_after (is.changes ++ map change_in ws) slot subslot (first slot subslot)) waiting ∙ (is.are slot subslot there ∙ sym (same slot subslot there));
   }
 
   -- a pull or a plug waits
   changed_placed : (now : List RealModule) (made : RealChange) (asked : Bool) (low next : Low) (one : QueuedAlarm)
       → one.change ≡ change_is.Module (alarmed made asked (is_listed made.slot made.subslot (diff_of request.expected now))) → next.waiting ≡ low.waiting ++ one ∷ []
-      → IsSeenChange request.expected real now made → IsPlacedIn real request low raised → IsPlacedIn now request next raised
+      → IsSeenChange request.expected real now made → IsPlacedIn first real request low raised → IsPlacedIn first now request next raised
   changed_placed now made asked low next one change waiting seen is = record {
-    first = is.first;
     changes = is.changes;
     reports = is.reports;
     are = λ slot subslot there.
-        ap (λ (ws : List QueuedAlarm). changes_after (is.changes ++ map change_in ws) slot subslot (is.first slot subslot)) waiting
-        ∙ (after_more is.changes low.waiting (one ∷ []) slot subslot (is.first slot subslot)
-        ∙ (ap (λ (c : LowChange). change_after c slot subslot (changes_after (is.changes ++ map change_in low.waiting) slot subslot (is.first slot subslot))) change
+        ap (λ (ws : List QueuedAlarm). changes_after (is.changes ++ map change_in ws) slot subslot (first slot subslot)) waiting
+        ∙ (after_more is.changes low.waiting (one ∷ []) slot subslot (first slot subslot)
+        ∙ (ap (λ (c : LowChange). change_after c slot subslot (changes_after (is.changes ++ map change_in low.waiting) slot subslot (first slot subslot))) change
         ∙ (ap (λ (b : Bool). change_after (change_is.Module (alarmed made asked (is_listed made.slot made.subslot (diff_of request.expected now)))) slot subslot b) (is.are slot subslot there)
         ∙ seen.seen asked slot subslot there)));
   }
@@ -210,16 +204,16 @@ queued_more alarm low open_room = by_full (nat_le 32 (length low.waiting)) refl 
 
 -- ---- a turn
 
-module _ (Apart : Type 0) (alone_at : Apart) (real : List RealModule) (before : Option RelationState) (diagnoses : List Diagnosis) (raised : List AlarmNotification)
-    (knows : Knows Apart real before diagnoses raised) (are : ArePlaced real before raised) where
+module _ (Apart : Type 0) (alone_at : Apart) (first : ℕ → ℕ → Bool) (real : List RealModule) (before : Option RelationState) (diagnoses : List Diagnosis) (raised : List AlarmNotification)
+    (knows : Knows Apart real before diagnoses raised) (are : ArePlaced first real before raised) where
   at_next : (now : List RealModule) (after : Option RelationState) (next : RelationState) → after ≡ Some next → ArePluggedApart now
-      → IsPlacedIn now next.request next.flow.low (raised ++ reported_by before after) → ArePlaced now after (raised ++ reported_by before after)
+      → IsPlacedIn first now next.request next.flow.low (raised ++ reported_by before after) → ArePlaced first now after (raised ++ reported_by before after)
   at_next now after next becomes apart placed = record {
     apart = apart;
-    placed = λ l is. subst (λ (k : RelationState). IsPlacedIn now k.request k.flow.low (raised ++ reported_by before after)) (some_is next l (sym becomes ∙ is)) placed;
+    placed = λ l is. subst (λ (k : RelationState). IsPlacedIn first now k.request k.flow.low (raised ++ reported_by before after)) (some_is next l (sym becomes ∙ is)) placed;
   }
 
-  over_placed : (now : List RealModule) (after : Option RelationState) (told : List AlarmNotification) → ArePluggedApart now → after ≡ None → ArePlaced now after told
+  over_placed : (now : List RealModule) (after : Option RelationState) (told : List AlarmNotification) → ArePluggedApart now → after ≡ None → ArePlaced first now after told
   over_placed now after told apart none = record { apart = apart; placed = λ l is. absurd (none_some l after none is) }
 
   -- nothing is reported
@@ -233,19 +227,19 @@ module _ (Apart : Type 0) (alone_at : Apart) (real : List RealModule) (before : 
 
   same_so : (after : Option RelationState) (link next : RelationState) → before ≡ Some link → after ≡ Some next → next.request ≡ link.request
       → next.flow.low.waiting ≡ link.flow.low.waiting → next.flow.low.alarms.sender.sending.last ≡ link.flow.low.alarms.sender.sending.last
-      → ArePlaced real after (raised ++ reported_by before after)
+      → ArePlaced first real after (raised ++ reported_by before after)
   same_so after link next was becomes request waiting last =
       at_next real after next becomes are.apart
-      (subst (λ (r : Request). IsPlacedIn real r next.flow.low (raised ++ reported_by before after)) (sym request)
-      (subst (λ (xs : List AlarmNotification). IsPlacedIn real link.request next.flow.low xs) (sym (silent_at after link next was becomes last))
-      (same_placed real link.request raised link.flow.low next.flow.low waiting (are.placed link was))))
+      (subst (λ (r : Request). IsPlacedIn first real r next.flow.low (raised ++ reported_by before after)) (sym request)
+      (subst (λ (xs : List AlarmNotification). IsPlacedIn first real link.request next.flow.low xs) (sym (silent_at after link next was becomes last))
+      (same_placed first real link.request raised link.flow.low next.flow.low waiting (are.placed link was))))
 
-  stays_so : (after : Option RelationState) → IsSameOr before after → ArePlaced real after (raised ++ reported_by before after)
+  stays_so : (after : Option RelationState) → IsSameOr before after → ArePlaced first real after (raised ++ reported_by before after)
   stays_so after (inl same) = record {
     apart = are.apart;
     placed = λ l is. let there = found l is in
-        subst (λ (way : Way). IsPlacedIn real way.request way.low (raised ++ reported_by before after)) (sym there.2)
-        (subst (λ (xs : List AlarmNotification). IsPlacedIn real there.0.request there.0.flow.low xs) (sym silent) (are.placed there.0 there.1));
+        subst (λ (way : Way). IsPlacedIn first real way.request way.low (raised ++ reported_by before after)) (sym there.2)
+        (subst (λ (xs : List AlarmNotification). IsPlacedIn first real there.0.request there.0.flow.low xs) (sym silent) (are.placed there.0 there.1));
   }
     where
       found : (l : RelationState) → after ≡ Some l → (k : RelationState) × (before ≡ Some k) × (way_of l ≡ way_of k)
@@ -261,55 +255,55 @@ module _ (Apart : Type 0) (alone_at : Apart) (real : List RealModule) (before : 
       silent = silent_is after (numbers before after same)
   stays_so after (inr gone) = over_placed real after (raised ++ reported_by before after) are.apart gone
 
-  -- a relation is made
-  makes_so : (calls : List Answer) (heard : Heard) (after : Option RelationState) (sent : List Sent) → before ≡ None → raised ≡ [] → Makes calls before heard after sent
-      → ArePlaced real after (raised ++ reported_by before after)
-  makes_so calls heard after sent none empty makes =
+  -- a relation is made: there was none, nothing was reported, and the first places are those that differ from what it expects
+  abbrev IsAlone : (calls : List Answer) (heard : Heard) (after : Option RelationState) (sent : List Sent) → Makes calls before heard after sent → Type 0
+  IsAlone calls heard after sent makes =
+      (before ≡ None) × (raised ≡ []) × ((slot subslot : ℕ) → first slot subslot ≡ is_listed slot subslot (diff_of makes.request.expected real))
+
+  makes_so : (calls : List Answer) (heard : Heard) (after : Option RelationState) (sent : List Sent) (makes : Makes calls before heard after sent)
+      → IsAlone calls heard after sent makes → ArePlaced first real after (raised ++ reported_by before after)
+  makes_so calls heard after sent makes alone =
       let made = made_of makes.request makes.partner makes.rows makes.options makes.starting in
       at_next real after made makes.made are.apart
-      (subst (λ (xs : List AlarmNotification). IsPlacedIn real makes.request made.flow.low xs)
-      (sym (silent_is after (ap (λ (l : Option RelationState). number_in l) makes.made ∙ sym (ap (λ (l : Option RelationState). number_in l) none)) ∙ empty)) (record {
-        first = λ slot subslot. is_listed slot subslot (diff_of makes.request.expected real);
-        changes = [];
-        reports = tt;
-        are = λ slot subslot there. refl;
-      }))
+      (subst (λ (xs : List AlarmNotification). IsPlacedIn first real makes.request made.flow.low xs)
+      (sym (silent_is after (ap (λ (l : Option RelationState). number_in l) makes.made ∙ sym (ap (λ (l : Option RelationState). number_in l) alone.0)) ∙ alone.1))
+      (record { changes = []; reports = tt; are = λ slot subslot there. alone.2 slot subslot }))
 
   -- the next change is reported, if it can be, after this
   next_so : (now : List RealModule) (after : Option RelationState) (link next : RelationState) (middle : Low) → before ≡ Some link
       → middle.alarms.sender.sending.last ≡ link.flow.low.alarms.sender.sending.last → after ≡ Some next → next.flow.low ≡ after_next middle → next.request ≡ link.request → ArePluggedApart now
-      → IsPlacedIn now link.request middle raised → ArePlaced now after (raised ++ reported_by before after)
+      → IsPlacedIn first now link.request middle raised → ArePlaced first now after (raised ++ reported_by before after)
   next_so now after link next middle was last becomes low_is request apart placed =
       at_next now after next becomes apart
-      (subst (λ (r : Request). IsPlacedIn now r next.flow.low (raised ++ reported_by before after)) (sym request)
-      (subst (λ (low : Low). IsPlacedIn now link.request low (raised ++ reported_by before after)) (sym low_is)
-      (next_placed now link.request raised middle (reported_by before after)
+      (subst (λ (r : Request). IsPlacedIn first now r next.flow.low (raised ++ reported_by before after)) (sym request)
+      (subst (λ (low : Low). IsPlacedIn first now link.request low (raised ++ reported_by before after)) (sym low_is)
+      (next_placed first now link.request raised middle (reported_by before after)
       (λ rests. next_now before after link next middle was last becomes low_is rests)
       (λ tells. told_now before after link next middle was last becomes low_is tells) placed)))
 
-  low_data_so : (heard : Heard) (after : Option RelationState) (sent : List Sent) → HearsLowData before heard after sent → ArePlaced real after (raised ++ reported_by before after)
+  low_data_so : (heard : Heard) (after : Option RelationState) (sent : List Sent) → HearsLowData before heard after sent → ArePlaced first real after (raised ++ reported_by before after)
   low_data_so heard after sent came =
       let link = came.link in
       let middle = heard_low_in link (notice.Data came.number came.ack) in
       next_so real after link (next_link middle) middle.flow.low came.was (data_last link.flow.low.alarms came.number came.ack) came.becomes refl refl are.apart
-      (same_placed real link.request raised link.flow.low middle.flow.low refl (are.placed link came.was))
+      (same_placed first real link.request raised link.flow.low middle.flow.low refl (are.placed link came.was))
 
-  begins_so : (after : Option RelationState) (sent : List Sent) → Begins real diagnoses before after sent → ArePlaced real after (raised ++ reported_by before after)
+  begins_so : (after : Option RelationState) (sent : List Sent) → Begins real diagnoses before after sent → ArePlaced first real after (raised ++ reported_by before after)
   begins_so after sent begins =
       let link = begins.link in
-      let first = begun real diagnoses link.flow.low in
-      next_so real after link (begun_link real diagnoses (exchanging_from link)) first begins.was refl begins.becomes refl refl are.apart
-      (quiet_placed real link.request raised link.flow.low first
+      let opened = begun real diagnoses link.flow.low in
+      next_so real after link (begun_link real diagnoses (exchanging_from link)) opened begins.was refl begins.becomes refl refl are.apart
+      (quiet_placed first real link.request raised link.flow.low opened
       (take (64 - length link.flow.low.waiting) (map (diagnosis_queued real) (first_notices (is_own link.flow.low.places) diagnoses)))
       (first_quiet real (64 - length link.flow.low.waiting) (first_notices (is_own link.flow.low.places) diagnoses)) refl (are.placed link begins.was))
 
   -- ---- a change of diagnosis
 
   diagnoses_so : (heard : Heard) (after : Option RelationState) (later : List Diagnosis) (sent : List Sent) → Diagnoses real diagnoses later before heard after sent
-      → ArePlaced real after (raised ++ reported_by before after)
+      → ArePlaced first real after (raised ++ reported_by before after)
   diagnoses_so heard after later sent changes = by_before before refl
     where
-      by_link : (link : RelationState) → before ≡ Some link → ArePlaced real after (raised ++ reported_by before after)
+      by_link : (link : RelationState) → before ≡ Some link → ArePlaced first real after (raised ++ reported_by before after)
       by_link link was = by_test (is_reported link.flow.cyclic.begun changes.change link.flow.low) refl
         where
           next : RelationState
@@ -321,7 +315,7 @@ module _ (Apart : Type 0) (alone_at : Apart) (real : List RealModule) (before : 
           becomes_it : after ≡ Some (diagnosed_link real changes.change later link)
           becomes_it = changes.becomes ∙ ap (λ (l : Option RelationState). updated (diagnosing real changes.change later l) l) was
 
-          by_test : (b : Bool) → is_reported link.flow.cyclic.begun changes.change link.flow.low ≡ b → ArePlaced real after (raised ++ reported_by before after)
+          by_test : (b : Bool) → is_reported link.flow.cyclic.begun changes.change link.flow.low ≡ b → ArePlaced first real after (raised ++ reported_by before after)
           by_test false e =
               let same : (diagnosed real changes.change later link.flow).low ≡ noted later link.flow.low =
               ap (λ (b : Bool). cond b (after_next (waits_with real changes.change later link.flow.low)) (noted later link.flow.low)) e in
@@ -330,10 +324,10 @@ module _ (Apart : Type 0) (alone_at : Apart) (real : List RealModule) (before : 
               let same : (diagnosed real changes.change later link.flow).low ≡ after_next (waits_with real changes.change later link.flow.low) =
               ap (λ (b : Bool). cond b (after_next (waits_with real changes.change later link.flow.low)) (noted later link.flow.low)) e in
               next_so real after link next waits was refl becomes_it same refl are.apart
-              (queued_placed real link.request raised (noted later link.flow.low) (diagnosis_queued real (notice_of (is_own link.flow.low.places) changes.change later)) (λ slot subslot b. refl)
-              (same_placed real link.request raised link.flow.low (noted later link.flow.low) refl (are.placed link was)))
+              (queued_placed first real link.request raised (noted later link.flow.low) (diagnosis_queued real (notice_of (is_own link.flow.low.places) changes.change later)) (λ slot subslot b. refl)
+              (same_placed first real link.request raised link.flow.low (noted later link.flow.low) refl (are.placed link was)))
 
-      by_before : (link : Option RelationState) → before ≡ link → ArePlaced real after (raised ++ reported_by before after)
+      by_before : (link : Option RelationState) → before ≡ link → ArePlaced first real after (raised ++ reported_by before after)
       by_before (Some link) was = by_link link was
       by_before None was =
           over_placed real after (raised ++ reported_by before after) are.apart
@@ -345,7 +339,7 @@ module _ (Apart : Type 0) (alone_at : Apart) (real : List RealModule) (before : 
     is_modules : IsModules real now changes.made
     is_modules = modules_so real now heard changes.made changes.is changes.modules
 
-    by_relation : (link : RelationState) → before ≡ Some link → ArePlaced now after (raised ++ reported_by before after)
+    by_relation : (link : RelationState) → before ≡ Some link → ArePlaced first now after (raised ++ reported_by before after)
     by_relation link was = by_hit (is_hit (affected_by changes.made) (places_then (rows_now now link) changes.made link)) refl (is_exchanging link.phase) refl
       where
         next : RelationState
@@ -396,36 +390,36 @@ module _ (Apart : Type 0) (alone_at : Apart) (real : List RealModule) (before : 
                 hit_by_keys (affected_by changes.made) link.plugs (places_then (rows_now now link) changes.made link) (changed_keys (rows_now now link) changes.made link.plugs) ∙ e
 
         waits_placed : is_hit (affected_by changes.made) (places_then (rows_now now link) changes.made link) ≡ true
-            → IsPlacedIn now link.request
+            → IsPlacedIn first now link.request
             (module_waits (reported_as link.request (rows_now now link) changes.made) changes.made later (modules_restated link.request.expected (rows_now now link) later link.flow).low) raised
         waits_placed e =
-            changed_placed real link.request raised now changes.made (asks link.request) link.flow.low
+            changed_placed first real link.request raised now changes.made (asks link.request) link.flow.low
             (module_waits (reported_as link.request (rows_now now link) changes.made) changes.made later (modules_restated link.request.expected (rows_now now link) later link.flow).low)
             (module_queued (is_own (modules_restated link.request.expected (rows_now now link) later link.flow).low.places) (reported_as link.request (rows_now now link) changes.made) changes.made later)
             refl (more e) seen (are.placed link was)
 
         by_hit : (b : Bool) → is_hit (affected_by changes.made) (places_then (rows_now now link) changes.made link) ≡ b → (c : Bool) → is_exchanging link.phase ≡ c
-            → ArePlaced now after (raised ++ reported_by before after)
+            → ArePlaced first now after (raised ++ reported_by before after)
         by_hit false e c f =
             let same = low_by false link.flow.cyclic.begun e refl in
             at_next now after next becomes_it seen.apart
-            (subst (λ (xs : List AlarmNotification). IsPlacedIn now link.request (changed_link now changes.made later link).flow.low xs)
+            (subst (λ (xs : List AlarmNotification). IsPlacedIn first now link.request (changed_link now changes.made later link).flow.low xs)
             (sym (silent_at after link next was becomes_it (ap (λ (l : Low). l.alarms.sender.sending.last) same)))
-            (elsewhere_placed real link.request raised now link.flow.low (changed_link now changes.made later link).flow.low (ap (λ (l : Low). l.waiting) same) (still e) (are.placed link was)))
+            (elsewhere_placed first real link.request raised now link.flow.low (changed_link now changes.made later link).flow.low (ap (λ (l : Low). l.waiting) same) (still e) (are.placed link was)))
         by_hit true e false f =
             let same = low_by true false e (knows.begins link was ∙ f) in
             at_next now after next becomes_it seen.apart
-            (subst (λ (xs : List AlarmNotification). IsPlacedIn now link.request (changed_link now changes.made later link).flow.low xs)
+            (subst (λ (xs : List AlarmNotification). IsPlacedIn first now link.request (changed_link now changes.made later link).flow.low xs)
             (sym (silent_at after link next was becomes_it (ap (λ (l : Low). l.alarms.sender.sending.last) same)))
-            (subst (λ (low : Low). IsPlacedIn now link.request low raised) (sym same) (waits_placed e)))
+            (subst (λ (low : Low). IsPlacedIn first now link.request low raised) (sym same) (waits_placed e)))
         by_hit true e true f =
             let same = low_by true true e (knows.begins link was ∙ f) in
             next_so now after link next waits was refl becomes_it same refl seen.apart (waits_placed e)
 
-    pulled_so : ArePlaced now after (raised ++ reported_by before after)
+    pulled_so : ArePlaced first now after (raised ++ reported_by before after)
     pulled_so = by_before before refl
       where
-        by_before : (link : Option RelationState) → before ≡ link → ArePlaced now after (raised ++ reported_by before after)
+        by_before : (link : Option RelationState) → before ≡ link → ArePlaced first now after (raised ++ reported_by before after)
         by_before (Some link) was = by_relation link was
         by_before None was =
             over_placed now after (raised ++ reported_by before after)
@@ -434,13 +428,13 @@ module _ (Apart : Type 0) (alone_at : Apart) (real : List RealModule) (before : 
 
   -- any turn that leaves the modules as they are
   turn_so : (calls : List Answer) (heard : Heard) (after : Option RelationState) (later : List Diagnosis) (sent : List Sent)
-      → (Makes calls before heard after sent → (before ≡ None) × (raised ≡ []))
-      → IsTurn real real calls diagnoses later before heard after sent → ArePlaced real after (raised ++ reported_by before after)
+      → ((makes : Makes calls before heard after sent) → IsAlone calls heard after sent makes)
+      → IsTurn real real calls diagnoses later before heard after sent → ArePlaced first real after (raised ++ reported_by before after)
   turn_so calls heard after later sent alone turn = by_turn turn
     where
-      by_turn : IsTurn real real calls diagnoses later before heard after sent → ArePlaced real after (raised ++ reported_by before after)
+      by_turn : IsTurn real real calls diagnoses later before heard after sent → ArePlaced first real after (raised ++ reported_by before after)
       by_turn (inl stays) = stays_so after stays.link
-      by_turn (inr (inl makes)) = let so = alone makes in makes_so calls heard after sent so.0 so.1 makes
+      by_turn (inr (inl makes)) = makes_so calls heard after sent makes (alone makes)
       by_turn (inr (inr (inl raises))) =
           let may = may_be raises.link.flow raises.slot raises.subslot raises.octets (module_ident real raises.slot) (submodule_ident real raises.slot raises.subslot) raises.flow raises.raised in
           same_so after raises.link (with_flow raises.flow raises.link) raises.was raises.becomes refl (ap (λ (f : Flow). f.low.waiting) may.is) (ap (λ (f : Flow). f.low.alarms.sender.sending.last) may.is)
@@ -454,10 +448,10 @@ module _ (Apart : Type 0) (alone_at : Apart) (real : List RealModule) (before : 
       by_turn (inr (inr (inr (inr (inr (inr (inr (inr (inr (inr changes)))))))))) = pulled_so real heard after later sent changes
 
   pub placed_on : (calls : List Answer) (heard : Heard) (after : Option RelationState) (now : List RealModule) (later : List Diagnosis) (sent : List Sent)
-      → (Makes calls before heard after sent → (before ≡ None) × (raised ≡ []))
+      → ((makes : Makes calls before heard after sent) → IsAlone calls heard after sent makes)
       → IsTurn real now calls diagnoses later before heard after sent
-      → (now ≡ real) ⊎ Changes real now diagnoses later before heard after sent → ArePlaced now after (raised ++ reported_by before after)
+      → (now ≡ real) ⊎ Changes real now diagnoses later before heard after sent → ArePlaced first now after (raised ++ reported_by before after)
   placed_on calls heard after now later sent alone turn (inr changes) = pulled_so now heard after later sent changes
   placed_on calls heard after now later sent alone turn (inl still) =
-      subst (λ (modules : List RealModule). ArePlaced modules after (raised ++ reported_by before after)) (sym still)
+      subst (λ (modules : List RealModule). ArePlaced first modules after (raised ++ reported_by before after)) (sym still)
       (turn_so calls heard after later sent alone (subst (λ (modules : List RealModule). IsTurn real modules calls diagnoses later before heard after sent) still turn))

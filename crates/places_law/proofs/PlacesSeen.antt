@@ -1,15 +1,12 @@
 -- What alarms make of the places of a controller: which of them are not as the plan expects.
-use Rattle.std.proofs.Common.{◌≡◌, ◌==◌, ◌&&◌, ◌||◌, ◌++◌, ℕ, Bool, true, false, cond, not, List, [], ◌∷◌, length, map, take, drop, Option, Some, None, option_map, refl, sym, ap, subst, ◌∙◌}
+use Rattle.std.proofs.Common.{◌≡◌, ◌==◌, ◌&&◌, ◌||◌, ◌++◌, ℕ, Bool, true, false, cond, not, List, [], ◌∷◌, map, Option, Some, None, option_map, refl, sym, ap, subst, ◌∙◌}
 use Rattle.std.specs.Prelude.{is_some}
 use Rattle.std.specs.List.{AllByRecursion, filter, find, list_any}
-use Rattle.std.proofs.lemmas.List.{length-map}
-use Rattle.std.proofs.Math.Seq.{take-append_seam, drop-append_seam}
-use Rattle.std.proofs.lemmas.Bool.{and_parts, eqb-true}
+use Rattle.std.proofs.lemmas.Bool.{and_parts, eqb-true, or_parts}
 use Rattle.pn_values.specs.declared.real.RealModule.{RealModule}
 use Rattle.pn_values.specs.declared.real.RealSubmodule.{RealSubmodule}
-use Rattle.connect_blocks.specs.declared.expected.ExpectedSubmodule.{ExpectedSubmodule}
-use Rattle.module_diff.specs.Diff.{wanted_in}
-use Rattle.plans.specs.Parts.{module_of, submodule_of}
+use Rattle.module_diff.specs.Diff.{Wanted}
+use Rattle.plans.specs.Parts.{submodule_of}
 use Rattle.record_blocks.specs.declared.alarm_notification.AlarmNotification.{AlarmNotification}
 use Rattle.diagnosis.specs.declared.reports.priority.Priority.TheVariants.{Low}
 use Rattle.plan_places.specs.declared.place.Place.{Place}
@@ -22,10 +19,51 @@ use Rattle.plan_places.specs.Places.{Told, after_report, first_place, first_wait
 use Rattle.plan_places.specs.Reports.{place_report}
 use Rattle.end_laws.specs.turns.Alarms.{report_as}
 use Rattle.both_ends.proofs.ExchangeLists.{each_behind, some_is}
-use Rattle.both_ends.specs.startup.request.Request.{expected_of, submodules_in}
+use Rattle.both_ends.specs.startup.request.Request.{expected_of}
 use Rattle.both_ends.proofs.ExchangeOwn.{any_append, has_part, is_expected}
 use Rattle.both_ends.proofs.ExchangeSmall.{found_is}
-use Rattle.places_law.specs.Agreed.{concerns, has_submodule, is_amiss, is_in_plan}
+use Rattle.places_law.specs.Agreed.{concerns, concerns_any, has_submodule, is_amiss, is_in_plan, is_reported, reports_at}
+use Rattle.places_law.proofs.PlacesRows.{planned_wanted, wanted_for}
+
+-- ---- a place
+
+-- What is known of a submodule: nothing since the relation was made, or whether it is not as the plan expects.
+abbrev pub known_of : PlaceState → Option Bool
+known_of There = None
+known_of Differs = Some true
+known_of Gone = Some true
+known_of Wrong = Some true
+known_of (Plugged number) = Some false
+known_of (Writing number) = Some false
+known_of (Ending number) = Some false
+known_of (Ready number) = Some false
+known_of Refused = Some false
+
+abbrev pub amiss_in : Option Bool → Bool
+amiss_in None = false
+amiss_in (Some amiss) = amiss
+
+pub amiss_is : (state : PlaceState) → is_amiss state ≡ amiss_in (known_of state)
+amiss_is There = refl
+amiss_is Differs = refl
+amiss_is Gone = refl
+amiss_is Wrong = refl
+amiss_is (Plugged number) = refl
+amiss_is (Writing number) = refl
+amiss_is (Ending number) = refl
+amiss_is (Ready number) = refl
+amiss_is Refused = refl
+
+pub there_is : (state : PlaceState) → known_of state ≡ None → state ≡ There
+there_is There e = refl
+there_is Differs e = absurd cc
+there_is Gone e = absurd cc
+there_is Wrong e = absurd cc
+there_is (Plugged number) e = absurd cc
+there_is (Writing number) e = absurd cc
+there_is (Ending number) e = absurd cc
+there_is (Ready number) e = absurd cc
+there_is Refused e = absurd cc
 
 -- ---- alarms
 
@@ -39,36 +77,72 @@ abbrev pub seen_by : List AlarmNotification → ℕ → ℕ → Bool → Bool
 seen_by [] slot subslot before = before
 seen_by (alarm ∷ alarms) slot subslot before = seen_by alarms slot subslot (seen_after (place_report (report_as Low alarm)) slot subslot before)
 
-pub seen_more : (alarms : List AlarmNotification) (alarm : AlarmNotification) (slot subslot : ℕ) (before : Bool)
-    → seen_by (alarms ++ alarm ∷ []) slot subslot before ≡ seen_after (place_report (report_as Low alarm)) slot subslot (seen_by alarms slot subslot before)
-seen_more [] alarm slot subslot before = refl
-seen_more (one ∷ alarms) alarm slot subslot before = seen_more alarms alarm slot subslot (seen_after (place_report (report_as Low one)) slot subslot before)
+-- What is known of it, after a report.
+abbrev pub known_after : Option PlaceReport → ℕ → ℕ → Option Bool → Option Bool
+known_after None slot subslot before = before
+known_after (Some report) slot subslot before = cond (concerns slot subslot report) (known_of (reported_state report)) before
+
+-- After these alarms.
+abbrev pub known_by : List AlarmNotification → ℕ → ℕ → Option Bool → Option Bool
+known_by [] slot subslot before = before
+known_by (alarm ∷ alarms) slot subslot before = known_by alarms slot subslot (known_after (place_report (report_as Low alarm)) slot subslot before)
+
+pub known_more : (alarms : List AlarmNotification) (alarm : AlarmNotification) (slot subslot : ℕ) (before : Option Bool)
+    → known_by (alarms ++ alarm ∷ []) slot subslot before ≡ known_after (place_report (report_as Low alarm)) slot subslot (known_by alarms slot subslot before)
+known_more [] alarm slot subslot before = refl
+known_more (one ∷ alarms) alarm slot subslot before = known_more alarms alarm slot subslot (known_after (place_report (report_as Low one)) slot subslot before)
+
+one_amiss : (o : Option PlaceReport) (slot subslot : ℕ) (before : Option Bool) → amiss_in (known_after o slot subslot before) ≡ seen_after o slot subslot (amiss_in before)
+one_amiss None slot subslot before = refl
+one_amiss (Some report) slot subslot before = by_test (concerns slot subslot report)
+  where
+    by_test : (b : Bool) → amiss_in (cond b (known_of (reported_state report)) before) ≡ cond b (is_amiss (reported_state report)) (amiss_in before)
+    by_test true = sym (amiss_is (reported_state report))
+    by_test false = refl
+
+-- what is known says whether it is as expected
+pub known_amiss : (alarms : List AlarmNotification) (slot subslot : ℕ) (before : Option Bool) → amiss_in (known_by alarms slot subslot before) ≡ seen_by alarms slot subslot (amiss_in before)
+known_amiss [] slot subslot before = refl
+known_amiss (alarm ∷ alarms) slot subslot before =
+    known_amiss alarms slot subslot (known_after (place_report (report_as Low alarm)) slot subslot before)
+    ∙ ap (λ (b : Bool). seen_by alarms slot subslot b) (one_amiss (place_report (report_as Low alarm)) slot subslot before)
+
+one_unknown : (o : Option PlaceReport) (slot subslot : ℕ) → concerns_any slot subslot o ≡ false → known_after o slot subslot None ≡ None
+one_unknown None slot subslot e = refl
+one_unknown (Some report) slot subslot e = ap (λ (b : Bool). cond b (known_of (reported_state report)) None) e
+
+-- nothing is known where nothing was reported
+pub known_none : (alarms : List AlarmNotification) (slot subslot : ℕ) → is_reported slot subslot alarms ≡ false → known_by alarms slot subslot None ≡ None
+known_none [] slot subslot e = refl
+known_none (alarm ∷ alarms) slot subslot e =
+    let parts = or_parts (reports_at slot subslot alarm) (is_reported slot subslot alarms) e in
+    ap (λ (o : Option Bool). known_by alarms slot subslot o) (one_unknown (place_report (report_as Low alarm)) slot subslot parts.0) ∙ known_none alarms slot subslot parts.1
 
 -- ---- places
 
--- Each of these places is not as expected exactly where this says so.
-abbrev pub IsAs : (ℕ → ℕ → Bool) → Place → Type 0
-IsAs has place = is_amiss place.state ≡ has place.slot place.subslot
+-- What is known of each of these places is what this says.
+abbrev pub IsAs : (ℕ → ℕ → Option Bool) → Place → Type 0
+IsAs has place = known_of place.state ≡ has place.slot place.subslot
 
-abbrev pub AreAs : (ℕ → ℕ → Bool) → List Place → Type 0
+abbrev pub AreAs : (ℕ → ℕ → Option Bool) → List Place → Type 0
 AreAs has places = AllByRecursion (IsAs has) places
 
-pub as_same : (has now : ℕ → ℕ → Bool) → ((slot subslot : ℕ) → has slot subslot ≡ now slot subslot) → (places : List Place) → AreAs has places → AreAs now places
+pub as_same : (has now : ℕ → ℕ → Option Bool) → ((slot subslot : ℕ) → has slot subslot ≡ now slot subslot) → (places : List Place) → AreAs has places → AreAs now places
 as_same has now same [] all = tt
 as_same has now same (place ∷ places) all = (all.0 ∙ same place.slot place.subslot, as_same has now same places all.1)
 
-pub found_as : (has : ℕ → ℕ → Bool) (places : List Place) (slot subslot : ℕ) (place : Place) → AreAs has places → place_at slot subslot places ≡ Some place → is_amiss place.state ≡ has slot subslot
+pub found_as : (has : ℕ → ℕ → Option Bool) (places : List Place) (slot subslot : ℕ) (place : Place) → AreAs has places → place_at slot subslot places ≡ Some place → known_of place.state ≡ has slot subslot
 found_as has places slot subslot place all e =
     let there = found_is (IsAs has) (is_at slot subslot) places place all e in
     let at = and_parts (place.slot == slot) (place.subslot == subslot) there.1 in
     there.0 ∙ (ap (λ (n : ℕ). has n place.subslot) (eqb-true place.slot slot at.0) ∙ ap (λ (n : ℕ). has slot n) (eqb-true place.subslot subslot at.1))
 
-pub state_as : (has : ℕ → ℕ → Bool) (told : Told) (slot subslot : ℕ) (state : PlaceState) → AreAs has told.places → state_at slot subslot told ≡ Some state → is_amiss state ≡ has slot subslot
+pub state_as : (has : ℕ → ℕ → Option Bool) (told : Told) (slot subslot : ℕ) (state : PlaceState) → AreAs has told.places → state_at slot subslot told ≡ Some state → known_of state ≡ has slot subslot
 state_as has told slot subslot state all e = by_place (place_at slot subslot told.places) refl e
   where
-    by_place : (o : Option Place) → place_at slot subslot told.places ≡ o → option_map (λ (place : Place). place.state) o ≡ Some state → is_amiss state ≡ has slot subslot
+    by_place : (o : Option Place) → place_at slot subslot told.places ≡ o → option_map (λ (place : Place). place.state) o ≡ Some state → known_of state ≡ has slot subslot
     by_place None f g = absurd cc
-    by_place (Some place) f g = ap is_amiss (sym (some_is place.state state g)) ∙ found_as has told.places slot subslot place all f
+    by_place (Some place) f g = ap known_of (sym (some_is place.state state g)) ∙ found_as has told.places slot subslot place all f
 
 -- ---- a report
 
@@ -77,42 +151,42 @@ about_is (reports.Pulled affected) place = refl
 about_is (reports.PluggedWrong plug) place = refl
 about_is (reports.Plugged plug) place = refl
 
-module _ (has : ℕ → ℕ → Bool) (report : PlaceReport) where
-  abbrev now : ℕ → ℕ → Bool
-  now = λ slot subslot. seen_after (Some report) slot subslot (has slot subslot)
+module _ (has : ℕ → ℕ → Option Bool) (report : PlaceReport) where
+  abbrev now : ℕ → ℕ → Option Bool
+  now = λ slot subslot. known_after (Some report) slot subslot (has slot subslot)
 
-  one_after : (place : Place) → IsAs has place → IsAs (λ slot subslot. seen_after (Some report) slot subslot (has slot subslot)) (after_report report place)
+  one_after : (place : Place) → IsAs has place → IsAs (λ slot subslot. known_after (Some report) slot subslot (has slot subslot)) (after_report report place)
   one_after place is = by_test (is_about report place) refl
     where
       by_test : (b : Bool) → is_about report place ≡ b
-          → IsAs (λ slot subslot. seen_after (Some report) slot subslot (has slot subslot)) (cond b (in_state (reported_state report) place) place)
-      by_test true e = sym (ap (λ (c : Bool). cond c (is_amiss (reported_state report)) (has place.slot place.subslot)) (sym (about_is report place) ∙ e))
-      by_test false e = is ∙ sym (ap (λ (c : Bool). cond c (is_amiss (reported_state report)) (has place.slot place.subslot)) (sym (about_is report place) ∙ e))
+          → IsAs (λ slot subslot. known_after (Some report) slot subslot (has slot subslot)) (cond b (in_state (reported_state report) place) place)
+      by_test true e = sym (ap (λ (c : Bool). cond c (known_of (reported_state report)) (has place.slot place.subslot)) (sym (about_is report place) ∙ e))
+      by_test false e = is ∙ sym (ap (λ (c : Bool). cond c (known_of (reported_state report)) (has place.slot place.subslot)) (sym (about_is report place) ∙ e))
 
   some_moved : (test : Place → Bool) (places : List Place) → AreAs has places
-      → AreAs (λ slot subslot. seen_after (Some report) slot subslot (has slot subslot)) (map (after_report report) (filter test places))
+      → AreAs (λ slot subslot. known_after (Some report) slot subslot (has slot subslot)) (map (after_report report) (filter test places))
   some_moved test [] all = tt
   some_moved test (place ∷ places) all = by_test (test place) (one_after place all.0) (some_moved test places all.1)
     where
-      by_test : (b : Bool) → IsAs (λ slot subslot. seen_after (Some report) slot subslot (has slot subslot)) (after_report report place)
-          → AreAs (λ slot subslot. seen_after (Some report) slot subslot (has slot subslot)) (map (after_report report) (filter test places))
-          → AreAs (λ slot subslot. seen_after (Some report) slot subslot (has slot subslot)) (map (after_report report) (cond b (place ∷ filter test places) (filter test places)))
+      by_test : (b : Bool) → IsAs (λ slot subslot. known_after (Some report) slot subslot (has slot subslot)) (after_report report place)
+          → AreAs (λ slot subslot. known_after (Some report) slot subslot (has slot subslot)) (map (after_report report) (filter test places))
+          → AreAs (λ slot subslot. known_after (Some report) slot subslot (has slot subslot)) (map (after_report report) (cond b (place ∷ filter test places) (filter test places)))
       by_test true one rest = (one, rest)
       by_test false one rest = rest
 
-  pub after_as : (told : Told) → AreAs has told.places → AreAs (λ slot subslot. seen_after (Some report) slot subslot (has slot subslot)) (told_after report told).places
+  pub after_as : (told : Told) → AreAs has told.places → AreAs (λ slot subslot. known_after (Some report) slot subslot (has slot subslot)) (told_after report told).places
   after_as told all =
-      each_behind (IsAs (λ slot subslot. seen_after (Some report) slot subslot (has slot subslot))) (moved false report told.places) (moved true report told.places)
+      each_behind (IsAs (λ slot subslot. known_after (Some report) slot subslot (has slot subslot))) (moved false report told.places) (moved true report told.places)
       (some_moved (is_moved false report) told.places all) (some_moved (is_moved true report) told.places all)
 
-pub by_as : (has : ℕ → ℕ → Bool) (report : Option PlaceReport) (told : Told) → AreAs has told.places → AreAs (λ slot subslot. seen_after report slot subslot (has slot subslot)) (told_by report told).places
+pub by_as : (has : ℕ → ℕ → Option Bool) (report : Option PlaceReport) (told : Told) → AreAs has told.places → AreAs (λ slot subslot. known_after report slot subslot (has slot subslot)) (told_by report told).places
 by_as has None told all = all
 by_as has (Some report) told all = after_as has report told all
 
 -- ---- turns
 
 -- a submodule that is as expected goes on
-pub set_as : (has : ℕ → ℕ → Bool) (slot subslot : ℕ) (state : PlaceState) (told : Told) → has slot subslot ≡ false → is_amiss state ≡ false → AreAs has told.places
+pub set_as : (has : ℕ → ℕ → Option Bool) (slot subslot : ℕ) (state : PlaceState) (told : Told) → has slot subslot ≡ Some false → known_of state ≡ Some false → AreAs has told.places
     → AreAs has (with_state slot subslot state told).places
 set_as has slot subslot state told good fine all = each_place told.places all
   where
@@ -129,8 +203,8 @@ set_as has slot subslot state told good fine all = each_place told.places all
     each_place [] these = tt
     each_place (place ∷ places) these = (one place these.0, each_place places these.1)
 
-ready_fine : (number : ℕ) (state : PlaceState) → is_told number state ≡ true → is_amiss state ≡ false
-ready_fine number There e = refl
+ready_fine : (number : ℕ) (state : PlaceState) → is_told number state ≡ true → known_of state ≡ Some false
+ready_fine number There e = absurd cc
 ready_fine number Differs e = absurd cc
 ready_fine number Gone e = absurd cc
 ready_fine number Wrong e = absurd cc
@@ -140,7 +214,7 @@ ready_fine number (Ending of) e = refl
 ready_fine number (Ready of) e = refl
 ready_fine number Refused e = refl
 
-pub readied_as : (has : ℕ → ℕ → Bool) (number : ℕ) (told : Told) → AreAs has told.places → AreAs has (readied number told).places
+pub readied_as : (has : ℕ → ℕ → Option Bool) (number : ℕ) (told : Told) → AreAs has told.places → AreAs has (readied number told).places
 readied_as has number told all = each_place told.places all
   where
     one : (place : Place) → IsAs has place → IsAs has (made_ready number place)
@@ -154,8 +228,8 @@ readied_as has number told all = each_place told.places all
     each_place [] these = tt
     each_place (place ∷ places) these = (one place these.0, each_place places these.1)
 
-plugged_fine : (state : PlaceState) (number : ℕ) → plugged_number state ≡ Some number → is_amiss state ≡ false
-plugged_fine There number e = refl
+plugged_fine : (state : PlaceState) (number : ℕ) → plugged_number state ≡ Some number → known_of state ≡ Some false
+plugged_fine There number e = absurd cc
 plugged_fine Differs number e = absurd cc
 plugged_fine Gone number e = absurd cc
 plugged_fine Wrong number e = absurd cc
@@ -166,25 +240,25 @@ plugged_fine (Ready of) number e = refl
 plugged_fine Refused number e = refl
 
 -- the place that waits first is as expected
-waiting_fine : (has : ℕ → ℕ → Bool) (places : List Place) (plug : Plug) → AreAs has places → first_waiting places ≡ Some plug → has plug.slot plug.subslot ≡ false
+waiting_fine : (has : ℕ → ℕ → Option Bool) (places : List Place) (plug : Plug) → AreAs has places → first_waiting places ≡ Some plug → has plug.slot plug.subslot ≡ Some false
 waiting_fine has [] plug all e = absurd cc
 waiting_fine has (place ∷ places) plug all e = by_number (plugged_number place.state) refl e (λ f. waiting_fine has places plug all.1 f)
   where
     by_number : (o : Option ℕ) → plugged_number place.state ≡ o → or_next (option_map (plug_at place) o) (first_waiting places) ≡ Some plug
-        → (first_waiting places ≡ Some plug → has plug.slot plug.subslot ≡ false) → has plug.slot plug.subslot ≡ false
+        → (first_waiting places ≡ Some plug → has plug.slot plug.subslot ≡ Some false) → has plug.slot plug.subslot ≡ Some false
     by_number None f g later = later g
     by_number (Some number) f g later =
-        subst (λ (p : Plug). has p.slot p.subslot ≡ false) (some_is (plug_at place number) plug g) (sym all.0 ∙ plugged_fine place.state number f)
+        subst (λ (p : Plug). has p.slot p.subslot ≡ Some false) (some_is (plug_at place number) plug g) (sym all.0 ∙ plugged_fine place.state number f)
 
-pub next_fine : (has : ℕ → ℕ → Bool) (told : Told) (plug : Plug) → AreAs has told.places → next_waiting told ≡ Some plug → has plug.slot plug.subslot ≡ false
+pub next_fine : (has : ℕ → ℕ → Option Bool) (told : Told) (plug : Plug) → AreAs has told.places → next_waiting told ≡ Some plug → has plug.slot plug.subslot ≡ Some false
 next_fine has told plug all e = by_turns told.has_turns e
   where
-    by_turns : (b : Bool) → cond b (first_waiting told.places) None ≡ Some plug → has plug.slot plug.subslot ≡ false
+    by_turns : (b : Bool) → cond b (first_waiting told.places) None ≡ Some plug → has plug.slot plug.subslot ≡ Some false
     by_turns true f = waiting_fine has told.places plug all f
     by_turns false f = absurd cc
 
-turn_state : (state : PlaceState) → has_turn state ≡ true → is_amiss state ≡ false
-turn_state There e = refl
+turn_state : (state : PlaceState) → has_turn state ≡ true → known_of state ≡ Some false
+turn_state There e = absurd cc
 turn_state Differs e = absurd cc
 turn_state Gone e = absurd cc
 turn_state Wrong e = absurd cc
@@ -194,10 +268,10 @@ turn_state (Ending of) e = refl
 turn_state (Ready of) e = refl
 turn_state Refused e = refl
 
-pub turn_fine : (has : ℕ → ℕ → Bool) (told : Told) (slot subslot : ℕ) → AreAs has told.places → has_turn_at slot subslot told ≡ true → has slot subslot ≡ false
+pub turn_fine : (has : ℕ → ℕ → Option Bool) (told : Told) (slot subslot : ℕ) → AreAs has told.places → has_turn_at slot subslot told ≡ true → has slot subslot ≡ Some false
 turn_fine has told slot subslot all e = by_state (state_at slot subslot told) refl e
   where
-    by_state : (o : Option PlaceState) → state_at slot subslot told ≡ o → is_turn o ≡ true → has slot subslot ≡ false
+    by_state : (o : Option PlaceState) → state_at slot subslot told ≡ o → is_turn o ≡ true → has slot subslot ≡ Some false
     by_state None f g = absurd cc
     by_state (Some state) f g = sym (state_as has told slot subslot state all f) ∙ turn_state state g
 
@@ -313,21 +387,10 @@ expected_parts subslot [] = refl
 expected_parts subslot (part ∷ parts) = ap (λ (b : Bool). (part.subslot == subslot) || b) (expected_parts subslot parts)
 
 pub planned_expected : (modules : List RealModule) (slot subslot : ℕ) → is_expected (expected_of modules) slot subslot ≡ is_in_plan modules slot subslot
-planned_expected [] slot subslot = refl
-planned_expected (entry ∷ modules) slot subslot =
-    ap (λ (xs : List ExpectedSubmodule). (entry.slot == slot && list_any (λ part. part.subslot_number == subslot) xs)
-    || list_any (has_part slot subslot) (wanted_in (map module_of modules) (drop (length entry.submodules.items) (map submodule_of entry.submodules.items ++ submodules_in modules)))) own_taken
-    ∙ (ap (λ (xs : List ExpectedSubmodule). (entry.slot == slot && list_any (λ part. part.subslot_number == subslot) (map submodule_of entry.submodules.items))
-    || list_any (has_part slot subslot) (wanted_in (map module_of modules) xs)) own_left
-    ∙ (ap (λ (b : Bool). (entry.slot == slot && b) || is_expected (expected_of modules) slot subslot) (expected_parts subslot entry.submodules.items)
-    ∙ ap (λ (b : Bool). has_submodule slot subslot entry || b) (planned_expected modules slot subslot)))
+planned_expected modules slot subslot = ap (λ (ws : List Wanted). list_any (has_part slot subslot) ws) (planned_wanted modules) ∙ each_planned modules
   where
-    own_taken : take (length entry.submodules.items) (map submodule_of entry.submodules.items ++ submodules_in modules) ≡ map submodule_of entry.submodules.items
-    own_taken =
-        ap (λ (n : ℕ). take n (map submodule_of entry.submodules.items ++ submodules_in modules)) (sym (length-map entry.submodules.items submodule_of))
-        ∙ take-append_seam (map submodule_of entry.submodules.items) (submodules_in modules)
-
-    own_left : drop (length entry.submodules.items) (map submodule_of entry.submodules.items ++ submodules_in modules) ≡ submodules_in modules
-    own_left =
-        ap (λ (n : ℕ). drop n (map submodule_of entry.submodules.items ++ submodules_in modules)) (sym (length-map entry.submodules.items submodule_of))
-        ∙ drop-append_seam (map submodule_of entry.submodules.items) (submodules_in modules)
+    each_planned : (entries : List RealModule) → list_any (has_part slot subslot) (map wanted_for entries) ≡ is_in_plan entries slot subslot
+    each_planned [] = refl
+    each_planned (entry ∷ entries) =
+        ap (λ (b : Bool). (entry.slot == slot && b) || list_any (has_part slot subslot) (map wanted_for entries)) (expected_parts subslot entry.submodules.items)
+        ∙ ap (λ (b : Bool). has_submodule slot subslot entry || b) (each_planned entries)

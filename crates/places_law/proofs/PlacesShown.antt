@@ -29,7 +29,8 @@ use Rattle.connects.specs.answers.Connect.{Chosen, chosen_of, found_in, is_whole
 use Rattle.plans.specs.declared.parts.Parts.{Parts}
 use Rattle.pn_values.specs.declared.real.RealModule.{RealModule}
 use Rattle.pn_values.specs.declared.real.RealSubmodule.{RealSubmodule}
-use Rattle.plan_places.specs.declared.place.PlaceState.TheVariants.{Refused as place_refused}
+use Rattle.plan_places.specs.declared.place.PlaceState.TheVariants.{Differs, There, Refused as place_refused}
+use Rattle.plan_places.specs.Listed.{is_listed_in}
 use Rattle.plan_places.specs.declared.report.PlaceReport.{PlaceReport}
 use Rattle.plan_places.specs.declared.report.Plug.{Plug}
 use Rattle.plan_places.specs.Places.{first_place, first_state, Told, has_turn_at, next_waiting, places_of, told_by, with_state}
@@ -73,8 +74,10 @@ use Rattle.end_laws.specs.turns.Alarms.{is_priority, report_as}
 use Rattle.both_ends.specs.exchange.Over.{taken_by, taken_of}
 use Rattle.both_ends.proofs.ExchangeLists.{each_behind, holds_if}
 use Rattle.both_ends.proofs.ExchangeReported.{IsGood, IsOfPriority, IsOurs}
-use Rattle.places_law.specs.Agreed.{is_amiss, is_in_plan}
-use Rattle.places_law.proofs.PlacesSeen.{AreAs, AreOf, IsAs, as_same, by_as, by_of, next_fine, opened_of, readied_as, readied_of, seen_after, seen_by, seen_more, set_as, set_of, turn_fine}
+use Rattle.places_law.specs.Agreed.{is_in_plan}
+use Rattle.places_law.proofs.PlacesAnswered.{TellsSo}
+use Rattle.places_law.proofs.PlacesOctets.{Tells}
+use Rattle.places_law.proofs.PlacesSeen.{AreAs, AreOf, IsAs, as_same, by_as, by_of, known_after, known_by, known_more, known_of, next_fine, opened_of, readied_as, readied_of, set_as, set_of, turn_fine}
 
 -- ---- the invariant
 
@@ -89,16 +92,17 @@ record IsUnbegun (live : Live) (alarms : List AlarmNotification) : Type 0 where
   none : alarms ≡ []
   down : live.stands ≡ false
 
--- While its relation is established, its places are as these alarms report them, from some first state on.
-pub record IsSeen (setup : Setup) (alarms : List AlarmNotification) (live : Live) : Type 0 where
+-- While its relation is established, its places are those of the plan, each as these alarms report it, if one does, and else there; and
+-- this holds, as the response to its Connect says.
+pub record IsSeen (Clear : Type 0) (setup : Setup) (alarms : List AlarmNotification) (live : Live) : Type 0 where
+  pub clear : Clear
   pub own : AreOf (is_in_plan setup.plan.real.modules.items) live.places.places
-  pub first : ℕ → ℕ → Bool
-  pub are : AreAs (λ slot subslot. seen_by alarms slot subslot (first slot subslot)) live.places.places
+  pub are : AreAs (λ slot subslot. known_by alarms slot subslot None) live.places.places
 
-pub record IsShown (setup : Setup) (alarms : List AlarmNotification) (live : Live) : Type 0 where
+pub record IsShown (Clear : Type 0) (setup : Setup) (alarms : List AlarmNotification) (live : Live) : Type 0 where
   asks : live.asked ≡ Some asks.Connect → IsBefore live.phase
   before : IsBefore live.phase → IsUnbegun live alarms
-  pub sees : live.stands ≡ true → IsSeen setup alarms live
+  pub sees : live.stands ≡ true → IsSeen Clear setup alarms live
 
 address_asks : Some asks.Address ≡ Some asks.Connect → ⊥
 address_asks e = absurd cc
@@ -117,37 +121,42 @@ next_phase : (b : Bool) (number : ℕ) → IsBefore (phase_for (cond b (asks.Wri
 next_phase true number b = b
 next_phase false number b = b
 
-step_fine : (step : PlugStep) (number : ℕ) → is_amiss (state_of_step step number) ≡ false
+-- what holds of both branches, of the first one if the test holds
+held_if : {A : Type 0} (P : A → Type 0) (b : Bool) (x y : A) → (b ≡ true → P x) → P y → P (cond b x y)
+held_if P true x y one other = one refl
+held_if P false x y one other = other
+
+step_fine : (step : PlugStep) (number : ℕ) → known_of (state_of_step step number) ≡ Some false
 step_fine (Record record_number) number = refl
 step_fine PrmEnd number = refl
 
-module _ (setup : Setup) (alarms : List AlarmNotification) where
+module _ (Clear : Type 0) (setup : Setup) (alarms : List AlarmNotification) where
   -- the places become others that are seen alike
   becomes : (live next : Live) → next.phase ≡ live.phase → next.asked ≡ live.asked → next.stands ≡ live.stands
       → ((has : ℕ → ℕ → Bool) → AreOf has live.places.places → AreOf has next.places.places)
-      → ((has : ℕ → ℕ → Bool) → AreAs has live.places.places → AreAs has next.places.places) → IsShown setup alarms live → IsShown setup alarms next
+      → ((has : ℕ → ℕ → Option Bool) → AreAs has live.places.places → AreAs has next.places.places) → IsShown Clear setup alarms live → IsShown Clear setup alarms next
   becomes live next phase asked stands own places is = record {
     asks = λ e. subst (λ (s : State). IsBefore s) (sym phase) (is.asks (sym asked ∙ e));
     before = λ b. let u = is.before (subst (λ (s : State). IsBefore s) phase b) in record { none = u.none; down = stands ∙ u.down };
-    sees = λ up. let s = is.sees (sym stands ∙ up) in record { own = own (is_in_plan setup.plan.real.modules.items) s.own; first = s.first; are = places (λ slot subslot. seen_by alarms slot subslot (s.first slot subslot)) s.are };
+    sees = λ up. let s = is.sees (sym stands ∙ up) in record { clear = s.clear; own = own (is_in_plan setup.plan.real.modules.items) s.own; are = places (λ slot subslot. known_by alarms slot subslot None) s.are };
   }
 
-  same : (live next : Live) → next.phase ≡ live.phase → next.asked ≡ live.asked → next.stands ≡ live.stands → next.places ≡ live.places → IsShown setup alarms live → IsShown setup alarms next
+  same : (live next : Live) → next.phase ≡ live.phase → next.asked ≡ live.asked → next.stands ≡ live.stands → next.places ≡ live.places → IsShown Clear setup alarms live → IsShown Clear setup alarms next
   same live next phase asked stands places is =
       becomes live next phase asked stands (λ has all. subst (λ (told : Told). AreOf has told.places) (sym places) all) (λ has all. subst (λ (told : Told). AreAs has told.places) (sym places) all) is
 
   abbrev Shown : Turn → Type 0
-  Shown turn = IsShown setup alarms turn.live
+  Shown turn = IsShown Clear setup alarms turn.live
 
   -- ---- the end
 
-  over_shown : (why : Cause) (live : Live) → IsShown setup alarms (over why live)
+  over_shown : (why : Cause) (live : Live) → IsShown Clear setup alarms (over why live)
   over_shown why live = record { asks = λ e. absurd (none_asks e); before = λ b. absurd b; sees = λ up. absurd (false≢true up) }
 
-  released_shown : (why : Cause) (live : Live) → IsShown setup alarms (released setup why live).live
+  released_shown : (why : Cause) (live : Live) → IsShown Clear setup alarms (released setup why live).live
   released_shown why live = record { asks = λ e. absurd (release_asks _ e); before = λ b. absurd b; sees = λ up. absurd (false≢true up) }
 
-  quit_shown : (why : Cause) (live : Live) (phase : State) → IsShown setup alarms live → IsShown setup alarms (quit setup why live phase).live
+  quit_shown : (why : Cause) (live : Live) (phase : State) → IsShown Clear setup alarms live → IsShown Clear setup alarms (quit setup why live phase).live
   quit_shown why live Looking is = over_shown why live
   quit_shown why live Addressing is = over_shown why live
   quit_shown why live Connecting is = released_shown why live
@@ -159,138 +168,138 @@ module _ (setup : Setup) (alarms : List AlarmNotification) where
 
   -- ---- a turn of a place
 
-  asked_shown : (slot subslot number : ℕ) (step : PlugStep) (live : Live) → ((has : ℕ → ℕ → Bool) → AreAs has live.places.places → has slot subslot ≡ false)
-      → IsShown setup alarms live → IsShown setup alarms (plug_asked setup slot subslot number step live)
+  asked_shown : (slot subslot number : ℕ) (step : PlugStep) (live : Live) → ((has : ℕ → ℕ → Option Bool) → AreAs has live.places.places → has slot subslot ≡ Some false)
+      → IsShown Clear setup alarms live → IsShown Clear setup alarms (plug_asked setup slot subslot number step live)
   asked_shown slot subslot number step live good is =
       becomes live (plug_asked setup slot subslot number step live) refl refl refl (λ has own. set_of has slot subslot (state_of_step step number) live.places own)
       (λ has all. set_as has slot subslot (state_of_step step number) live.places (good has all) (step_fine step number) all) is
 
-  begun_shown : (live : Live) → IsShown setup alarms live → IsShown setup alarms (begun_turn setup live)
-  begun_shown live is = holds_if (IsShown setup alarms) (can_begin live) (begun_by setup (next_waiting live.places) live) live (by_next (next_waiting live.places) refl) is
+  begun_shown : (live : Live) → IsShown Clear setup alarms live → IsShown Clear setup alarms (begun_turn setup live)
+  begun_shown live is = holds_if (IsShown Clear setup alarms) (can_begin live) (begun_by setup (next_waiting live.places) live) live (by_next (next_waiting live.places) refl) is
     where
-      by_next : (o : Option Plug) → next_waiting live.places ≡ o → IsShown setup alarms (begun_by setup o live)
+      by_next : (o : Option Plug) → next_waiting live.places ≡ o → IsShown Clear setup alarms (begun_by setup o live)
       by_next None e = is
       by_next (Some plug) e =
           asked_shown plug.slot plug.subslot plug.number (step_from setup.plan plug.slot plug.subslot 0) live (λ has all. next_fine has live.places plug all e) is
 
-  after_shown : (could : Bool) (turn : Turn) → IsShown setup alarms turn.live → IsShown setup alarms (after_turn setup could turn).live
+  after_shown : (could : Bool) (turn : Turn) → IsShown Clear setup alarms turn.live → IsShown Clear setup alarms (after_turn setup could turn).live
   after_shown could turn is =
-      holds_if (λ (t : Turn). IsShown setup alarms t.live) (could || not (can_begin turn.live)) turn
+      holds_if (λ (t : Turn). IsShown Clear setup alarms t.live) (could || not (can_begin turn.live)) turn
       (record { live = begun_turn setup turn.live; sent = turn.sent ++ plugs_of (begun_turn setup turn.live) }) is (begun_shown turn.live is)
 
-  passed_by_shown : (live : Live) (request : PlugRequest) (step : PlugStep) → IsShown setup alarms live → IsShown setup alarms (plug_passed_by setup live request step)
+  passed_by_shown : (live : Live) (request : PlugRequest) (step : PlugStep) → IsShown Clear setup alarms live → IsShown Clear setup alarms (plug_passed_by setup live request step)
   passed_by_shown live request (Record number) is = by_turn (has_turn_at request.slot request.subslot live.places) refl
     where
       next : PlugStep
       next = step_from setup.plan request.slot request.subslot (number + 1)
 
       by_turn : (b : Bool) → has_turn_at request.slot request.subslot live.places ≡ b
-          → IsShown setup alarms (cond b (plug_asked setup request.slot request.subslot request.number (step_from setup.plan request.slot request.subslot (number + 1)) live) live)
+          → IsShown Clear setup alarms (cond b (plug_asked setup request.slot request.subslot request.number (step_from setup.plan request.slot request.subslot (number + 1)) live) live)
       by_turn true e =
           asked_shown request.slot request.subslot request.number (step_from setup.plan request.slot request.subslot (number + 1)) live
           (λ has all. turn_fine has live.places request.slot request.subslot all e) is
       by_turn false e = is
   passed_by_shown live request PrmEnd is = is
 
-  refused_place_shown : (request : PlugRequest) (live : Live) → IsShown setup alarms live → IsShown setup alarms (refused_place request live)
+  refused_place_shown : (request : PlugRequest) (live : Live) → IsShown Clear setup alarms live → IsShown Clear setup alarms (refused_place request live)
   refused_place_shown request live is = by_turn (has_turn_at request.slot request.subslot live.places) refl
     where
       by_turn : (b : Bool) → has_turn_at request.slot request.subslot live.places ≡ b
-          → IsShown setup alarms (cond b (record live { places = with_state request.slot request.subslot place_refused live.places }) live)
+          → IsShown Clear setup alarms (cond b (record live { places = with_state request.slot request.subslot place_refused live.places }) live)
       by_turn true e =
           becomes live (record live { places = with_state request.slot request.subslot place_refused live.places }) refl refl refl
           (λ has own. set_of has request.slot request.subslot place_refused live.places own)
           (λ has all. set_as has request.slot request.subslot place_refused live.places (turn_fine has live.places request.slot request.subslot all e) refl all) is
       by_turn false e = is
 
-  finished_shown : (live : Live) → IsShown setup alarms live → IsShown setup alarms (plug_finished live)
+  finished_shown : (live : Live) → IsShown Clear setup alarms live → IsShown Clear setup alarms (plug_finished live)
   finished_shown live is = same live (plug_finished live) refl refl refl refl is
 
-  noted_shown : (status : Status) (number : ℕ) (live : Live) → IsShown setup alarms live → IsShown setup alarms (noted status number live)
+  noted_shown : (status : Status) (number : ℕ) (live : Live) → IsShown Clear setup alarms live → IsShown Clear setup alarms (noted status number live)
   noted_shown status number live is = same live (noted status number live) refl refl refl refl is
 
-  plug_refused_shown : (live : Live) (status : Status) (request : PlugRequest) (step : PlugStep) → IsShown setup alarms live → IsShown setup alarms (plug_refused setup live status request step)
+  plug_refused_shown : (live : Live) (status : Status) (request : PlugRequest) (step : PlugStep) → IsShown Clear setup alarms live → IsShown Clear setup alarms (plug_refused setup live status request step)
   plug_refused_shown live status request (Record number) is =
-      holds_if (IsShown setup alarms) setup.plan.continue_on_refused_record (plug_passed setup (noted status number live) request) (refused_place request (noted status number live))
+      holds_if (IsShown Clear setup alarms) setup.plan.continue_on_refused_record (plug_passed setup (noted status number live) request) (refused_place request (noted status number live))
       (passed_by_shown (noted status number live) request request.step (noted_shown status number live is))
       (refused_place_shown request (noted status number live) (noted_shown status number live is))
   plug_refused_shown live status request PrmEnd is =
       refused_place_shown request (record live { refusal = Some status }) (same live (record live { refusal = Some status }) refl refl refl refl is)
 
-  plug_replied_shown : (live : Live) (status : Status) (request : PlugRequest) → IsShown setup alarms live → IsShown setup alarms (plug_replied setup live status request)
+  plug_replied_shown : (live : Live) (status : Status) (request : PlugRequest) → IsShown Clear setup alarms live → IsShown Clear setup alarms (plug_replied setup live status request)
   plug_replied_shown live status request is =
-      holds_if (IsShown setup alarms) (is_done status) (plug_passed setup (plug_finished live) request) (plug_refused setup (plug_finished live) status request request.step)
+      holds_if (IsShown Clear setup alarms) (is_done status) (plug_passed setup (plug_finished live) request) (plug_refused setup (plug_finished live) status request request.step)
       (passed_by_shown (plug_finished live) request request.step (finished_shown live is))
       (plug_refused_shown (plug_finished live) status request request.step (finished_shown live is))
 
-  plug_responded_shown : (live : Live) (response : Response) (request : PlugRequest) → IsShown setup alarms live → Shown (plug_responded setup live response request)
+  plug_responded_shown : (live : Live) (response : Response) (request : PlugRequest) → IsShown Clear setup alarms live → Shown (plug_responded setup live response request)
   plug_responded_shown live response request is =
       holds_if Shown (is_plug_answer setup request response.header.activity response.header.sequence) (asks_next (plug_replied setup live response.status request)) (stays live)
       (plug_replied_shown live response.status request is) is
 
-  plug_rejected_shown : (live : Live) (refusal : Refusal) (request : PlugRequest) → IsShown setup alarms live → IsShown setup alarms (plug_rejected setup live refusal request)
+  plug_rejected_shown : (live : Live) (refusal : Refusal) (request : PlugRequest) → IsShown Clear setup alarms live → IsShown Clear setup alarms (plug_rejected setup live refusal request)
   plug_rejected_shown live refusal request is =
       let next : Live = record (plug_finished live) { refusal = Some refusal.status } in
-      holds_if (IsShown setup alarms) (is_plug_answer setup request refusal.activity refusal.sequence) (refused_place request next) live
+      holds_if (IsShown Clear setup alarms) (is_plug_answer setup request refusal.activity refusal.sequence) (refused_place request next) live
       (refused_place_shown request next (same live next refl refl refl refl is)) is
 
-  readied_shown : (live : Live) (number : ℕ) → IsShown setup alarms live → IsShown setup alarms (plug_readied live number)
+  readied_shown : (live : Live) (number : ℕ) → IsShown Clear setup alarms live → IsShown Clear setup alarms (plug_readied live number)
   readied_shown live number is = becomes live (plug_readied live number) refl refl refl (λ has own. readied_of has number live.places own) (λ has all. readied_as has number live.places all) is
 
   -- ---- requests of the application
 
-  brings_shown : (request : RecordRequest) (o : Option (List ℕ)) (live : Live) → IsShown setup alarms live → IsShown setup alarms (brings request o live)
+  brings_shown : (request : RecordRequest) (o : Option (List ℕ)) (live : Live) → IsShown Clear setup alarms live → IsShown Clear setup alarms (brings request o live)
   brings_shown request (Some octets) live is = same live (brings request (Some octets) live) refl refl refl refl is
   brings_shown request None live is = is
 
-  granted_shown : (request : RecordRequest) (blocks : List ℕ) (which : RecordService) (live : Live) → IsShown setup alarms live → IsShown setup alarms (granted request blocks which live)
+  granted_shown : (request : RecordRequest) (blocks : List ℕ) (which : RecordService) (live : Live) → IsShown Clear setup alarms live → IsShown Clear setup alarms (granted request blocks which live)
   granted_shown request blocks service.Read live is = brings_shown request (record_in (block_of blocks)) live is
   granted_shown request blocks service.Write live is = same live (granted request blocks service.Write live) refl refl refl refl is
 
-  failed_shown : (status : Status) (request : RecordRequest) (live : Live) → IsShown setup alarms live → IsShown setup alarms (machine.failed status request live)
+  failed_shown : (status : Status) (request : RecordRequest) (live : Live) → IsShown Clear setup alarms live → IsShown Clear setup alarms (machine.failed status request live)
   failed_shown status request live is = same live (machine.failed status request live) refl refl refl refl is
 
-  replied_by_shown : (live : Live) (response : Response) (request : RecordRequest) → IsShown setup alarms live → IsShown setup alarms (replied_by live response request)
+  replied_by_shown : (live : Live) (response : Response) (request : RecordRequest) → IsShown Clear setup alarms live → IsShown Clear setup alarms (replied_by live response request)
   replied_by_shown live response request is =
-      holds_if (IsShown setup alarms) (is_done response.status) (granted request response.blocks request.service live) (machine.failed response.status request live)
+      holds_if (IsShown Clear setup alarms) (is_done response.status) (granted request response.blocks request.service live) (machine.failed response.status request live)
       (granted_shown request response.blocks request.service live is) (failed_shown response.status request live is)
 
-  replied_shown : (live : Live) (response : Response) (o : Option RecordRequest) → IsShown setup alarms live → IsShown setup alarms (replied setup live response o)
+  replied_shown : (live : Live) (response : Response) (o : Option RecordRequest) → IsShown Clear setup alarms live → IsShown Clear setup alarms (replied setup live response o)
   replied_shown live response (Some request) is =
-      holds_if (IsShown setup alarms) (is_reply setup request response.header) (replied_by live response request) live (replied_by_shown live response request is) is
+      holds_if (IsShown Clear setup alarms) (is_reply setup request response.header) (replied_by live response request) live (replied_by_shown live response request is) is
   replied_shown live response None is = is
 
-  rejected_shown : (live : Live) (refusal : Refusal) (o : Option RecordRequest) → IsShown setup alarms live → IsShown setup alarms (rejected setup live refusal o)
+  rejected_shown : (live : Live) (refusal : Refusal) (o : Option RecordRequest) → IsShown Clear setup alarms live → IsShown Clear setup alarms (rejected setup live refusal o)
   rejected_shown live refusal (Some request) is =
-      holds_if (IsShown setup alarms) (is_rejected setup request refusal) (machine.failed refusal.status request live) live (failed_shown refusal.status request live is) is
+      holds_if (IsShown Clear setup alarms) (is_rejected setup request refusal) (machine.failed refusal.status request live) live (failed_shown refusal.status request live is) is
   rejected_shown live refusal None is = is
 
   -- ---- the start-up
 
   asks_shown : (phase : State) (request : Request) (live : Live) → (Some request ≡ Some asks.Connect → IsBefore phase) → (IsBefore phase → IsUnbegun live alarms)
-      → (live.stands ≡ true → IsSeen setup alarms live) → IsShown setup alarms (asking setup phase request live).live
+      → (live.stands ≡ true → IsSeen Clear setup alarms live) → IsShown Clear setup alarms (asking setup phase request live).live
   asks_shown phase request live asked before sees = record {
     asks = asked;
     before = λ b. let u = before b in record { none = u.none; down = u.down };
-    sees = λ up. let s = sees up in record { own = s.own; first = s.first; are = s.are };
+    sees = λ up. let s = sees up in record { clear = s.clear; own = s.own; are = s.are };
   }
 
-  writing_shown : (number : ℕ) (live : Live) → (live.stands ≡ true → IsSeen setup alarms live) → IsShown setup alarms (writing setup (writing_from setup.plan number) live).live
+  writing_shown : (number : ℕ) (live : Live) → (live.stands ≡ true → IsSeen Clear setup alarms live) → IsShown Clear setup alarms (writing setup (writing_from setup.plan number) live).live
   writing_shown number live sees =
       asks_shown (phase_for (writing_from setup.plan number)) (writing_from setup.plan number) live
       (λ e. absurd (next_asks (nat_lt number (write_count setup.plan)) number e)) (λ b. absurd (next_phase (nat_lt number (write_count setup.plan)) number b)) sees
 
-  connect_shown : (live : Live) → IsUnbegun live alarms → (live.stands ≡ true → IsSeen setup alarms live) → IsShown setup alarms (asking setup Connecting asks.Connect live).live
+  connect_shown : (live : Live) → IsUnbegun live alarms → (live.stands ≡ true → IsSeen Clear setup alarms live) → IsShown Clear setup alarms (asking setup Connecting asks.Connect live).live
   connect_shown live unbegun sees = asks_shown Connecting asks.Connect live (λ e. tt) (λ b. unbegun) sees
 
-  address_shown : (live : Live) → IsUnbegun live alarms → (live.stands ≡ true → IsSeen setup alarms live) → IsShown setup alarms (asking setup Addressing asks.Address live).live
+  address_shown : (live : Live) → IsUnbegun live alarms → (live.stands ≡ true → IsSeen Clear setup alarms live) → IsShown Clear setup alarms (asking setup Addressing asks.Address live).live
   address_shown live unbegun sees = asks_shown Addressing asks.Address live (λ e. tt) (λ b. unbegun) sees
 
-  at_shown : (source : Mac) (live : Live) → IsUnbegun live alarms → (live.stands ≡ true → IsSeen setup alarms live)
-      → (IsUnbegun (record live { device = source }) alarms) × ((record live { device = source }).stands ≡ true → IsSeen setup alarms (record live { device = source }))
-  at_shown source live unbegun sees = (record { none = unbegun.none; down = unbegun.down }, λ up. let s = sees up in record { own = s.own; first = s.first; are = s.are })
+  at_shown : (source : Mac) (live : Live) → IsUnbegun live alarms → (live.stands ≡ true → IsSeen Clear setup alarms live)
+      → (IsUnbegun (record live { device = source }) alarms) × ((record live { device = source }).stands ≡ true → IsSeen Clear setup alarms (record live { device = source }))
+  at_shown source live unbegun sees = (record { none = unbegun.none; down = unbegun.down }, λ up. let s = sees up in record { clear = s.clear; own = s.own; are = s.are })
 
-  answered_shown : (live : Live) (source : Mac) (answer : Answered) → IsShown setup alarms live → (phase : State) → live.phase ≡ phase → Shown (answered setup live source answer phase)
+  answered_shown : (live : Live) (source : Mac) (answer : Answered) → IsShown Clear setup alarms live → (phase : State) → live.phase ≡ phase → Shown (answered setup live source answer phase)
   answered_shown live source answer is Looking e =
       let unbegun = is.before (subst (λ (s : State). IsBefore s) (sym e) tt) in
       let here = at_shown source live unbegun is.sees in
@@ -314,91 +323,100 @@ module _ (setup : Setup) (alarms : List AlarmNotification) where
 
   -- the places as the relation begins
   parts_opened : (most : ℕ) (blocks : List ℕ) (slot : ℕ) (parts : List RealSubmodule)
-      → AreAs (λ s subslot. is_amiss (first_state most blocks s subslot)) (map (first_place most blocks slot) parts)
+      → AreAs (λ s subslot. known_of (first_state most blocks s subslot)) (map (first_place most blocks slot) parts)
   parts_opened most blocks slot [] = tt
   parts_opened most blocks slot (part ∷ parts) = (refl, parts_opened most blocks slot parts)
 
-  all_opened : (most : ℕ) (blocks : List ℕ) (modules : List RealModule) → AreAs (λ s subslot. is_amiss (first_state most blocks s subslot)) (places_of most blocks modules)
+  all_opened : (most : ℕ) (blocks : List ℕ) (modules : List RealModule) → AreAs (λ s subslot. known_of (first_state most blocks s subslot)) (places_of most blocks modules)
   all_opened most blocks [] = tt
   all_opened most blocks (entry ∷ modules) =
-      each_behind (IsAs (λ s subslot. is_amiss (first_state most blocks s subslot))) (map (first_place most blocks entry.slot) entry.submodules.items) (places_of most blocks modules)
+      each_behind (IsAs (λ s subslot. known_of (first_state most blocks s subslot))) (map (first_place most blocks entry.slot) entry.submodules.items) (places_of most blocks modules)
       (parts_opened most blocks entry.slot entry.submodules.items) (all_opened most blocks modules)
 
-  standing_seen : (live : Live) (blocks : List ℕ) (chosen : Chosen) → alarms ≡ [] → IsSeen setup alarms (standing setup (placed setup blocks live) chosen)
-  standing_seen live blocks chosen none = record {
+  standing_seen : (live : Live) (blocks : List ℕ) (chosen : Chosen) → alarms ≡ [] → Clear × ((slot subslot : ℕ) → is_listed_in 400 blocks slot subslot ≡ false)
+      → IsSeen Clear setup alarms (standing setup (placed setup blocks live) chosen)
+  standing_seen live blocks chosen none tells = record {
+    clear = tells.0;
     own = opened_of 400 blocks setup.plan.real.modules.items;
-    first = λ slot subslot. is_amiss (first_state 400 blocks slot subslot);
-    are = subst (λ (xs : List AlarmNotification).
-        AreAs (λ slot subslot. seen_by xs slot subslot (is_amiss (first_state 400 blocks slot subslot))) (places_of 400 blocks setup.plan.real.modules.items))
-        (sym none) (all_opened 400 blocks setup.plan.real.modules.items);
+    are = subst (λ (xs : List AlarmNotification). AreAs (λ slot subslot. known_by xs slot subslot None) (places_of 400 blocks setup.plan.real.modules.items)) (sym none)
+        (as_same (λ slot subslot. known_of (first_state 400 blocks slot subslot)) (λ slot subslot. None)
+        (λ slot subslot. ap (λ (b : Bool). known_of (cond b Differs There)) (tells.1 slot subslot)) (places_of 400 blocks setup.plan.real.modules.items)
+        (all_opened 400 blocks setup.plan.real.modules.items));
   }
 
-  connected_shown : (live : Live) (blocks : List ℕ) → IsShown setup alarms live → IsUnbegun live alarms → (o : Option Found) → Shown (connected setup live blocks o)
-  connected_shown live blocks is unbegun None = is
-  connected_shown live blocks is unbegun (Some it) =
-      holds_if Shown (is_whole it) (cond it.differs (released setup cause.ModuleDiff live) (related_by setup (placed setup blocks live) (chosen_of it))) (stays live)
-      (holds_if Shown it.differs (released setup cause.ModuleDiff live) (related_by setup (placed setup blocks live) (chosen_of it)) (released_shown cause.ModuleDiff live) (by_chosen (chosen_of it))) is
+  connected_shown : (live : Live) (blocks : List ℕ) → IsShown Clear setup alarms live → IsUnbegun live alarms → Tells Clear blocks → (o : Option Found) → found_in 400 blocks nothing ≡ o
+      → Shown (connected setup live blocks o)
+  connected_shown live blocks is unbegun tells None e = is
+  connected_shown live blocks is unbegun tells (Some it) e =
+      held_if Shown (is_whole it) (cond it.differs (released setup cause.ModuleDiff live) (related_by setup (placed setup blocks live) (chosen_of it))) (stays live)
+      (λ all. by_differs it.differs refl all) is
     where
-      by_chosen : (o : Option Chosen) → Shown (related_by setup (placed setup blocks live) o)
-      by_chosen (Some chosen) = writing_shown 0 (standing setup (placed setup blocks live) chosen) (λ up. standing_seen live blocks chosen unbegun.none)
-      by_chosen None = record {
+      by_chosen : (o : Option Chosen) → Clear × ((slot subslot : ℕ) → is_listed_in 400 blocks slot subslot ≡ false) → Shown (related_by setup (placed setup blocks live) o)
+      by_chosen (Some chosen) told = writing_shown 0 (standing setup (placed setup blocks live) chosen) (λ up. standing_seen live blocks chosen unbegun.none told)
+      by_chosen None told = record {
         asks = is.asks;
         before = λ b. record { none = unbegun.none; down = unbegun.down };
         sees = λ up. absurd (false≢true (sym unbegun.down ∙ up));
       }
 
-  past_shown : (number : ℕ) (live : Live) → IsShown setup alarms live → Shown (past_record setup number live)
+      by_differs : (b : Bool) → it.differs ≡ b → is_whole it ≡ true → Shown (cond b (released setup cause.ModuleDiff live) (related_by setup (placed setup blocks live) (chosen_of it)))
+      by_differs true f all = released_shown cause.ModuleDiff live
+      by_differs false f all = by_chosen (chosen_of it) (tells it e all f)
+
+  past_shown : (number : ℕ) (live : Live) → IsShown Clear setup alarms live → Shown (past_record setup number live)
   past_shown number live is =
       holds_if Shown setup.plan.continue_on_refused_record (writing setup (writing_from setup.plan (number + 1)) live) (refused_record setup live) (writing_shown (number + 1) live is.sees)
       (holds_if Shown setup.plan.release_on_refused_record (released setup cause.Refused live) (stays (over cause.Refused live)) (released_shown cause.Refused live) (over_shown cause.Refused live))
 
-  after_write_shown : (live : Live) (number : ℕ) → IsShown setup alarms live → (outcomes : Outcomes) → Shown (after_write setup live number outcomes)
+  after_write_shown : (live : Live) (number : ℕ) → IsShown Clear setup alarms live → (outcomes : Outcomes) → Shown (after_write setup live number outcomes)
   after_write_shown live number is AllWritten = writing_shown (number + 1) live is.sees
   after_write_shown live number is (Denied place status) =
       past_shown number (noted status (first_of setup.plan number + place) live) (noted_shown status (first_of setup.plan number + place) live is)
   after_write_shown live number is Unreadable = is
 
-  forgets_shown : (live : Live) → IsShown setup alarms live → IsShown setup alarms (record live { asked = None })
+  forgets_shown : (live : Live) → IsShown Clear setup alarms live → IsShown Clear setup alarms (record live { asked = None })
   forgets_shown live is = record {
     asks = λ e. absurd (none_asks e);
     before = λ b. let u = is.before b in record { none = u.none; down = u.down };
-    sees = λ up. let s = is.sees up in record { own = s.own; first = s.first; are = s.are };
+    sees = λ up. let s = is.sees up in record { clear = s.clear; own = s.own; are = s.are };
   }
 
-  waits_shown : (live : Live) → IsShown setup alarms live → IsShown setup alarms (record live { phase = Waiting; asked = None; left = setup.options.waiting_patience })
-  waits_shown live is = record { asks = λ e. absurd (none_asks e); before = λ b. absurd b; sees = λ up. let s = is.sees up in record { own = s.own; first = s.first; are = s.are } }
+  waits_shown : (live : Live) → IsShown Clear setup alarms live → IsShown Clear setup alarms (record live { phase = Waiting; asked = None; left = setup.options.waiting_patience })
+  waits_shown live is = record { asks = λ e. absurd (none_asks e); before = λ b. absurd b; sees = λ up. let s = is.sees up in record { clear = s.clear; own = s.own; are = s.are } }
 
-  denied_shown : (status : Status) (live : Live) → IsShown setup alarms (denied status live)
+  denied_shown : (status : Status) (live : Live) → IsShown Clear setup alarms (denied status live)
   denied_shown status live = over_shown cause.Refused (record live { refusal = Some status })
 
-  handled_shown : (live : Live) (response : Response) → IsShown setup alarms live → (request : Request) → live.asked ≡ Some request → Shown (decided setup live response request)
-  handled_shown live response is asks.Identify e =
+  handled_shown : (live : Live) (response : Response) → IsShown Clear setup alarms live → TellsSo Clear setup (Responds response) → (request : Request) → live.asked ≡ Some request
+      → is_answer setup request response.header ≡ true → Shown (decided setup live response request)
+  handled_shown live response is tells asks.Identify e answered =
       holds_if Shown (is_done response.status) (stays live) (stays (denied response.status live)) is (denied_shown response.status live)
-  handled_shown live response is asks.Address e =
+  handled_shown live response is tells asks.Address e answered =
       holds_if Shown (is_done response.status) (stays live) (stays (denied response.status live)) is (denied_shown response.status live)
-  handled_shown live response is asks.Connect e =
-      holds_if Shown (is_done response.status) (connected setup live response.blocks (found_in 400 response.blocks nothing)) (stays (denied response.status live))
-      (connected_shown live response.blocks is (is.before (is.asks e)) (found_in 400 response.blocks nothing)) (denied_shown response.status live)
-  handled_shown live response is (asks.Write number) e =
+  handled_shown live response is tells asks.Connect e answered =
+      held_if Shown (is_done response.status) (connected setup live response.blocks (found_in 400 response.blocks nothing)) (stays (denied response.status live))
+      (λ done. connected_shown live response.blocks is (is.before (is.asks e)) (tells answered done) (found_in 400 response.blocks nothing) refl) (denied_shown response.status live)
+  handled_shown live response is tells (asks.Write number) e answered =
       holds_if Shown (is_done response.status) (after_write setup live number (outcomes_of setup.plan number response.blocks))
       (past_record setup number (noted response.status (first_of setup.plan number) live))
       (after_write_shown live number is (outcomes_of setup.plan number response.blocks))
       (past_shown number (noted response.status (first_of setup.plan number) live) (noted_shown response.status (first_of setup.plan number) live is))
-  handled_shown live response is asks.PrmEnd e =
+  handled_shown live response is tells asks.PrmEnd e answered =
       holds_if Shown (is_done response.status) (stays (record live { phase = Waiting; asked = None; left = setup.options.waiting_patience })) (stays (denied response.status live))
       (waits_shown live is) (denied_shown response.status live)
-  handled_shown live response is (asks.Release sequence) e = forgets_shown live is
+  handled_shown live response is tells (asks.Release sequence) e answered = forgets_shown live is
 
-  beside_shown : (live : Live) (response : Response) → IsShown setup alarms live → (o : Option PlugRequest) → Shown (beside setup live response o)
+  beside_shown : (live : Live) (response : Response) → IsShown Clear setup alarms live → (o : Option PlugRequest) → Shown (beside setup live response o)
   beside_shown live response is (Some request) = plug_responded_shown live response request is
   beside_shown live response is None = replied_shown live response live.access.waiting is
 
-  responded_shown : (live : Live) (response : Response) → IsShown setup alarms live → (o : Option Request) → live.asked ≡ o → Shown (responded setup live response o)
-  responded_shown live response is (Some request) e =
-      holds_if Shown (is_answer setup request response.header) (decided setup live response request) (stays live) (handled_shown live response is request e) is
-  responded_shown live response is None e = beside_shown live response is live.access.plug
+  responded_shown : (live : Live) (response : Response) → IsShown Clear setup alarms live → TellsSo Clear setup (Responds response) → (o : Option Request) → live.asked ≡ o
+      → Shown (responded setup live response o)
+  responded_shown live response is tells (Some request) e =
+      held_if Shown (is_answer setup request response.header) (decided setup live response request) (stays live) (λ answered. handled_shown live response is tells request e answered) is
+  responded_shown live response is tells None e = beside_shown live response is live.access.plug
 
-  refused_by_shown : (live : Live) (refusal : Refusal) → IsShown setup alarms live → (request : Request) → Shown (refused_by live refusal request)
+  refused_by_shown : (live : Live) (refusal : Refusal) → IsShown Clear setup alarms live → (request : Request) → Shown (refused_by live refusal request)
   refused_by_shown live refusal is asks.Identify = denied_shown refusal.status live
   refused_by_shown live refusal is asks.Address = denied_shown refusal.status live
   refused_by_shown live refusal is asks.Connect = denied_shown refusal.status live
@@ -406,35 +424,35 @@ module _ (setup : Setup) (alarms : List AlarmNotification) where
   refused_by_shown live refusal is asks.PrmEnd = denied_shown refusal.status live
   refused_by_shown live refusal is (asks.Release sequence) = forgets_shown live is
 
-  refused_shown : (live : Live) (refusal : Refusal) → IsShown setup alarms live → (o : Option Request) → Shown (refused setup live refusal o)
+  refused_shown : (live : Live) (refusal : Refusal) → IsShown Clear setup alarms live → (o : Option Request) → Shown (refused setup live refusal o)
   refused_shown live refusal is (Some request) =
       holds_if Shown (is_refused setup request refusal) (refused_by live refusal request) (stays live) (refused_by_shown live refusal is request) is
   refused_shown live refusal is None = by_plug live.access.plug
     where
-      by_plug : (o : Option PlugRequest) → IsShown setup alarms (refused_beside setup live refusal o)
+      by_plug : (o : Option PlugRequest) → IsShown Clear setup alarms (refused_beside setup live refusal o)
       by_plug (Some request) = plug_rejected_shown live refusal request is
       by_plug None = rejected_shown live refusal live.access.waiting is
 
-  begins_shown : (live : Live) (caller : Caller) (call : Call) (block : ControlBlock) → IsShown setup alarms live → (phase : State) → Shown (readied live caller call block phase)
+  begins_shown : (live : Live) (caller : Caller) (call : Call) (block : ControlBlock) → IsShown Clear setup alarms live → (phase : State) → Shown (readied live caller call block phase)
   begins_shown live caller call block is Looking = is
   begins_shown live caller call block is Addressing = is
   begins_shown live caller call block is Connecting = is
   begins_shown live caller call block is Writing = is
   begins_shown live caller call block is Ending =
-      record { asks = λ e. absurd (none_asks e); before = λ b. absurd b; sees = λ up. let s = is.sees up in record { own = s.own; first = s.first; are = s.are } }
+      record { asks = λ e. absurd (none_asks e); before = λ b. absurd b; sees = λ up. let s = is.sees up in record { clear = s.clear; own = s.own; are = s.are } }
   begins_shown live caller call block is Waiting =
-      record { asks = λ e. absurd (none_asks e); before = λ b. absurd b; sees = λ up. let s = is.sees up in record { own = s.own; first = s.first; are = s.are } }
+      record { asks = λ e. absurd (none_asks e); before = λ b. absurd b; sees = λ up. let s = is.sees up in record { clear = s.clear; own = s.own; are = s.are } }
   begins_shown live caller call block is Exchanging = is
   begins_shown live caller call block is (Ended why) = is
 
-  plug_called_shown : (live : Live) (caller : Caller) (call : Call) → IsShown setup alarms live → (o : Option PlugControlBlock) → Shown (plug_called setup live caller call o)
+  plug_called_shown : (live : Live) (caller : Caller) (call : Call) → IsShown Clear setup alarms live → (o : Option PlugControlBlock) → Shown (plug_called setup live caller call o)
   plug_called_shown live caller call is (Some block) =
       holds_if Shown (is_plug_ready setup block && is_plug_awaited live block.alarm_sequence_number)
       (record { live = plug_readied live block.alarm_sequence_number; sent = Agrees caller (plug_answer call block) ∷ [] }) (stays live)
       (readied_shown live block.alarm_sequence_number is) is
   plug_called_shown live caller call is None = is
 
-  called_shown : (live : Live) (caller : Caller) (call : Call) → IsShown setup alarms live → (o : Option ControlBlock) → Shown (called setup live caller call o)
+  called_shown : (live : Live) (caller : Caller) (call : Call) → IsShown Clear setup alarms live → (o : Option ControlBlock) → Shown (called setup live caller call o)
   called_shown live caller call is (Some block) =
       holds_if Shown (is_ready setup block) (readied live caller call block live.phase) (stays live) (begins_shown live caller call block is live.phase) is
   called_shown live caller call is None =
@@ -442,14 +460,14 @@ module _ (setup : Setup) (alarms : List AlarmNotification) where
 
   -- ---- units
 
-  flowed_shown : (live : Live) (high low : Due) (is_request : Bool) (tick : Brought) → IsShown setup alarms live → (o : Option Abort) → Shown (flowed live high low is_request tick o)
+  flowed_shown : (live : Live) (high low : Due) (is_request : Bool) (tick : Brought) → IsShown Clear setup alarms live → (o : Option Abort) → Shown (flowed live high low is_request tick o)
   flowed_shown live high low is_request tick is (Some reason) = over_shown (cause_of reason) live
   flowed_shown live high low is_request tick is None = is
 
-  gone_shown : (live : Live) (is_request : Bool) → IsShown setup alarms live → Shown (gone_on live is_request)
+  gone_shown : (live : Live) (is_request : Bool) → IsShown Clear setup alarms live → Shown (gone_on live is_request)
   gone_shown live is_request is = by_stands live.stands
     where
-      next : IsShown setup alarms (exchange_later live)
+      next : IsShown Clear setup alarms (exchange_later live)
       next = same live (exchange_later live) refl refl refl refl is
 
       by_stands : (b : Bool) → Shown (cond b (flowed (exchange_later live) (due live.alarms.sending) (due live.low_alarms.sending) is_request (brought live) (brought live).ending)
@@ -457,29 +475,29 @@ module _ (setup : Setup) (alarms : List AlarmNotification) where
       by_stands true = flowed_shown (exchange_later live) (due live.alarms.sending) (due live.low_alarms.sending) is_request (brought live) next (brought live).ending
       by_stands false = is
 
-  ticked_shown : (live : Live) → IsShown setup alarms live → Shown (ticked setup live)
+  ticked_shown : (live : Live) → IsShown Clear setup alarms live → Shown (ticked setup live)
   ticked_shown live is =
       let next = same live (later live) refl refl refl refl is in
       holds_if Shown (is_spent live) (quit setup cause.NoProgress (later live) live.phase) (gone_on (turn_due setup (is_again live) (later live)) (is_again live))
       (quit_shown cause.NoProgress (later live) live.phase next)
       (gone_shown (turn_due setup (is_again live) (later live)) (is_again live)
-      (holds_if (IsShown setup alarms) (is_again live) (begun_turn setup (later live)) (later live) (begun_shown (later live) next) next))
+      (holds_if (IsShown Clear setup alarms) (is_again live) (begun_turn setup (later live)) (later live) (begun_shown (later live) next) next))
 
   -- ---- the application
 
-  requested_shown : (live : Live) (kind : RecordService) (slot subslot index : ℕ) (octets : List ℕ) → IsShown setup alarms live → Shown (requested setup live kind slot subslot index octets)
+  requested_shown : (live : Live) (kind : RecordService) (slot subslot index : ℕ) (octets : List ℕ) → IsShown Clear setup alarms live → Shown (requested setup live kind slot subslot index octets)
   requested_shown live kind slot subslot index octets is =
       holds_if Shown (can_request live) (accessing (request_for setup live kind slot subslot index) octets live) (stays live)
       (same live (accessing (request_for setup live kind slot subslot index) octets live).live refl refl refl refl is) is
 
   -- ---- what is no alarm
 
-  come_shown : (live : Live) (source : Mac) (frame_id : ℕ) (body : List ℕ) → IsShown setup alarms live → IsShown setup alarms (come live source frame_id body)
+  come_shown : (live : Live) (source : Mac) (frame_id : ℕ) (body : List ℕ) → IsShown Clear setup alarms live → IsShown Clear setup alarms (come live source frame_id body)
   come_shown live source frame_id body is =
       let next : Live = record live { cyclic = behind_frame live.cyclic source frame_id body } in
-      holds_if (IsShown setup alarms) live.stands next live (same live next refl refl refl refl is) is
+      holds_if (IsShown Clear setup alarms) live.stands next live (same live next refl refl refl refl is) is
 
-  acked_shown : (live : Live) (priority : Priority) (number : ℕ) → IsShown setup alarms live → IsShown setup alarms (behind_ack live priority number)
+  acked_shown : (live : Live) (priority : Priority) (number : ℕ) → IsShown Clear setup alarms live → IsShown Clear setup alarms (behind_ack live priority number)
   acked_shown live High number is = same live (behind_ack live High number) refl refl refl refl is
   acked_shown live Low number is = same live (behind_ack live Low number) refl refl refl refl is
 
@@ -495,79 +513,79 @@ high_quiet alarm e = by_api (alarm.api == 0)
     by_api true = by_type 2 e refl
     by_api false = refl
 
-module _ (setup : Setup) (alarms : List AlarmNotification) where
+module _ (Clear : Type 0) (setup : Setup) (alarms : List AlarmNotification) where
   -- data of high priority reports nothing of places
-  high_shown : (live : Live) (number : ℕ) (alarm : AlarmNotification) (structure : Option ℕ) (as_what : Taken) → alarm.alarm_type ≡ 2 → IsShown setup alarms live
-      → IsShown setup alarms (taken (behind_data live High number) (record { priority = High; notification = alarm; user_structure = structure }) as_what).live
-  high_shown live number alarm structure New quiet is = same setup alarms live _ refl refl refl (ap (λ (o : Option PlaceReport). told_by o live.places) (high_quiet alarm quiet)) is
-  high_shown live number alarm structure Again quiet is = same setup alarms live _ refl refl refl refl is
-  high_shown live number alarm structure Unwanted quiet is = same setup alarms live _ refl refl refl refl is
+  high_shown : (live : Live) (number : ℕ) (alarm : AlarmNotification) (structure : Option ℕ) (as_what : Taken) → alarm.alarm_type ≡ 2 → IsShown Clear setup alarms live
+      → IsShown Clear setup alarms (taken (behind_data live High number) (record { priority = High; notification = alarm; user_structure = structure }) as_what).live
+  high_shown live number alarm structure New quiet is = same Clear setup alarms live _ refl refl refl (ap (λ (o : Option PlaceReport). told_by o live.places) (high_quiet alarm quiet)) is
+  high_shown live number alarm structure Again quiet is = same Clear setup alarms live _ refl refl refl refl is
+  high_shown live number alarm structure Unwanted quiet is = same Clear setup alarms live _ refl refl refl refl is
 
   -- a new alarm of low priority is the last one
-  low_shown : (live : Live) (number : ℕ) (alarm : AlarmNotification) (structure : Option ℕ) (as_what : Taken) → live.stands ≡ true → IsShown setup alarms live
-      → IsShown setup (more_taken alarms alarm as_what) (taken (behind_data live Low number) (record { priority = Low; notification = alarm; user_structure = structure }) as_what).live
+  low_shown : (live : Live) (number : ℕ) (alarm : AlarmNotification) (structure : Option ℕ) (as_what : Taken) → live.stands ≡ true → IsShown Clear setup alarms live
+      → IsShown Clear setup (more_taken alarms alarm as_what) (taken (behind_data live Low number) (record { priority = Low; notification = alarm; user_structure = structure }) as_what).live
   low_shown live number alarm structure New up is = record {
     asks = is.asks;
     before = λ b. absurd (false≢true (sym (is.before b).down ∙ up));
     sees = λ now. let s = is.sees up in record {
+      clear = s.clear;
       own = by_of (is_in_plan setup.plan.real.modules.items) (place_report (report_as Low alarm)) live.places s.own;
-      first = s.first;
-      are = as_same (λ slot subslot. seen_after (place_report (report_as Low alarm)) slot subslot (seen_by alarms slot subslot (s.first slot subslot)))
-          (λ slot subslot. seen_by (alarms ++ alarm ∷ []) slot subslot (s.first slot subslot)) (λ slot subslot. sym (seen_more alarms alarm slot subslot (s.first slot subslot)))
+      are = as_same (λ slot subslot. known_after (place_report (report_as Low alarm)) slot subslot (known_by alarms slot subslot None))
+          (λ slot subslot. known_by (alarms ++ alarm ∷ []) slot subslot None) (λ slot subslot. sym (known_more alarms alarm slot subslot None))
           (told_by (place_report (report_as Low alarm)) live.places).places
-          (by_as (λ slot subslot. seen_by alarms slot subslot (s.first slot subslot)) (place_report (report_as Low alarm)) live.places s.are);
+          (by_as (λ slot subslot. known_by alarms slot subslot None) (place_report (report_as Low alarm)) live.places s.are);
     };
   }
-  low_shown live number alarm structure Again up is = same setup alarms live _ refl refl refl refl is
-  low_shown live number alarm structure Unwanted up is = same setup alarms live _ refl refl refl refl is
+  low_shown live number alarm structure Again up is = same Clear setup alarms live _ refl refl refl refl is
+  low_shown live number alarm structure Unwanted up is = same Clear setup alarms live _ refl refl refl refl is
 
   more_is : (as_what : Taken) (alarm : AlarmNotification) → alarms ++ more_taken [] alarm as_what ≡ more_taken alarms alarm as_what
   more_is New alarm = refl
   more_is Again alarm = append-nil alarms
   more_is Unwanted alarm = append-nil alarms
 
-  none_more : (live : Live) → IsShown setup alarms live → IsShown setup (alarms ++ []) live
-  none_more live is = subst (λ (xs : List AlarmNotification). IsShown setup xs live) (sym (append-nil alarms)) is
+  none_more : (live : Live) → IsShown Clear setup alarms live → IsShown Clear setup (alarms ++ []) live
+  none_more live is = subst (λ (xs : List AlarmNotification). IsShown Clear setup xs live) (sym (append-nil alarms)) is
 
-  data_shown : (live : Live) (under : Priority) (number : ℕ) (priority : Priority) (alarm : AlarmNotification) (structure : Option ℕ) → IsOfPriority priority alarm → IsShown setup alarms live
+  data_shown : (live : Live) (under : Priority) (number : ℕ) (priority : Priority) (alarm : AlarmNotification) (structure : Option ℕ) → IsOfPriority priority alarm → IsShown Clear setup alarms live
       → (b : Bool) → (b ≡ true → live.stands ≡ true)
-      → IsShown setup (alarms ++ cond (is_priority Low priority && b) (more_taken [] alarm (taken_as (end_of live Low).seen number)) [])
+      → IsShown Clear setup (alarms ++ cond (is_priority Low priority && b) (more_taken [] alarm (taken_as (end_of live Low).seen number)) [])
       (cond b (noticed live under (notice.Data number (record { priority = priority; notification = alarm; user_structure = structure }))) (stays live)).live
   data_shown live under number High alarm structure quiet is true up =
       none_more _ (high_shown live number alarm structure (taken_as (end_of live High).seen number) quiet is)
   data_shown live under number High alarm structure quiet is false up = none_more live is
   data_shown live under number Low alarm structure quiet is true up =
-      subst (λ (xs : List AlarmNotification). IsShown setup xs (taken (behind_data live Low number) (record { priority = Low; notification = alarm; user_structure = structure }) (taken_as (end_of live Low).seen number)).live)
+      subst (λ (xs : List AlarmNotification). IsShown Clear setup xs (taken (behind_data live Low number) (record { priority = Low; notification = alarm; user_structure = structure }) (taken_as (end_of live Low).seen number)).live)
       (sym (more_is (taken_as (end_of live Low).seen number) alarm)) (low_shown live number alarm structure (taken_as (end_of live Low).seen number) (up refl) is)
   data_shown live under number Low alarm structure quiet is false up = none_more live is
 
-  alarmed_shown : (live : Live) (source : Mac) (under : Priority) (header : Header) (message : ToController) → IsOurs message → IsShown setup alarms live
-      → IsShown setup (alarms ++ taken_of Low live source header message) (alarmed live source under header message).live
+  alarmed_shown : (live : Live) (source : Mac) (under : Priority) (header : Header) (message : ToController) → IsOurs message → IsShown Clear setup alarms live
+      → IsShown Clear setup (alarms ++ taken_of Low live source header message) (alarmed live source under header message).live
   alarmed_shown live source under header (notice.Data number report) ours is =
       data_shown live under number report.priority report.notification report.user_structure ours.1 is (live.stands && is_alarm live.cyclic.route source header)
       (λ e. (and_parts live.stands (is_alarm live.cyclic.route source header) e).0)
   alarmed_shown live source under header (notice.Ack number) ours is =
-      none_more _ (holds_if (λ (t : Turn). IsShown setup alarms t.live) (live.stands && is_alarm live.cyclic.route source header) (stays (behind_ack live (acked_under live under) number)) (stays live)
-      (acked_shown setup alarms live (acked_under live under) number is) is)
+      none_more _ (holds_if (λ (t : Turn). IsShown Clear setup alarms t.live) (live.stands && is_alarm live.cyclic.route source header) (stays (behind_ack live (acked_under live under) number)) (stays live)
+      (acked_shown Clear setup alarms live (acked_under live under) number is) is)
   alarmed_shown live source under header notice.Nack ours is =
-      none_more _ (holds_if (λ (t : Turn). IsShown setup alarms t.live) (live.stands && is_alarm live.cyclic.route source header) (stays live) (stays live) is is)
+      none_more _ (holds_if (λ (t : Turn). IsShown Clear setup alarms t.live) (live.stands && is_alarm live.cyclic.route source header) (stays live) (stays live) is is)
   alarmed_shown live source under header (notice.Abort status) ours is =
-      none_more _ (holds_if (λ (t : Turn). IsShown setup alarms t.live) (live.stands && is_alarm live.cyclic.route source header) (stays (over cause.Aborted live)) (stays live)
-      (over_shown setup alarms cause.Aborted live) is)
+      none_more _ (holds_if (λ (t : Turn). IsShown Clear setup alarms t.live) (live.stands && is_alarm live.cyclic.route source header) (stays (over cause.Aborted live)) (stays live)
+      (over_shown Clear setup alarms cause.Aborted live) is)
 
   -- ---- what is heard, and other events
 
-  pub heard_shown : (mac : Mac) (live : Live) (heard : Heard) → IsGood mac heard → IsShown setup alarms live → IsShown setup (alarms ++ taken_by Low live heard) (turned setup live heard).live
-  heard_shown mac live Nothing good is = none_more live is
-  heard_shown mac live (Answers source answer) good is = none_more _ (answered_shown setup alarms live source answer is live.phase refl)
-  heard_shown mac live (Responds response) good is =
-      none_more _ (after_shown setup alarms (can_begin live) (responded setup live response live.asked) (responded_shown setup alarms live response is live.asked refl))
-  heard_shown mac live (Refuses refusal) good is =
-      none_more _ (after_shown setup alarms (can_begin live) (refused setup live refusal live.asked) (refused_shown setup alarms live refusal is live.asked))
-  heard_shown mac live (Calls caller call) good is = none_more _ (called_shown setup alarms live caller call is (ready_in call))
-  heard_shown mac live (Cyclic source frame_id body) good is = none_more _ (come_shown setup alarms live source frame_id body is)
-  heard_shown mac live (Alarms source under header message) good is =
-      after_shown setup (alarms ++ taken_of Low live source header message) (can_begin live) (alarmed live source under header message)
+  pub heard_shown : (mac : Mac) (live : Live) (heard : Heard) → IsGood mac heard → TellsSo Clear setup heard → IsShown Clear setup alarms live → IsShown Clear setup (alarms ++ taken_by Low live heard) (turned setup live heard).live
+  heard_shown mac live Nothing good tells is = none_more live is
+  heard_shown mac live (Answers source answer) good tells is = none_more _ (answered_shown Clear setup alarms live source answer is live.phase refl)
+  heard_shown mac live (Responds response) good tells is =
+      none_more _ (after_shown Clear setup alarms (can_begin live) (responded setup live response live.asked) (responded_shown Clear setup alarms live response is tells live.asked refl))
+  heard_shown mac live (Refuses refusal) good tells is =
+      none_more _ (after_shown Clear setup alarms (can_begin live) (refused setup live refusal live.asked) (refused_shown Clear setup alarms live refusal is live.asked))
+  heard_shown mac live (Calls caller call) good tells is = none_more _ (called_shown Clear setup alarms live caller call is (ready_in call))
+  heard_shown mac live (Cyclic source frame_id body) good tells is = none_more _ (come_shown Clear setup alarms live source frame_id body is)
+  heard_shown mac live (Alarms source under header message) good tells is =
+      after_shown Clear setup (alarms ++ taken_of Low live source header message) (can_begin live) (alarmed live source under header message)
       (alarmed_shown live source under header message good.1 is)
 
   -- no frame is delivered
@@ -575,19 +593,24 @@ module _ (setup : Setup) (alarms : List AlarmNotification) where
   IsNoFrame (event.Frame bytes) = ⊥
   IsNoFrame other = Unit {0}
 
-  pub event_shown : (live : Live) (one : Event) → IsNoFrame one → IsShown setup alarms live → IsShown setup alarms (turn_of setup live one).live
+  pub event_shown : (live : Live) (one : Event) → IsNoFrame one → IsShown Clear setup alarms live → IsShown Clear setup alarms (turn_of setup live one).live
   event_shown live (event.Frame bytes) plain is = absurd plain
-  event_shown live event.Tick plain is = ticked_shown setup alarms live is
-  event_shown live (event.Give slot subslot value) plain is = same setup alarms live (given live slot subslot value.items) refl refl refl refl is
-  event_shown live (event.Status slot subslot is_good) plain is = same setup alarms live (rated live slot subslot is_good) refl refl refl refl is
-  event_shown live (event.Read slot subslot index) plain is = requested_shown setup alarms live service.Read slot subslot index [] is
+  event_shown live event.Tick plain is = ticked_shown Clear setup alarms live is
+  event_shown live (event.Give slot subslot value) plain is = same Clear setup alarms live (given live slot subslot value.items) refl refl refl refl is
+  event_shown live (event.Status slot subslot is_good) plain is = same Clear setup alarms live (rated live slot subslot is_good) refl refl refl refl is
+  event_shown live (event.Read slot subslot index) plain is = requested_shown Clear setup alarms live service.Read slot subslot index [] is
   event_shown live (event.Write slot subslot index octets) plain is =
-      holds_if (λ (t : Turn). IsShown setup alarms t.live) (nat_lt most_record_octets (length octets.items)) (stays live) (requested setup live service.Write slot subslot index octets.items) is
-      (requested_shown setup alarms live service.Write slot subslot index octets.items is)
-  event_shown live event.Stop plain is = quit_shown setup alarms cause.Stopped live live.phase is
+      holds_if (λ (t : Turn). IsShown Clear setup alarms t.live) (nat_lt most_record_octets (length octets.items)) (stays live) (requested setup live service.Write slot subslot index octets.items) is
+      (requested_shown Clear setup alarms live service.Write slot subslot index octets.items is)
+  event_shown live event.Stop plain is = quit_shown Clear setup alarms cause.Stopped live live.phase is
 
-pub first_shown : (setup : Setup) (plan : Parts) → IsShown setup [] (first_live plan)
-first_shown setup plan = record { asks = λ e. absurd (identify_asks e); before = λ b. record { none = refl; down = refl }; sees = λ up. absurd (false≢true up) }
+pub first_shown : (Clear : Type 0) (setup : Setup) (plan : Parts) → IsShown Clear setup [] (first_live plan)
+first_shown Clear setup plan = record { asks = λ e. absurd (identify_asks e); before = λ b. record { none = refl; down = refl }; sees = λ up. absurd (false≢true up) }
   where
     identify_asks : Some asks.Identify ≡ Some asks.Connect → ⊥
     identify_asks e = absurd cc
+
+-- what else follows
+pub shown_on : (Clear Next : Type 0) → (Clear → Next) → (setup : Setup) (alarms : List AlarmNotification) (live : Live) → IsShown Clear setup alarms live → IsShown Next setup alarms live
+shown_on Clear Next on setup alarms live is =
+    record { asks = is.asks; before = is.before; sees = λ up. let s = is.sees up in record { clear = on s.clear; own = s.own; are = s.are } }

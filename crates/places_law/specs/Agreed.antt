@@ -84,8 +84,13 @@ ArePluggedApart modules = AreApart (λ (entry : RealModule). entry.slot) modules
 
 -- ---- the law
 
--- At each submodule of which a pull or a plug was reported, the controller, if it is one of its places, says that it is not as the plan
--- expects exactly where a row of the diff lists it: what the Connect expects, compared with what is plugged now.
-abbrev pub AreAgreed : List RealModule → RelationState → List AlarmNotification → Told → Type 0
-AreAgreed real link reported places = (slot subslot : ℕ) (state : PlaceState) → is_reported slot subslot reported ≡ true
-    → state_at slot subslot places ≡ Some state → is_amiss state ≡ is_listed slot subslot (rows_now real link)
+-- Of each of its places a controller says that it is not as the plan expects exactly where a row of the diff lists it: what the Connect
+-- expects, compared with what is plugged now.
+abbrev pub AreAgreed : List RealModule → RelationState → Told → Type 0
+AreAgreed real link places = (slot subslot : ℕ) (state : PlaceState) → state_at slot subslot places ≡ Some state
+    → is_amiss state ≡ is_listed slot subslot (rows_now real link)
+
+-- Of each submodule of the plan of which no pull or plug was reported, a controller says that it is there, and no row of the diff lists it.
+abbrev pub AreUntouched : List RealModule → List RealModule → RelationState → List AlarmNotification → Told → Type 0
+AreUntouched modules real link reported places = (slot subslot : ℕ) → is_in_plan modules slot subslot ≡ true → is_reported slot subslot reported ≡ false
+    → (state_at slot subslot places ≡ Some There) × (is_listed slot subslot (rows_now real link) ≡ false)

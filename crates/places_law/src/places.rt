@@ -7,9 +7,11 @@ ghost use Rattle.both_ends.specs.startup.Played.{Begins, CanMeet};
 ghost use Rattle.both_ends.specs.exchange.Over.{reported_over};
 ghost use Rattle.both_ends.specs.exchange.Sized.{AreSizedModules, NoneIsAtZero};
 ghost use Rattle.both_ends.specs.exchange.Told.{AreKnown, AreSizedMoves};
-ghost use Rattle.places_law.specs.Agreed.{AreAgreed, ArePluggedApart, AreThePlaces};
+ghost use Rattle.places_law.specs.Agreed.{AreAgreed, ArePluggedApart, AreThePlaces, AreUntouched};
 
-use both_ends::{answers_choose_well, worlds_start_up};
+use block_codec::blocks_are_read;
+use both_ends::{answers_choose_well, modules_are_sized, worlds_start_up};
+use connects::blocks_are_found;
 use controller_messages::Setup;
 use diagnosis::reports_are_followed;
 use end_laws::{
@@ -33,8 +35,8 @@ pub fn worlds_agree_of_places<F: Flash<S>, const S: usize>(setup: &Setup, identi
         → AreThePlaces setup.now.plan.real.modules.items (last_world first run).controller.live.places }
     // If each slot had at most one module at the start, each subslot at most one submodule, and subslot 0 none, if at most 32,768 changes
     // of diagnosis, pulls and plugs are reported, no alarm of low priority is unconfirmed and none waits, then both ends agree of each
-    // place of which a pull or a plug was reported: a controller whose relation is established says that it is gone, or that a wrong
-    // submodule is plugged, exactly where a row of the diff lists it. That is the diff of the relation's Connect and what is plugged now.
+    // place of the plan: a controller whose relation is established says that it differs, that it is gone, or that a wrong submodule is
+    // plugged, exactly where a row of the diff lists it. That is the diff of the relation's Connect and what is plugged now.
     ensures agreed { CanMeet setup.now identity.now →
         (first : World F) (run : List (Move × World F)) → Begins setup.now identity.now first
         → AreMade F.Flash first run → AreSizedModules first.device.live.rest.real.modules.items → AreSizedMoves run
@@ -43,8 +45,19 @@ pub fn worlds_agree_of_places<F: Flash<S>, const S: usize>(setup: &Setup, identi
         → (link : RelationState) → (last_world first run).device.live.rest.link ≡ Some link
         → link.flow.low.alarms.sender.standing ≡ None → link.flow.low.waiting ≡ []
         → (last_world first run).controller.live.stands ≡ true
-        → AreAgreed (last_world first run).device.live.rest.real.modules.items link (reported_over first run)
-        (last_world first run).controller.live.places }
+        → AreAgreed (last_world first run).device.live.rest.real.modules.items link (last_world first run).controller.live.places }
+    // Under the same premises the controller says of a place of which no pull or plug was reported that it is there, and no row of the diff
+    // lists it.
+    ensures untouched { CanMeet setup.now identity.now →
+        (first : World F) (run : List (Move × World F)) → Begins setup.now identity.now first
+        → AreMade F.Flash first run → AreSizedModules first.device.live.rest.real.modules.items → AreSizedMoves run
+        → AreKnown first.device.live.rest.diagnoses → NoneIsAtZero first.device.live.rest.real.modules.items
+        → ArePluggedApart first.device.live.rest.real.modules.items
+        → length (reported_over first run) ≤ 32768 → (link : RelationState)
+        → (last_world first run).device.live.rest.link ≡ Some link → link.flow.low.alarms.sender.standing ≡ None
+        → link.flow.low.waiting ≡ [] → (last_world first run).controller.live.stands ≡ true
+        → AreUntouched setup.now.plan.real.modules.items (last_world first run).device.live.rest.real.modules.items link
+        (reported_over first run) (last_world first run).controller.live.places }
     // The same is true of the slots and subslots after any moves, so `agreed` holds of the next relation too.
     ensures apart { CanMeet setup.now identity.now →
         (first : World F) (run : List (Move × World F)) → Begins setup.now identity.now first
@@ -54,6 +67,9 @@ pub fn worlds_agree_of_places<F: Flash<S>, const S: usize>(setup: &Setup, identi
         → ArePluggedApart (last_world first run).device.live.rest.real.modules.items }
 {
     stations_are_real(setup, identity);
+    modules_are_sized(setup.plan.real());
+    blocks_are_read();
+    blocks_are_found();
     frames_are_read();
     requests_are_heard();
     calls_can_be_sent();

@@ -1,6 +1,10 @@
+use Rattle.std.proofs.Common.{subst}
+use Rattle.pn_values.specs.declared.real.Real.{Real}
+use Rattle.both_ends.specs.exchange.Sized.{AreSizedModules}
 use Rattle.both_ends.proofs.ExchangeLaw.{DeviceSo}
 use Rattle.both_ends.proofs.ExchangeMessages.{HearsSo}
-use Rattle.places_law.proofs.PlacesRun.{agreed_so, apart_so, places_so}
+use Rattle.places_law.proofs.PlacesOctets.{BlocksSo}
+use Rattle.places_law.proofs.PlacesRun.{agreed_so, apart_so, places_so, untouched_so}
 use Rattle.places_law.proofs.places.worlds_agree_of_places.Goals as goal
 
 device_so : (g : _) → goal.After-alarms_are_taken_in_order g → DeviceSo
@@ -55,17 +59,28 @@ hears_so g c = record {
   response_no_call = c.calls_and_responses_differ.ensures.answered;
 }
 
+blocks_so : (g : _) → goal.After-alarms_are_taken_in_order g → BlocksSo
+blocks_so g c = record { read = c.blocks_are_read.ensures.read; known = c.blocks_are_found.ensures.known; alarms = c.blocks_are_found.ensures.written }
+
+planned_so : (g : _) (c : goal.After-alarms_are_taken_in_order g) → AreSizedModules c.args.setup.now.plan.real.modules.items
+planned_so g c = subst (λ (real : Real). AreSizedModules real.modules.items) c.real.ensures.value c.modules_are_sized.ensures
+
 pub returns-clause-places : goal.returns-clause-places
 returns-clause-places g c = λ can first run begins made real sized up.
-    places_so (device_so g c) (hears_so g c) c.args.setup.now c.args.identity.now c.stations_are_real.ensures.setup can g.F.Flash first run begins real made sized
+    places_so (device_so g c) (hears_so g c) (blocks_so g c) c.args.setup.now c.args.identity.now c.stations_are_real.ensures.setup (planned_so g c) can g.F.Flash first run begins real made sized
     (c.worlds_start_up.ensures.meant can first run begins made) up
 
 pub returns-clause-agreed : goal.returns-clause-agreed
 returns-clause-agreed g c = λ can first run begins made real sized known none apart few link is unsent empty up.
-    agreed_so (device_so g c) (hears_so g c) c.args.setup.now c.args.identity.now c.stations_are_real.ensures.setup can g.F.Flash first run begins real made sized
+    agreed_so (device_so g c) (hears_so g c) (blocks_so g c) c.args.setup.now c.args.identity.now c.stations_are_real.ensures.setup (planned_so g c) can g.F.Flash first run begins real made sized
+    (c.worlds_start_up.ensures.meant can first run begins made) c.reports_are_followed.ensures.elsewhere known none apart c.alarms_are_taken_in_order.ensures.all few link is unsent empty up
+
+pub returns-clause-untouched : goal.returns-clause-untouched
+returns-clause-untouched g c = λ can first run begins made real sized known none apart few link is unsent empty up.
+    untouched_so (device_so g c) (hears_so g c) (blocks_so g c) c.args.setup.now c.args.identity.now c.stations_are_real.ensures.setup (planned_so g c) can g.F.Flash first run begins real made sized
     (c.worlds_start_up.ensures.meant can first run begins made) c.reports_are_followed.ensures.elsewhere known none apart c.alarms_are_taken_in_order.ensures.all few link is unsent empty up
 
 pub returns-clause-apart : goal.returns-clause-apart
 returns-clause-apart g c = λ can first run begins made real sized known none apart.
-    apart_so (device_so g c) (hears_so g c) c.args.setup.now c.args.identity.now c.stations_are_real.ensures.setup can g.F.Flash first run begins real made sized
+    apart_so (device_so g c) (hears_so g c) (blocks_so g c) c.args.setup.now c.args.identity.now c.stations_are_real.ensures.setup (planned_so g c) can g.F.Flash first run begins real made sized
     (c.worlds_start_up.ensures.meant can first run begins made) c.reports_are_followed.ensures.elsewhere known none apart
