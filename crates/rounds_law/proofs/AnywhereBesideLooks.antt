@@ -195,7 +195,6 @@ module _ {F : Type 0} {S : ℕ} (as_flash : Flash F S) (identity : Identity) (si
           (reached_by _ Tick (reached_all (made setup) (net.to_controller ++ round.answers) (reached_made setup)));
       routed = λ stands. unestablished (sym asks.established ∙ stands);
       alone = asks.alone.0;
-      turnless = subst (λ (p : Parts). p.parameters_after_plug ≡ false) (sym pairs.0.long.starts.plan) ready.nets.0.controller.turnless;
     }
       where
         unestablished : {A : Type 0} → false ≡ true → A

@@ -155,9 +155,9 @@ module _ (setup : Setup) (Holds : Chosen → Type 0) (silence : ℕ) (station : 
   exchange_says (Exchanges route frame ∷ sent) all = (tt, exchange_says sent all.1)
   exchange_says (message ∷ sent) all = absurd all.0
 
-  ready_sized : (ready : Ready) → IsOfRelation live.rest.link ready → AllLast silence live.rest.link → IsSizedReady ready
+  ready_sized : (ready : Ready) → IsOfRelation live.rest.link ready → AllLast setup silence live.rest.link → IsSizedReady ready
   ready_sized ready of lasts =
-      let its : Lasts silence of.link = subst (AllLast silence) of.is lasts in
+      let its : Lasts setup silence of.link = subst (AllLast setup silence) of.is lasts in
       record {
         header = subst IsHeader (sym of.header)
             (record { object = its.object; interface = refl; activity = its.named; sequence = omega arith; operation = omega arith });
@@ -165,7 +165,7 @@ module _ (setup : Setup) (Holds : Chosen → Type 0) (silence : ℕ) (station : 
         uuid = subst (λ (b : ControlBlock). IsUuid b.ar_uuid) (sym of.block) its.named;
       }
 
-  other_says : (after : Option RelationState) (message : Sent) → AllLast silence live.rest.link → IsOther live after message → IsSizedIfPlug message
+  other_says : (after : Option RelationState) (message : Sent) → AllLast setup silence live.rest.link → IsOther live after message → IsSizedIfPlug message
       → Saying message
   other_says after (CallAnswer caller address answer) lasts is sized = absurd is
   other_says after (Again frame) lasts is sized = absurd is
@@ -173,12 +173,12 @@ module _ (setup : Setup) (Holds : Chosen → Type 0) (silence : ℕ) (station : 
   other_says after (PlugReadyCall address ready) lasts is sized = sized
   other_says after message lasts is sized = tt
 
-  others_say : (after : Option RelationState) (sent : List Sent) → AllLast silence live.rest.link → AllByRecursion (IsOther live after) sent
+  others_say : (after : Option RelationState) (sent : List Sent) → AllLast setup silence live.rest.link → AllByRecursion (IsOther live after) sent
       → AllByRecursion IsSizedIfPlug sent → AllByRecursion Saying sent
   others_say after [] lasts all sized = tt
   others_say after (message ∷ sent) lasts all sized = (other_says after message lasts all.0 sized.0, others_say after sent lasts all.1 sized.1)
 
-  readied_says : (after : Option RelationState) (address : List ℕ) (ready : Option Following) → AllLast silence live.rest.link → AreReadied live after ready
+  readied_says : (after : Option RelationState) (address : List ℕ) (ready : Option Following) → AllLast setup silence live.rest.link → AreReadied live after ready
       → AllByRecursion IsSizedIfPlug (readied_from address ready) → AllByRecursion Saying (readied_from address ready)
   readied_says after address None lasts is sized = tt
   readied_says after address (Some (Readying ready)) lasts is sized = (ready_sized ready is.0 lasts, tt)
@@ -211,7 +211,7 @@ module _ (setup : Setup) (Holds : Chosen → Type 0) (silence : ℕ) (station : 
   abbrev Went : Rest → List Sent → Type 0
   Went after sent = AllByRecursion Saying sent × IsStoredFrom after.calls sent
 
-  served : (heard : Heard) (after : Rest) (sent : List Sent) → AllLast silence live.rest.link → IsOwnHeard setup heard
+  served : (heard : Heard) (after : Rest) (sent : List Sent) → AllLast setup silence live.rest.link → IsOwnHeard setup heard
       → ((caller : Caller) (address : List ℕ) (sequence : ℕ) → heard ≡ Reported caller address (Calls (call_for setup (asks.Release sequence)))
       → AllByRecursion (IsUnchosen setup) sent)
       → AllByRecursion IsSizedIfPlug sent → Serves station live heard after sent → Went after sent
@@ -285,7 +285,7 @@ module _ (setup : Setup) (Holds : Chosen → Type 0) (silence : ℕ) (station : 
         more_stored after.calls (kept_for station.identity call message) [] message [] sent (ap (λ (r : Rest). r.calls) it.becomes) refl it.sends,
       )
 
-  replied : (heard : Heard) (after : Rest) (sent : List Sent) → AllLast silence live.rest.link
+  replied : (heard : Heard) (after : Rest) (sent : List Sent) → AllLast setup silence live.rest.link
       → ((question : Question) → question_in live.rest.asked ≡ Some question → question.header.activity ≡ setup.activity
       → (question.header.sequence == 0) ≡ false)
       → AllByRecursion IsSizedIfPlug sent → Replies station live heard after sent → Went after sent
@@ -299,7 +299,7 @@ module _ (setup : Setup) (Holds : Chosen → Type 0) (silence : ℕ) (station : 
       )
 
   -- All that is sent, and what is stored afterwards.
-  pub turn_says : (heard : Heard) (after : Rest) (sent : List Sent) → AllLast silence live.rest.link → IsOwnHeard setup heard → StoresChosen setup Holds live
+  pub turn_says : (heard : Heard) (after : Rest) (sent : List Sent) → AllLast setup silence live.rest.link → IsOwnHeard setup heard → StoresChosen setup Holds live
       → ((caller : Caller) (address : List ℕ) (sequence : ℕ) → heard ≡ Reported caller address (Calls (call_for setup (asks.Release sequence)))
       → AllByRecursion (IsUnchosen setup) sent)
       → ((question : Question) → question_in live.rest.asked ≡ Some question → question.header.activity ≡ setup.activity
