@@ -111,14 +111,19 @@ module _ (setup next : Setup) (identity : Identity) (silence : ℕ) (station : S
   said = Reported (caller_of setup.plan.controller) setup.plan.station.suite.address (Calls (plug_call setup request))
 
   -- What holds of each thing that the call can do holds of what is heard.
-  heard_so : (P : Handled → Type 0) → Walks setup station live caller request P → (heard : Heard) → IsHeardAs heard said → P (handled station live heard)
-  heard_so P walks heard (inl is) = subst (λ (h : Heard). P (handled station live h)) (sym is) (by_test (is_running live.values.running setup.plan.station.suite.address))
+  pub said_at : (P : Handled → Type 0) → Walks setup station live caller request P → (address : List ℕ)
+      → P (handled station live (Reported caller address (Calls (plug_call setup request))))
+  said_at P walks address = by_test (is_running live.values.running address)
     where
       by_test : (runs : Bool) → P (if runs then handled_said station live caller (Calls (plug_call setup request)) else Refuses note.NotMine)
       by_test true =
           walk setup station live caller request (plain_at setup next identity silence station laws live before request of)
           (unasked_at setup next identity silence station laws live before request of) P walks
       by_test false = walks.refuses note.NotMine
+
+  heard_so : (P : Handled → Type 0) → Walks setup station live caller request P → (heard : Heard) → IsHeardAs heard said → P (handled station live heard)
+  heard_so P walks heard (inl is) =
+      subst (λ (h : Heard). P (handled station live h)) (sym is) (said_at P walks setup.plan.station.suite.address)
   heard_so P walks heard (inr is) = subst (λ (h : Heard). P (handled station live h)) (sym is) (walks.refuses note.NotMine)
 
   module _ (outcomes : List Outcome) where

@@ -135,6 +135,7 @@ pub mod AnywhereSameSays
 pub mod AnywhereSameHears
 pub mod AnywhereSameLink
 pub mod AnywhereSameReleased
+pub mod AnywhereSamePlugs
 pub mod AnywhereSameAnswers
 pub mod AnywhereSameDevice
 pub mod AnywhereSameController
