@@ -217,7 +217,7 @@ module _ (setup : Setup) (good : IsSetup setup) (live : Live) (came : Came) (is 
   kind_kept (Gives slot subslot value) holds few = is
   kind_kept (GivesStatus slot subslot is_good) holds few = is
   kind_kept (Asks request octets) holds few = accessing_kept (made request octets live.access)
-  kind_kept (IsReplied refusal access) holds few = 
+  kind_kept (IsReplied refusal access) holds few =
       followed_kept setup (can_begin live) (stays (record live { refusal = refusal; access = access })) is
   kind_kept (IsPlugAnswered refusal refused waited places access) holds few = answered_kept refusal refused waited places access few
   kind_kept (IsPlugReadied caller call block) holds few =

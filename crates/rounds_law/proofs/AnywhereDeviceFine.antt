@@ -209,7 +209,7 @@ module _ (setup next : Setup) (identity : Identity) (silence : ℕ) (station : S
     pub well : (kept : Kept) → kept_of setup.activity calls ≡ Some kept → ChoosesWell setup kept.frame
     pub other : (kept : Kept) → kept_of setup.activity calls ≡ Some kept → IsIgnored next kept.frame
     pub uncalled : kept_of next.activity calls ≡ None
-    pub data : setup.plan.parameters_after_plug ≡ true → (kept : Kept) → kept_of setup.activity calls ≡ Some kept
+    pub dataless : setup.plan.parameters_after_plug ≡ true → (kept : Kept) → kept_of setup.activity calls ≡ Some kept
         → IsNoData (heard_of setup.plan.controller kept.frame)
 
   -- The rest after it, and what is sent.
@@ -246,7 +246,7 @@ module _ (setup next : Setup) (identity : Identity) (silence : ℕ) (station : S
     lasts = lasts;
     stored = stored.well;
     stored_other = stored.other;
-    answers = stored.data;
+    answers = stored.dataless;
     uncalled_next = stored.uncalled;
     asked = asked;
   }
@@ -257,7 +257,7 @@ module _ (setup next : Setup) (identity : Identity) (silence : ℕ) (station : S
       addressed_so (inr can) = inr (record { unfailed = can.unfailed; room = can.room })
 
   pub stored_before : (live : Live) → IsAnyDevice setup next identity silence station live → IsStored live.rest.calls
-  stored_before live device = record { well = device.stored; other = device.stored_other; uncalled = device.uncalled_next; data = device.answers }
+  stored_before live device = record { well = device.stored; other = device.stored_other; uncalled = device.uncalled_next; dataless = device.answers }
 
   abbrev each_answer : Live → Caller → List ℕ → Call → IodWriteReq → List Judged → Sent
   each_answer live caller address call header judged = answer_from address caller call Write (Ok (several_answer header judged [] live.rest.link))
@@ -343,7 +343,7 @@ module _ (setup next : Setup) (identity : Identity) (silence : ℕ) (station : S
             (sym (stored_one newest kept (kept_of setup.activity (kept_more 4 newest calls)) first found))
             (ignored caller address answer can (λ same. other (sym same ∙ named)));
         uncalled = none_more next.activity newest calls (λ same. other (same ∙ own)) uncalled;
-        data = λ keyed kept found. subst (λ (one : Kept). IsNoData (heard_of setup.plan.controller one.frame))
+        dataless = λ keyed kept found. subst (λ (one : Kept). IsNoData (heard_of setup.plan.controller one.frame))
             (sym (stored_one newest kept (kept_of setup.activity (kept_more 4 newest calls)) first found))
             (answer_no_data laws setup station.identity good device caller address answer can);
       }
@@ -361,7 +361,7 @@ module _ (setup next : Setup) (identity : Identity) (silence : ℕ) (station : S
     well = λ kept found. well_by kept (some_more setup.activity newest calls kept found);
     other = λ kept found. other_by kept (some_more setup.activity newest calls kept found);
     uncalled = none_more next.activity newest calls (λ same. apart (sym (same ∙ named))) stored.uncalled;
-    data = λ keyed kept found. data_by keyed kept (some_more setup.activity newest calls kept found);
+    dataless = λ keyed kept found. data_by keyed kept (some_more setup.activity newest calls kept found);
   }
     where
       data_by : setup.plan.parameters_after_plug ≡ true → (kept : Kept) → (kept ≡ newest) ⊎ (kept_of setup.activity calls ≡ Some kept)
@@ -369,7 +369,7 @@ module _ (setup next : Setup) (identity : Identity) (silence : ℕ) (station : S
       data_by keyed kept (inl same) =
           subst (λ (octets : List ℕ). IsNoData (heard_of setup.plan.controller octets)) (sym (ap (λ (k : Kept). k.frame) same ∙ frame))
           (answer_no_data laws setup station.identity good device caller address answer can)
-      data_by keyed kept (inr old) = stored.data keyed kept old
+      data_by keyed kept (inr old) = stored.dataless keyed kept old
 
       well_by : (kept : Kept) → (kept ≡ newest) ⊎ (kept_of setup.activity calls ≡ Some kept) → ChoosesWell setup kept.frame
       well_by kept (inl same) =

@@ -28,7 +28,6 @@ use Rattle.controller_messages.specs.Heard.{heard_alarm, heard_answer, heard_bod
 use Rattle.controller_messages.specs.Heard.{heard_read, heard_real_time, heard_refusal, heard_response, is_to}
 use Rattle.rounds_law.proofs.AnywhereLinkLaws.{ReadLaws}
 use Rattle.rounds_law.proofs.Choices.{where_not, where_so}
-
 -- ---- what is no cyclic frame to a controller
 
 pub use Rattle.rounds_law.specs.Anywhere.{IsNoData}

@@ -351,11 +351,11 @@ module _ {F : Type 0} {S : ℕ} (as_flash : Flash F S) (setup next : Setup) (ide
           → (after.live.rest.link ≡ None)
           × ((controller : Controlling) → controller.setup ≡ setup → AllByRecursion (λ frame. Accepts controller frame → ⊥) frames))
           × ((link : RelationState) → before.live.rest.link ≡ Some link → IsNow setup route link after.live.rest.link)
-      by_kind (inl data) = (
+      by_kind (inl its) = (
         λ none.
-            let silent = data_none laws long route before after octets frames goes device data none in
+            let silent = data_none laws long route before after octets frames goes device its none in
             (silent.0, nothing_accepted silent.1),
-        λ link has. data_some laws long route before after octets frames goes device data link has,
+        λ link has. data_some laws long route before after octets frames goes device its link has,
       )
       by_kind (inr plug) = (
         λ none. (

@@ -171,10 +171,10 @@ module _ {F : Type 0} {S : ℕ} (as_flash : Flash F S) (setup next : Setup) (ide
     where
       by_kind : IsOwn setup (IsNoPlug route) octets ⊎ IsPlugOwn setup octets
           → AllByRecursion (λ frame. Accepts controller frame → AcceptsInputs identity controller link) frames
-      by_kind (inl data) =
+      by_kind (inl its) =
           let outcomes = goes.steps.outcomes in
           let heard = device_hears before.station.identity (comes octets) in
-          let is = own_is_of_data setup laws long.real before.station.identity route octets data in
+          let is = own_is_of_data setup laws long.real before.station.identity route octets its in
           subst (AllByRecursion (λ frame. Accepts controller frame → AcceptsInputs identity controller link)) (sym goes.steps.frames)
           (step_well reads identity controller link outcomes before.station before.live heard device.of_device
           (data_went setup route outcomes before.station before.live link (subst (AllLast setup silence) has device.lasts).untold heard is has).1

@@ -86,7 +86,7 @@ data_or_plug setup route octets own = by_message own.message own.frame own.senda
     by_message : (message : Sent) → octets ≡ controller_bytes setup message → CanBeSent setup message → HasWay setup message → IsOfExchange route message
         → IsOwn setup (IsNoPlug route) octets ⊎ IsPlugOwn setup octets
     by_message (Requests device request) frame can way is = absurd is
-    by_message (Accesses device request data) frame can way is = absurd is
+    by_message (Accesses device request blocks) frame can way is = absurd is
     by_message (Parametrizes device request) frame can way is =
         inr (record { device = device; request = request; frame = frame; sendable = can; way = way })
     by_message (Agrees caller answer) frame can way is =
@@ -234,8 +234,11 @@ module _ (setup next : Setup) (identity : Identity) (silence : ℕ) (station : S
             later,
             refl,
             goes,
-            inl (refl, untimed_units (is_timed link.phase) (limit_of link) later.inactive link.inactive
-                (link.flow.cyclic.hearing.limit - link.flow.cyclic.hearing.held) timed),
+            inl (
+              refl,
+              untimed_units (is_timed link.phase) (limit_of link) later.inactive link.inactive
+                  (link.flow.cyclic.hearing.limit - link.flow.cyclic.hearing.held) timed,
+            ),
           )
 
       told_by : (blocks : List ℕ) → is_plug_control blocks (Some link) ≡ true → link.plugs.has_told ≡ true
@@ -252,8 +255,11 @@ module _ (setup next : Setup) (identity : Identity) (silence : ℕ) (station : S
             _,
             refl,
             record { route = refl; limit = refl; room = λ keyed later. no_more (room_of link) },
-            inl (refl, untimed_units (is_timed link.phase) (limit_of link) _ link.inactive
-                (link.flow.cyclic.hearing.limit - link.flow.cyclic.hearing.held) timed),
+            inl (
+              refl,
+              untimed_units (is_timed link.phase) (limit_of link) _ link.inactive
+                  (link.flow.cyclic.hearing.limit - link.flow.cyclic.hearing.held) timed,
+            ),
           )
 
       now_walks : Walks setup station live caller request IsNowBy
@@ -313,9 +319,11 @@ module _ (setup next : Setup) (identity : Identity) (silence : ℕ) (station : S
       denies = λ operation refusal. (tt, tt);
       keeps = λ header unchosen parameter records e. (tt, tt);
       ends = λ one e told.
-          let named = updated (Named (partner_of caller)) (plug_ended_by station.options.ready_by_application (Ok one) live.rest.link) in
-          (tt, due_answering (is_calling named) (plug_calls live.values.running.suite.address (calling_next named))
-          (call_answering live.values.running.suite.address (plug_ready_of (calling_next named))));
+          let named = updated (Named (partner_of caller)) (plug_ended_by station.options.ready_by_application (Ok one) live.rest.link) in (
+            tt,
+            due_answering (is_calling named) (plug_calls live.values.running.suite.address (calling_next named))
+                (call_answering live.values.running.suite.address (plug_ready_of (calling_next named))),
+          );
     }
 
     plug_answering : (heard : Heard) → IsHeardAs heard said → AllByRecursion IsAnswering (heard_step outcomes station live heard).sent

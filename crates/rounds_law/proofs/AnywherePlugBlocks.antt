@@ -191,17 +191,21 @@ single_refused : (one : PlugControlBlock) → (refusal : CallFault) × (single_o
 unfolding single_of number_of
 single_refused one =
     let blocks = (plug_control 0x0111).write one [] in
-    let refused = refused_by (length blocks == 0) (nat_lt (length blocks) 4) (formed (block_of blocks)) in
-    (refused.0, ap (λ (n : ℕ). in_order ((length blocks == 0, fault.BlockMissing) ∷ (nat_lt (length blocks) 4, fault.BlockHeader)
-    ∷ (not (n == 0x0110), fault.BlockType) ∷ []) (formed (block_of blocks))) (end_type one) ∙ refused.1)
+    let refused = refused_by (length blocks == 0) (nat_lt (length blocks) 4) (formed (block_of blocks)) in (
+      refused.0,
+      ap (λ (n : ℕ). in_order ((length blocks == 0, fault.BlockMissing) ∷ (nat_lt (length blocks) 4, fault.BlockHeader)
+          ∷ (not (n == 0x0110), fault.BlockType) ∷ []) (formed (block_of blocks))) (end_type one) ∙ refused.1,
+    )
 
 pub plug_end_refused : (link : Option RelationState) (one : PlugControlBlock)
     → (refusal : CallFault) × (prm_end_of link ((plug_control 0x0111).write one []) ≡ Err refusal)
 unfolding prm_end_of
 plug_end_refused link one =
-    let single = single_refused one in
-    (single.0, ap (λ (r : Result (Block × List ℕ) CallFault). r >>= λ x. or_fault fault.BlockForm (in_control x.0) >>= λ block. named_of link block 1
-    >>= λ _. in_started link >>= λ _. Ok block) single.1)
+    let single = single_refused one in (
+      single.0,
+      ap (λ (r : Result (Block × List ℕ) CallFault). r >>= λ x. or_fault fault.BlockForm (in_control x.0) >>= λ block. named_of link block 1
+          >>= λ _. in_started link >>= λ _. Ok block) single.1,
+    )
 
 -- ---- what is accepted
 
@@ -304,8 +308,8 @@ framed_is : (octets : List ℕ) → length octets ≡ 28
     → (framed (number Truncated 2) Truncated everything).read (0 ∷ 28 ∷ octets) ≡ Ok (take 28 octets, [])
 framed_is octets same =
     ap (λ (b : Bool). (let r : Result (ℕ × List ℕ) BlockFault = if b then Err Truncated else Ok (28, octets) in r)
-    >>= λ x. (raw Truncated x.0).read x.1 >>= λ cut. everything {F = BlockFault}.read cut.0 >>= λ value. Ok (value, cut.1)) (long_enough (length octets))
-    ∙ ap (λ (r : Raw). r >>= λ cut. everything {F = BlockFault}.read cut.0 >>= λ value. Ok (value, cut.1)) (all_read octets 28 same)
+    >>= λ x. (raw Truncated x.0).read x.1 >>= λ cut. (everything {F = BlockFault}).read cut.0 >>= λ value. Ok (value, cut.1)) (long_enough (length octets))
+    ∙ ap (λ (r : Raw). r >>= λ cut. (everything {F = BlockFault}).read cut.0 >>= λ value. Ok (value, cut.1)) (all_read octets 28 same)
 
 response_skipped : (octets : List ℕ) → length octets ≡ 28 → IsSkipped (other_block.read (0x81 ∷ 0x11 ∷ 0 ∷ 28 ∷ octets))
 unfolding other_block

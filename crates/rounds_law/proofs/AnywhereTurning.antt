@@ -122,8 +122,7 @@ module _ (slot subslot : ℕ) where
       by_test true is e = λ entry at.
           let both = and_parts (first.slot == slot) (first.subslot == subslot) is in
           let same : first ≡ entry = same_some first entry (sym (drop_here entries start first rest all)
-          ∙ (ap (λ (n : ℕ). slice_get entries n) (same_some start number e) ∙ at)) in
-          (
+          ∙ (ap (λ (n : ℕ). slice_get entries n) (same_some start number e) ∙ at)) in (
             sym (eqb-true first.slot slot both.0) ∙ ap (λ (p : PlanRecord). p.slot) same,
             sym (eqb-true first.subslot subslot both.1) ∙ ap (λ (p : PlanRecord). p.subslot) same,
           )
