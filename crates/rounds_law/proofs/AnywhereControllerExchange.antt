@@ -37,7 +37,7 @@ use Rattle.controller_messages.specs.declared.setup.Setup.{Setup}
 use Rattle.controller_messages.specs.Access.{Accessing, unplugged}
 use Rattle.controller_messages.specs.Heard.{Heard, Nothing, Answers, Responds, Refuses, Calls, Alarms}
 use Rattle.controller_messages.specs.Heard.{Cyclic as Comes}
-use Rattle.controller_messages.specs.PlugRequests.{is_plug_ready, plug_answer, plug_ready_in}
+use Rattle.controller_messages.specs.PlugRequests.{is_plug_answer, is_plug_ready, plug_answer, plug_ready_in}
 use Rattle.controller_messages.specs.Sent.{Agrees, Sent, ready_answer}
 use Rattle.controller_core.specs.declared.stored.state.State.{State}
 use Rattle.controller_core.specs.declared.stored.state.State.TheVariants.{Exchanging}

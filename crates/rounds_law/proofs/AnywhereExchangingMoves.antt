@@ -1,6 +1,7 @@
 -- A relation whose controller exchanges data: how long it lasts, after a frame and after a unit.
 use Rattle.std.proofs.Common.{◌≡◌, ◌⊎◌, inl, inr, ◌≤◌, ◌+◌, ◌-◌, ◌*◌, ℕ, suc, Bool, true, false, if◌then◌else◌, refl, sym, ap, subst, ◌∙◌, arith}
-use Rattle.std.proofs.Math.Nat.{mul-le}
+use Rattle.std.proofs.Math.Nat.{suc-mul}
+use Rattle.std.proofs.lemmas.Nat.{mul-le}
 use Rattle.std.proofs.lemmas.Bool.{false≢true}
 use Rattle.pn_values.specs.declared.identity.Identity.{Identity}
 use Rattle.cyclic_data.specs.declared.exchange.route.Route.{Route}
@@ -99,7 +100,7 @@ spent_left : (silence units units_after room room_after left : ℕ) → units_af
     → units_after + room_after * silence ≤ left
 spent_left silence units units_after room room_after left fewer less few =
     let product : suc room_after * silence ≤ room * silence = mul-le (suc room_after) silence room silence less (omega arith) in
-    let one : suc room_after * silence ≡ silence + room_after * silence = refl in
+    let one = suc-mul room_after silence in
     omega (arith, fewer, product, one, few)
 
 pub early_moves : (setup : Setup) (route : Route) (silence left : ℕ) (before after : RelationState) → LinkGoesOn setup before after

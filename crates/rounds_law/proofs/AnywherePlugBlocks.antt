@@ -46,7 +46,7 @@ use Rattle.records.specs.declared.writes.writing.Writing.TheVariants.{One, Each}
 use Rattle.records.specs.writes.Answer.{answer_of, header_of, outcome_of}
 use Rattle.records.specs.writes.Asked.{handled_writing, writing_of}
 use Rattle.plans.specs.declared.parts.PlanRecord.{PlanRecord}
-use Rattle.relations.specs.Calls.{in_control, in_started, named_of, prm_end_of}
+use Rattle.relations.specs.Calls.{control_block, in_control, in_started, named_of, prm_end_of}
 use Rattle.relations.specs.Plugging.{block_in, plug_end_in, plug_named, plug_told}
 use Rattle.relations.specs.RelationState.{RelationState, is_named, is_session, is_started, phase_of, uuid_of}
 use Rattle.relations.specs.Timers.{is_timed}
@@ -203,7 +203,7 @@ unfolding prm_end_of
 plug_end_refused link one =
     let single = single_refused one in (
       single.0,
-      ap (λ (r : Result (Block × List ℕ) CallFault). r >>= λ x. or_fault fault.BlockForm (in_control x.0) >>= λ block. named_of link block 1
+      ap (λ (r : Result (Block × List ℕ) CallFault). (r >>= λ x. or_fault fault.BlockForm (in_control x.0)) >>= λ block. named_of link block 1
           >>= λ _. in_started link >>= λ _. Ok block) single.1,
     )
 
@@ -223,12 +223,13 @@ not_false false e = absurd cc
 pub end_named : (blocks : List ℕ) (link : Option RelationState) (one : PlugControlBlock) → plug_end_in blocks link ≡ Ok one → is_named one.ar_uuid link ≡ true
 unfolding plug_end_in
 end_named blocks link one e =
-    let first = bind_ok _ _ one e in
-    let second = bind_ok _ _ one first.2 in
-    let third = bind_ok _ _ one second.2 in
+    let first = bind_ok (block_in ((plug_control 0x0111).read blocks)) (λ b. plug_named link b >>= λ _. plug_told link b >>= λ _. Ok b) one e in
+    let second = bind_ok (plug_named link first.0) (λ _. plug_told link first.0 >>= λ _. Ok first.0) one first.2 in
+    let third = bind_ok (plug_told link first.0) (λ _. Ok first.0) one second.2 in
+    let others = (not (is_session first.0.session_key link), fault.UnknownSession) ∷ (not (first.0.control_command == 1), fault.ControlCommand) ∷ [] in
     let same : first.0 ≡ one = some_is first.0 one third.2 in
     subst (λ (b : PlugControlBlock). is_named b.ar_uuid link ≡ true) same
-    (not_false (is_named first.0.ar_uuid link) (check_passed (not (is_named first.0.ar_uuid link)) fault.UnknownRelation _ second.0 second.1))
+    (not_false (is_named first.0.ar_uuid link) (check_passed (not (is_named first.0.ar_uuid link)) fault.UnknownRelation others second.0 second.1))
   where
     some_is : (a b : PlugControlBlock) → (let r : Result PlugControlBlock CallFault = Ok a in r) ≡ Ok b → a ≡ b
     some_is a b f = cc
@@ -247,9 +248,9 @@ pub end_timed : (blocks : List ℕ) (link : Option RelationState) (one : Control
     → (its : RelationState) → link ≡ Some its → is_timed its.phase ≡ true
 unfolding prm_end_of
 end_timed blocks link one e its has =
-    let first = bind_ok _ _ one e in
-    let second = bind_ok _ _ one first.2 in
-    let third = bind_ok _ _ one second.2 in
+    let first = bind_ok (control_block kind.PrmEnd blocks) (λ b. named_of link b 1 >>= λ _. in_started link >>= λ _. Ok b) one e in
+    let second = bind_ok (named_of link first.0 1) (λ _. in_started link >>= λ _. Ok first.0) one first.2 in
+    let third = bind_ok (in_started link) (λ _. Ok first.0) one second.2 in
     let started = not_false (is_started (phase_of link)) (check_passed (not (is_started (phase_of link))) fault.Phase [] third.0 third.1) in
     by_phase its.phase (subst (λ (l : Option RelationState). is_started (phase_of l) ≡ true) has started)
   where

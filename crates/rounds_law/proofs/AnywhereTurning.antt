@@ -115,20 +115,21 @@ module _ (slot subslot : ℕ) where
   own_at : (entries rest : List PlanRecord) (start number : ℕ) → drop start entries ≡ rest → first_record slot subslot start rest ≡ Some number
       → IsOwn entries number
   own_at entries [] start number all found = absurd (none-some number found)
-  own_at entries (first ∷ rest) start number all found = by_test (is_record_of slot subslot first) refl found
+  own_at entries (first ∷ rest) start number all found =
+      by_test (is_record_of slot subslot first) refl
+      (λ e. own_at entries rest (start + 1) number (ap (λ (n : ℕ). drop n entries) (add-one start) ∙ drop_later entries start first rest all) e) found
     where
       by_test : (b : Bool) → is_record_of slot subslot first ≡ b
+          → (first_record slot subslot (start + 1) rest ≡ Some number → IsOwn entries number)
           → (let o : Option ℕ = if b then Some start else first_record slot subslot (start + 1) rest in o) ≡ Some number → IsOwn entries number
-      by_test true is e = λ entry at.
+      by_test true is more e = λ entry at.
           let both = and_parts (first.slot == slot) (first.subslot == subslot) is in
           let same : first ≡ entry = same_some first entry (sym (drop_here entries start first rest all)
           ∙ (ap (λ (n : ℕ). slice_get entries n) (same_some start number e) ∙ at)) in (
             sym (eqb-true first.slot slot both.0) ∙ ap (λ (p : PlanRecord). p.slot) same,
             sym (eqb-true first.subslot subslot both.1) ∙ ap (λ (p : PlanRecord). p.subslot) same,
           )
-      by_test false is e =
-          own_at entries rest (start + 1) number
-          (ap (λ (n : ℕ). drop n entries) (add-one start) ∙ drop_later entries start first rest all) e
+      by_test false is more e = more e
 
   step_own : (plan : Parts) (from number : ℕ) → step_from plan slot subslot from ≡ Record number → IsOwn plan.records.items number
   step_own plan from number is = by_found (first_record slot subslot from (drop from plan.records.items)) refl is
@@ -167,9 +168,9 @@ module _ (setup : Setup) where
   abbrev Good : Turn → Type 0
   Good turn = IsTurning setup turn.live
 
-  either : (is : Bool) {x y : Turn} → Good x → Good y → Good (if is then x else y)
-  either true one other = one
-  either false one other = other
+  either : (is : Bool) (x y : Turn) → Good x → Good y → Good (if is then x else y)
+  either true x y one other = one
+  either false x y one other = other
 
   either_live : (is : Bool) (x y : Live) → IsTurning setup x → IsTurning setup y → IsTurning setup (if is then x else y)
   either_live true x y one other = one
@@ -221,7 +222,7 @@ module _ (setup : Setup) where
 
   pub followed_good : (could : Bool) (turn : Turn) → Good turn → Good (after_turn setup could turn)
   followed_good could turn is =
-      either (could || not (can_begin turn.live)) is (begun_good turn.live is)
+      either (could || not (can_begin turn.live)) _ _ is (begun_good turn.live is)
 
   pub due_good : (is_due : Bool) (live : Live) → IsTurning setup live → IsTurning setup (turn_due setup is_due live)
   due_good true live is = begun_good live is
@@ -244,11 +245,11 @@ module _ (setup : Setup) where
 
     answered_good : (source : Mac) (answer : Answered) (phase : State) → Good (answered setup live source answer phase)
     answered_good source answer Looking =
-        either (is_found setup.plan answer)
-        (either (is_right setup.plan answer) (either (is_addressed setup.plan answer) again again) (over_good why.WrongDevice live []))
+        either (is_found setup.plan answer) _ _
+        (either (is_right setup.plan answer) _ _ (either (is_addressed setup.plan answer) _ _ again again) (over_good why.WrongDevice live []))
         rests
     answered_good source answer Addressing =
-        either (is_set_answer answer) (either (is_agreed answer) again (over_good why.Refused live [])) rests
+        either (is_set_answer answer) _ _ (either (is_agreed answer) _ _ again (over_good why.Refused live [])) rests
     answered_good source answer phase = rests
 
     opened_keyed : setup.plan.parameters_after_plug ≡ true → setup.plan.parameters_after_plug ≡ true
@@ -260,13 +261,13 @@ module _ (setup : Setup) where
 
     connected_good : (blocks : List ℕ) (found : Option Found) → Good (connected setup live blocks found)
     connected_good blocks (Some found) =
-        either (is_whole found) (either found.differs (released_good why.ModuleDiff live) (related_good blocks (chosen_of found))) rests
+        either (is_whole found) _ _ (either found.differs _ _ (released_good why.ModuleDiff live) (related_good blocks (chosen_of found))) rests
     connected_good blocks None = rests
 
     passed_good : (number refused_number : ℕ) (status : Code) → Good (past_record setup number (noted status refused_number live))
     passed_good number refused_number status =
-        either setup.plan.continue_on_refused_record again
-        (either setup.plan.release_on_refused_record (released_good why.Refused (noted status refused_number live))
+        either setup.plan.continue_on_refused_record _ _ again
+        (either setup.plan.release_on_refused_record _ _ (released_good why.Refused (noted status refused_number live))
         (over_good why.Refused (noted status refused_number live) []))
 
     outcomes_good : (number : ℕ) (outcomes : Outcomes) → Good (after_write setup live number outcomes)
@@ -288,7 +289,7 @@ module _ (setup : Setup) where
 
     decided_good : (response : Response) (request : Request) → Good (decided setup live response request)
     decided_good response (asks.Release sequence) = is
-    decided_good response request = either (is_done response.status) (done_good response.blocks request) (undone_good response.status request)
+    decided_good response request = either (is_done response.status) _ _ (done_good response.blocks request) (undone_good response.status request)
 
     refused_by_good : (refusal : Refusal) (request : Request) → Good (refused_by live refusal request)
     refused_by_good refusal (asks.Release sequence) = is
@@ -321,7 +322,7 @@ module _ (setup : Setup) where
     rejected_good refusal (Some request) = either_live (is_rejected setup request refusal) _ _ is is
 
     requested_good : (kind : RecordService) (slot subslot index : ℕ) (octets : List ℕ) → Good (requested setup live kind slot subslot index octets)
-    requested_good kind slot subslot index octets = either (can_request live) again rests
+    requested_good kind slot subslot index octets = either (can_request live) _ _ again rests
 
     -- ---- the answers after a plug
 
@@ -359,12 +360,12 @@ module _ (setup : Setup) where
 
     beside_good : (response : Response) (plug : Option PlugRequest) → live.access.plug ≡ plug → Good (beside setup live response plug)
     beside_good response (Some request) was =
-        either (is_plug_answer setup request response.header.activity response.header.sequence)
+        either (is_plug_answer setup request response.header.activity response.header.sequence) _ _
         (plug_replied_good response.status request was) rests
     beside_good response None was = replied_good response live.access.waiting
 
     pub responded_good : (response : Response) (asked : Option Request) → Good (responded setup live response asked)
-    responded_good response (Some request) = either (is_answer setup request response.header) (decided_good response request) rests
+    responded_good response (Some request) = either (is_answer setup request response.header) _ _ (decided_good response request) rests
     responded_good response None = beside_good response live.access.plug refl
 
     pub plug_rejected_good : (refusal : Refusal) (request : PlugRequest) → IsTurning setup (plug_rejected setup live refusal request)
@@ -377,7 +378,7 @@ module _ (setup : Setup) where
     refused_beside_good refusal None = rejected_good refusal live.access.waiting
 
     pub refused_good : (refusal : Refusal) (asked : Option Request) → Good (refused setup live refusal asked)
-    refused_good refusal (Some request) = either (is_refused setup request refusal) (refused_by_good refusal request) rests
+    refused_good refusal (Some request) = either (is_refused setup request refusal) _ _ (refused_by_good refusal request) rests
     refused_good refusal None = refused_beside_good refusal live.access.plug
 
     -- ---- ApplicationReady of a plug
@@ -391,12 +392,12 @@ module _ (setup : Setup) where
 
     pub plug_called_good : (caller : Caller) (call : Call) (block : Option PlugControlBlock) → Good (plug_called setup live caller call block)
     plug_called_good caller call (Some block) =
-        either (is_plug_ready setup block && is_plug_awaited live block.alarm_sequence_number)
+        either (is_plug_ready setup block && is_plug_awaited live block.alarm_sequence_number) _ _
         (plug_readied_good block.alarm_sequence_number) rests
     plug_called_good caller call None = rests
 
     called_good : (caller : Caller) (call : Call) (block : Option ControlBlock) → Good (called setup live caller call block)
-    called_good caller call (Some block) = either (is_ready setup block) (readied_good caller call block live.phase) rests
+    called_good caller call (Some block) = either (is_ready setup block) _ _ (readied_good caller call block live.phase) rests
     called_good caller call None =
         followed_good (can_begin live) (plug_called setup live caller call (plug_ready_in call)) (plug_called_good caller call (plug_ready_in call))
 
@@ -449,7 +450,7 @@ module _ (setup : Setup) where
     noticed_good under (notice.Abort status) = over_good live is why.Aborted live []
 
     pub alarmed_good : (source : Mac) (under : Priority) (header : Header) (reported : ToController) → Good (alarmed live source under header reported)
-    alarmed_good source under header reported = either (live.stands && is_alarm live.cyclic.route source header) (noticed_good under reported) is
+    alarmed_good source under header reported = either (live.stands && is_alarm live.cyclic.route source header) _ _ (noticed_good under reported) is
 
     -- ---- each event
 
@@ -491,7 +492,7 @@ module _ (setup : Setup) where
     ticked_good : Good (ticked setup live)
     ticked_good =
         let next = turn_due setup (is_again live) (later live) in
-        either (is_spent live) (quit_good why.NoProgress (later live) later_good live.phase)
+        either (is_spent live) _ _ (quit_good why.NoProgress (later live) later_good live.phase)
         (gone_good next (due_good (is_again live) (later live) later_good) (is_again live) next.stands (brought next).ending)
 
     pub event_good : (one : Event) → Good (turn_of setup live one)
@@ -501,7 +502,7 @@ module _ (setup : Setup) where
     event_good (event.Status slot subslot is_good) = is
     event_good (event.Read slot subslot index) = requested_good live is service.Read slot subslot index []
     event_good (event.Write slot subslot index octets) =
-        either (nat_lt most_record_octets (length octets.items)) is (requested_good live is service.Write slot subslot index octets.items)
+        either (nat_lt most_record_octets (length octets.items)) _ _ is (requested_good live is service.Write slot subslot index octets.items)
     event_good event.Stop = quit_good why.Stopped live is live.phase
 
 -- ---- a request after a plug waits only while data is exchanged
