@@ -383,7 +383,7 @@ module _ {F : Type 0} {S : ℕ} (as_flash : Flash F S) (setup next : Setup) (ide
       (plug_no_data setup next identity silence before.station before.live call_laws device own.request own.way goes.steps.outcomes reads
       (device_hears before.station.identity (comes octets)) heard_as goes.steps.sendable))
 
-  -- Without a relation there is none afterwards.
+  -- Without a relation the device gets no relation by it.
   pub plug_none : before.live.rest.link ≡ None → after.live.rest.link ≡ None
   plug_none none =
       ap (λ (l : Live). l.rest.link) goes.steps.live
