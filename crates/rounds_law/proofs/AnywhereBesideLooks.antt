@@ -6,7 +6,6 @@ use Rattle.flash_model.specs.declared.flash.Flash.{Ghosts as Flash}
 use Rattle.pn_values.specs.declared.identity.Identity.{Identity}
 use Rattle.settings_journal.specs.settings_store.State.{Values}
 use Rattle.device_core.specs.State.{Live, State}
-use Rattle.plans.specs.declared.parts.Parts.{Parts}
 use Rattle.controller_messages.specs.declared.request.Request.{Request}
 use Rattle.controller_messages.specs.declared.request.Request.TheVariants as wants
 use Rattle.controller_messages.specs.declared.setup.Setup.{Setup}

@@ -1,5 +1,5 @@
 -- A step of a controller in any state: a frame, and a unit, also while it exchanges data.
-use Rattle.std.proofs.Common.{◌≡◌, ◌≢◌, ◌⊎◌, inl, inr, ◌≤◌, ◌<◌, ℕ, suc, true, false, List, [], ◌∷◌, Option, Some, None, refl, sym, ap, subst, ◌∙◌, arith}
+use Rattle.std.proofs.Common.{◌≡◌, ◌≢◌, ◌⊎◌, inl, inr, ◌≤◌, ◌<◌, ℕ, suc, true, List, [], ◌∷◌, Option, Some, None, refl, sym, ap, subst, ◌∙◌, arith}
 use Rattle.std.proofs.lemmas.Bool.{false≢true}
 use Rattle.controller_messages.specs.declared.plug_request.PlugRequest.{PlugRequest}
 use Rattle.controller_messages.specs.declared.setup.ControllerOptions.{ControllerOptions}

@@ -43,7 +43,7 @@ use Rattle.relations.specs.Plugging.{ended_by as plug_ended_by}
 use Rattle.relations.specs.Phases.{Ended, Named, Parameterized, Records, Took, answered, differing_octets, keeping, made_of, taking, updated}
 use Rattle.relations.specs.RelationState.{RelationState, uuid_of}
 use Rattle.device_frames.specs.Heard.{Calls}
-use Rattle.device_frames.specs.Relation.{plug_calls, ready_calls}
+use Rattle.device_frames.specs.Relation.{ready_calls}
 use Rattle.device_core.specs.State.{Live, Station}
 use Rattle.device_core.specs.Modules.{next_call_sent}
 use Rattle.device_core.specs.Log.{but_rest, connect_log, release_log, with_log}

@@ -23,7 +23,7 @@ use Rattle.diagnosis.specs.reports.Message.{ToController, alarm_of}
 use Rattle.plans.specs.declared.parts.Controller.{Controller}
 use Rattle.controller_messages.specs.declared.refusal.Refusal.{Refusal}
 use Rattle.controller_messages.specs.Refusal.{refusal_of}
-use Rattle.controller_messages.specs.Heard.{Heard, Alarms, Answers, Calls, Cyclic, Nothing, Refuses, Responds}
+use Rattle.controller_messages.specs.Heard.{Heard, Cyclic, Nothing}
 use Rattle.controller_messages.specs.Heard.{heard_alarm, heard_answer, heard_body, heard_call, heard_content, heard_first, heard_of}
 use Rattle.controller_messages.specs.Heard.{heard_read, heard_real_time, heard_refusal, heard_response, is_to}
 use Rattle.rounds_law.proofs.AnywhereLinkLaws.{ReadLaws}

@@ -20,7 +20,7 @@ use Rattle.end_laws.specs.hearing.Hearing.{comes, own_hears}
 use Rattle.end_laws.specs.hearing.Stations.{IsSetup}
 use Rattle.end_laws.specs.sending.Messages.{CanBeSent}
 use Rattle.rounds_law.proofs.AnywhereLinkLaws.{ExchangeLaws}
-use Rattle.rounds_law.proofs.AnywhereParts.{HasWay, IsOfExchange, IsOwn}
+use Rattle.rounds_law.proofs.AnywhereParts.{HasWay, IsOwn}
 
 -- What is sent in an exchange under this route, but for the calls after a plug.
 abbrev pub IsNoPlug : Route → Sent → Type 0

@@ -4,7 +4,6 @@ use Rattle.std.proofs.Common.{Result, Ok, Err, refl, sym, ap, subst, ◌∙◌, 
 use Rattle.std.specs.Prelude.{if◌then◌else◌, nat_lt}
 use Rattle.std.specs.List.{AllByRecursion}
 use Rattle.std.proofs.lemmas.Bool.{and_parts, false≢true, ltb-true}
-use Rattle.std.proofs.lemmas.Bool.Decides.{nat_tests}
 use Rattle.std.proofs.lemmas.List.{length-append}
 use Rattle.flash_model.specs.declared.flash.Flash.{Ghosts as Flash}
 use Rattle.wire.proofs.Fields.{ok_is}
@@ -12,29 +11,24 @@ use Rattle.pn_values.specs.declared.identity.Identity.{Identity}
 use Rattle.pn_values.specs.declared.mac.Mac.{Mac}
 use Rattle.settings_journal.specs.settings_store.Machine.{Outcome}
 use Rattle.frame_codec.specs.declared.udp.Caller.{Caller}
-use Rattle.rpc_core.specs.Cache.{Kept, kept_of}
 use Rattle.connect_blocks.specs.declared.plug_control.PlugControlBlock.{PlugControlBlock}
-use Rattle.record_blocks.specs.declared.write_record.IodWriteReq.{IodWriteReq}
 use Rattle.cyclic_data.specs.declared.exchange.route.Route.{Route}
 use Rattle.records.specs.declared.status.call_fault.CallFault.{CallFault}
 use Rattle.records.specs.declared.status.call_fault.CallFault.TheVariants as fault
-use Rattle.records.specs.declared.status.operation.Operation.{Operation}
 use Rattle.records.specs.declared.writes.taken.TakenRecord.{TakenRecord}
-use Rattle.records.specs.writes.Answer.{answer_of}
 use Rattle.records.specs.writes.Taken.{keep_of}
 use Rattle.relations.specs.Passed.{PassedOn, passed_more}
 use Rattle.relations.specs.Phases.{Named, Records, Took, keeping, kept_in, restarted, updated, with_records}
-use Rattle.relations.specs.Plugging.{begins_as_plug_end, calling_next, is_calling, is_plug_control, plug_end_in, plug_ended, plug_ready_of}
+use Rattle.relations.specs.Plugging.{begins_as_plug_end, calling_next, is_calling, is_plug_control, plug_ready_of}
 use Rattle.relations.specs.Plugging.{ended_by as plug_ended_by}
-use Rattle.relations.specs.RelationState.{RelationState, is_exchanging, passes_on}
+use Rattle.relations.specs.RelationState.{RelationState, is_exchanging}
 use Rattle.relations.specs.Timers.{is_timed, limit_of}
 use Rattle.relations.specs.declared.phase.Partner.{Partner}
 use Rattle.relations.specs.declared.phase.Phase.{Phase}
 use Rattle.relations.specs.declared.phase.Phase.TheVariants.{Awaiting, Exchanging as in_exchange, Preparing, Started}
 use Rattle.relations.specs.declared.plugging.PlugReady.{PlugReady}
-use Rattle.device_frames.specs.declared.note.Note.{Note}
 use Rattle.device_frames.specs.declared.note.Note.TheVariants as note
-use Rattle.device_frames.specs.Heard.{Calls, Elsewhere, Heard, Reported, heard_of as device_hears}
+use Rattle.device_frames.specs.Heard.{Calls, Heard, Reported, heard_of as device_hears}
 use Rattle.device_frames.specs.Relation.{plug_call_in, plug_calls, where_due}
 use Rattle.device_frames.specs.Sendable.{AreSendable, IsSendable}
 use Rattle.device_frames.specs.Sent.{Sent as Message, IdentifyAnswer, GetAnswer, SetAnswer, ArpReply, CallAnswer, Again, ReadyCall, PlugReadyCall, Exchanges}
@@ -42,7 +36,6 @@ use Rattle.device_frames.specs.Sent.{Ends as EndsWith, bytes_of}
 use Rattle.device_core.specs.State.{Live, State, Station}
 use Rattle.device_core.specs.Handled.{Handled, Refuses, handled, handled_said, is_running, partner_of}
 use Rattle.device_core.specs.Machine.{handled_step, heard_step}
-use Rattle.plans.specs.declared.parts.Controller.{Controller}
 use Rattle.controller_messages.specs.declared.plug_request.PlugRequest.{PlugRequest}
 use Rattle.controller_messages.specs.declared.setup.Setup.{Setup}
 use Rattle.controller_messages.specs.Heard.{heard_of}
@@ -52,10 +45,9 @@ use Rattle.controller_messages.specs.Sent.{Sent, Requests, Accesses, Parametrize
 use Rattle.controller_core.specs.stored.State.{Controlling}
 use Rattle.end_laws.specs.hearing.Hearing.{comes}
 use Rattle.end_laws.specs.sending.Messages.{CanBeSent}
-use Rattle.end_laws.specs.turns.Turns.{chosen_in}
 use Rattle.both_ends.specs.startup.answer.Answer.{caller_of}
 use Rattle.rounds_law.specs.Again.{units_left}
-use Rattle.rounds_law.specs.Anywhere.{AllLast, IsAnyDevice, IsNoData, IsUntold, Lasts}
+use Rattle.rounds_law.specs.Anywhere.{AllLast, IsAnyDevice, IsNoData, IsUntold}
 use Rattle.rounds_law.specs.AnywhereFrames.{HasWay, IsOfPlug, IsOwn}
 use Rattle.rounds_law.proofs.AnywhereDeviceAnswers.{CallLaws}
 use Rattle.rounds_law.proofs.AnywhereDeviceCalls.{plain_at, unasked_at}
@@ -66,7 +58,7 @@ use Rattle.rounds_law.proofs.AnywhereLinkHears.{IsNoPlug}
 use Rattle.rounds_law.proofs.AnywhereLinkLaws.{ReadLaws}
 use Rattle.rounds_law.proofs.AnywhereLinkMoved.{IsNow, as_before, no_more}
 use Rattle.rounds_law.proofs.AnywhereParts.{Accepts, Hears, IsLong, IsOfExchange, LinkGoesOn, room_of}
-use Rattle.rounds_law.proofs.AnywherePlugWalk.{Walks, end_blocks, ends_by, walk}
+use Rattle.rounds_law.proofs.AnywherePlugWalk.{Walks, end_blocks, walk}
 use Rattle.rounds_law.proofs.Choices.{and_false}
 
 -- ---- a frame with such a call

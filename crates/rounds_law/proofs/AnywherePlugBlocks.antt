@@ -1,5 +1,5 @@
 -- The calls of a controller after a plug, as a device reads their blocks, and what a controller finds in their responses.
-use Rattle.std.proofs.Common.{◌≡◌, ◌⊎◌, inl, inr, ◌<◌, ◌≤◌, ◌+◌, ◌%◌, ◌==◌, ◌++◌, ℕ, zero, suc, Bool, true, false, not, List, [], ◌∷◌, length, take}
+use Rattle.std.proofs.Common.{◌≡◌, ◌⊎◌, inl, inr, ◌<◌, ◌≤◌, ◌%◌, ◌==◌, ◌++◌, ℕ, suc, Bool, true, false, not, List, [], ◌∷◌, length, take}
 use Rattle.std.proofs.Common.{Option, Some, None, Result, Ok, Err, refl, sym, ap, subst, ◌∙◌, arith}
 use Rattle.std.specs.Prelude.{if◌then◌else◌, drop, is_some, nat_lt, slice_get}
 use Rattle.std.specs.Cmp.Lexicographic.{same_text}
@@ -28,7 +28,6 @@ use Rattle.block_codec.specs.declared.block_type.BlockType.TheVariants as kind
 use Rattle.block_codec.specs.Kinds.{number_of}
 use Rattle.block_codec.specs.Block.{block, block_bytes, block_of, front}
 use Rattle.block_codec.specs.Writable.{CanBeWritten}
-use Rattle.connects.specs.answers.Connect.{next_by, nothing}
 use Rattle.connects.specs.answers.OtherBlock.{other_block}
 use Rattle.asked_records.specs.declared.names.RecordName.{RecordName}
 use Rattle.asked_records.specs.Judging.{asked_name}
@@ -36,7 +35,7 @@ use Rattle.asked_records.specs.Names.{named_at}
 use Rattle.records.specs.declared.status.call_fault.CallFault.{CallFault}
 use Rattle.records.specs.declared.status.call_fault.CallFault.TheVariants as fault
 use Rattle.records.specs.calls.Handled.{handled as in_order}
-use Rattle.records.specs.calls.Naming.{in_relation, is_relation}
+use Rattle.records.specs.calls.Naming.{in_relation}
 use Rattle.records.specs.calls.Single.{formed, single_of}
 use Rattle.records.specs.status.Status.{done}
 use Rattle.records.specs.declared.writes.taken.TakenRecord.{TakenRecord}
@@ -48,7 +47,7 @@ use Rattle.records.specs.writes.Asked.{handled_writing, writing_of}
 use Rattle.plans.specs.declared.parts.PlanRecord.{PlanRecord}
 use Rattle.relations.specs.Calls.{control_block, in_control, in_started, named_of, prm_end_of}
 use Rattle.relations.specs.Plugging.{block_in, plug_end_in, plug_named, plug_told}
-use Rattle.relations.specs.RelationState.{RelationState, is_named, is_session, is_started, phase_of, uuid_of}
+use Rattle.relations.specs.RelationState.{RelationState, is_named, is_session, is_started, phase_of}
 use Rattle.relations.specs.Timers.{is_timed}
 use Rattle.relations.specs.declared.phase.Phase.{Phase}
 use Rattle.relations.specs.declared.phase.Phase.TheVariants.{Started, Preparing, Awaiting, Exchanging}
@@ -56,7 +55,7 @@ use Rattle.device_core.specs.Asking.{asking_write, write_within}
 use Rattle.controller_messages.specs.declared.plug_request.PlugRequest.{PlugRequest}
 use Rattle.controller_messages.specs.declared.plug_request.PlugStep.TheVariants.{Record}
 use Rattle.controller_messages.specs.declared.setup.Setup.{Setup}
-use Rattle.controller_messages.specs.PlugRequests.{plug_end, plug_write_blocks}
+use Rattle.controller_messages.specs.PlugRequests.{plug_write_blocks}
 use Rattle.end_laws.specs.turns.Turns.{chosen_in}
 use Rattle.rounds_law.specs.AnywhereFrames.{IsOfPlug}
 use Rattle.rounds_law.proofs.AnywhereDeviceReleased.{IsSkipped, none_chosen, skipped}

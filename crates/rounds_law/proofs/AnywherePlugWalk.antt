@@ -23,7 +23,7 @@ use Rattle.records.specs.declared.writes.writing.Writing.TheVariants.{Each, One}
 use Rattle.records.specs.writes.Answer.{answer_of}
 use Rattle.records.specs.writes.Asked.{writing_of}
 use Rattle.asked_records.specs.Asked.{is_repeat}
-use Rattle.relations.specs.Calls.{done_of, prm_end_of}
+use Rattle.relations.specs.Calls.{done_of}
 use Rattle.relations.specs.Phases.{Named, Parameterized, Records, Took, answered, keeping, taking, updated}
 use Rattle.relations.specs.Plugging.{is_plug_control, plug_end_answer, plug_end_in}
 use Rattle.relations.specs.Plugging.{ended_by as plug_ended_by}
@@ -33,7 +33,7 @@ use Rattle.device_frames.specs.Heard.{Calls}
 use Rattle.device_frames.specs.Sent.{Again}
 use Rattle.device_core.specs.State.{Live, Station}
 use Rattle.device_core.specs.Asking.{Asking as Question, asking_of}
-use Rattle.device_core.specs.Handled.{Handled, Moves, Refuses, handled_asking, handled_blocks, handled_call, handled_effect, handled_looked, handled_new}
+use Rattle.device_core.specs.Handled.{Handled, Moves, Refuses, handled_asking, handled_call, handled_effect, handled_looked, handled_new}
 use Rattle.device_core.specs.Handled.{handled_said, handled_unanswered, handled_write, kept_answer, partner_of, ready_behind, served}
 use Rattle.device_core.specs.Modules.{call_after, calling_after}
 use Rattle.controller_messages.specs.declared.plug_request.PlugRequest.{PlugRequest}

@@ -1,5 +1,5 @@
 -- A call of a controller after a plug: its response chooses nothing.
-use Rattle.std.proofs.Common.{◌≡◌, ◌⊎◌, inl, inr, ℕ, Bool, true, false, List, [], ◌∷◌, length, Option, Some, None, Ok, sym, subst}
+use Rattle.std.proofs.Common.{◌≡◌, ◌⊎◌, inl, inr, ℕ, Bool, true, false, List, [], length, Option, Some, None, Ok, subst}
 use Rattle.std.specs.List.{AllByRecursion}
 use Rattle.pn_values.specs.declared.identity.Identity.{Identity}
 use Rattle.settings_journal.specs.settings_store.Machine.{Outcome}
@@ -14,11 +14,11 @@ use Rattle.relations.specs.Plugging.{calling_next, is_calling, plug_done, plug_e
 use Rattle.relations.specs.Plugging.{ended_by as plug_ended_by}
 use Rattle.relations.specs.RelationState.{RelationState}
 use Rattle.relations.specs.declared.plugging.PlugReady.{PlugReady}
-use Rattle.device_frames.specs.Heard.{Calls, Heard, Reported}
+use Rattle.device_frames.specs.Heard.{Calls, Reported}
 use Rattle.device_frames.specs.Relation.{plug_call_in, plug_calls, where_due}
 use Rattle.device_frames.specs.Sent.{Sent}
 use Rattle.device_core.specs.State.{Live, Station}
-use Rattle.device_core.specs.Handled.{Handled, handled, partner_of}
+use Rattle.device_core.specs.Handled.{Handled, partner_of}
 use Rattle.device_core.specs.Machine.{handled_step, heard_step}
 use Rattle.controller_messages.specs.declared.plug_request.PlugRequest.{PlugRequest}
 use Rattle.controller_messages.specs.declared.setup.Setup.{Setup}

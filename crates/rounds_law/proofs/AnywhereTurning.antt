@@ -30,15 +30,13 @@ use Rattle.diagnosis.specs.declared.reports.priority.Priority.{Priority}
 use Rattle.diagnosis.specs.declared.reports.priority.Priority.TheVariants.{High, Low}
 use Rattle.diagnosis.specs.declared.reports.report.Report.{Report}
 use Rattle.diagnosis.specs.reports.Message.{ToController}
-use Rattle.cyclic_data.specs.exchange.Received.{behind_frame}
 use Rattle.connects.specs.declared.answers.connect.Found.{Found}
 use Rattle.connects.specs.answers.Connect.{Chosen, chosen_of, found_in, is_whole, nothing}
 use Rattle.plans.specs.declared.parts.Parts.{Parts}
 use Rattle.plans.specs.declared.parts.PlanRecord.{PlanRecord}
 use Rattle.plan_places.specs.declared.report.PlaceReport.{PlaceReport}
 use Rattle.plan_places.specs.declared.report.Plug.{Plug}
-use Rattle.plan_places.specs.declared.place.PlaceState.TheVariants as known
-use Rattle.plan_places.specs.Places.{Told, first_waiting, has_turn_at, next_waiting, told_by, with_state}
+use Rattle.plan_places.specs.Places.{Told, first_waiting, has_turn_at, next_waiting, told_by}
 use Rattle.plan_places.specs.Records.{first_record, is_record_of}
 use Rattle.plan_places.specs.Reports.{place_report}
 use Rattle.controller_messages.specs.declared.plug_request.PlugRequest.{PlugRequest}
@@ -51,7 +49,7 @@ use Rattle.controller_messages.specs.declared.refusal.Refusal.{Refusal}
 use Rattle.controller_messages.specs.declared.setup.Setup.{Setup}
 use Rattle.controller_messages.specs.declared.request.Request.{Request}
 use Rattle.controller_messages.specs.declared.request.Request.TheVariants as asks
-use Rattle.controller_messages.specs.Access.{Accessing, call_number, is_free, is_rejected, is_reply, record_in, unplugged}
+use Rattle.controller_messages.specs.Access.{call_number, is_free, is_rejected, is_reply, record_in, unplugged}
 use Rattle.controller_messages.specs.Heard.{Heard, Nothing, Answers, Responds, Refuses, Calls, Alarms, heard_of}
 use Rattle.controller_messages.specs.Heard.{Cyclic as Comes}
 use Rattle.controller_messages.specs.PlugRequests.{is_plug_answer, is_plug_ready, plug_answer, plug_ready_in}
@@ -73,14 +71,13 @@ use Rattle.controller_core.specs.stored.Alarms.{ack_of, is_alarm, kept_alarm}
 use Rattle.controller_core.specs.stored.Cause.{cause_of}
 use Rattle.controller_core.specs.stored.State.{Controlling, Live, phase_for}
 use Rattle.controller_core.specs.Machine.{Turn, acked_under, acking, after_turn, after_write, alarmed, answered, asks_next, begun_by, begun_turn, behind_ack, behind_data}
-use Rattle.controller_core.specs.Machine.{beside, brings, brought, called, can_begin, can_request, come, confirming, connected, decided, done, end_of, exchange_later, failed}
-use Rattle.controller_core.specs.Machine.{flow_later, flowed, fresh_with, gone_on, granted, is_again, is_end_of, is_exchanging, is_plug_awaited, is_spent, keeping, later}
-use Rattle.controller_core.specs.Machine.{noted, noticed, over, past_record, placed, plug_asked, plug_called, plug_finished, plug_passed, plug_passed_by, plug_readied}
-use Rattle.controller_core.specs.Machine.{plug_refused, plug_rejected, plug_replied, plug_responded, plugs_of, quit, readied, refused, refused_beside, refused_by, refused_place}
-use Rattle.controller_core.specs.Machine.{rejected, related_by, released, replied, requested, requests_of, responded, standing, stays, step_from, step_of, step_of_record, taken, ticked}
-use Rattle.controller_core.specs.Machine.{turn_due, turn_of, turned, undone, where_due, with_end, writing}
+use Rattle.controller_core.specs.Machine.{beside, brings, brought, called, can_begin, can_request, confirming, connected, decided, done, end_of, exchange_later}
+use Rattle.controller_core.specs.Machine.{flowed, fresh_with, granted, is_again, is_end_of, is_exchanging, is_plug_awaited, is_spent, keeping, later}
+use Rattle.controller_core.specs.Machine.{noted, noticed, over, past_record, placed, plug_asked, plug_called, plug_finished, plug_passed_by, plug_readied}
+use Rattle.controller_core.specs.Machine.{plug_refused, plug_rejected, plug_replied, plugs_of, quit, readied, refused, refused_beside, refused_by, refused_place}
+use Rattle.controller_core.specs.Machine.{rejected, related_by, released, replied, requested, requests_of, responded, stays, step_from, step_of, step_of_record, taken, ticked}
+use Rattle.controller_core.specs.Machine.{turn_due, turn_of, turned, undone, where_due, with_end}
 use Rattle.end_laws.specs.controller.Small.{IsSteady}
-use Rattle.end_laws.specs.turns.Beside.{flow_begun}
 use Rattle.end_laws.specs.turns.Runs.{IsReached, behind_all}
 use Rattle.end_laws.specs.turns.Turns as kinds
 use Rattle.end_laws.specs.turns.Turns.{Came, IsKind, Kind, came_by, turn_by}
