@@ -6,7 +6,6 @@ use Rattle.flash_model.specs.declared.flash.Flash.{Ghosts as Flash}
 use Rattle.pn_values.specs.declared.identity.Identity.{Identity}
 use Rattle.settings_journal.specs.settings_store.State.{Values}
 use Rattle.device_core.specs.State.{Live, State}
-use Rattle.plans.specs.declared.parts.Parts.{Parts}
 use Rattle.controller_messages.specs.declared.request.Request.{Request}
 use Rattle.controller_messages.specs.declared.request.Request.TheVariants as wants
 use Rattle.controller_messages.specs.declared.setup.Setup.{Setup}
@@ -195,7 +194,6 @@ module _ {F : Type 0} {S : ℕ} (as_flash : Flash F S) (identity : Identity) (si
           (reached_by _ Tick (reached_all (made setup) (net.to_controller ++ round.answers) (reached_made setup)));
       routed = λ stands. unestablished (sym asks.established ∙ stands);
       alone = asks.alone.0;
-      turnless = subst (λ (p : Parts). p.parameters_after_plug ≡ false) (sym pairs.0.long.starts.plan) ready.nets.0.controller.turnless;
     }
       where
         unestablished : {A : Type 0} → false ≡ true → A

@@ -102,7 +102,7 @@ module _ {F : Type 0} {S : ℕ} (as_flash : Flash F S) (identity : Identity) (si
         → (after.device.live.rest.link ≡ None) ⊎ (remains after.device.live.rest.link + (plant.idle + 1) ≤ silence + 2)
     late_after plant after nets (inl early) round =
         let kept = all_kept as_flash identity silence setup (next ∷ rest) pairs plant.net after nets round in
-        let few = remains_few silence after.device.live.rest.link kept.0.device.lasts in
+        let few = remains_few setup silence after.device.live.rest.link kept.0.device.lasts in
         inr (omega (arith, early, few))
     late_after plant after nets (inr (releases, time)) round = fewer_after (silence + 2) plant.idle plant.net after nets.0 releases round time
 

@@ -5,6 +5,7 @@ use Rattle.flash_model.specs.declared.flash.Flash.{Ghosts as Flash}
 use Rattle.pn_values.specs.declared.identity.Identity.{Identity}
 use Rattle.pn_values.specs.declared.real.Real.{Real}
 use Rattle.rpc_core.specs.Cache.{Kept as Stored, kept_of}
+use Rattle.plans.specs.declared.parts.Parts.{Parts}
 use Rattle.relations.specs.RelationState.{RelationState, uuid_of}
 use Rattle.device_frames.specs.Heard.{Ticks}
 use Rattle.device_core.specs.State.{Live, State, Station}
@@ -15,7 +16,7 @@ use Rattle.controller_core.specs.Machine.{step_of}
 use Rattle.end_laws.specs.turns.Runs.{IsReached, behind_all}
 use Rattle.both_ends.specs.startup.answer.Answer.{AcceptsInterval}
 use Rattle.rounds_law.specs.Again.{AreStarts, made}
-use Rattle.rounds_law.specs.Anywhere.{HasPatience, IsAnyDevice, remains}
+use Rattle.rounds_law.specs.Anywhere.{AllLast, HasPatience, IsAnyDevice, remains}
 use Rattle.rounds_law.specs.AnywhereFrames.{AreOwn, IsAnything, IsOwn, IsRelease}
 use Rattle.rounds_law.specs.Path.{IsAddressed, IsIgnored}
 use Rattle.rounds_law.specs.Rounds.{Goes, HearsAll, Net, hears_all}
@@ -139,6 +140,20 @@ module _ {F : Type 0} {S : ℕ} (as_flash : Flash F S) (identity : Identity) (si
       not_both : {A : Type 0} → None ≡ Some kept → A
       not_both bad = absurd cc
 
+  -- A relation lasts as long for the next start: the plan is the same.
+  last_next : (setup next : Setup) (link : Option RelationState) → AreStarts setup next → AllLast setup silence link → AllLast next silence link
+  last_next setup next None starts lasts = tt
+  last_next setup next (Some link) starts lasts = record {
+    runs = lasts.runs;
+    active = lasts.active;
+    holds = lasts.holds;
+    named = lasts.named;
+    object = lasts.object;
+    called = lasts.called;
+    inputs = lasts.inputs;
+    untold = λ keyed. lasts.untold (ap (λ (p : Parts). p.parameters_after_plug) (sym starts.plan) ∙ keyed);
+  }
+
   -- A device in any state, that has stored no answer of two further starts, is so for the first of them.
   pub any_next : (setup next later : Setup) (station : Station) (live : Live) → AreStarts setup next
       → IsAnyDevice setup next identity silence station live → IsAnyDevice setup later identity silence station live
@@ -149,9 +164,10 @@ module _ {F : Type 0} {S : ℕ} (as_flash : Flash F S) (identity : Identity) (si
     named = record { name = one.named.name ∙ ap (λ p. p.station.name) (sym starts.plan) };
     sized = one.sized;
     addressed = addressed_next setup next live starts one.addressed;
-    lasts = one.lasts;
+    lasts = last_next setup next live.rest.link starts one.lasts;
     stored = λ kept is. none_stored next.activity live kept one.uncalled_next is;
     stored_other = λ kept is. none_stored next.activity live kept one.uncalled_next is;
+    answers = λ keyed kept is. none_stored next.activity live kept one.uncalled_next is;
     uncalled_next = other.uncalled_next;
     asked = next_asked setup next later (uuid_of live.rest.link) live.rest.asked.standing one.asked other.asked;
   }
@@ -182,7 +198,7 @@ module _ {F : Type 0} {S : ℕ} (as_flash : Flash F S) (identity : Identity) (si
     where
       by_unit : (link : RelationState) → before.live.rest.link ≡ Some link
           → (after.live.rest.link ≡ None)
-          ⊎ ((later : RelationState) × (after.live.rest.link ≡ Some later) × LinkGoesOn link later × (later.phase ≡ link.phase)
+          ⊎ ((later : RelationState) × (after.live.rest.link ≡ Some later) × LinkGoesOn setup link later × (later.phase ≡ link.phase)
           × (suc (remains (Some later)) ≤ remains (Some link)))
           → (after.live.rest.link ≡ None) ⊎ (suc (remains after.live.rest.link) ≤ left)
       by_unit link has (inl gone) = inl gone

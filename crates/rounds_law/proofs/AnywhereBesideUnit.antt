@@ -62,10 +62,10 @@ module _ (laws : UnitLaws) (setup : Setup) (identity : Identity) where
   low_said flow None = tt
   low_said flow (Some alarm) = (tt, tt)
 
-  calls_said : (address : List ℕ) (silence : ℕ) (link : RelationState) → Lasts silence link → (standing : Option PlugCall) → IsNumberedCall standing
+  calls_said : (address : List ℕ) (before : Setup) (silence : ℕ) (link : RelationState) → Lasts before silence link → (standing : Option PlugCall) → IsNumberedCall standing
       → AllByRecursion IsSaid (plug_call_in address (option_map (ready_for link) standing))
-  calls_said address silence link lasts None few = tt
-  calls_said address silence link lasts (Some call) few = (
+  calls_said address before silence link lasts None few = tt
+  calls_said address before silence link lasts (Some call) few = (
     record {
       header = record { object = lasts.object; interface = refl; activity = lasts.named; sequence = few; operation = omega arith };
       interface = refl;
@@ -80,7 +80,7 @@ module _ (laws : UnitLaws) (setup : Setup) (identity : Identity) where
     values : step.live.values ≡ live.values
     over : step.live.rest.link ≡ None → AllByRecursion (IsFarewell laws setup identity) step.sent
 
-  module _ (before : Setup) (silence : ℕ) (outcomes : List Outcome) (station : Station) (live : Live) (link : RelationState) (lasts : Lasts silence link)
+  module _ (before : Setup) (silence : ℕ) (outcomes : List Outcome) (station : Station) (live : Live) (link : RelationState) (lasts : Lasts before silence link)
       (has : live.rest.link ≡ Some link) (asked : IsQuestionOf before setup (uuid_of live.rest.link) live.rest.asked.standing) where
     late_said : (sent : List Sent) (stored : List Kept)
         → IsLate station.identity live.values.running.suite.address live.rest.asked.standing live.rest.calls sent stored → AllByRecursion IsSaid sent
@@ -108,7 +108,7 @@ module _ (laws : UnitLaws) (setup : Setup) (identity : Identity) where
         (all_due due.is_low _ (low_said later.flow later.flow.low.alarms.sender.standing))
         (all_both (where_due due.is_ready (ready_calls address (Some later))) _ (all_due due.is_ready _ (sized, tt))
         (all_both (where_due due.is_plug_ready (plug_calls address (Some later))) _
-        (all_due due.is_plug_ready _ (calls_said address silence link lasts later.plugs.calls.standing called.1))
+        (all_due due.is_plug_ready _ (calls_said address before silence link lasts later.plugs.calls.standing called.1))
         (all_due due.is_cyclic (inputs_of counter (Some later.flow)) (lasts.inputs, tt)))))
 
     passes_by : (ending : Option Abort) → ending_of link ≡ ending → Passes live (heard_step outcomes station live Ticks)
@@ -153,7 +153,7 @@ module _ (laws : UnitLaws) (setup : Setup) (identity : Identity) where
 
   module _ {F : Type 0} {S : ℕ} (as_flash : Flash F S) (real : IsDevice identity) (earlier : Setup) where
     related : (silence : ℕ) (before : State F) (frames : List (List ℕ)) (after : State F) → Goes as_flash before Ticks frames after
-        → before.station.identity ≡ identity → (link : RelationState) → before.live.rest.link ≡ Some link → Lasts silence link
+        → before.station.identity ≡ identity → (link : RelationState) → before.live.rest.link ≡ Some link → Lasts earlier silence link
         → IsQuestionOf earlier setup (uuid_of before.live.rest.link) before.live.rest.asked.standing
         → UnitPassed before frames after
     related silence before frames after goes own link has lasts asked =
@@ -186,10 +186,10 @@ module _ (laws : UnitLaws) (setup : Setup) (identity : Identity) where
 
     -- A unit at a device with any relation, or none.
     pub unit_passed : (silence : ℕ) (before : State F) (frames : List (List ℕ)) (after : State F) → Goes as_flash before Ticks frames after
-        → before.station.identity ≡ identity → AllLast silence before.live.rest.link
+        → before.station.identity ≡ identity → AllLast earlier silence before.live.rest.link
         → IsQuestionOf earlier setup (uuid_of before.live.rest.link) before.live.rest.asked.standing → UnitPassed before frames after
     unit_passed silence before frames after goes own lasts asked = by_link (there_or_not before.live.rest.link)
       where
         by_link : (before.live.rest.link ≡ None) ⊎ ((state : RelationState) × (before.live.rest.link ≡ Some state)) → UnitPassed before frames after
         by_link (inl none) = unrelated before frames after goes none asked
-        by_link (inr is) = related silence before frames after goes own is.0 is.1 (subst (AllLast silence) is.1 lasts) asked
+        by_link (inr is) = related silence before frames after goes own is.0 is.1 (subst (AllLast earlier silence) is.1 lasts) asked

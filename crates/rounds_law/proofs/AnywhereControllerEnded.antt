@@ -63,7 +63,7 @@ module _ (laws : ControllerLaws) (setup : Setup) where
   ended_unit good controller any over =
       let ended = has_ended setup controller any over in
       let cause = (cause_in controller.live.phase over).cause in
-      let kept = reached_kept laws setup controller good any.of_setup any.reached any.turnless in
+      let kept = reached_kept laws setup controller good any.of_setup any.reached in
       let sent = (laws.units controller cause ended).1 in
       let own : AreOwn setup IsRelease (where_due (is_again controller.live) (release_in controller.setup controller.live.device controller.live.asked)) =
       subst (λ (s : Setup). AreOwn setup IsRelease (where_due (is_again controller.live) (release_in s controller.live.device controller.live.asked)))

@@ -27,7 +27,7 @@ use Rattle.controller_core.specs.declared.stored.state.State.{State}
 use Rattle.controller_core.specs.declared.stored.state.State.TheVariants.{Looking, Addressing, Connecting, Writing, Ending, Waiting, Exchanging, Ended}
 use Rattle.controller_core.specs.stored.Alarms.{ack_of, kept_alarm}
 use Rattle.controller_core.specs.stored.State.{Live, phase_for}
-use Rattle.controller_core.specs.Machine.{acking, behind_ack, behind_data, confirming, end_of, first, flow_later, is_again}
+use Rattle.controller_core.specs.Machine.{acking, behind_ack, behind_data, confirming, end_of, exchange_later, first, flow_later, is_again}
 use Rattle.controller_core.specs.Machine.{keeping, later, over, released, taken, with_end}
 use Rattle.end_laws.specs.sending.Sized.{AreFew, IsShort}
 use Rattle.end_laws.specs.controller.Small.{IsInStep}
@@ -239,6 +239,19 @@ later_kept setup live is = record {
   stands = is.stands;
   runs = is.runs;
   cyclic = is.cyclic;
+  high = is.high;
+  low = is.low;
+}
+
+-- The exchange passes a unit.
+pub exchange_kept : (setup : Setup) (live : Live) → IsKept setup live → IsKept setup (exchange_later live)
+exchange_kept setup live is = record {
+  device = is.device;
+  asked = is.asked;
+  waited = is.waited;
+  stands = is.stands;
+  runs = is.runs;
+  cyclic = later_of_plan setup live.cyclic is.cyclic;
   high = is.high;
   low = is.low;
 }

@@ -1,8 +1,8 @@
 -- What holds of a controller holds in any state that events lead to.
-use Rattle.std.proofs.Common.{◌≡◌, ◌⊎◌, inl, inr, ◌≤◌, ◌<◌, ◌+◌, ℕ, Bool, true, false, List, [], ◌∷◌, Some, None, refl, sym, ap, subst, ◌∙◌, arith}
+use Rattle.std.proofs.Common.{◌≡◌, ◌⊎◌, inl, inr, ◌≤◌, ◌<◌, ◌+◌, ℕ, Bool, true, false, List, [], ◌∷◌, Option, Some, None, refl, sym, ap, subst, ◌∙◌, arith}
 use Rattle.std.proofs.Math.Nat.{max-le}
-use Rattle.std.proofs.lemmas.Option.{none-some}
 use Rattle.pn_values.specs.declared.mac.Mac.{Mac}
+use Rattle.rpc_core.specs.declared.response.Status.{Status}
 use Rattle.frame_codec.specs.Sendable.{IsMac}
 use Rattle.dcp_core.specs.Response.{Answered}
 use Rattle.pn_alarms.specs.Receiver.{taken_as}
@@ -22,11 +22,12 @@ use Rattle.controller_messages.specs.Heard.{Answers, Heard, Nothing}
 use Rattle.controller_messages.specs.Requests.{writing_from}
 use Rattle.controller_core.specs.declared.stored.event.Event.{Event}
 use Rattle.controller_core.specs.declared.stored.event.Event.TheVariants.{Frame}
+use Rattle.controller_core.specs.declared.stored.state.RefusedRecord.{RefusedRecord}
 use Rattle.controller_core.specs.declared.stored.state.State.{State}
 use Rattle.controller_core.specs.declared.stored.state.State.TheVariants.{Looking, Addressing, Connecting, Ending, Waiting, Exchanging}
 use Rattle.controller_core.specs.stored.Cause.{cause_of}
 use Rattle.controller_core.specs.stored.State.{Controlling, Live, phase_for}
-use Rattle.controller_core.specs.Machine.{Turn, after_turn, behind_data, can_begin, end_of, first, fresh_with, plug_readied}
+use Rattle.controller_core.specs.Machine.{Turn, after_turn, asks_next, behind_data, can_begin, end_of, exchange_later, first, fresh_with, is_again, later, plug_readied}
 use Rattle.controller_core.specs.Machine.{standing, stays, step_of, taken, writing}
 use Rattle.end_laws.specs.hearing.Stations.{IsSetup}
 use Rattle.end_laws.specs.sending.Sized.{AreFew}
@@ -36,18 +37,43 @@ use Rattle.end_laws.specs.turns.Turns.{Came, Hears, IsKind, Kind, Rests, Connect
 use Rattle.end_laws.specs.turns.Turns.{Begins, Repeats, Follows, Takes, IsAcked, Gives, GivesStatus, Asks, IsReplied, IsPlugAnswered, IsPlugReadied}
 use Rattle.end_laws.specs.turns.Turns.{Flows, Breaks, Idles, came_by, turn_by}
 use Rattle.end_laws.specs.turns.Beside.{flow_begun}
-use Rattle.rounds_law.proofs.AnywhereControllerKept.{IsKept, IsOfPlan, KeptWith, PhaseOf, Runs, acked_kept, asked_in, data_kept, flow_kept, later_kept}
+use Rattle.rounds_law.proofs.AnywhereControllerKept.{IsKept, IsOfPlan, KeptWith, PhaseOf, Runs, acked_kept, asked_in, data_kept, exchange_kept, later_kept}
 use Rattle.rounds_law.proofs.AnywhereControllerKept.{over_kept, released_kept, runs_for, stands_for, stands_in, taken_kept}
 use Rattle.rounds_law.proofs.AnywhereControllerHeard.{answered_by}
 use Rattle.rounds_law.proofs.AnywhereControllerLaws.{ControllerLaws, reached_on, reached_steady}
 use Rattle.rounds_law.proofs.AnywhereControllerSizes.{frame_long, writing_few}
-use Rattle.rounds_law.proofs.AnywhereTurnless.{IsTurnless, flow_same, no_turn, reached_turnless, setup_all, setup_on, taken_turnless}
+use Rattle.rounds_law.proofs.AnywhereTurning.{Turns, event_good, reached_turns, setup_all, setup_on}
 use Rattle.rounds_law.proofs.ControllerPassingParts.{frame_on}
+use Rattle.rounds_law.proofs.PlaceTurns.{HoldsBeside, due_beside, followed_beside}
 
 -- ---- each kind of turn
 
+-- It holds whatever the turn of a state is.
+pub kept_beside : (setup : Setup) (live : Live) → IsKept setup live → HoldsBeside (IsKept setup) live
+kept_beside setup live is waited places access less same = record {
+  device = is.device;
+  asked = is.asked;
+  waited = let few : live.waited < 32000 = is.waited in omega (arith, less, few);
+  stands = is.stands;
+  runs = is.runs;
+  cyclic = is.cyclic;
+  high = is.high;
+  low = is.low;
+}
+
+-- So it does after a turn that began after an event, or with a unit.
+pub followed_kept : (setup : Setup) (could : Bool) (turn : Turn) → IsKept setup turn.live → IsKept setup (after_turn setup could turn).live
+followed_kept setup could turn at = followed_beside (IsKept setup) setup could turn (kept_beside setup turn.live at)
+
+pub flow_begun_kept : (setup : Setup) (live : Live) → IsKept setup live → IsKept setup (flow_begun setup live)
+flow_begun_kept setup live is =
+    due_beside (λ (l : Live). IsKept setup (exchange_later l)) setup (is_again live) (later live)
+    (λ waited places access less same.
+    exchange_kept setup (record (later live) { waited = waited; places = places; access = access })
+    (kept_beside setup (later live) (later_kept setup live is) waited places access less same))
+
 module _ (setup : Setup) (good : IsSetup setup) (live : Live) (came : Came) (is : IsKept setup live) (steady : IsSteady setup.plan live)
-    (answers : (source : Mac) (answer : Answered) → came ≡ Hears (Answers source answer) → IsMac source) (quiet : IsTurnless live) where
+    (answers : (source : Mac) (answer : Answered) → came ≡ Hears (Answers source answer) → IsMac source) where
   pub station_six : (source : Mac) → (source ≡ live.device) ⊎ ((answer : Answered) × (came ≡ Hears (Answers source answer))) → IsMac source
   station_six source (inl same) = subst IsMac (sym same) is.device
   station_six source (inr heard) = answers source heard.0 heard.1
@@ -149,42 +175,58 @@ module _ (setup : Setup) (good : IsSetup setup) (live : Live) (came : Came) (is 
     low = is.low;
   }
 
-  -- No turn follows.
-  followed_kept : (turn : Turn) → turn.live.places.has_turns ≡ false → IsKept setup turn.live → IsKept setup (after_turn setup (can_begin live) turn).live
-  followed_kept turn off at = subst (λ (t : Turn). IsKept setup t.live) (sym (no_turn setup (can_begin live) turn off)) at
+  -- The request after a plug is answered: the timer may start again.
+  answered_kept : (refusal : Option Status) (refused : Option RefusedRecord) (waited : ℕ) (places : Told) (access : Accessing)
+      → (turn_by setup live (IsPlugAnswered refusal refused waited places access)).live.waited < 32000
+      → IsKept setup (turn_by setup live (IsPlugAnswered refusal refused waited places access)).live
+  answered_kept refusal refused waited places access =
+      followed_beside (λ (l : Live). l.waited < 32000 → IsKept setup l) setup (can_begin live)
+      (asks_next (record live { refusal = refusal; refused_record = refused; waited = waited; places = places; access = access }))
+      (λ again others other less same few. record {
+        device = is.device;
+        asked = is.asked;
+        waited = few;
+        stands = is.stands;
+        runs = is.runs;
+        cyclic = is.cyclic;
+        high = is.high;
+        low = is.low;
+      })
 
-  pub kind_kept : (kind : Kind) → IsKind setup live came kind → IsKept setup (turn_by setup live kind).live
-  kind_kept Rests holds = is
-  kind_kept (Connects source) holds = asked_kept Connecting source asks.Connect (station_six source holds.known) tt (seeks holds.seeking) tt
-  kind_kept (Addresses source) holds = asked_kept Addressing source asks.Address (station_six source holds.0.known) tt (seeks holds.0.seeking) tt
-  kind_kept (Ends cause refusal refused units) holds = over_kept setup cause (record live { refusal = refusal; refused_record = refused; units = units }) is
-  kind_kept (Releases cause refusal refused units) holds =
+  pub kind_kept : (kind : Kind) → IsKind setup live came kind → (turn_by setup live kind).live.waited < 32000 → IsKept setup (turn_by setup live kind).live
+  kind_kept Rests holds few = is
+  kind_kept (Connects source) holds few = asked_kept Connecting source asks.Connect (station_six source holds.known) tt (seeks holds.seeking) tt
+  kind_kept (Addresses source) holds few = asked_kept Addressing source asks.Address (station_six source holds.0.known) tt (seeks holds.0.seeking) tt
+  kind_kept (Ends cause refusal refused units) holds few = over_kept setup cause (record live { refusal = refusal; refused_record = refused; units = units }) is
+  kind_kept (Releases cause refusal refused units) holds few =
       released_kept setup cause (record live { refusal = refusal; refused_record = refused; units = units }) is
-  kind_kept (Relates places chosen) holds = related_kept places chosen
-  kind_kept (Writes number) holds = writing_kept (number + 1) (is.stands ∙ ap stands_in (in_phase_of (asks.Write number) holds.0.stood))
-  kind_kept (Skips number refused status) holds = writing_kept (number + 1) (is.stands ∙ ap stands_in (in_phase_of (asks.Write number) holds.stood))
-  kind_kept Waits holds = unasked_kept Waiting live.cyclic (is.stands ∙ ap stands_in (in_phase_of asks.PrmEnd holds.stood)) tt is.cyclic
-  kind_kept Forgets holds = unasked_kept live.phase live.cyclic is.stands is.runs is.cyclic
-  kind_kept (Begins caller call block) holds = unasked_kept Exchanging (begun_of live.cyclic) (begins_in holds.0) refl is.cyclic
-  kind_kept (Repeats caller call block) holds = is
-  kind_kept (Follows source frame_id body) holds = frame_kept source frame_id body
-  kind_kept (Takes number report) holds =
+  kind_kept (Relates places chosen) holds few = related_kept places chosen
+  kind_kept (Writes number) holds few = writing_kept (number + 1) (is.stands ∙ ap stands_in (in_phase_of (asks.Write number) holds.0.stood))
+  kind_kept (Skips number refused status) holds few = writing_kept (number + 1) (is.stands ∙ ap stands_in (in_phase_of (asks.Write number) holds.stood))
+  kind_kept Waits holds few = unasked_kept Waiting live.cyclic (is.stands ∙ ap stands_in (in_phase_of asks.PrmEnd holds.stood)) tt is.cyclic
+  kind_kept Forgets holds few = unasked_kept live.phase live.cyclic is.stands is.runs is.cyclic
+  kind_kept (Begins caller call block) holds few = unasked_kept Exchanging (begun_of live.cyclic) (begins_in holds.0) refl is.cyclic
+  kind_kept (Repeats caller call block) holds few = is
+  kind_kept (Follows source frame_id body) holds few = frame_kept source frame_id body
+  kind_kept (Takes number report) holds few =
       let behind = behind_data live report.priority number in
       let as_what = taken_as (end_of live report.priority).seen number in
-      followed_kept (taken behind report as_what) (taken_turnless live report number as_what quiet).0
+      followed_kept setup (can_begin live) (taken behind report as_what)
       (taken_kept setup behind report as_what (data_kept setup live report.priority number is))
-  kind_kept (IsAcked priority number) holds = acked_kept setup live priority number is
-  kind_kept (Gives slot subslot value) holds = is
-  kind_kept (GivesStatus slot subslot is_good) holds = is
-  kind_kept (Asks request octets) holds = accessing_kept (made request octets live.access)
-  kind_kept (IsReplied refusal access) holds = followed_kept (stays (record live { refusal = refusal; access = access })) quiet.0 is
-  kind_kept (IsPlugAnswered refusal refused waited places access) holds = absurd (none-some holds.4 (sym quiet.1 ∙ holds.5))
-  kind_kept (IsPlugReadied caller call block) holds =
-      followed_kept (record { live = plug_readied live block.alarm_sequence_number; sent = Agrees caller (plug_answer call block) ∷ [] }) quiet.0 is
-  kind_kept Flows holds = subst (IsKept setup) (sym (flow_same setup live quiet.0)) (flow_kept setup live is)
-  kind_kept (Breaks reason) holds =
-      over_kept setup (cause_of reason) (flow_begun setup live) (subst (IsKept setup) (sym (flow_same setup live quiet.0)) (flow_kept setup live is))
-  kind_kept Idles holds = later_kept setup live is
+  kind_kept (IsAcked priority number) holds few = acked_kept setup live priority number is
+  kind_kept (Gives slot subslot value) holds few = is
+  kind_kept (GivesStatus slot subslot is_good) holds few = is
+  kind_kept (Asks request octets) holds few = accessing_kept (made request octets live.access)
+  kind_kept (IsReplied refusal access) holds few =
+      followed_kept setup (can_begin live) (stays (record live { refusal = refusal; access = access })) is
+  kind_kept (IsPlugAnswered refusal refused waited places access) holds few = answered_kept refusal refused waited places access few
+  kind_kept (IsPlugReadied caller call block) holds few =
+      followed_kept setup (can_begin live)
+      (record { live = plug_readied live block.alarm_sequence_number; sent = Agrees caller (plug_answer call block) ∷ [] }) is
+  kind_kept Flows holds few = flow_begun_kept setup live is
+  kind_kept (Breaks reason) holds few =
+      over_kept setup (cause_of reason) (flow_begun setup live) (flow_begun_kept setup live is)
+  kind_kept Idles holds few = later_kept setup live is
 
 -- ---- any events
 
@@ -210,32 +252,30 @@ first_kept setup good = record {
 }
 
 module _ (laws : ControllerLaws) where
-  kept_on : (controller : Controlling) (event : Event) → IsSetup controller.setup → IsSteady controller.setup.plan controller.live → IsTurnless controller.live
+  kept_on : (controller : Controlling) (event : Event) → IsSetup controller.setup → IsSteady controller.setup.plan controller.live → Turns controller
       → IsKept controller.setup controller.live
       → IsKept (step_of controller event).controller.setup (step_of controller event).controller.live
   unfolding step_of
-  kept_on controller event good steady quiet is =
+  kept_on controller event good steady turns is =
       let turn = laws.kinds controller.setup controller.live event in
       subst (λ (t : Turn). IsKept controller.setup t.live) (sym turn.is)
-      (kind_kept controller.setup good controller.live (came_by controller.setup event) is steady (stations_answer controller.setup event) quiet turn.kind
-      turn.holds)
+      (kind_kept controller.setup good controller.live (came_by controller.setup event) is steady (stations_answer controller.setup event) turn.kind
+      turn.holds (subst (λ (t : Turn). t.live.waited < 32000) turn.is (event_good controller.setup controller.live turns.0 event).waited))
 
   kept_all : (events : List Event) (controller : Controlling) → IsReached controller → IsSetup controller.setup
-      → controller.setup.plan.parameters_after_plug ≡ false → IsKept controller.setup controller.live
+      → IsKept controller.setup controller.live
       → IsKept (behind_all events controller).setup (behind_all events controller).live
-  kept_all [] controller reached good keyless is = is
-  kept_all (event ∷ events) controller reached good keyless is =
+  kept_all [] controller reached good is = is
+  kept_all (event ∷ events) controller reached good is =
       kept_all events (step_of controller event).controller (reached_on controller event reached) (subst IsSetup (sym (setup_on controller event)) good)
-      (subst (λ (s : Setup). s.plan.parameters_after_plug ≡ false) (sym (setup_on controller event)) keyless)
-      (kept_on controller event good (reached_steady laws controller reached) (reached_turnless laws controller reached keyless) is)
+      (kept_on controller event good (reached_steady laws controller reached) (reached_turns laws controller reached) is)
 
   pub reached_kept : (setup : Setup) (controller : Controlling) → IsSetup setup → controller.setup ≡ setup → IsReached controller
-      → setup.plan.parameters_after_plug ≡ false → IsKept setup controller.live
-  reached_kept setup controller good of_setup r keyless =
+      → IsKept setup controller.live
+  reached_kept setup controller good of_setup r =
       let fresh = fresh_with r.plan r.ar r.activity r.options in
       let same : fresh.setup ≡ setup = sym (ap (λ (c : Controlling). c.setup) r.made ∙ setup_all r.events fresh) ∙ of_setup in
       let begun : IsSetup fresh.setup = subst IsSetup (sym same) good in
       let reached : IsReached fresh = record { plan = r.plan; ar = r.ar; activity = r.activity; options = r.options; events = []; made = refl } in
       subst (λ (s : Setup). IsKept s controller.live) of_setup
-      (subst (λ (c : Controlling). IsKept c.setup c.live) (sym r.made) (kept_all r.events fresh reached begun
-      (subst (λ (s : Setup). s.plan.parameters_after_plug ≡ false) (sym same) keyless) (first_kept fresh.setup begun)))
+      (subst (λ (c : Controlling). IsKept c.setup c.live) (sym r.made) (kept_all r.events fresh reached begun (first_kept fresh.setup begun)))

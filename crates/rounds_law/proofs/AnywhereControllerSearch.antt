@@ -62,7 +62,7 @@ searches_so : ControllerLaws → (setup : Setup) (controller : Controlling) → 
 searches_so laws setup controller good any looking = record {
   in_phase = looking;
   asked = subst (λ (p : State). IsInStep controller.setup.plan p controller.live.asked) looking (reached_steady laws controller any.reached).asked;
-  down = (reached_kept laws setup controller good any.of_setup any.reached any.turnless).stands ∙ ap stands_in looking;
+  down = (reached_kept laws setup controller good any.of_setup any.reached).stands ∙ ap stands_in looking;
 }
 
 -- The turn with this state and these messages.
@@ -145,7 +145,7 @@ module _ (laws : ControllerLaws) (setup : Setup) where
   pub controller_search : ControllerSearch setup
   unfolding step_of
   controller_search good controller any looking =
-      let kept = reached_kept laws setup controller good any.of_setup any.reached any.turnless in
+      let kept = reached_kept laws setup controller good any.of_setup any.reached in
       subst (Shows controller) (sym (search_turn controller.setup controller.live (searches_so laws setup controller good any looking)))
       (shows controller looking kept.waited)
 

@@ -30,7 +30,7 @@ use Rattle.controller_messages.specs.declared.request.Request.{Request}
 use Rattle.controller_messages.specs.declared.setup.Setup.{Setup}
 use Rattle.controller_messages.specs.Heard.{Calls, Heard}
 use Rattle.controller_messages.specs.PlugRequests.{is_plug_ready, plug_answer}
-use Rattle.controller_messages.specs.Sent.{Sent, Requests, Agrees, Cycles, Confirms, Replies, Ends, bytes_of, ready_answer}
+use Rattle.controller_messages.specs.Sent.{Sent, Requests, Parametrizes, Agrees, Cycles, Confirms, Replies, Ends, bytes_of, ready_answer}
 use Rattle.controller_core.specs.stored.Alarms.{ack_of, header_of}
 use Rattle.controller_core.specs.stored.State.{Live}
 use Rattle.controller_core.specs.Machine.{accesses_by, accesses_of, acks_in, acks_of, confirming, due_frames, end_of, outputs_of, pending_by, pending_of}
@@ -46,6 +46,7 @@ use Rattle.rounds_law.proofs.AnywhereControllerLaws.{AnswersCanBeSent, PlugAnswe
 use Rattle.rounds_law.proofs.AnywhereControllerReached.{heard_in}
 use Rattle.rounds_law.proofs.AnywhereControllerSizes.{all_append, body_few, cyclic_small, due_all, numbered}
 use Rattle.rounds_law.proofs.AnywhereParts.{AreOwn, HasWay, IsOwn}
+use Rattle.rounds_law.proofs.AnywhereTurning.{AreOfPlug}
 
 -- ---- a route
 
@@ -103,7 +104,7 @@ module _ (setup : Setup) (kind : Sent → Type 0) where
   abbrev pub AreSaid : List Sent → Type 0
   AreSaid messages = AllByRecursion IsSaid messages
 
-  pub said : (message : Sent) → CanBeSent setup message → HasWay message → kind message → IsSaid message
+  pub said : (message : Sent) → CanBeSent setup message → HasWay setup message → kind message → IsSaid message
   said message can way is = record { message = message; frame = refl; sendable = can; way = way; is = is }
 
   pub all_own : (messages : List Sent) → AreSaid messages → AreOwn setup kind (map (bytes_of setup) messages)
@@ -113,6 +114,12 @@ module _ (setup : Setup) (kind : Sent → Type 0) where
   -- A request.
   pub request_said : (device : Mac) (request : Request) → IsMac device → IsFew request → kind (Requests device request) → IsSaid (Requests device request)
   request_said device request mac few is = said (Requests device request) (mac, numbered request few) tt is
+
+  -- A request after a plug, if one waits.
+  pub plugs_said : (device : Mac) → IsMac device → (plug : Option PlugRequest) → AreOfPlug setup plug
+      → ((request : PlugRequest) → kind (Parametrizes device request)) → AreSaid (plugs_by device plug)
+  plugs_said device mac None of allowed = tt
+  plugs_said device mac (Some request) of allowed = (said (Parametrizes device request) (mac, of.1) of.0 (allowed request), tt)
 
   -- The response to ApplicationReady.
   pub agreed : AnswersCanBeSent → IsSetup setup → (heard : Heard) (caller : Caller) (call : Call) (block : ControlBlock) → IsFit setup heard
@@ -172,16 +179,19 @@ module _ (setup : Setup) (kind : Sent → Type 0) where
         )
 
     module _ (requests : (request : Request) → live.asked ≡ Some request → kind (Requests live.device request)) (alone : live.access.waiting ≡ None)
-        (unplugged : live.access.plug ≡ None) where
+        (plugs : AreSaid (plugs_by live.device live.access.plug)) where
       none_accesses : (waiting : Option RecordRequest) → waiting ≡ None → AreSaid (accesses_by live.device live.access.octets waiting)
       none_accesses None e = tt
       none_accesses (Some request) e = absurd cc
 
+      beside_said : (plug : Option PlugRequest) → AreSaid (plugs_by live.device plug)
+          → AreSaid (if is_some plug then plugs_by live.device plug else accesses_of live)
+      beside_said (Some request) is = is
+      beside_said None is = none_accesses live.access.waiting alone
+
       pending_said : (asked : Option Request) → live.asked ≡ asked → AreFew asked → AreSaid (pending_by live asked)
       pending_said (Some request) e few = (request_said live.device request kept.device few (requests request e), tt)
-      pending_said None e few =
-          subst (λ (p : Option PlugRequest). AreSaid (if is_some p then plugs_by live.device p else accesses_of live)) (sym unplugged)
-          (none_accesses live.access.waiting alone)
+      pending_said None e few = beside_said live.access.plug plugs
 
       pub due_said : (is_high is_low is_request is_cyclic : Bool) → AreSaid (due_frames live is_high is_low is_request is_cyclic)
       due_said is_high is_low is_request is_cyclic =

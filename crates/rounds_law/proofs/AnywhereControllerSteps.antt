@@ -1,6 +1,7 @@
 -- A step of a controller in any state: a frame, and a unit, also while it exchanges data.
-use Rattle.std.proofs.Common.{◌≡◌, ◌≢◌, ◌⊎◌, inl, inr, ◌≤◌, ◌<◌, ℕ, suc, true, false, List, [], ◌∷◌, None, refl, sym, ap, subst, ◌∙◌, arith}
+use Rattle.std.proofs.Common.{◌≡◌, ◌≢◌, ◌⊎◌, inl, inr, ◌≤◌, ◌<◌, ℕ, suc, true, List, [], ◌∷◌, Option, Some, None, refl, sym, ap, subst, ◌∙◌, arith}
 use Rattle.std.proofs.lemmas.Bool.{false≢true}
+use Rattle.controller_messages.specs.declared.plug_request.PlugRequest.{PlugRequest}
 use Rattle.controller_messages.specs.declared.setup.ControllerOptions.{ControllerOptions}
 use Rattle.controller_messages.specs.declared.setup.Setup.{Setup}
 use Rattle.controller_messages.specs.Heard.{Heard, heard_of}
@@ -24,7 +25,7 @@ use Rattle.rounds_law.proofs.AnywhereControllerReached.{reached_kept, stations_a
 use Rattle.rounds_law.proofs.AnywhereControllerSent.{AreSaid, IsChosenIn, all_own}
 use Rattle.rounds_law.proofs.AnywhereControllerTurns.{IsWell, kind_well}
 use Rattle.rounds_law.proofs.AnywhereControllerUnits.{PassesWell, unit_well}
-use Rattle.rounds_law.proofs.AnywhereTurnless.{IsTurnless, reached_turnless}
+use Rattle.rounds_law.proofs.AnywhereTurning.{IsTurning, reached_turns}
 use Rattle.rounds_law.proofs.AnywhereParts.{Accepts, AreOwn, ControllerFrame, ControllerUnit, ExchangeFrame, ExchangeUnit, IsAnything, IsOfExchange}
 use Rattle.rounds_law.proofs.AnywhereParts.{StillExchanges, ahead, ahead_in}
 
@@ -60,7 +61,7 @@ is_exchange phase = inr (λ e. absurd cc)
 -- ---- one controller
 
 module _ (laws : ControllerLaws) (controller : Controlling) (good : IsSetup controller.setup) (reached : IsReached controller) (routed : HasRoute controller)
-    (alone : controller.live.access.waiting ≡ None) (keyless : controller.setup.plan.parameters_after_plug ≡ false) where
+    (alone : controller.live.access.waiting ≡ None) where
   -- Its set-up and its state.
   abbrev own : Setup
   own = controller.setup
@@ -69,10 +70,18 @@ module _ (laws : ControllerLaws) (controller : Controlling) (good : IsSetup cont
   live = controller.live
 
   kept : IsKept own live
-  kept = reached_kept laws own controller good refl reached keyless
+  kept = reached_kept laws own controller good refl reached
 
-  quiet : IsTurnless live
-  quiet = reached_turnless laws controller reached keyless
+  turning : IsTurning own live
+  turning = (reached_turns laws controller reached).0
+
+  -- No request after a plug waits in another state.
+  unplugged : (live.phase ≡ Exchanging → ⊥) → live.access.plug ≡ None
+  unplugged other = by_plug live.access.plug refl
+    where
+      by_plug : (plug : Option PlugRequest) → live.access.plug ≡ plug → live.access.plug ≡ None
+      by_plug None e = e
+      by_plug (Some request) e = absurd (other ((reached_turns laws controller reached).1 request e))
 
   steady : IsSteady own.plan live
   steady = reached_steady laws controller reached
@@ -94,10 +103,11 @@ module _ (laws : ControllerLaws) (controller : Controlling) (good : IsSetup cont
     other_well other =
         let is = laws.kinds own live (frame_with octets) in
         subst (IsWell own live) (sym is.is)
-        (kind_well laws own good live heard kept steady (stations_answer own (frame_with octets)) quiet routed alone fit other is.kind is.holds)
+        (kind_well laws own good live heard kept steady (stations_answer own (frame_with octets)) (unplugged other) routed alone fit
+        other is.kind is.holds)
 
-    becomes : (exchanges : live.phase ≡ Exchanging) → Becomes laws own good live kept steady quiet (chosen_in_exchange exchanges) alone exchanges heard turn
-    becomes exchanges = frame_so laws own good live kept steady quiet (chosen_in_exchange exchanges) alone exchanges heard fit
+    becomes : (exchanges : live.phase ≡ Exchanging) → Becomes laws own good live kept steady turning (chosen_in_exchange exchanges) alone exchanges heard turn
+    becomes exchanges = frame_so laws own good live kept steady turning (chosen_in_exchange exchanges) alone exchanges heard fit
 
     ends_well : EndsNow own live.cyclic.route turn → IsWell own live turn
     ends_well over = record {
@@ -116,7 +126,7 @@ module _ (laws : ControllerLaws) (controller : Controlling) (good : IsSetup cont
     }
 
     exchange_well : (exchanges : live.phase ≡ Exchanging)
-        → Becomes laws own good live kept steady quiet (chosen_in_exchange exchanges) alone exchanges heard turn → IsWell own live turn
+        → Becomes laws own good live kept steady turning (chosen_in_exchange exchanges) alone exchanges heard turn → IsWell own live turn
     exchange_well exchanges (inl over) = ends_well over
     exchange_well exchanges (inr on) = goes_well exchanges on.0
 
@@ -132,7 +142,7 @@ module _ (laws : ControllerLaws) (controller : Controlling) (good : IsSetup cont
         × (ahead (controller_step controller octets).controller ≤ ahead controller)
     unfolding step_of
     frame_on = (
-      record { of_setup = refl; reached = reached_on controller (frame_with octets) reached; routed = well.routed; alone = well.alone; turnless = keyless },
+      record { of_setup = refl; reached = reached_on controller (frame_with octets) reached; routed = well.routed; alone = well.alone },
       all_own own IsAnything turn.sent well.said,
       well.ahead,
     )
@@ -156,7 +166,7 @@ module _ (laws : ControllerLaws) (controller : Controlling) (good : IsSetup cont
     })
 
     in_exchange : (exchanges : live.phase ≡ Exchanging)
-        → Becomes laws own good live kept steady quiet (chosen_in_exchange exchanges) alone exchanges heard turn → FrameInExchange own
+        → Becomes laws own good live kept steady turning (chosen_in_exchange exchanges) alone exchanges heard turn → FrameInExchange own
     unfolding step_of
     in_exchange exchanges (inl over) = inl over.ends
     in_exchange exchanges (inr on) = inr (
@@ -181,13 +191,39 @@ module _ (laws : ControllerLaws) (controller : Controlling) (good : IsSetup cont
       some Waiting limited = patience.waiting
       some phase limited = absurd (false≢true limited)
 
+  -- While it exchanges data it has no patience.
+  unlimited : live.phase ≡ Exchanging → {A : Type 0} → is_limited live.phase ≡ true → A
+  unlimited exchanges limited = absurd (false≢true (sym (ap is_limited exchanges) ∙ limited))
+
+  passes_well : (exchanges : live.phase ≡ Exchanging)
+      → Passes laws own good live kept steady turning (chosen_in_exchange exchanges) alone exchanges (turn_of own live Tick)
+      → PassesWell own live (turn_of own live Tick)
+  passes_well exchanges (inl over) = record {
+    said = weaker own (IsOfExchange live.cyclic.route) (turn_of own live Tick).sent over.said;
+    routed = λ up. absurd (false≢true (sym over.down ∙ up));
+    alone = over.alone;
+    ahead = λ limited. unlimited exchanges limited;
+  }
+  passes_well exchanges (inr on) = record {
+    said = weaker own (IsOfExchange live.cyclic.route) (turn_of own live Tick).sent on.0.said;
+    routed = λ up. subst IsChosenIn (sym on.0.route) (chosen_in_exchange exchanges);
+    alone = on.0.alone;
+    ahead = λ limited. unlimited exchanges limited;
+  }
+
+  unit_by : (is_limited live.phase ≡ true → 1 ≤ live.left) → (live.phase ≡ Exchanging) ⊎ (live.phase ≡ Exchanging → ⊥)
+      → PassesWell own live (turn_of own live Tick)
+  unit_by few (inl exchanges) =
+      passes_well exchanges (unit_so laws own good live kept steady turning (chosen_in_exchange exchanges) alone exchanges)
+  unit_by few (inr other) = unit_well own live kept routed alone (unplugged other) other few
+
   pub unit_on : HasPatience own.options → IsAnyController own (step_of controller Tick).controller
       × AreOwn own IsAnything (step_of controller Tick).frames
       × (is_limited controller.live.phase ≡ true → suc (ahead (step_of controller Tick).controller) ≤ ahead controller)
   unfolding step_of
   unit_on patience =
-      let well : PassesWell own live (turn_of own live Tick) = unit_well own live kept routed alone quiet (timed patience) in (
-        record { of_setup = refl; reached = reached_on controller Tick reached; routed = well.routed; alone = well.alone; turnless = keyless },
+      let well : PassesWell own live (turn_of own live Tick) = unit_by (timed patience) (is_exchange live.phase) in (
+        record { of_setup = refl; reached = reached_on controller Tick reached; routed = well.routed; alone = well.alone },
         all_own own IsAnything (turn_of own live Tick).sent well.said,
         well.ahead,
       )
@@ -202,7 +238,7 @@ module _ (laws : ControllerLaws) (controller : Controlling) (good : IsSetup cont
       × (suc controller.live.cyclic.hearing.held < hold_of setup.plan))
 
   passes_in_exchange : (exchanges : live.phase ≡ Exchanging)
-      → Passes laws own good live kept steady quiet (chosen_in_exchange exchanges) alone exchanges (turn_of own live Tick)
+      → Passes laws own good live kept steady turning (chosen_in_exchange exchanges) alone exchanges (turn_of own live Tick)
       → UnitInExchange own
   unfolding step_of
   passes_in_exchange exchanges (inl over) = inl over.ends
@@ -215,21 +251,18 @@ module _ (laws : ControllerLaws) (controller : Controlling) (good : IsSetup cont
 
   pub unit_in_exchange : live.phase ≡ Exchanging → UnitInExchange own
   unit_in_exchange exchanges =
-      passes_in_exchange exchanges (unit_so laws own good live kept steady quiet (chosen_in_exchange exchanges) alone exchanges)
+      passes_in_exchange exchanges (unit_so laws own good live kept steady turning (chosen_in_exchange exchanges) alone exchanges)
 
 -- ---- the parts
 
 module _ (laws : ControllerLaws) (setup : Setup) where
-  keyless_in : (controller : Controlling) → IsAnyController setup controller → controller.setup.plan.parameters_after_plug ≡ false
-  keyless_in controller any = subst (λ (s : Setup). s.plan.parameters_after_plug ≡ false) (sym any.of_setup) any.turnless
-
   pub controller_frame : ControllerFrame setup
   controller_frame good patience controller octets any fit =
       let same = sym any.of_setup in
       subst (λ (s : Setup). IsAnyController s (controller_step controller octets).controller
       × AreOwn s IsAnything (controller_step controller octets).frames
       × (ahead (controller_step controller octets).controller ≤ ahead controller)) any.of_setup
-      (frame_on laws controller (subst IsSetup same good) any.reached any.routed any.alone (keyless_in controller any) octets
+      (frame_on laws controller (subst IsSetup same good) any.reached any.routed any.alone octets
       (subst (λ (s : Setup). ChoosesWell s octets) same fit))
 
   pub controller_unit : ControllerUnit setup
@@ -238,7 +271,7 @@ module _ (laws : ControllerLaws) (setup : Setup) where
       subst (λ (s : Setup). IsAnyController s (step_of controller Tick).controller
       × AreOwn s IsAnything (step_of controller Tick).frames
       × (is_limited controller.live.phase ≡ true → suc (ahead (step_of controller Tick).controller) ≤ ahead controller)) any.of_setup
-      (unit_on laws controller (subst IsSetup same good) any.reached any.routed any.alone (keyless_in controller any)
+      (unit_on laws controller (subst IsSetup same good) any.reached any.routed any.alone
       (subst (λ (s : Setup). HasPatience s.options) same patience))
 
   pub exchange_frame : ExchangeFrame setup
@@ -246,11 +279,11 @@ module _ (laws : ControllerLaws) (setup : Setup) where
       let same = sym any.of_setup in
       let goods = subst IsSetup same good in
       let fits = subst (λ (s : Setup). ChoosesWell s octets) same fit in
-      subst (FrameInExchange laws controller goods any.reached any.routed any.alone (keyless_in controller any) octets fits) any.of_setup
-      (frame_in_exchange laws controller goods any.reached any.routed any.alone (keyless_in controller any) octets fits exchanges)
+      subst (FrameInExchange laws controller goods any.reached any.routed any.alone octets fits) any.of_setup
+      (frame_in_exchange laws controller goods any.reached any.routed any.alone octets fits exchanges)
 
   pub exchange_unit : ExchangeUnit setup
   exchange_unit good controller any exchanges =
       let goods = subst IsSetup (sym any.of_setup) good in
-      subst (UnitInExchange laws controller goods any.reached any.routed any.alone (keyless_in controller any)) any.of_setup
-      (unit_in_exchange laws controller goods any.reached any.routed any.alone (keyless_in controller any) exchanges)
+      subst (UnitInExchange laws controller goods any.reached any.routed any.alone) any.of_setup
+      (unit_in_exchange laws controller goods any.reached any.routed any.alone exchanges)

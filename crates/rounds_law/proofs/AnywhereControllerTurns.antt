@@ -29,7 +29,7 @@ use Rattle.controller_core.specs.declared.stored.state.State.TheVariants.{Lookin
 use Rattle.controller_core.specs.start_up.Requests.{next_sequence}
 use Rattle.controller_core.specs.stored.Alarms.{ack_of, kept_alarm}
 use Rattle.controller_core.specs.stored.State.{Live, left_in, phase_for}
-use Rattle.controller_core.specs.Machine.{Turn, acking, after_turn, behind_ack, behind_data, can_begin, confirming, end_of, keeping, stays, taken, with_end}
+use Rattle.controller_core.specs.Machine.{Turn, acking, after_turn, behind_ack, behind_data, can_begin, confirming, end_of, is_exchanging, keeping, stays, taken, with_end}
 use Rattle.end_laws.specs.hearing.Stations.{IsSetup}
 use Rattle.end_laws.specs.controller.Small.{IsSteady}
 use Rattle.end_laws.specs.turns.Turns.{Hears, IsKind, Kind, Rests, Connects, Addresses, Ends, Releases, Relates, Writes, Skips, Waits, Forgets}
@@ -42,8 +42,8 @@ use Rattle.rounds_law.proofs.AnywhereControllerReached.{heard_in, station_six}
 use Rattle.rounds_law.proofs.AnywhereControllerSent.{Allows, AreSaid, IsChosenIn, agreed, request_said, taken_said}
 use Rattle.rounds_law.proofs.AnywhereControllerSizes.{sequence_few, writing_few}
 use Rattle.rounds_law.proofs.AnywhereParts.{IsAnything, ahead_in}
-use Rattle.rounds_law.proofs.AnywhereTurnless.{IsTurnless, no_turn, taken_turnless}
 use Rattle.rounds_law.proofs.ControllerPassingParts.{frame_on}
+use Rattle.rounds_law.proofs.PlaceTurns.{elsewhere, unfollowed}
 
 -- Any message may be sent.
 pub all_allowed : (route : Route) → Allows IsAnything route
@@ -55,6 +55,11 @@ all_allowed route = record {
   ends = λ header reason. tt;
 }
 
+-- In another state data is not exchanged.
+pub not_exchanging : (phase : State) → (phase ≡ Exchanging → ⊥) → is_exchanging phase ≡ false
+not_exchanging Exchanging other = absurd (other refl)
+not_exchanging phase other = refl
+
 -- ---- alarms
 
 -- The same, except for the alarms.
@@ -64,9 +69,10 @@ pub record IsAlike (live after : Live) : Type 0 where
   pub stands : after.stands ≡ live.stands
   pub cyclic : after.cyclic ≡ live.cyclic
   pub access : after.access ≡ live.access
+  pub device : after.device ≡ live.device
 
 alike : (live : Live) → IsAlike live live
-alike live = record { phase = refl; left = refl; stands = refl; cyclic = refl; access = refl }
+alike live = record { phase = refl; left = refl; stands = refl; cyclic = refl; access = refl; device = refl }
 
 alike_on : (live next after : Live) → IsAlike live next → IsAlike next after → IsAlike live after
 alike_on live next after one other = record {
@@ -75,15 +81,16 @@ alike_on live next after one other = record {
   stands = other.stands ∙ one.stands;
   cyclic = other.cyclic ∙ one.cyclic;
   access = other.access ∙ one.access;
+  device = other.device ∙ one.device;
 }
 
 end_alike : (live : Live) (priority : Priority) (end : ControllerEnd) → IsAlike live (with_end live priority end)
-end_alike live High end = record { phase = refl; left = refl; stands = refl; cyclic = refl; access = refl }
-end_alike live Low end = record { phase = refl; left = refl; stands = refl; cyclic = refl; access = refl }
+end_alike live High end = record { phase = refl; left = refl; stands = refl; cyclic = refl; access = refl; device = refl }
+end_alike live Low end = record { phase = refl; left = refl; stands = refl; cyclic = refl; access = refl; device = refl }
 
 keeping_alike : (live : Live) (priority : Priority) (alarm : AlarmNotification) (structure : Option ℕ) → IsAlike live (keeping live priority alarm structure)
-keeping_alike live High alarm structure = record { phase = refl; left = refl; stands = refl; cyclic = refl; access = refl }
-keeping_alike live Low alarm structure = record { phase = refl; left = refl; stands = refl; cyclic = refl; access = refl }
+keeping_alike live High alarm structure = record { phase = refl; left = refl; stands = refl; cyclic = refl; access = refl; device = refl }
+keeping_alike live Low alarm structure = record { phase = refl; left = refl; stands = refl; cyclic = refl; access = refl; device = refl }
 
 confirming_alike : (live : Live) (report : Report) → IsAlike live (confirming live report)
 confirming_alike live report =
@@ -91,7 +98,7 @@ confirming_alike live report =
     let stored = keeping acked report.priority (kept_alarm report.notification) report.user_structure in
     let both = alike_on live acked stored (end_alike live report.priority (confirmed (end_of live report.priority) (ack_of report.notification)))
     (keeping_alike acked report.priority (kept_alarm report.notification) report.user_structure) in
-    record { phase = both.phase; left = both.left; stands = both.stands; cyclic = both.cyclic; access = both.access }
+    record { phase = both.phase; left = both.left; stands = both.stands; cyclic = both.cyclic; access = both.access; device = both.device }
 
 taken_alike : (live : Live) (report : Report) (as_what : Taken) → IsAlike live (taken live report as_what).live
 taken_alike live report New = confirming_alike live report
@@ -162,8 +169,8 @@ over_routed route e = absurd (false≢true e)
 
 module _ (laws : ControllerLaws) (setup : Setup) (good : IsSetup setup) (live : Live) (heard : Heard) (kept : IsKept setup live)
     (steady : IsSteady setup.plan live) (answers : (source : Mac) (answer : Answered) → Hears heard ≡ Hears (Answers source answer) → IsMac source)
-    (quiet : IsTurnless live) (routed : live.stands ≡ true → IsChosenIn live.cyclic.route) (alone : live.access.waiting ≡ None) (fit : IsFit setup heard)
-    (other : live.phase ≡ Exchanging → ⊥) where
+    (unplugged : live.access.plug ≡ None) (routed : live.stands ≡ true → IsChosenIn live.cyclic.route) (alone : live.access.waiting ≡ None)
+    (fit : IsFit setup heard) (other : live.phase ≡ Exchanging → ⊥) where
   in_phase_of : (request : Request) → live.asked ≡ Some request → PhaseOf request live.phase
   in_phase_of request stood = asked_in setup.plan live.phase live.asked request steady.asked stood
 
@@ -177,7 +184,7 @@ module _ (laws : ControllerLaws) (setup : Setup) (good : IsSetup setup) (live : 
   }
 
   station : (source : Mac) → (source ≡ live.device) ⊎ ((answer : Answered) × (Hears heard ≡ Hears (Answers source answer))) → IsMac source
-  station source known = station_six setup good live (Hears heard) kept steady answers quiet source known
+  station source known = station_six setup good live (Hears heard) kept steady answers source known
 
   next_said : (number : ℕ) → AreSaid setup IsAnything (Requests live.device (writing_from setup.plan number) ∷ [])
   next_said number = (request_said setup IsAnything live.device (writing_from setup.plan number) kept.device (writing_few setup.plan number good.plan) tt, tt)
@@ -190,8 +197,9 @@ module _ (laws : ControllerLaws) (setup : Setup) (good : IsSetup setup) (live : 
   )
 
   -- No turn follows.
-  followed_well : (turn : Turn) → turn.live.places.has_turns ≡ false → IsWell setup live turn → IsWell setup live (after_turn setup (can_begin live) turn)
-  followed_well turn off is = subst (IsWell setup live) (sym (no_turn setup (can_begin live) turn off)) is
+  followed_well : (turn : Turn) → (turn.live.phase ≡ Exchanging → ⊥) → IsWell setup live turn → IsWell setup live (after_turn setup (can_begin live) turn)
+  followed_well turn off is =
+      subst (IsWell setup live) (sym (unfollowed setup (can_begin live) turn (elsewhere turn.live (not_exchanging turn.live.phase off)))) is
 
   pub kind_well : (kind : Kind) → IsKind setup live (Hears heard) kind → IsWell setup live (turn_by setup live kind)
   kind_well Rests holds = rests_well live [] (alike live) tt
@@ -255,7 +263,7 @@ module _ (laws : ControllerLaws) (setup : Setup) (good : IsSetup setup) (live : 
       let behind = behind_data live report.priority number in
       let at : IsAlike live behind = behind_alike live report.priority number in
       let chosen : IsChosenIn behind.cyclic.route = subst (λ (c : Cyclic). IsChosenIn c.route) (sym at.cyclic) (routed holds.0) in
-      followed_well (taken behind report as_what) (taken_turnless live report number as_what quiet).0
+      followed_well (taken behind report as_what) (λ e. other (sym (data_alike live report number as_what).phase ∙ e))
       (rests_well (taken behind report as_what).live (taken behind report as_what).sent (data_alike live report number as_what)
       (taken_said setup IsAnything behind (data_kept setup live report.priority number kept) chosen (all_allowed behind.cyclic.route) report as_what))
   kind_well (IsAcked priority number) holds = rests_well (behind_ack live priority number) [] (ack_alike live priority number) tt
@@ -263,9 +271,9 @@ module _ (laws : ControllerLaws) (setup : Setup) (good : IsSetup setup) (live : 
   kind_well (GivesStatus slot subslot is_good) holds = absurd cc
   kind_well (Asks request octets) holds = absurd (other holds.0)
   kind_well (IsReplied refusal access) holds =
-      followed_well (stays (record live { refusal = refusal; access = access })) quiet.0
+      followed_well (stays (record live { refusal = refusal; access = access })) other
       (record { said = tt; routed = routed; alone = holds.1; ahead = omega arith })
-  kind_well (IsPlugAnswered refusal refused waited places access) holds = absurd (none-some holds.4 (sym quiet.1 ∙ holds.5))
+  kind_well (IsPlugAnswered refusal refused waited places access) holds = absurd (none-some holds.4 (sym unplugged ∙ holds.5))
   kind_well (IsPlugReadied caller call block) holds = absurd (other holds.0)
   kind_well Flows holds = let bad = holds.0 in absurd cc
   kind_well (Breaks reason) holds = let bad = holds.0 in absurd cc

@@ -6,6 +6,7 @@ use Rattle.pn_alarms.specs.declared.repeats.Due.{Due}
 use Rattle.pn_alarms.specs.Sending.{due}
 use Rattle.pn_alarms.specs.Sending.{is_again as is_repeated}
 use Rattle.cyclic_data.specs.exchange.Units.{Brought}
+use Rattle.controller_messages.specs.declared.plug_request.PlugRequest.{PlugRequest}
 use Rattle.controller_messages.specs.declared.request.Request.{Request}
 use Rattle.controller_messages.specs.declared.request.Request.TheVariants as asks
 use Rattle.controller_messages.specs.declared.setup.ControllerOptions.{ControllerOptions}
@@ -13,17 +14,17 @@ use Rattle.controller_messages.specs.declared.setup.Setup.{Setup}
 use Rattle.controller_messages.specs.Sent.{Requests}
 use Rattle.controller_core.specs.declared.stored.state.Cause.TheVariants.{NoProgress}
 use Rattle.controller_core.specs.declared.stored.state.State.{State}
-use Rattle.controller_core.specs.declared.stored.state.State.TheVariants.{Looking, Addressing, Connecting, Writing, Ending, Waiting, Ended}
+use Rattle.controller_core.specs.declared.stored.state.State.TheVariants.{Looking, Addressing, Connecting, Writing, Ending, Waiting, Exchanging, Ended}
 use Rattle.controller_core.specs.start_up.Requests.{next_sequence}
 use Rattle.controller_core.specs.stored.State.{Live, is_limited}
-use Rattle.controller_core.specs.Machine.{Turn, brought, flow_later, flowed, gone_on, is_again, is_spent, later, quit, requests_of, ticked, where_due}
+use Rattle.controller_core.specs.Machine.{Turn, brought, flow_later, flowed, gone_on, is_again, is_spent, later, plugs_by, quit, requests_of, ticked, where_due}
 use Rattle.end_laws.specs.sending.Sized.{AreFew}
 use Rattle.rounds_law.proofs.AnywhereControllerKept.{IsKept, flow_kept}
 use Rattle.rounds_law.proofs.AnywhereControllerSent.{AreSaid, IsChosenIn, IsSaid, due_said, ended, request_said}
 use Rattle.rounds_law.proofs.AnywhereControllerSizes.{due_all, sequence_few}
-use Rattle.rounds_law.proofs.AnywhereControllerTurns.{all_allowed, over_routed}
+use Rattle.rounds_law.proofs.AnywhereControllerTurns.{all_allowed, not_exchanging, over_routed}
 use Rattle.rounds_law.proofs.AnywhereParts.{IsAnything, ahead_in}
-use Rattle.rounds_law.proofs.AnywhereTurnless.{IsTurnless, no_turn_due}
+use Rattle.rounds_law.proofs.PlaceTurns.{elsewhere, undue}
 
 -- ---- the units until the exchange or the end
 
@@ -52,7 +53,7 @@ pub record PassesWell (setup : Setup) (live : Live) (turn : Turn) : Type 0 where
   pub ahead : is_limited live.phase ≡ true → suc (ahead_in setup.options turn.live.left turn.live.phase) ≤ ahead_in setup.options live.left live.phase
 
 module _ (setup : Setup) (live : Live) (kept : IsKept setup live) (routed : live.stands ≡ true → IsChosenIn live.cyclic.route)
-    (alone : live.access.waiting ≡ None) (quiet : IsTurnless live)
+    (alone : live.access.waiting ≡ None) (unplugged : live.access.plug ≡ None) (other : live.phase ≡ Exchanging → ⊥)
     (timed : is_limited live.phase ≡ true → 1 ≤ live.left) where
   over_well : (turn : Turn) → AreSaid setup IsAnything turn.sent → turn.live.stands ≡ false → turn.live.access.waiting ≡ None
       → ahead_in setup.options turn.live.left turn.live.phase ≡ 0 → PassesWell setup live turn
@@ -81,7 +82,8 @@ module _ (setup : Setup) (live : Live) (kept : IsKept setup live) (routed : live
   flows_well up high low tick (Some reason) =
       over_well _ (ended setup IsAnything (flow_later live) (flow_kept setup live kept) (routed up) (all_allowed live.cyclic.route) reason, tt) refl refl refl
   flows_well up high low tick None = record {
-    said = due_said setup IsAnything (flow_later live) (flow_kept setup live kept) (routed up) (all_allowed live.cyclic.route) (λ request e. tt) alone quiet.1
+    said = due_said setup IsAnything (flow_later live) (flow_kept setup live kept) (routed up) (all_allowed live.cyclic.route) (λ request e. tt) alone
+        (subst (λ (plug : Option PlugRequest). AreSaid setup IsAnything (plugs_by live.device plug)) (sym unplugged) tt)
         (is_repeated high) (is_repeated low) (is_again live) tick.is_cyclic;
     routed = routed;
     alone = alone;
@@ -113,5 +115,5 @@ module _ (setup : Setup) (live : Live) (kept : IsKept setup live) (routed : live
   unit_well =
       subst (PassesWell setup live)
       (ap (λ (l : Live). if is_spent live then quit setup NoProgress (later live) live.phase else gone_on l (is_again live))
-      (sym (no_turn_due setup live quiet.0)))
+      (sym (undue setup (is_again live) (later live) (elsewhere (later live) (not_exchanging live.phase other)))))
       (by_patience (is_spent live) refl)

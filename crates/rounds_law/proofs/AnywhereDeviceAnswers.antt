@@ -1,7 +1,7 @@
 -- The answers of a device to the calls of its controller are fit, and are stored.
 use Rattle.std.proofs.Common.{◌≡◌, ◌⊎◌, ◌≤◌, ◌<◌, ◌+◌, ◌==◌, ◌&&◌, ℕ, nat_eq, Bool, true, false, List, [], ◌∷◌}
 use Rattle.std.proofs.Common.{Option, Some, None, Result, Ok, Err, sym, ap, subst, ◌∙◌, arith}
-use Rattle.std.specs.Prelude.{option_and_then, unwrap_or}
+use Rattle.std.specs.Prelude.{option_and_then, slice_get, unwrap_or}
 use Rattle.std.specs.List.{AllByRecursion}
 use Rattle.std.specs.Cmp.Lexicographic.{pointwise}
 use Rattle.std.proofs.lemmas.Bool.Decides.{nat_tests}
@@ -31,7 +31,10 @@ use Rattle.device_core.specs.State.{Live, Rest, Station}
 use Rattle.device_core.specs.Asking.{asking_of}
 use Rattle.device_core.specs.Handled.{answer_from}
 use Rattle.device_core.specs.Handled.{kept_behind, outcome_of}
+use Rattle.controller_messages.specs.declared.plug_request.PlugRequest.{PlugRequest}
+use Rattle.controller_messages.specs.declared.plug_request.PlugStep.TheVariants.{Record}
 use Rattle.controller_messages.specs.declared.setup.Setup.{Setup}
+use Rattle.controller_messages.specs.PlugRequests.{plug_write_blocks}
 use Rattle.controller_messages.specs.declared.request.Request.TheVariants as asks
 use Rattle.controller_messages.specs.Heard.{Responds}
 use Rattle.controller_messages.specs.Requests.{blocks_of, control_of}
@@ -40,10 +43,12 @@ use Rattle.end_laws.specs.turns.Turns.{chosen_in}
 use Rattle.both_ends.specs.startup.answer.Answer.{IsAllThere, caller_of, chosen_with}
 use Rattle.both_ends.specs.startup.request.Request.{no_rows, request_for}
 use Rattle.rounds_law.specs.Anywhere.{AllLast, IsAnyDevice, IsFit, IsQuestionOf}
+use Rattle.rounds_law.specs.AnywhereFrames.{IsOfPlug}
 use Rattle.rounds_law.specs.Path.{IsIgnored, hold_of}
 use Rattle.rounds_law.proofs.AnywhereDeviceFine.{IsFineMove, answer_stored}
 use Rattle.rounds_law.proofs.AnywhereDeviceSays.{IsFitting, SaysLaws}
 use Rattle.rounds_law.proofs.AnywhereDeviceWrites.{IsQuiet}
+use Rattle.rounds_law.proofs.AnywherePlugBlocks.{IsPlain}
 
 -- ---- the answers are fit
 
@@ -99,6 +104,12 @@ pub record CallLaws (setup next : Setup) (silence : ℕ) (station : Station) : T
       → IsQuiet station.named standing setup.plan.real (writing_of standing setup.plan.real (blocks_of setup (asks.Write number)))
   pub unasked : (number : ℕ) → number < 65536 → (standing : Option (List ℕ)) (caller : Caller) (call : Call)
       → asking_of setup.plan.real station.named standing caller call (blocks_of setup (asks.Write number)) Write ≡ Ok None
+  pub plain : (request : PlugRequest) → IsOfPlug setup request → (number : ℕ) → request.step ≡ Record number → (standing : Option (List ℕ))
+      → IsPlain (writing_of standing setup.plan.real (plug_write_blocks setup request (slice_get setup.plan.records.items number)))
+  pub plug_unasked : (request : PlugRequest) → IsOfPlug setup request → (number : ℕ) → request.step ≡ Record number → (standing : Option (List ℕ))
+      (caller : Caller) (call : Call)
+      → asking_of setup.plan.real station.named standing caller call
+      (plug_write_blocks setup request (slice_get setup.plan.records.items number)) Write ≡ Ok None
   pub released : (link : Option RelationState) → (release_of link (blocks_of setup (asks.Release 0)) ≡ Ok (control_of setup 4))
       ⊎ ((refusal : CallFault) × (release_of link (blocks_of setup (asks.Release 0)) ≡ Err refusal))
   pub unchosen : chosen_in (block_bytes (is.ReleaseRes (done_of (control_of setup 4)))) ≡ None
@@ -117,7 +128,7 @@ module _ (setup next : Setup) (identity : Identity) (silence : ℕ) (station : S
   pub served_move : (live : Live) → IsAnyDevice setup next identity silence station live → (rest : Rest) → rest.calls ≡ live.rest.calls
       → (call : Call) → call.header.activity ≡ setup.activity → (address : List ℕ) (operation : Operation) (outcome : Result (List ℕ) CallFault)
       → IsFit setup (Responds (answer_to call (outcome_of operation outcome).0 (outcome_of operation outcome).1))
-      → (link : Option RelationState) → AllLast silence link → IsQuestionOf setup next (uuid_of link) rest.asked.standing
+      → (link : Option RelationState) → AllLast setup silence link → IsQuestionOf setup next (uuid_of link) rest.asked.standing
       → (behind : List Sent) → AllByRecursion (IsFitting setup) behind
       → FineMove (kept_behind station.identity rest call (answer_from address caller call operation outcome) link)
       (answer_from address caller call operation outcome ∷ behind)

@@ -1,7 +1,7 @@
 -- The calls of a controller at a device in any state.
-use Rattle.std.proofs.Common.{◌≡◌, ◌⊎◌, inl, inr, ◌<◌, ◌+◌, ◌==◌, ℕ, Bool, true, false, List, [], ◌∷◌}
+use Rattle.std.proofs.Common.{◌≡◌, ◌⊎◌, inl, inr, ◌<◌, ◌+◌, ◌==◌, ℕ, Bool, true, false, not, List, [], ◌∷◌, length}
 use Rattle.std.proofs.Common.{Option, Some, None, Result, Ok, Err, refl, sym, ap, subst, ◌∙◌, arith}
-use Rattle.std.specs.Prelude.{if◌then◌else◌, nat_lt}
+use Rattle.std.specs.Prelude.{if◌then◌else◌, nat_lt, slice_get}
 use Rattle.std.specs.List.{AllByRecursion}
 use Rattle.std.proofs.lemmas.Bool.Decides.{nat_tests}
 use Rattle.pn_values.specs.declared.identity.Identity.{Identity}
@@ -9,6 +9,8 @@ use Rattle.pn_values.specs.declared.real.Real.{Real}
 use Rattle.wire.specs.Codec.{◌>>=◌}
 use Rattle.wire.specs.blocks.modules.Lists.{Listed}
 use Rattle.connect_blocks.specs.declared.control.ControlBlock.{ControlBlock}
+use Rattle.connect_blocks.specs.declared.plug_control.PlugControlBlock.{PlugControlBlock}
+use Rattle.connect_blocks.specs.PlugControl.{plug_control}
 use Rattle.connect_blocks.specs.declared.module_diff.DiffModule.{DiffModule}
 use Rattle.connect_blocks.specs.declared.module_diff.DiffSubmodule.{DiffSubmodule}
 use Rattle.block_codec.specs.declared.block.Block.TheVariants as is
@@ -36,12 +38,14 @@ use Rattle.connects.specs.requests.Request.{Request}
 use Rattle.relations.specs.Calls.{done_of, prm_end_of, release_of}
 use Rattle.relations.specs.Connect.{connect_blocks, connect_within, differing_of, making, rows_of}
 use Rattle.relations.specs.Numbers.{endpoint_of}
-use Rattle.relations.specs.Plugging.{is_plug_control}
+use Rattle.relations.specs.Plugging.{calling_next, is_calling, is_plug_control, plug_done, plug_end_answer, plug_end_in}
+use Rattle.relations.specs.Plugging.{ended_by as plug_ended_by}
 use Rattle.relations.specs.Phases.{Ended, Named, Parameterized, Records, Took, answered, differing_octets, keeping, made_of, taking, updated}
 use Rattle.relations.specs.RelationState.{RelationState, uuid_of}
 use Rattle.device_frames.specs.Heard.{Calls}
 use Rattle.device_frames.specs.Relation.{ready_calls}
 use Rattle.device_core.specs.State.{Live, Station}
+use Rattle.device_core.specs.Modules.{next_call_sent}
 use Rattle.device_core.specs.Log.{but_rest, connect_log, release_log, with_log}
 use Rattle.asked_records.specs.Asked.{is_repeat}
 use Rattle.device_core.specs.Asking.{Asking as Question, asking_of, left_asked, released_by}
@@ -50,17 +54,27 @@ use Rattle.device_core.specs.Handled.{handled_new, handled_unanswered, handled_p
 use Rattle.device_core.specs.Handled.{number_now, partner_of, ready_behind, served, starting_of}
 use Rattle.device_core.specs.Machine.{effect_link, link_behind, one_link, several_answer}
 use Rattle.device_core.specs.Several.{Judged, judged_each}
+use Rattle.controller_messages.specs.declared.plug_request.PlugRequest.{PlugRequest}
+use Rattle.controller_messages.specs.declared.plug_request.PlugStep.TheVariants.{Record}
 use Rattle.controller_messages.specs.declared.setup.Setup.{Setup}
 use Rattle.controller_messages.specs.declared.request.Request.TheVariants as asks
+use Rattle.controller_messages.specs.Heard.{Responds}
+use Rattle.controller_messages.specs.PlugRequests.{plug_call, plug_write_blocks}
 use Rattle.controller_messages.specs.Requests.{blocks_of, call_for, control_of, write_count}
+use Rattle.end_laws.specs.turns.Turns.{chosen_in}
 use Rattle.both_ends.specs.startup.answer.Answer.{IsAllThere, caller_of}
 use Rattle.both_ends.specs.startup.request.Request.{request_for}
-use Rattle.rounds_law.specs.Anywhere.{AllLast, IsAnyDevice, IsQuestionOf}
+use Rattle.rounds_law.specs.Anywhere.{AllLast, IsAnyDevice, IsFit, IsQuestionOf}
+use Rattle.rounds_law.specs.AnywhereFrames.{IsOfPlug}
 use Rattle.rounds_law.proofs.AgainKept.{refused_within}
 use Rattle.rounds_law.proofs.AnywhereAsked.{left_so, nothing_asked, unrelated_asked}
+use Rattle.rounds_law.proofs.AnywhereDeviceExchange.{calling_lasts, calling_named, due_fit, plugs_fit}
 use Rattle.rounds_law.proofs.AnywhereDeviceFine.{IsFine, parameterized_lasts, records_last, restarted_lasts, stored_before}
 use Rattle.rounds_law.proofs.AnywhereDeviceSays.{IsFitting}
 use Rattle.rounds_law.proofs.AnywhereDeviceWrites.{IsQuiet}
+use Rattle.rounds_law.proofs.AnywherePlugBlocks.{IsPlain, end_timed, end_unchosen, end_uuid}
+use Rattle.rounds_law.proofs.AnywherePlugWalk.{end_blocks, ends_by, walk}
+use Rattle.rounds_law.proofs.AnywherePlugs.{ended_numbered, ended_told}
 use Rattle.rounds_law.proofs.Choices.{where_not}
 use Rattle.rounds_law.proofs.DeviceCallingBlocks.{not_of_plug}
 use Rattle.rounds_law.proofs.DeviceCallingConnected.{is_connect}
@@ -118,6 +132,7 @@ module _ (setup next : Setup) (identity : Identity) (silence : ℕ) (station : S
         object = refl;
         called = (omega arith, tt);
         inputs = refl;
+        untold = λ keyed timed. (refl, refl);
       })
       (nothing_asked setup next (Some setup.ar) live.rest.asked.standing (unrelated_asked setup next live.rest.link live.rest.asked.standing none before.asked))
       [] tt
@@ -177,7 +192,7 @@ module _ (setup next : Setup) (identity : Identity) (silence : ℕ) (station : S
   not_first : (n : ℕ) → ((n + 1) == 0) ≡ false
   not_first n = grind (arith, nat_tests)
 
-  ready_fits : (address : List ℕ) (link : Option RelationState) → AllLast silence link → AllByRecursion (IsFitting setup) (ready_calls address link)
+  ready_fits : (address : List ℕ) (link : Option RelationState) → AllLast setup silence link → AllByRecursion (IsFitting setup) (ready_calls address link)
   ready_fits address None lasts = tt
   ready_fits address (Some link) lasts = (
     record {
@@ -188,7 +203,7 @@ module _ (setup next : Setup) (identity : Identity) (silence : ℕ) (station : S
     tt,
   )
 
-  behind_fits : (by_application : Bool) (address : List ℕ) (link : Option RelationState) (block : ControlBlock) → AllLast silence link
+  behind_fits : (by_application : Bool) (address : List ℕ) (link : Option RelationState) (block : ControlBlock) → AllLast setup silence link
       → AllByRecursion (IsFitting setup) (ready_behind by_application address link (Ok block))
   behind_fits true address link block lasts = tt
   behind_fits false address link block lasts = ready_fits address link lasts
@@ -220,14 +235,15 @@ module _ (setup next : Setup) (identity : Identity) (silence : ℕ) (station : S
       let blocks = blocks_of setup asks.PrmEnd in
       subst (Fine live) (sym (where_not (is_plug_control blocks live.rest.link)
       (handled_plug_end station live caller (call_for setup asks.PrmEnd) blocks) (control_by live (prm_end_of live.rest.link blocks))
-      (not_of_plug live.rest.link (control_of setup 1)))) (by_outcome (prm_end_of live.rest.link blocks))
+      (not_of_plug live.rest.link (control_of setup 1)))) (by_outcome (prm_end_of live.rest.link blocks) refl)
     where
-      by_outcome : (ended : Result ControlBlock CallFault) → Fine live (control_by live ended)
-      by_outcome (Ok block) =
+      by_outcome : (ended : Result ControlBlock CallFault) → prm_end_of live.rest.link (blocks_of setup asks.PrmEnd) ≡ ended
+          → Fine live (control_by live ended)
+      by_outcome (Ok block) e =
           let by_application = station.options.ready_by_application in
           let after = updated (Named (partner_of caller)) (updated (Parameterized by_application) live.rest.link) in
-          let lasts = restarted_lasts silence (partner_of caller) (updated (Parameterized by_application) live.rest.link)
-          (parameterized_lasts silence by_application live.rest.link before.lasts) in
+          let lasts = restarted_lasts setup silence (partner_of caller) (updated (Parameterized by_application) live.rest.link)
+          (parameterized_lasts setup silence by_application live.rest.link (end_timed (blocks_of setup asks.PrmEnd) live.rest.link block e) before.lasts) in
           served_move setup next identity silence station laws live before
           live.rest refl (call_for setup asks.PrmEnd) refl live.values.running.suite.address Control
           (Ok (block_bytes (is.PrmEndRes (done_of block))))
@@ -237,30 +253,30 @@ module _ (setup next : Setup) (identity : Identity) (silence : ℕ) (station : S
           (sym (ended_named by_application live.rest.link)) before.asked)
           (ready_behind by_application live.values.running.suite.address after (Ok block))
           (behind_fits by_application live.values.running.suite.address after block lasts)
-      by_outcome (Err refusal) =
+      by_outcome (Err refusal) e =
           served_move setup next identity silence station laws live before
           live.rest refl (call_for setup asks.PrmEnd) refl live.values.running.suite.address Control (Err refusal)
           (fit_no setup next identity silence station laws (call_for setup asks.PrmEnd) Control refusal) live.rest.link before.lasts before.asked [] tt
 
   -- ---- Write
 
-  took_lasts : (parameter : TakenRecord) (kept : Result Records CallFault) (link : Option RelationState) → AllLast silence link
-      → AllLast silence (updated (taking kept) link)
-  took_lasts parameter (Ok records) link lasts = records_last silence records link lasts
+  took_lasts : (parameter : TakenRecord) (kept : Result Records CallFault) (link : Option RelationState) → AllLast setup silence link
+      → AllLast setup silence (updated (taking kept) link)
+  took_lasts parameter (Ok records) link lasts = records_last setup silence records link lasts
   took_lasts parameter (Err refusal) link lasts = lasts
 
-  one_lasts : (one : Judged) (link : Option RelationState) → AllLast silence link → AllLast silence (one_link one.1 link)
+  one_lasts : (one : Judged) (link : Option RelationState) → AllLast setup silence link → AllLast setup silence (one_link one.1 link)
   one_lasts one link lasts = by_result one.1
     where
-      by_effect : (effect : Effect) → AllLast silence (effect_link effect link)
+      by_effect : (effect : Effect) → AllLast setup silence (effect_link effect link)
       by_effect (Stores value) = lasts
       by_effect (Keeps parameter) = took_lasts parameter (keeping parameter link) link lasts
 
-      by_result : (result : Result Asking Status) → AllLast silence (one_link result link)
+      by_result : (result : Result Asking Status) → AllLast setup silence (one_link result link)
       by_result (Ok write) = by_effect write.effect
       by_result (Err status) = lasts
 
-  each_lasts : (judged : List Judged) (link : Option RelationState) → AllLast silence link → AllLast silence (link_behind judged link)
+  each_lasts : (judged : List Judged) (link : Option RelationState) → AllLast setup silence link → AllLast setup silence (link_behind judged link)
   each_lasts [] link lasts = lasts
   each_lasts (one ∷ judged) link lasts = each_lasts judged (one_link one.1 link) (one_lasts one link lasts)
 
@@ -297,7 +313,7 @@ module _ (setup next : Setup) (identity : Identity) (silence : ℕ) (station : S
       live.rest refl (call_for setup (asks.Write number)) refl live.values.running.suite.address Write (kept_answer header (Ok records))
       (fit_later setup next identity silence station laws (call_for setup (asks.Write number)) (answer_of header) (not_first number))
       (updated (Named (partner_of caller)) (updated (Took records) live.rest.link))
-      (restarted_lasts silence (partner_of caller) (updated (Took records) live.rest.link) (records_last silence records live.rest.link before.lasts))
+      (restarted_lasts setup silence (partner_of caller) (updated (Took records) live.rest.link) (records_last setup silence records live.rest.link before.lasts))
       (same_asked live before (updated (Named (partner_of caller)) (updated (Took records) live.rest.link))
       (restarted_named (updated (Took records) live.rest.link) ∙ took_named (Ok records) live.rest.link)) [] tt
   kept_fine live before number header (Err refusal) =
@@ -324,7 +340,7 @@ module _ (setup next : Setup) (identity : Identity) (silence : ℕ) (station : S
             (fit_later setup next identity silence station laws (call_for setup (asks.Write number)) (several_answer header judged [] live.rest.link)
             (not_first number))
             (updated (Named (partner_of caller)) (link_behind judged live.rest.link))
-            (restarted_lasts silence (partner_of caller) (link_behind judged live.rest.link) (each_lasts judged live.rest.link before.lasts))
+            (restarted_lasts setup silence (partner_of caller) (link_behind judged live.rest.link) (each_lasts judged live.rest.link before.lasts))
             (same_asked live before (updated (Named (partner_of caller)) (link_behind judged live.rest.link))
             (restarted_named (link_behind judged live.rest.link) ∙ each_named judged live.rest.link)) [] tt,
       )
@@ -340,6 +356,111 @@ module _ (setup next : Setup) (identity : Identity) (silence : ℕ) (station : S
       (writing_fine live before number (writing_of (uuid_of live.rest.link) live.rest.real blocks)
       (subst (λ (real : Real). IsQuiet station.named (uuid_of live.rest.link) real (writing_of (uuid_of live.rest.link) real blocks))
       (sym before.of_plan.plugged) (laws.quiet number small (uuid_of live.rest.link))))
+
+  -- ---- a Write after a plug
+
+  plug_fit : (request : PlugRequest) (blocks : List ℕ) → chosen_in blocks ≡ None
+      → IsFit setup (Responds (answer_to (plug_call setup request) done blocks))
+  plug_fit request blocks none = unchosen_fit setup (answer_to (plug_call setup request) done blocks) none
+
+  -- Its Write is refused or keeps its record, and asks the application nothing.
+  pub plain_at : (live : Live) → IsAnyDevice setup next identity silence station live → (request : PlugRequest) → IsOfPlug setup request → (number : ℕ)
+      → request.step ≡ Record number
+      → IsPlain (writing_of (uuid_of live.rest.link) live.rest.real (plug_write_blocks setup request (slice_get setup.plan.records.items number)))
+  plain_at live before request of number step =
+      subst (λ (real : Real). IsPlain (writing_of (uuid_of live.rest.link) real
+      (plug_write_blocks setup request (slice_get setup.plan.records.items number)))) (sym before.of_plan.plugged)
+      (laws.plain request of number step (uuid_of live.rest.link))
+
+  pub unasked_at : (live : Live) → IsAnyDevice setup next identity silence station live → (request : PlugRequest) → IsOfPlug setup request → (number : ℕ)
+      → request.step ≡ Record number
+      → asking_of live.rest.real station.named (uuid_of live.rest.link) caller (plug_call setup request)
+      (plug_write_blocks setup request (slice_get setup.plan.records.items number)) Write ≡ Ok None
+  unasked_at live before request of number step =
+      ap (λ (real : Real). asking_of real station.named (uuid_of live.rest.link) caller (plug_call setup request)
+      (plug_write_blocks setup request (slice_get setup.plan.records.items number)) Write) before.of_plan.plugged
+      ∙ laws.plug_unasked request of number step (uuid_of live.rest.link) caller (plug_call setup request)
+
+  plug_no : (live : Live) → IsAnyDevice setup next identity silence station live → (request : PlugRequest) (operation : Operation) (refusal : CallFault)
+      → Fine live (served station live caller (plug_call setup request) operation (Err refusal) live.rest.link [])
+  plug_no live before request operation refusal =
+      served_move setup next identity silence station laws live before
+      live.rest refl (plug_call setup request) refl live.values.running.suite.address operation (Err refusal)
+      (fit_no setup next identity silence station laws (plug_call setup request) operation refusal) live.rest.link before.lasts before.asked [] tt
+
+  plug_kept : (live : Live) → IsAnyDevice setup next identity silence station live → (request : PlugRequest) (header : IodWriteReq)
+      → chosen_in (answer_of header) ≡ None → (records : Records)
+      → Fine live (served station live caller (plug_call setup request) Write (Ok (answer_of header))
+      (updated (Named (partner_of caller)) (updated (Took records) live.rest.link)) [])
+  plug_kept live before request header none records =
+      served_move setup next identity silence station laws live before
+      live.rest refl (plug_call setup request) refl live.values.running.suite.address Write (Ok (answer_of header))
+      (plug_fit request (answer_of header) none)
+      (updated (Named (partner_of caller)) (updated (Took records) live.rest.link))
+      (restarted_lasts setup silence (partner_of caller) (updated (Took records) live.rest.link)
+      (records_last setup silence records live.rest.link before.lasts))
+      (same_asked live before (updated (Named (partner_of caller)) (updated (Took records) live.rest.link))
+      (restarted_named (updated (Took records) live.rest.link) ∙ took_named (Ok records) live.rest.link)) [] tt
+
+  -- ---- PrmEnd after a plug
+
+  ended_lasts : (by_application : Bool) (one : PlugControlBlock) (link : Option RelationState) → AllLast setup silence link
+      → AllLast setup silence (plug_ended_by by_application (Ok one) link)
+  ended_lasts by_application one None lasts = tt
+  ended_lasts by_application one (Some link) lasts = record {
+    runs = lasts.runs;
+    active = lasts.active;
+    holds = lasts.holds;
+    named = lasts.named;
+    object = lasts.object;
+    called = ended_numbered one.alarm_sequence_number (not by_application) link.plugs lasts.called;
+    inputs = lasts.inputs;
+    untold = λ keyed timed. (
+      (lasts.untold keyed timed).0,
+      ended_told one.alarm_sequence_number (not by_application) link.plugs ∙ (lasts.untold keyed timed).1,
+    );
+  }
+
+  plug_ended_named : (by_application : Bool) (one : PlugControlBlock) (link : Option RelationState)
+      → uuid_of (plug_ended_by by_application (Ok one) link) ≡ uuid_of link
+  plug_ended_named by_application one None = refl
+  plug_ended_named by_application one (Some link) = refl
+
+  uuid_wide : (live : Live) → IsAnyDevice setup next identity silence station live → (its : RelationState) → live.rest.link ≡ Some its
+      → length its.request.ar.uuid ≡ 16
+  uuid_wide live before its has = (subst (AllLast setup silence) has before.lasts).named
+
+  plug_end_fine : (live : Live) → IsAnyDevice setup next identity silence station live → (request : PlugRequest) (blocks : List ℕ)
+      (one : PlugControlBlock) → plug_end_in blocks live.rest.link ≡ Ok one → Fine live (ends_by setup station live caller request (Ok one))
+  plug_end_fine live before request blocks one e =
+      let by_application = station.options.ready_by_application in
+      let address = live.values.running.suite.address in
+      let after = plug_ended_by by_application (Ok one) live.rest.link in
+      let named = updated (Named (partner_of caller)) after in
+      let lasts = calling_lasts setup next identity silence station named
+      (restarted_lasts setup silence (partner_of caller) after (ended_lasts by_application one live.rest.link before.lasts)) in
+      let wide : length one.ar_uuid ≡ 16 = end_uuid blocks live.rest.link one e (uuid_wide live before) in
+      served_move setup next identity silence station laws live before
+      live.rest refl (plug_call setup request) refl address Control (plug_end_answer (Ok one))
+      (plug_fit request ((plug_control 0x8111).write (plug_done one) []) (end_unchosen (plug_done one) wide))
+      (calling_next named) lasts
+      (same_asked live before (calling_next named)
+      (calling_named setup next identity silence station named
+      ∙ (restarted_named after ∙ plug_ended_named by_application one live.rest.link)))
+      (next_call_sent address named) (due_fit setup (is_calling named) _ (plugs_fit setup silence address (calling_next named) lasts))
+
+  pub plug_said : (live : Live) → IsAnyDevice setup next identity silence station live → (request : PlugRequest) → IsOfPlug setup request
+      → Fine live (handled_said station live caller (Calls (plug_call setup request)))
+  plug_said live before request of =
+      walk setup station live caller request (plain_at live before request of) (unasked_at live before request of) (Fine live) (record {
+        refuses = λ why. tt;
+        silent = (before.lasts, λ can. stored_before setup next identity silence station live before, tt, before.asked);
+        repeats = λ kept found.
+            (before.lasts, λ can. stored_before setup next identity silence station live before, (before.stored kept found, tt), before.asked);
+        denies = plug_no live before request;
+        keeps = λ header none parameter records e. plug_kept live before request header none records;
+        ends = λ one e told. plug_end_fine live before request (end_blocks setup station live caller request) one e;
+      })
 
   -- ---- a call, by what is stored
 

@@ -1,6 +1,6 @@
 -- What is exchanged, and units, at a device in any state.
 use Rattle.std.proofs.Common.{◌≡◌, inl, inr, ◌++◌, ℕ, nat_eq, Bool, true, false, List, [], ◌∷◌, length, Option, Some, None, refl, sym, ap, subst, ◌∙◌, arith}
-use Rattle.std.proofs.lemmas.Bool.{cond_both}
+use Rattle.std.proofs.lemmas.Bool.{cond_both, false≢true}
 use Rattle.std.specs.Prelude.{if◌then◌else◌, option_map}
 use Rattle.std.specs.List.{AllByRecursion}
 use Rattle.std.specs.Cmp.Lexicographic.{pointwise}
@@ -63,9 +63,9 @@ use Rattle.rounds_law.specs.Anywhere.{AllLast, IsAnyDevice, IsQuestionOf, Lasts}
 use Rattle.rounds_law.proofs.AskedUnits.{IsLate, late_at, late_of}
 use Rattle.rounds_law.proofs.AnywhereAsked.{late_undone, left_so, others_of, unit_asked}
 use Rattle.rounds_law.proofs.AnywhereDeviceAnswers.{CallLaws, refused_fit}
-use Rattle.rounds_law.proofs.AnywhereDeviceFine.{IsFine, IsStored, called_lasts, exchanging_lasts, flow_lasts, late_stored, passed_lasts, reported_lasts}
-use Rattle.rounds_law.proofs.AnywhereDeviceFine.{stored_before}
-use Rattle.rounds_law.proofs.AnywherePlugs.{heard_numbered, next_numbered}
+use Rattle.rounds_law.proofs.AnywhereDeviceFine.{IsFine, IsStored, IsUntimed, called_lasts, exchanging_lasts, flow_lasts, late_stored, passed_lasts, reported_lasts}
+use Rattle.rounds_law.proofs.AnywhereDeviceFine.{stored_before, untimed_by, untold_by, untold_in}
+use Rattle.rounds_law.proofs.AnywherePlugs.{heard_numbered, heard_told, next_numbered}
 use Rattle.rounds_law.proofs.AnywhereDeviceSays.{IsFitting}
 use Rattle.rounds_law.proofs.DevicePassingLeft.{frame_left}
 
@@ -76,7 +76,7 @@ pub both_fit : (setup : Setup) (one other : List Sent) → AllByRecursion (IsFit
 both_fit setup [] other ones others = others
 both_fit setup (message ∷ one) other ones others = (ones.0, both_fit setup one other ones.1 others)
 
-due_fit : (setup : Setup) (is_due : Bool) (sent : List Sent) → AllByRecursion (IsFitting setup) sent → AllByRecursion (IsFitting setup) (where_due is_due sent)
+pub due_fit : (setup : Setup) (is_due : Bool) (sent : List Sent) → AllByRecursion (IsFitting setup) sent → AllByRecursion (IsFitting setup) (where_due is_due sent)
 due_fit setup true sent all = all
 due_fit setup false sent all = tt
 
@@ -108,7 +108,7 @@ pub farewells_fit : (setup : Setup) (farewell : Option Farewell) → AllByRecurs
 farewells_fit setup None = tt
 farewells_fit setup (Some farewell) = (tt, tt)
 
-pub ready_fits : (setup : Setup) (silence : ℕ) (address : List ℕ) (link : Option RelationState) → AllLast silence link
+pub ready_fits : (setup : Setup) (silence : ℕ) (address : List ℕ) (link : Option RelationState) → AllLast setup silence link
     → AllByRecursion (IsFitting setup) (ready_calls address link)
 ready_fits setup silence address None lasts = tt
 ready_fits setup silence address (Some link) lasts = (
@@ -134,13 +134,13 @@ call_fits setup address link (Some call) named object called = (
   tt,
 )
 
-plugs_fit : (setup : Setup) (silence : ℕ) (address : List ℕ) (link : Option RelationState) → AllLast silence link
+pub plugs_fit : (setup : Setup) (silence : ℕ) (address : List ℕ) (link : Option RelationState) → AllLast setup silence link
     → AllByRecursion (IsFitting setup) (plug_calls address link)
 plugs_fit setup silence address None lasts = tt
 plugs_fit setup silence address (Some link) lasts =
     call_fits setup address link link.plugs.calls.standing lasts.named lasts.object lasts.called.1
 
-unit_fit : (setup : Setup) (silence : ℕ) (address : List ℕ) (counter : ℕ) (due : Due) (link : Option RelationState) → AllLast silence link
+unit_fit : (setup : Setup) (silence : ℕ) (address : List ℕ) (counter : ℕ) (due : Due) (link : Option RelationState) → AllLast setup silence link
     → AllByRecursion (IsFitting setup) (due_frames address counter due link)
 unit_fit setup silence address counter due link lasts =
     both_fit setup (farewells_in due.farewell) _ (farewells_fit setup due.farewell)
@@ -203,17 +203,17 @@ module _ (setup next : Setup) (identity : Identity) (silence : ℕ) (station : S
   asked_in live before link has = subst (Asked live) has before.asked
 
   -- the same relation, in another state
-  gone_on : (live : Live) → Device live → (link : Option RelationState) → AllLast silence link → Asked live link → (sent : List Sent)
+  gone_on : (live : Live) → Device live → (link : Option RelationState) → AllLast setup silence link → Asked live link → (sent : List Sent)
       → AllByRecursion (IsFitting setup) sent
       → Fine live (goes_on_with live link sent)
   gone_on live before link lasts asked sent fits = (lasts, λ can. stored_before setup next identity silence station live before, fits, asked)
 
-  lasts_at : (live : Live) → Device live → (link : RelationState) → live.rest.link ≡ Some link → Lasts silence link
-  lasts_at live before link has = subst (AllLast silence) has before.lasts
+  lasts_at : (live : Live) → Device live → (link : RelationState) → live.rest.link ≡ Some link → Lasts setup silence link
+  lasts_at live before link has = subst (AllLast setup silence) has before.lasts
 
   -- ---- cyclic frames
 
-  received_fine : (live : Live) → Device live → (link : RelationState) → Asked live (Some link) → (flow : Flow) → Lasts silence (with_flow flow link)
+  received_fine : (live : Live) → Device live → (link : RelationState) → Asked live (Some link) → (flow : Flow) → Lasts setup silence (with_flow flow link)
       → (one : Received)
       → Fine live (handled_received live one (updated (receiving_as one flow) (Some link)))
   received_fine live before link asked flow later received.Foreign = tt
@@ -234,12 +234,12 @@ module _ (setup next : Setup) (identity : Identity) (silence : ℕ) (station : S
           subst (λ (l : Option RelationState). Fine live (handled_received live (received_by source frame_id body l)
           (updated (receiving source frame_id body l) l))) (sym has)
           (received_fine live before link (asked_in live before link has) (behind_frame link.flow source frame_id body)
-          (flow_lasts silence link (behind_frame link.flow source frame_id body) left.begun left.limit left.route lasts)
+          (flow_lasts setup silence link (behind_frame link.flow source frame_id body) left.begun left.limit left.route (untold_in setup silence link lasts) lasts)
           (received_as link.flow source frame_id body))
 
   -- ---- alarms
 
-  pdu_fine : (live : Live) → Device live → (link : RelationState) → Asked live (Some link) → (flow : Flow) → Lasts silence (with_flow flow link)
+  pdu_fine : (live : Live) → Device live → (link : RelationState) → Asked live (Some link) → (flow : Flow) → Lasts setup silence (with_flow flow link)
       → (one : PduFate)
       → Fine live (handled_pdu live one (updated (hearing_as one flow) (Some link)))
   pdu_fine live before link asked flow later (fate.Data taken) =
@@ -263,7 +263,7 @@ module _ (setup next : Setup) (identity : Identity) (silence : ℕ) (station : S
           let lasts = lasts_at live before link has in
           subst (λ (l : Option RelationState). Fine live (handled_pdu live (heard_by message l) (updated (hearing message l) l))) (sym has)
           (pdu_fine live before link (asked_in live before link has) (behind_message link.flow message)
-          (flow_lasts silence link (behind_message link.flow message) refl refl refl lasts)
+          (flow_lasts setup silence link (behind_message link.flow message) refl refl refl (untold_in setup silence link lasts) lasts)
           (heard_as link.flow.alarms message))
 
   pub alarm_fine : (live : Live) → Device live → (source : Mac) (header : Header) (message : ToDevice) → Fine live (handled_alarm live source header message)
@@ -274,70 +274,76 @@ module _ (setup next : Setup) (identity : Identity) (silence : ℕ) (station : S
       by_test false = tt
 
   -- an alarm of low priority is sent, or not
-  sent_lasts : (link : RelationState) (is_sent : Bool) (flow : Flow) → Lasts silence (with_flow flow link)
-      → AllLast silence (updated (sent_as is_sent flow link) (Some link))
-  sent_lasts link is_sent flow lasts =
+  sent_lasts : (link : RelationState) (is_sent : Bool) (flow : Flow) → IsUntimed setup silence link → Lasts setup silence (with_flow flow link)
+      → AllLast setup silence (updated (sent_as is_sent flow link) (Some link))
+  sent_lasts link is_sent flow untimed lasts =
       let sent = first_sent is_sent flow.low in
-      reported_lasts silence link flow (taken_after sent link.plugs.places link.taken) sent flow.low.waiting lasts
+      reported_lasts setup silence link flow (taken_after sent link.plugs.places link.taken) sent flow.low.waiting untimed lasts
 
-  low_pdu_fine : (live : Live) → Device live → (link : RelationState) → Asked live (Some link) → Lasts silence link → (one : PduFate)
-      → Fine live (handled_low_pdu station live one (Some link))
-  low_pdu_fine live before link asked lasts (fate.Data taken) =
+  low_pdu_fine : (live : Live) → Device live → (link : RelationState) → Asked live (Some link) → IsUntimed setup silence link → Lasts setup silence link
+      → (one : PduFate) → Fine live (handled_low_pdu station live one (Some link))
+  low_pdu_fine live before link asked untimed lasts (fate.Data taken) =
       let flow = next_reported link.flow in
       gone_on live before (updated (reporting (Some link)) (Some link))
-      (sent_lasts link (is_next link.flow.low) flow (flow_lasts silence link flow refl refl refl lasts)) asked
+      (sent_lasts link (is_next link.flow.low) flow untimed
+      (flow_lasts setup silence link flow refl refl refl (untold_by setup silence link flow untimed) lasts)) asked
       (low_replies_of taken (Some link.flow) ++ where_due (report_one (Some link)) (low_alarms_of (Some flow)))
       (both_fit setup (low_replies_of taken (Some link.flow)) _ (low_replies_fit setup taken (Some link.flow))
       (due_fit setup (report_one (Some link)) _ (low_fit setup (Some flow))))
-  low_pdu_fine live before link asked lasts fate.Done = gone_on live before (Some link) lasts asked [] tt
-  low_pdu_fine live before link asked lasts fate.Ignored = tt
-  low_pdu_fine live before link asked lasts (fate.Aborted status) = tt
+  low_pdu_fine live before link asked untimed lasts fate.Done = gone_on live before (Some link) lasts asked [] tt
+  low_pdu_fine live before link asked untimed lasts fate.Ignored = tt
+  low_pdu_fine live before link asked untimed lasts (fate.Aborted status) = tt
 
-  low_message_fine : (live : Live) → Device live → (message : ToDevice) → Fine live (handled_low_message station live message)
-  low_message_fine live before message = by_link live.rest.link refl
+  low_message_fine : (live : Live) → Device live → (message : ToDevice) → has_sent_low live.rest.link ≡ true
+      → Fine live (handled_low_message station live message)
+  low_message_fine live before message sent = by_link live.rest.link refl
     where
       by_link : (link : Option RelationState) → live.rest.link ≡ link → Fine live (handled_low_message station live message)
       by_link None has =
           subst (λ (l : Option RelationState). Fine live (handled_low_pdu station live (heard_low message l) (updated (hearing_low message l) l))) (sym has) tt
       by_link (Some link) has =
           subst (λ (l : Option RelationState). Fine live (handled_low_pdu station live (heard_low message l) (updated (hearing_low message l) l))) (sym has)
-          (low_pdu_fine live before (with_flow (behind_low link.flow message) link) (asked_in live before link has)
-          (flow_lasts silence link (behind_low link.flow message) refl refl refl (lasts_at live before link has)) (heard_as link.flow.low.alarms message))
+          (let lasts = lasts_at live before link has in
+          let untimed = untimed_by setup silence link lasts (subst (λ (l : Option RelationState). has_sent_low l ≡ true) has sent) in
+          low_pdu_fine live before (with_flow (behind_low link.flow message) link) (asked_in live before link has) untimed
+          (flow_lasts setup silence link (behind_low link.flow message) refl refl refl
+          (untold_by setup silence link (behind_low link.flow message) untimed) lasts) (heard_as link.flow.low.alarms message))
 
-  low_fine : (live : Live) → Device live → (source : Mac) (header : Header) (message : ToDevice) → Fine live (handled_low station live source header message)
-  low_fine live before source header message = by_test (is_alarm_of source header.destination header.source live.rest.link)
+  low_fine : (live : Live) → Device live → (source : Mac) (header : Header) (message : ToDevice) → has_sent_low live.rest.link ≡ true
+      → Fine live (handled_low station live source header message)
+  low_fine live before source header message sent = by_test (is_alarm_of source header.destination header.source live.rest.link)
     where
       by_test : (own : Bool) → Fine live (if own then handled_low_message station live message else Refuses note.NoRelation)
-      by_test true = low_message_fine live before message
+      by_test true = low_message_fine live before message sent
       by_test false = tt
 
   pub low_reply_fine : (live : Live) → Device live → (source : Mac) (header : Header) (message : ToDevice)
       → Fine live (handled_low_reply station live source header message)
-  low_reply_fine live before source header message = by_test (has_sent_low live.rest.link)
+  low_reply_fine live before source header message = by_test (has_sent_low live.rest.link) refl
     where
-      by_test : (low : Bool) → Fine live (if low then handled_low station live source header message else handled_alarm live source header message)
-      by_test true = low_fine live before source header message
-      by_test false = alarm_fine live before source header message
+      by_test : (low : Bool) → has_sent_low live.rest.link ≡ low → Fine live (if low then handled_low station live source header message else handled_alarm live source header message)
+      by_test true sent = low_fine live before source header message sent
+      by_test false sent = alarm_fine live before source header message
 
   pub low_confirm_fine : (live : Live) → Device live → (source : Mac) (header : Header) (message : ToDevice)
       → Fine live (handled_low_confirm station live source header message)
-  low_confirm_fine live before source header message = by_test (has_sent_low live.rest.link)
+  low_confirm_fine live before source header message = by_test (has_sent_low live.rest.link) refl
     where
-      by_test : (low : Bool) → Fine live (if low then handled_low station live source header message else Refuses note.Fault)
-      by_test true = low_fine live before source header message
-      by_test false = tt
+      by_test : (low : Bool) → has_sent_low live.rest.link ≡ low → Fine live (if low then handled_low station live source header message else Refuses note.Fault)
+      by_test true sent = low_fine live before source header message sent
+      by_test false sent = tt
 
   -- ---- the answer to ApplicationReady
 
-  beginning_fine : (live : Live) → Device live → (link : Option RelationState) → AllLast silence link → Asked live link
+  beginning_fine : (live : Live) → Device live → (link : Option RelationState) → AllLast setup silence link → Asked live link
       → Fine live (handled_beginning station live (updated Confirmed link))
   beginning_fine live before None lasts asked = (tt, λ can. stored_before setup next identity silence station live before, tt, asked)
   beginning_fine live before (Some link) lasts asked =
       let real = live.rest.real.modules.items in
       let now = exchanging_from link in
       let told = diagnoses_begun real live.rest.diagnoses now.flow in (
-        sent_lasts now (begins_with_one real live.rest.diagnoses now.flow) told
-            (flow_lasts silence now told refl refl refl (exchanging_lasts silence link lasts)),
+        sent_lasts now (begins_with_one real live.rest.diagnoses now.flow) told (λ keyed timed. false≢true timed)
+            (flow_lasts setup silence now told refl refl refl (λ keyed timed. absurd (false≢true timed)) (exchanging_lasts setup silence link lasts)),
         λ can. stored_before setup next identity silence station live before,
         due_fit setup (begin_one real live.rest.diagnoses (Some now)) _ (low_fit setup (Some told)),
         asked,
@@ -358,26 +364,30 @@ module _ (setup next : Setup) (identity : Identity) (silence : ℕ) (station : S
   )
 
   -- the answer to the call of a plug, and the next call
-  calling_lasts : (link : Option RelationState) → AllLast silence link → AllLast silence (calling_next link)
+  pub calling_lasts : (link : Option RelationState) → AllLast setup silence link → AllLast setup silence (calling_next link)
   calling_lasts None lasts = tt
   calling_lasts (Some link) lasts =
-      called_lasts silence link link.flow (next_called link.plugs) (next_numbered link.plugs lasts.called) (flow_lasts silence link link.flow refl refl refl lasts)
+      called_lasts setup silence link link.flow (next_called link.plugs) (next_numbered link.plugs lasts.called)
+      (λ keyed timed. (lasts.untold keyed timed).1) (flow_lasts setup silence link link.flow refl refl refl (untold_in setup silence link lasts) lasts)
 
-  answered_flow : (heard : PlugAnswer) (plugs : PlugState) (link : RelationState) → Lasts silence link
-      → Lasts silence (with_flow (flow_answered heard plugs link.flow) link)
-  answered_flow to_plug.NotWanted plugs link lasts = flow_lasts silence link link.flow refl refl refl lasts
-  answered_flow to_plug.Garbled plugs link lasts = flow_lasts silence link link.flow refl refl refl lasts
-  answered_flow to_plug.Confirmed plugs link lasts = flow_lasts silence link (restated_flow plugs link.flow) refl refl refl lasts
-  answered_flow to_plug.Refused plugs link lasts = flow_lasts silence link (restated_flow plugs link.flow) refl refl refl lasts
+  answered_flow : (heard : PlugAnswer) (plugs : PlugState) (link : RelationState) → Lasts setup silence link
+      → Lasts setup silence (with_flow (flow_answered heard plugs link.flow) link)
+  answered_flow to_plug.NotWanted plugs link lasts = flow_lasts setup silence link link.flow refl refl refl (untold_in setup silence link lasts) lasts
+  answered_flow to_plug.Garbled plugs link lasts = flow_lasts setup silence link link.flow refl refl refl (untold_in setup silence link lasts) lasts
+  answered_flow to_plug.Confirmed plugs link lasts =
+      flow_lasts setup silence link (restated_flow plugs link.flow) refl refl refl (untold_in setup silence link lasts) lasts
+  answered_flow to_plug.Refused plugs link lasts =
+      flow_lasts setup silence link (restated_flow plugs link.flow) refl refl refl (untold_in setup silence link lasts) lasts
 
-  answering_lasts : (response : Answered) (link : Option RelationState) → AllLast silence link → AllLast silence (plug_answering response link)
+  answering_lasts : (response : Answered) (link : Option RelationState) → AllLast setup silence link → AllLast setup silence (plug_answering response link)
   answering_lasts response None lasts = tt
   answering_lasts response (Some link) lasts =
       let heard = plug_answer_in response (Some link) in
       let plugs = plugs_answered heard link.plugs in
-      called_lasts silence link (flow_answered heard plugs link.flow) plugs (heard_numbered heard link.plugs lasts.called) (answered_flow heard plugs link lasts)
+      called_lasts setup silence link (flow_answered heard plugs link.flow) plugs (heard_numbered heard link.plugs lasts.called)
+      (λ keyed timed. heard_told heard link.plugs ∙ (lasts.untold keyed timed).1) (answered_flow heard plugs link lasts)
 
-  calling_named : (link : Option RelationState) → uuid_of (calling_next link) ≡ uuid_of link
+  pub calling_named : (link : Option RelationState) → uuid_of (calling_next link) ≡ uuid_of link
   calling_named None = refl
   calling_named (Some link) = refl
 
@@ -385,7 +395,7 @@ module _ (setup next : Setup) (identity : Identity) (silence : ℕ) (station : S
   answering_named response None = refl
   answering_named response (Some link) = refl
 
-  next_call_fine : (live : Live) → Device live → (link : Option RelationState) → AllLast silence link → uuid_of link ≡ uuid_of live.rest.link
+  next_call_fine : (live : Live) → Device live → (link : Option RelationState) → AllLast setup silence link → uuid_of link ≡ uuid_of live.rest.link
       → Fine live (handled_next_call live link)
   next_call_fine live before link lasts same =
       let later = calling_lasts link lasts in (
@@ -413,12 +423,12 @@ module _ (setup next : Setup) (identity : Identity) (silence : ℕ) (station : S
 
   -- ---- units
 
-  passed_all : (link : Option RelationState) → AllLast silence link → AllLast silence (updated (passing link) link)
+  passed_all : (link : Option RelationState) → AllLast setup silence link → AllLast setup silence (updated (passing link) link)
   passed_all None lasts = tt
   passed_all (Some link) lasts = by_ending (ending_of link)
     where
-      by_ending : (ending : Option Abort) → AllLast silence (updated (passing_by ending) (Some link))
-      by_ending None = passed_lasts silence link lasts
+      by_ending : (ending : Option Abort) → AllLast setup silence (updated (passing_by ending) (Some link))
+      by_ending None = passed_lasts setup silence link lasts
       by_ending (Some reason) = tt
 
   -- the refusal of a call that had no answer in time

@@ -1,6 +1,7 @@
 -- A device in any state: which outcomes of what it hears leave it so, and which links.
 use Rattle.std.proofs.Common.{◌≡◌, ◌⊎◌, inl, inr, ◌≤◌, ℕ, Bool, true, false, List, [], ◌∷◌, map, Option, Some, None, Ok, refl, sym, ap, subst, ◌∙◌}
-use Rattle.std.specs.Prelude.{if◌then◌else◌, unwrap_or}
+use Rattle.std.specs.Prelude.{if◌then◌else◌, is_some, unwrap_or}
+use Rattle.std.proofs.lemmas.Bool.{false≢true}
 use Rattle.std.specs.List.{AllByRecursion}
 use Rattle.pn_values.specs.declared.identity.Identity.{Identity}
 use Rattle.pn_values.specs.declared.real.Real.{Real}
@@ -11,6 +12,7 @@ use Rattle.records.specs.declared.status.operation.Operation.TheVariants.{Write}
 use Rattle.records.specs.declared.writes.taken.TakenRecord.{TakenRecord}
 use Rattle.diagnosis.specs.declared.alarms.alarms.SentAlarm.{SentAlarm}
 use Rattle.diagnosis.specs.declared.queue.QueuedAlarm.{QueuedAlarm}
+use Rattle.expected_places.specs.Calls.{counted}
 use Rattle.expected_places.specs.Machine.{PlugState}
 use Rattle.rpc_core.specs.Cache.{Kept, kept_more, kept_of}
 use Rattle.rpc_core.specs.Call.{Asked as Call}
@@ -24,6 +26,7 @@ use Rattle.relations.specs.declared.phase.Partner.{Partner}
 use Rattle.relations.specs.exchange.Flow.{Flow}
 use Rattle.relations.specs.Phases.{Named, Records, Took, Parameterized, parameterized_from, exchanging_from, updated, with_flow, with_reported}
 use Rattle.relations.specs.Plugging.{plugs_after}
+use Rattle.relations.specs.Diagnosed.{has_sent_low}
 use Rattle.relations.specs.Timers.{is_timed, unit_later}
 use Rattle.device_frames.specs.Sendable.{AreSendable, IsSendable}
 use Rattle.device_frames.specs.Sent.{Sent, CallAnswer, bytes_of}
@@ -32,24 +35,45 @@ use Rattle.device_core.specs.Handled.{Handled, Refuses, Sets, Writes, WritesEach
 use Rattle.device_core.specs.Machine.{Stepped, finished, handled_step, link_behind, several_answer}
 use Rattle.device_core.specs.Several.{Judged, texts_in}
 use Rattle.controller_messages.specs.declared.setup.Setup.{Setup}
+use Rattle.controller_messages.specs.Heard.{heard_of}
 use Rattle.end_laws.specs.device.Orderly.{AreNumbered}
 use Rattle.end_laws.specs.hearing.Stations.{IsDevice, IsSetup}
-use Rattle.rounds_law.specs.Anywhere.{AllLast, ChoosesWell, IsAnyDevice, IsQuestionOf, Lasts}
+use Rattle.rounds_law.specs.Anywhere.{AllLast, ChoosesWell, IsAnyDevice, IsNoData, IsQuestionOf, Lasts}
 use Rattle.rounds_law.specs.Path.{IsAddressed, IsIgnored}
 use Rattle.rounds_law.specs.Start.{CanBeAddressed, IsOfPlan}
 use Rattle.rounds_law.proofs.AgainKept.{none_more}
 use Rattle.rounds_law.proofs.AnywhereAsked.{some_more}
 use Rattle.rounds_law.proofs.AnywherePlugs.{after_numbered, later_numbered}
-use Rattle.rounds_law.proofs.AnywhereDeviceSays.{IsFitting, IsSizedIfPlug, SaysLaws, all_fit, all_sized, message_fit}
+use Rattle.rounds_law.proofs.AnywhereDeviceSays.{IsFitting, IsSizedIfPlug, SaysLaws, all_fit, all_sized, answer_no_data, message_fit}
 use Rattle.rounds_law.proofs.DeviceCallingSteps.{kept_first}
 
 -- ---- relations
 
-module _ (silence : ℕ) where
+module _ (setup : Setup) (silence : ℕ) where
+  -- If the plan writes parameters after a plug, no alarm of low priority was sent before data is exchanged.
+  abbrev pub StaysUntold : RelationState → Flow → Type 0
+  StaysUntold link flow =
+      setup.plan.parameters_after_plug ≡ true → is_timed link.phase ≡ true → is_some flow.low.alarms.sender.sending.last ≡ false
+
+  -- Data is exchanged, if the plan does that.
+  abbrev pub IsUntimed : RelationState → Type 0
+  IsUntimed link = setup.plan.parameters_after_plug ≡ true → is_timed link.phase ≡ true → ⊥
+
+  -- It is so of a relation.
+  pub untold_in : (link : RelationState) → Lasts setup silence link → StaysUntold link link.flow
+  untold_in link lasts keyed timed = (lasts.untold keyed timed).0
+
+  pub untold_by : (link : RelationState) (flow : Flow) → IsUntimed link → StaysUntold link flow
+  untold_by link flow untimed keyed timed = absurd (untimed keyed timed)
+
+  -- An alarm of low priority was sent: so data is exchanged.
+  pub untimed_by : (link : RelationState) → Lasts setup silence link → has_sent_low (Some link) ≡ true → IsUntimed link
+  untimed_by link lasts sent keyed timed = false≢true (sym (lasts.untold keyed timed).0 ∙ sent)
+
   pub flow_lasts : (link : RelationState) (flow : Flow) → flow.cyclic.begun ≡ link.flow.cyclic.begun
       → flow.cyclic.hearing.limit ≡ link.flow.cyclic.hearing.limit → flow.cyclic.route ≡ link.flow.cyclic.route
-      → Lasts silence link → Lasts silence (with_flow flow link)
-  flow_lasts link flow begun limit route lasts = record {
+      → StaysUntold link flow → Lasts setup silence link → Lasts setup silence (with_flow flow link)
+  flow_lasts link flow begun limit route quiet lasts = record {
     runs = λ untimed. begun ∙ lasts.runs untimed;
     active = lasts.active;
     holds = subst (λ (n : ℕ). n ≤ silence) (sym limit) lasts.holds;
@@ -57,12 +81,14 @@ module _ (silence : ℕ) where
     object = lasts.object;
     called = lasts.called;
     inputs = subst (λ (r : Route). is_cyclic r.sent_id ≡ true) (sym route) lasts.inputs;
+    untold = λ keyed timed. (quiet keyed timed, (lasts.untold keyed timed).1);
   }
 
   -- with these records, and these places, whose calls are as before
   pub reported_lasts : (link : RelationState) (flow : Flow) (taken : List TakenRecord) (sent : Option SentAlarm) (waiting : List QueuedAlarm)
-      → Lasts silence (with_flow flow link) → Lasts silence (with_reported flow taken (plugs_after sent waiting link.plugs) link)
-  reported_lasts link flow taken sent waiting lasts = record {
+      → IsUntimed link → Lasts setup silence (with_flow flow link)
+      → Lasts setup silence (with_reported flow taken (plugs_after sent waiting link.plugs) link)
+  reported_lasts link flow taken sent waiting untimed lasts = record {
     runs = lasts.runs;
     active = lasts.active;
     holds = lasts.holds;
@@ -70,12 +96,14 @@ module _ (silence : ℕ) where
     object = lasts.object;
     called = after_numbered sent waiting link.plugs lasts.called;
     inputs = lasts.inputs;
+    untold = λ keyed timed. absurd (untimed keyed timed);
   }
 
   -- with other calls of plugs
-  pub called_lasts : (link : RelationState) (flow : Flow) (plugs : PlugState) → AreNumbered plugs.calls → Lasts silence (with_flow flow link)
-      → Lasts silence (record link { flow = flow; plugs = plugs })
-  called_lasts link flow plugs called lasts = record {
+  pub called_lasts : (link : RelationState) (flow : Flow) (plugs : PlugState) → AreNumbered plugs.calls
+      → (setup.plan.parameters_after_plug ≡ true → is_timed link.phase ≡ true → plugs.has_told ≡ false) → Lasts setup silence (with_flow flow link)
+      → Lasts setup silence (record link { flow = flow; plugs = plugs })
+  called_lasts link flow plugs called told lasts = record {
     runs = lasts.runs;
     active = lasts.active;
     holds = lasts.holds;
@@ -83,38 +111,84 @@ module _ (silence : ℕ) where
     object = lasts.object;
     called = called;
     inputs = lasts.inputs;
+    untold = λ keyed timed. ((lasts.untold keyed timed).0, told keyed timed);
   }
 
-  pub restarted_lasts : (source : Partner) (link : Option RelationState) → AllLast silence link → AllLast silence (updated (Named source) link)
+  pub restarted_lasts : (source : Partner) (link : Option RelationState) → AllLast setup silence link → AllLast setup silence (updated (Named source) link)
   restarted_lasts source None lasts = lasts
-  restarted_lasts source (Some link) lasts =
-      record { runs = lasts.runs; active = lasts.active; holds = lasts.holds; named = lasts.named; object = lasts.object; called = lasts.called; inputs = lasts.inputs }
+  restarted_lasts source (Some link) lasts = record {
+    runs = lasts.runs;
+    active = lasts.active;
+    holds = lasts.holds;
+    named = lasts.named;
+    object = lasts.object;
+    called = lasts.called;
+    inputs = lasts.inputs;
+    untold = lasts.untold;
+  }
 
-  pub records_last : (records : Records) (link : Option RelationState) → AllLast silence link → AllLast silence (updated (Took records) link)
+  pub records_last : (records : Records) (link : Option RelationState) → AllLast setup silence link → AllLast setup silence (updated (Took records) link)
   records_last records None lasts = lasts
-  records_last records (Some link) lasts =
-      record { runs = lasts.runs; active = lasts.active; holds = lasts.holds; named = lasts.named; object = lasts.object; called = lasts.called; inputs = lasts.inputs }
+  records_last records (Some link) lasts = record {
+    runs = lasts.runs;
+    active = lasts.active;
+    holds = lasts.holds;
+    named = lasts.named;
+    object = lasts.object;
+    called = lasts.called;
+    inputs = lasts.inputs;
+    untold = lasts.untold;
+  }
 
-  parameterized_one : (by_application : Bool) (link : RelationState) → Lasts silence link → Lasts silence (parameterized_from by_application link)
-  parameterized_one true link lasts =
-      record { runs = λ untimed. absurd cc; active = lasts.active; holds = lasts.holds; named = lasts.named; object = lasts.object; called = lasts.called; inputs = lasts.inputs }
-  parameterized_one false link lasts =
-      record { runs = λ untimed. absurd cc; active = lasts.active; holds = lasts.holds; named = lasts.named; object = lasts.object; called = lasts.called; inputs = lasts.inputs }
+  parameterized_one : (by_application : Bool) (link : RelationState) → is_timed link.phase ≡ true → Lasts setup silence link
+      → Lasts setup silence (parameterized_from by_application link)
+  parameterized_one true link timed lasts = record {
+    runs = λ untimed. absurd cc;
+    active = lasts.active;
+    holds = lasts.holds;
+    named = lasts.named;
+    object = lasts.object;
+    called = lasts.called;
+    inputs = lasts.inputs;
+    untold = λ keyed later. lasts.untold keyed timed;
+  }
+  parameterized_one false link timed lasts = record {
+    runs = λ untimed. absurd cc;
+    active = lasts.active;
+    holds = lasts.holds;
+    named = lasts.named;
+    object = lasts.object;
+    called = lasts.called;
+    inputs = lasts.inputs;
+    untold = λ keyed later. lasts.untold keyed timed;
+  }
 
-  pub parameterized_lasts : (by_application : Bool) (link : Option RelationState) → AllLast silence link
-      → AllLast silence (updated (Parameterized by_application) link)
-  parameterized_lasts by_application None lasts = lasts
-  parameterized_lasts by_application (Some link) lasts = parameterized_one by_application link lasts
+  pub parameterized_lasts : (by_application : Bool) (link : Option RelationState) → ((its : RelationState) → link ≡ Some its → is_timed its.phase ≡ true)
+      → AllLast setup silence link → AllLast setup silence (updated (Parameterized by_application) link)
+  parameterized_lasts by_application None timed lasts = lasts
+  parameterized_lasts by_application (Some link) timed lasts = parameterized_one by_application link (timed link refl) lasts
 
-  pub exchanging_lasts : (link : RelationState) → Lasts silence link → Lasts silence (exchanging_from link)
-  exchanging_lasts link lasts =
-      record { runs = λ untimed. refl; active = lasts.active; holds = lasts.holds; named = lasts.named; object = lasts.object; called = lasts.called; inputs = lasts.inputs }
+  pub exchanging_lasts : (link : RelationState) → Lasts setup silence link → Lasts setup silence (exchanging_from link)
+  exchanging_lasts link lasts = record {
+    runs = λ untimed. refl;
+    active = lasts.active;
+    holds = lasts.holds;
+    named = lasts.named;
+    object = lasts.object;
+    called = lasts.called;
+    inputs = lasts.inputs;
+    untold = λ keyed timed. absurd (false≢true timed);
+  }
 
   later_limit : (begun : Bool) (hearing : Hearing) → (if begun then held_on hearing else hearing).limit ≡ hearing.limit
   later_limit true hearing = refl
   later_limit false hearing = refl
 
-  pub passed_lasts : (link : RelationState) → Lasts silence link → Lasts silence (unit_later link)
+  later_told : (timed : Bool) (plugs : PlugState) → (if timed then plugs else record plugs { calls = counted plugs.calls }).has_told ≡ plugs.has_told
+  later_told true plugs = refl
+  later_told false plugs = refl
+
+  pub passed_lasts : (link : RelationState) → Lasts setup silence link → Lasts setup silence (unit_later link)
   passed_lasts link lasts = record {
     runs = lasts.runs;
     active = lasts.active;
@@ -123,21 +197,25 @@ module _ (silence : ℕ) where
     object = lasts.object;
     called = later_numbered (is_timed link.phase) link.plugs lasts.called;
     inputs = lasts.inputs;
+    untold = λ keyed timed.
+        ((lasts.untold keyed timed).0, later_told (is_timed link.phase) link.plugs ∙ (lasts.untold keyed timed).1);
   }
 
 -- ---- the stored answers
 
 module _ (setup next : Setup) (identity : Identity) (silence : ℕ) (station : Station) where
-  -- The stored answers are fit for one controller, and not for one of the next start.
+  -- The stored answers are fit for one controller, and not for one of the next start; and they are no cyclic frames.
   pub record IsStored (calls : List Kept) : Type 0 where
     pub well : (kept : Kept) → kept_of setup.activity calls ≡ Some kept → ChoosesWell setup kept.frame
     pub other : (kept : Kept) → kept_of setup.activity calls ≡ Some kept → IsIgnored next kept.frame
     pub uncalled : kept_of next.activity calls ≡ None
+    pub dataless : setup.plan.parameters_after_plug ≡ true → (kept : Kept) → kept_of setup.activity calls ≡ Some kept
+        → IsNoData (heard_of setup.plan.controller kept.frame)
 
   -- The rest after it, and what is sent.
   abbrev pub IsFineMove : Rest → List Sent → Type 0
   IsFineMove rest sent =
-      AllLast silence rest.link × (AreSendable station.identity sent → IsStored rest.calls) × AllByRecursion (IsFitting setup) sent
+      AllLast setup silence rest.link × (AreSendable station.identity sent → IsStored rest.calls) × AllByRecursion (IsFitting setup) sent
       × IsQuestionOf setup next (uuid_of rest.link) rest.asked.standing
 
   -- An outcome that leaves the settings. Of several records that one call writes, none is an I&M text.
@@ -157,7 +235,7 @@ module _ (setup next : Setup) (identity : Identity) (silence : ℕ) (station : S
 
   -- the same settings, and another rest
   rest_after : (live : Live) (rest : Rest) → IsAnyDevice setup next identity silence station live → rest.real ≡ live.rest.real
-      → AllLast silence rest.link → IsStored rest.calls → IsQuestionOf setup next (uuid_of rest.link) rest.asked.standing
+      → AllLast setup silence rest.link → IsStored rest.calls → IsQuestionOf setup next (uuid_of rest.link) rest.asked.standing
       → IsAnyDevice setup next identity silence station (record { values = live.values; rest = rest })
   rest_after live rest device real lasts stored asked = record {
     of_device = device.of_device;
@@ -168,6 +246,7 @@ module _ (setup next : Setup) (identity : Identity) (silence : ℕ) (station : S
     lasts = lasts;
     stored = stored.well;
     stored_other = stored.other;
+    answers = stored.dataless;
     uncalled_next = stored.uncalled;
     asked = asked;
   }
@@ -178,7 +257,7 @@ module _ (setup next : Setup) (identity : Identity) (silence : ℕ) (station : S
       addressed_so (inr can) = inr (record { unfailed = can.unfailed; room = can.room })
 
   pub stored_before : (live : Live) → IsAnyDevice setup next identity silence station live → IsStored live.rest.calls
-  stored_before live device = record { well = device.stored; other = device.stored_other; uncalled = device.uncalled_next }
+  stored_before live device = record { well = device.stored; other = device.stored_other; uncalled = device.uncalled_next; dataless = device.answers }
 
   abbrev each_answer : Live → Caller → List ℕ → Call → IodWriteReq → List Judged → Sent
   each_answer live caller address call header judged = answer_from address caller call Write (Ok (several_answer header judged [] live.rest.link))
@@ -264,6 +343,9 @@ module _ (setup next : Setup) (identity : Identity) (silence : ℕ) (station : S
             (sym (stored_one newest kept (kept_of setup.activity (kept_more 4 newest calls)) first found))
             (ignored caller address answer can (λ same. other (sym same ∙ named)));
         uncalled = none_more next.activity newest calls (λ same. other (same ∙ own)) uncalled;
+        dataless = λ keyed kept found. subst (λ (one : Kept). IsNoData (heard_of setup.plan.controller one.frame))
+            (sym (stored_one newest kept (kept_of setup.activity (kept_more 4 newest calls)) first found))
+            (answer_no_data laws setup station.identity good device caller address answer can);
       }
 
   -- one that refuses a call that had no answer in time
@@ -279,8 +361,16 @@ module _ (setup next : Setup) (identity : Identity) (silence : ℕ) (station : S
     well = λ kept found. well_by kept (some_more setup.activity newest calls kept found);
     other = λ kept found. other_by kept (some_more setup.activity newest calls kept found);
     uncalled = none_more next.activity newest calls (λ same. apart (sym (same ∙ named))) stored.uncalled;
+    dataless = λ keyed kept found. data_by keyed kept (some_more setup.activity newest calls kept found);
   }
     where
+      data_by : setup.plan.parameters_after_plug ≡ true → (kept : Kept) → (kept ≡ newest) ⊎ (kept_of setup.activity calls ≡ Some kept)
+          → IsNoData (heard_of setup.plan.controller kept.frame)
+      data_by keyed kept (inl same) =
+          subst (λ (octets : List ℕ). IsNoData (heard_of setup.plan.controller octets)) (sym (ap (λ (k : Kept). k.frame) same ∙ frame))
+          (answer_no_data laws setup station.identity good device caller address answer can)
+      data_by keyed kept (inr old) = stored.dataless keyed kept old
+
       well_by : (kept : Kept) → (kept ≡ newest) ⊎ (kept_of setup.activity calls ≡ Some kept) → ChoosesWell setup kept.frame
       well_by kept (inl same) =
           subst (ChoosesWell setup) (sym (ap (λ (k : Kept). k.frame) same ∙ frame))

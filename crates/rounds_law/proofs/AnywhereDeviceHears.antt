@@ -32,14 +32,16 @@ use Rattle.cyclic_data.specs.declared.exchange.route.Route.{Route}
 use Rattle.cyclic_data.specs.exchange.Frames.{cyclic_body}
 use Rattle.device_frames.specs.Heard.{Alarms, Asks, Calls, Cyclic, Elsewhere, Heard, LowConfirms, Reported, Responds, Said}
 use Rattle.device_frames.specs.Heard.{heard_alarm, heard_content, heard_frame, heard_of, heard_reply, is_own}
+use Rattle.controller_messages.specs.declared.plug_request.PlugRequest.{PlugRequest}
 use Rattle.controller_messages.specs.declared.request.Request.{Request}
 use Rattle.controller_messages.specs.declared.request.Request.TheVariants as asks
 use Rattle.controller_messages.specs.declared.setup.Setup.{Setup}
+use Rattle.controller_messages.specs.PlugRequests.{plug_call}
 use Rattle.controller_messages.specs.Requests.{address_asked, call_for, identify_asked}
 use Rattle.controller_messages.specs.Sent.{Sent, Requests, Accesses, Parametrizes, Agrees, Cycles, Confirms, Replies, Ends}
 use Rattle.controller_messages.specs.Sent.{answer_frame, bytes_of, call_frame, end_pdu}
 use Rattle.end_laws.specs.hearing.Hearing.{comes, own_hears, own_reported, padded}
-use Rattle.end_laws.specs.hearing.Stations.{IsCalled, IsCaller, IsNumbered, IsRoute, IsSetup}
+use Rattle.end_laws.specs.hearing.Stations.{IsCalled, IsCaller, IsNumbered, IsPlugCall, IsRoute, IsSetup}
 use Rattle.end_laws.specs.sending.Messages.{CanBeSent}
 use Rattle.both_ends.specs.startup.answer.Answer.{caller_of}
 use Rattle.rounds_law.proofs.AnywhereParts.{HasWay}
@@ -70,7 +72,8 @@ replied_said setup priority header pdu.Error = Elsewhere
 abbrev pub message_said : Setup → Sent → Heard
 message_said setup (Requests device request) = request_said setup request
 message_said setup (Accesses device request octets) = Elsewhere
-message_said setup (Parametrizes device request) = Elsewhere
+message_said setup (Parametrizes device request) =
+    Reported (caller_of setup.plan.controller) setup.plan.station.suite.address (Calls (plug_call setup request))
 message_said setup (Agrees caller answer) = Reported (caller_of setup.plan.controller) caller.endpoint.address (Responds answer)
 message_said setup (Cycles route shown counter) = Cyclic setup.plan.controller.mac route.sent_id
     (padded setup.plan.controller.mac route.partner (Some route.sent_tag) route.sent_id (cyclic_body shown counter))
@@ -91,6 +94,7 @@ pub record HearsLaws : Type 0 where
       → heard_of identity (comes (bytes_of setup (Requests to asks.Address)))
       ≡ own_hears identity to (Asks setup.plan.controller.mac (address_asked setup.plan))
   pub call_can : (setup : Setup) (request : Request) → IsSetup setup → IsCalled request → IsNumbered request → CanBeCalled devices (call_for setup request)
+  pub plug_can : (setup : Setup) (request : PlugRequest) → IsSetup setup → IsPlugCall request → CanBeCalled devices (plug_call setup request)
   pub call : (identity : Identity) (setup : Setup) (to : Mac) (call : Call) → IsSetup setup → IsMac to → CanBeCalled devices call
       → heard_of identity (comes (call_frame setup to call))
       ≡ own_reported identity setup.plan.controller.mac to (calls_at setup.plan.controller.address) (calls_at setup.plan.station.suite.address) (Calls call)
@@ -217,11 +221,14 @@ module _ (laws : HearsLaws) (setup : Setup) (identity : Identity) (good : IsSetu
       (replied_said setup priority header kind)) (sym is)
       (heard_by_law _ _ _ (laws.nack identity setup route priority header good way is sized) (own_or identity route.partner _))
 
-  pub message_heard : (message : Sent) → CanBeSent setup message → HasWay message
+  pub message_heard : (message : Sent) → CanBeSent setup message → HasWay setup message
       → IsHeardAs (heard_of identity (comes (bytes_of setup message))) (message_said setup message)
   message_heard (Requests device request) can way = request_heard device request can.0 can.1
   message_heard (Accesses device request octets) can way = absurd way
-  message_heard (Parametrizes device request) can way = absurd way
+  message_heard (Parametrizes device request) can way =
+      heard_by_law _ _ _ (laws.call identity setup device (plug_call setup request) good can.0 (laws.plug_can setup request good can.1))
+      (reported_or identity setup.plan.controller.mac device (calls_at setup.plan.controller.address) (calls_at setup.plan.station.suite.address)
+      (Calls (plug_call setup request)))
   message_heard (Agrees caller answer) can way =
       heard_by_law _ _ _ (laws.answer identity setup caller answer good can.0 can.1)
       (reported_or identity setup.plan.controller.mac caller.mac (calls_at setup.plan.controller.address) caller.endpoint (Responds answer))

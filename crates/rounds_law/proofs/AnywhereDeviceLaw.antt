@@ -44,6 +44,7 @@ use Rattle.device_core.specs.Machine.{handled_step, heard_step}
 use Rattle.controller_messages.specs.declared.request.Request.{Request}
 use Rattle.controller_messages.specs.declared.request.Request.TheVariants as asks
 use Rattle.controller_messages.specs.declared.setup.Setup.{Setup}
+use Rattle.controller_messages.specs.PlugRequests.{plug_call}
 use Rattle.controller_messages.specs.Requests.{address_asked, call_for, control_of, identify_asked}
 use Rattle.controller_messages.specs.Sent.{Sent, Requests, Accesses, Parametrizes, Agrees, Cycles, Confirms, Replies, Ends, bytes_of as controller_bytes}
 use Rattle.controller_messages.specs.Sent.{end_pdu}
@@ -61,7 +62,7 @@ use Rattle.rounds_law.specs.AnywhereFrames.{IsAnything, IsOwn}
 use Rattle.rounds_law.specs.Rounds.{Goes}
 use Rattle.rounds_law.proofs.AgainUnset.{asks_unset}
 use Rattle.rounds_law.proofs.AnywhereDeviceAnswers.{CallLaws}
-use Rattle.rounds_law.proofs.AnywhereDeviceCalls.{connect_said, prm_end_said, release_said, write_said}
+use Rattle.rounds_law.proofs.AnywhereDeviceCalls.{connect_said, plug_said, prm_end_said, release_said, write_said}
 use Rattle.rounds_law.proofs.AnywhereDeviceExchange.{alarm_fine, cyclic_fine, low_confirm_fine, low_reply_fine, response_fine, unit_fine}
 use Rattle.rounds_law.proofs.AnywhereDeviceFine.{IsFine, fine_after, fine_sized, stored_before}
 use Rattle.rounds_law.proofs.PlanKept.{IsUnsaid, handled_stays}
@@ -72,6 +73,7 @@ use Rattle.rounds_law.proofs.AnywhereDeviceSets.{set_after, set_sized}
 use Rattle.rounds_law.proofs.AnywhereDeviceWrites.{all_quiet, all_unasked}
 use Rattle.rounds_law.proofs.AnywhereLinkIgnored.{answer_ignored}
 use Rattle.rounds_law.proofs.AnywhereParts.{DeviceFound, DeviceFrame, DeviceUnit, HasWay, Hears, IsLong}
+use Rattle.rounds_law.proofs.AnywherePlugBlocks.{plug_plain, plug_unasked}
 use Rattle.rounds_law.proofs.SearchingDevice.{found_so, some_name}
 use Rattle.rounds_law.proofs.SearchingSizes.{asks_suite}
 use Rattle.rounds_law.proofs.WriteListed.{AreBlocksLong, AreBlocksRead, AreFit}
@@ -152,6 +154,10 @@ module _ {F : Type 0} {S : ℕ} (as_flash : Flash F S) (setup next : Setup) (ide
           setup.plan.real fits station.named number standing;
       unasked = λ number small standing caller call. all_unasked laws.block_read laws.block_long setup long.real.ar long.real.plan.few_records
           setup.plan.real fits station.named before.of_plan.names number standing caller call;
+      plain = λ request of number step standing. plug_plain laws.block_read laws.block_alone laws.block_long setup long.real.ar setup.plan.real request
+          of number step fits standing;
+      plug_unasked = λ request of number step standing caller call. plug_unasked laws.block_read laws.block_alone laws.block_long setup long.real.ar
+          setup.plan.real request of number step fits station.named standing caller call;
       released = λ link. released_or laws.block_long link (control_of setup 4) (laws.block_alone (is.Release (control_of setup 4))
           (record { ar_uuid = long.real.ar; session_key = omega arith; control_command = omega arith; control_block_properties = omega arith }));
       unchosen = response_unchosen (done_of (control_of setup 4)) (laws.block_alone (is.ReleaseRes (done_of (control_of setup 4)))
@@ -242,10 +248,11 @@ module _ {F : Type 0} {S : ℕ} (as_flash : Flash F S) (setup next : Setup) (ide
     reply_unsaid priority header pdu.Data = tt
     reply_unsaid priority header pdu.Error = tt
 
-    message_goes : (message : Sent) → CanBeSent setup message → HasWay message → IsGoing (handled station live (message_said setup message))
+    message_goes : (message : Sent) → CanBeSent setup message → HasWay setup message → IsGoing (handled station live (message_said setup message))
     message_goes (Requests to request) can way = request_goes request can.1
     message_goes (Accesses to request octets) can way = absurd way
-    message_goes (Parametrizes to request) can way = absurd way
+    message_goes (Parametrizes to request) can way =
+        call_goes (plug_call setup request) (plug_said setup next identity silence station calls live before request way)
     message_goes (Agrees caller answer) can way =
         fine_goes (message_said setup (Agrees caller answer)) tt
         (datagram_fine (caller_of setup.plan.controller) caller.endpoint.address (Responds answer)
@@ -277,7 +284,7 @@ module _ {F : Type 0} {S : ℕ} (as_flash : Flash F S) (setup next : Setup) (ide
     unfolding heard_step
     step_heard heard going = going
 
-    heard_goes : (heard : Heard) (message : Sent) → CanBeSent setup message → HasWay message → IsHeardAs heard (message_said setup message) → IsHeardGoing heard
+    heard_goes : (heard : Heard) (message : Sent) → CanBeSent setup message → HasWay setup message → IsHeardAs heard (message_said setup message) → IsHeardGoing heard
     heard_goes heard message can way (inl is) = subst IsHeardGoing (sym is) (step_heard (message_said setup message) (message_goes message can way))
     heard_goes heard message can way (inr is) = subst IsHeardGoing (sym is) (step_heard Elsewhere (fine_goes Elsewhere tt tt))
 

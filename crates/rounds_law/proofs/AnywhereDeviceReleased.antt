@@ -105,10 +105,11 @@ typed k y = Ok ((k, y.0), y.1)
 abbrev untyped : (ℕ × Block) × List ℕ → Result (Block × List ℕ) BlockFault
 untyped z = Ok (z.0.1, z.1)
 
-module _ (value : Block) where
-  abbrev IsSkipped : Result ((ℕ × List ℕ) × List ℕ) BlockFault → Type 0
-  IsSkipped r = (x : ℕ × List ℕ) × (r ≡ Ok (x, []))
+-- The octets are skipped as one block.
+abbrev pub IsSkipped : Result ((ℕ × List ℕ) × List ℕ) BlockFault → Type 0
+IsSkipped r = (x : ℕ × List ℕ) × (r ≡ Ok (x, []))
 
+module _ (value : Block) where
   by_framed : (k : ℕ) (more : List ℕ) (r : Result (Block × List ℕ) BlockFault)
       → (framed (number Truncated 2) Truncated (body_of (type_of k))).read more ≡ r
       → ((r >>= λ y. typed k y) >>= λ z. untyped z) ≡ Ok (value, [])
@@ -129,29 +130,23 @@ module _ (value : Block) where
   by_kind (Err why) is = absurd cc
 
   -- what is read as a block alone can be skipped
-  skipped : (octets : List ℕ) → block_of octets ≡ Ok (value, []) → IsSkipped (other_block.read octets)
+  pub skipped : (octets : List ℕ) → block_of octets ≡ Ok (value, []) → IsSkipped (other_block.read octets)
   unfolding block_of block other_block
   skipped octets is = by_kind ((number Truncated 2).read octets) is
 
--- ---- the response to a Release
+-- ---- a response of one block
 
-response_type : (control : ControlBlock) → big_number 2 (block_bytes (is.ReleaseRes control)) ≡ 0x8114
-unfolding block block_bytes number_of
-response_type control = refl
-
-module _ (control : ControlBlock) (read : block_of (block_bytes (is.ReleaseRes control)) ≡ Ok (is.ReleaseRes control, [])) where
-  abbrev octets : List ℕ
-  octets = block_bytes (is.ReleaseRes control)
-
+-- Octets that begin with a type that is not looked for, and that are skipped as one block.
+module _ (octets : List ℕ) (type : ℕ) (is_type : big_number 2 octets ≡ type)
+    (other : next_by nothing octets type ≡ other_next nothing (other_block.read octets)) (skip : IsSkipped (other_block.read octets)) where
   abbrev Goes : Option (Found × List ℕ) → Type 0
   Goes o = (o ≡ Some (nothing, [])) ⊎ (o ≡ None)
 
   by_short : (short : Bool) → Goes (next_as nothing octets (if short then Err Truncated else Ok (big_number 2 octets, drop 2 octets)))
   by_short true = inr refl
   by_short false =
-      let skip = skipped (is.ReleaseRes control) octets read in
-      inl (ap (λ (k : ℕ). next_by nothing octets k) (response_type control)
-      ∙ ap (λ (r : Result ((ℕ × List ℕ) × List ℕ) BlockFault). other_next nothing r) skip.1)
+      inl (ap (λ (k : ℕ). next_by nothing octets k) is_type
+      ∙ (other ∙ ap (λ (r : Result ((ℕ × List ℕ) × List ℕ) BlockFault). other_next nothing r) skip.1))
 
   next_is : Goes (next_found nothing octets)
   unfolding next_found
@@ -173,6 +168,19 @@ module _ (control : ControlBlock) (read : block_of (block_bytes (is.ReleaseRes c
   by_empty true = refl
   by_empty false = by_next next_is
 
-  pub response_unchosen : chosen_in (block_bytes (is.ReleaseRes control)) ≡ None
+  -- A controller finds nothing of a Connect in them.
+  pub none_chosen : chosen_in octets ≡ None
   unfolding found_in
-  response_unchosen = by_empty (length octets == 0)
+  none_chosen = by_empty (length octets == 0)
+
+-- ---- the response to a Release
+
+response_type : (control : ControlBlock) → big_number 2 (block_bytes (is.ReleaseRes control)) ≡ 0x8114
+unfolding block block_bytes number_of
+response_type control = refl
+
+pub response_unchosen : (control : ControlBlock) → block_of (block_bytes (is.ReleaseRes control)) ≡ Ok (is.ReleaseRes control, [])
+    → chosen_in (block_bytes (is.ReleaseRes control)) ≡ None
+response_unchosen control read =
+    none_chosen (block_bytes (is.ReleaseRes control)) 0x8114 (response_type control) refl
+    (skipped (is.ReleaseRes control) (block_bytes (is.ReleaseRes control)) read)

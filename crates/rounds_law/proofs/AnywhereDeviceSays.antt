@@ -25,7 +25,7 @@ use Rattle.controller_messages.specs.declared.setup.Setup.{Setup}
 use Rattle.controller_messages.specs.Heard.{Calls, Heard, Nothing, Responds, heard_of}
 use Rattle.end_laws.specs.hearing.Hearing.{IsUncalled, mine_reported}
 use Rattle.end_laws.specs.hearing.Stations.{IsAddress, IsCaller, IsDevice, IsSetup, plug_ready_call, ready_call}
-use Rattle.rounds_law.specs.Anywhere.{ChoosesWell, IsFit}
+use Rattle.rounds_law.specs.Anywhere.{ChoosesWell, IsFit, IsNoData}
 
 -- ---- the laws of the crates below
 
@@ -65,6 +65,17 @@ reported_fit setup destination to heard fit =
   where
     outer : (own mine : Bool) → IsFit setup (if own then (if mine then heard else Nothing) else Nothing)
     outer true true = fit
+    outer true false = tt
+    outer false mine = tt
+
+reported_no_data : (setup : Setup) (destination : Mac) (to : Endpoint) (answer : Answered)
+    → IsNoData (mine_reported setup.plan.controller destination to (Responds answer))
+reported_no_data setup destination to answer =
+    outer (pointwise nat_eq destination.octets setup.plan.controller.mac.octets)
+    (pointwise nat_eq to.address setup.plan.controller.address && to.port == 34964)
+  where
+    outer : (own mine : Bool) → IsNoData (if own then (if mine then Responds answer else Nothing) else Nothing)
+    outer true true = tt
     outer true false = tt
     outer false mine = tt
 
@@ -122,6 +133,14 @@ module _ (laws : SaysLaws) (setup : Setup) (identity : Identity) (good : IsSetup
       let called : IsCaller caller = record { mac = can.0.destination; endpoint = can.0.content.1 } in
       subst (IsFit setup) (sym (laws.response setup.plan.controller identity caller address answer device called can.0.content.0.0 can.1))
       (reported_fit setup caller.mac caller.endpoint (Responds answer) fit)
+
+  -- It is no cyclic frame.
+  pub answer_no_data : (caller : Caller) (address : List ℕ) (answer : Answered) → IsSendable identity (CallAnswer caller address answer)
+      → IsNoData (heard_of setup.plan.controller (response_frame identity caller address answer))
+  answer_no_data caller address answer can =
+      let called : IsCaller caller = record { mac = can.0.destination; endpoint = can.0.content.1 } in
+      subst IsNoData (sym (laws.response setup.plan.controller identity caller address answer device called can.0.content.0.0 can.1))
+      (reported_no_data setup caller.mac caller.endpoint answer)
 
   ready_fit : (address : List ℕ) (ready : Ready) → IsSizedReady ready → IsSendable identity (ReadyCall address ready)
       → ChoosesWell setup (ready_frame identity address ready)

@@ -81,7 +81,7 @@ module _ (setup next : Setup) (identity : Identity) (silence : ℕ) (station : S
         accepted = settled.accepted;
       }
 
-  link_lasts : (ends : Bool) → AllLast silence (link_after ends live.rest.link)
+  link_lasts : (ends : Bool) → AllLast setup silence (link_after ends live.rest.link)
   link_lasts true = tt
   link_lasts false = before.lasts
 
@@ -112,6 +112,7 @@ module _ (setup next : Setup) (identity : Identity) (silence : ℕ) (station : S
     lasts = link_lasts (resets (plan_of in_operation request) settled.answers);
     stored = before.stored;
     stored_other = before.stored_other;
+    answers = before.answers;
     uncalled_next = before.uncalled_next;
     asked = asked_after (resets (plan_of in_operation request) settled.answers) live.rest.link refl;
   }

@@ -55,7 +55,7 @@ abbrev done : Result (Unit {0}) CallFault
 done = Ok tt
 
 -- It is its relation, or it is refused.
-named_or : (standing : Option (List ℕ)) (ar : List ℕ) → (standing ≡ Some ar) ⊎ (in_relation standing ar ≡ Err fault.UnknownRelation)
+pub named_or : (standing : Option (List ℕ)) (ar : List ℕ) → (standing ≡ Some ar) ⊎ (in_relation standing ar ≡ Err fault.UnknownRelation)
 unfolding in_relation
 named_or None ar = inr refl
 named_or (Some other) ar = by_test (is_relation (Some other) ar) refl
@@ -82,7 +82,7 @@ unfolding several_of
 several_refused standing request behind unnamed =
     ap (λ (r : Result (Unit {0}) CallFault). r >>= λ _. or_fault fault.WriteLength (list_behind request behind)) unnamed
 
-writing_refused : (standing : Option (List ℕ)) (real : Real) (request : IodWriteReq) (behind : List ℕ)
+pub writing_refused : (standing : Option (List ℕ)) (real : Real) (request : IodWriteReq) (behind : List ℕ)
     → in_relation standing request.header.ar_uuid ≡ Err fault.UnknownRelation
     → handled_writing standing real request behind ≡ Err fault.UnknownRelation
 writing_refused standing real request behind unnamed = by_kind (is_several request)
@@ -96,7 +96,7 @@ writing_refused standing real request behind unnamed = by_kind (is_several reque
 
 -- ---- nothing is written
 
-nothing_written : (standing : Option (List ℕ)) (real : Real) → writing_of standing real [] ≡ Err fault.BlockMissing
+pub nothing_written : (standing : Option (List ℕ)) (real : Real) → writing_of standing real [] ≡ Err fault.BlockMissing
 unfolding writing_of single_of
 nothing_written standing real = refl
 

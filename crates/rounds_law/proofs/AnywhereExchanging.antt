@@ -1,11 +1,12 @@
 -- While the controller exchanges data: both serve, or it has ended, by time alone.
-use Rattle.std.proofs.Common.{◌≡◌, ◌⊎◌, inl, inr, ◌≤◌, ◌<◌, ◌+◌, ◌++◌, ℕ, zero, suc, Bool, true, false, List, Option, Some, None, refl, sym, subst, ◌∙◌, arith}
+use Rattle.std.proofs.Common.{◌≡◌, ◌⊎◌, inl, inr, ◌≤◌, ◌<◌, ◌+◌, ◌*◌, ◌++◌, ℕ, zero, suc, Bool, true, false, List, Option, Some, None, refl, sym, subst, ◌∙◌, arith}
 use Rattle.std.specs.List.{AllByRecursion}
+use Rattle.std.proofs.lemmas.Nat.{mul-le}
 use Rattle.flash_model.specs.declared.flash.Flash.{Ghosts as Flash}
 use Rattle.pn_values.specs.declared.identity.Identity.{Identity}
 use Rattle.cyclic_data.specs.declared.exchange.route.Route.{Route}
 use Rattle.relations.specs.RelationState.{RelationState}
-use Rattle.relations.specs.Timers.{is_timed}
+use Rattle.relations.specs.Timers.{is_timed, limit_of}
 use Rattle.relations.specs.declared.phase.Phase.TheVariants.{Exchanging as in_exchange}
 use Rattle.controller_messages.specs.declared.setup.Setup.{Setup}
 use Rattle.controller_core.specs.declared.stored.event.Event.TheVariants.{Tick}
@@ -14,20 +15,20 @@ use Rattle.controller_core.specs.stored.State.{Controlling}
 use Rattle.controller_core.specs.Machine.{Stepped, step_of}
 use Rattle.network_world.specs.World.{is_ended}
 use Rattle.rounds_law.specs.Again.{Plant, PlantRound, units_left}
-use Rattle.rounds_law.specs.Anywhere.{ChoosesWell, HasPatience, LeadsAnywhereBack}
+use Rattle.rounds_law.specs.Anywhere.{AllLast, ChoosesWell, HasPatience, LeadsAnywhereBack, parting_limit, plug_limit}
 use Rattle.rounds_law.specs.Path.{hold_of}
 use Rattle.rounds_law.specs.Rounds.{hears_all}
 use Rattle.rounds_law.proofs.AgainLaw.{sum, sum_is}
 use Rattle.rounds_law.proofs.AnywhereParts.{Accepts, AcceptsInputs, AcceptsOutputs, AreOwn, ControllerFrame, ControllerUnit, DeviceFrame, DeviceUnit}
 use Rattle.rounds_law.proofs.AnywhereParts.{EndedFrame, EndedUnit, ExchangeFrame, ExchangeUnit, InputsOfFrame, InputsOfUnit, IsLong, IsOfExchange}
-use Rattle.rounds_law.proofs.AnywhereParts.{LinkFrame, LinkUnit}
+use Rattle.rounds_law.proofs.AnywhereParts.{LinkFrame, LinkUnit, room_of}
 use Rattle.rounds_law.proofs.AnywherePlants.{EndLeads, ExchangingLeads, IsOnTheWay, RoundKeeps}
 use Rattle.rounds_law.proofs.AnywhereRounds as rounds
 use Rattle.rounds_law.proofs.AnywhereRounds.{all_joined, back_leads, leads_longer, round_keeps}
 use Rattle.rounds_law.proofs.AnywhereGoing.{going, round_leads}
 use Rattle.rounds_law.proofs.AnywhereExchangingController.{Continues, NoneAccepted, exchange_round, none_accepted_as}
 use Rattle.rounds_law.proofs.AnywhereExchangingChoices.{accepts_inputs_as, cases_inputs, cases_outputs, lasts_few, untimed}
-use Rattle.rounds_law.proofs.AnywhereExchangingMoves.{IsEarly, IsUnserved, early_ages, early_ends, early_moves, unserved_ages, unserved_ends, unserved_moves}
+use Rattle.rounds_law.proofs.AnywhereExchangingMoves.{IsEarly, IsUnserved, early_ages, early_ends, early_moves, reserve_of, unserved_ages, unserved_ends, unserved_moves}
 use Rattle.rounds_law.proofs.AnywhereExchangingDevice.{Every, IsRefused, every_none, every_some, kept_by_round, refused_round}
 
 module _ {F : Type 0} {S : ℕ} (as_flash : Flash F S) (setup next : Setup) (identity : Identity) (silence : ℕ)
@@ -219,7 +220,7 @@ module _ {F : Type 0} {S : ℕ} (as_flash : Flash F S) (setup next : Setup) (ide
             unserved_leads silence plant facing
             (every_some (IsUnserved setup plant.net.controller.live.cyclic.route silence) plant.net.device.live.rest.link its has (record {
               exchanges = every its has;
-              few = lasts_few silence plant.net.device.live.rest.link its facing.way.net.device.lasts has;
+              few = lasts_few setup silence plant.net.device.live.rest.link its facing.way.net.device.lasts has;
               refuses = refuses;
             }))
         by_choices its has (inl outputs) (inr refused) =
@@ -246,43 +247,58 @@ module _ {F : Type 0} {S : ℕ} (as_flash : Flash F S) (setup next : Setup) (ide
 
     -- ---- before data is exchanged
 
-    early_leads : (left : ℕ) (plant : Plant F) → IsFacing plant → Every (IsEarly left) plant.net.device.live.rest.link
+    early_leads : (left : ℕ) (plant : Plant F) → IsFacing plant → Every (IsEarly setup silence left) plant.net.device.live.rest.link
         → Leads (suc (sum left decided_limit)) plant
     early_leads zero plant facing every = inr (λ after round.
         face_round decided_limit (sum_few (suc silence) muted_limit muted_few) plant after facing.way facing.in_phase round (λ on later.
         decided_leads (going plant round.net) later
         (kept_by_round as_flash setup next identity silence long device_frame link_frame link_unit plant.net.controller.live.cyclic.route
-        (IsEarly 0) (λ its. its.phase ≡ in_exchange) (early_moves setup plant.net.controller.live.cyclic.route 0) early_ends plant.net round.net round.round
-        facing.way.net.device facing.to_device every)))
+        (IsEarly setup silence 0) (λ its. its.phase ≡ in_exchange) (early_moves setup plant.net.controller.live.cyclic.route silence 0)
+        (early_ends setup silence) plant.net round.net round.round facing.way.net.device facing.to_device every)))
     early_leads (suc left) plant facing every = inr (λ after round.
         face_round (sum (suc left) decided_limit) (sum_few (suc left) decided_limit (sum_few (suc silence) muted_limit muted_few)) plant after facing.way
         facing.in_phase round (λ on later.
         early_leads left (going plant round.net) later
         (kept_by_round as_flash setup next identity silence long device_frame link_frame link_unit plant.net.controller.live.cyclic.route
-        (IsEarly (suc left)) (IsEarly left) (early_moves setup plant.net.controller.live.cyclic.route (suc left)) (early_ages left) plant.net round.net
-        round.round facing.way.net.device facing.to_device every)))
+        (IsEarly setup silence (suc left)) (IsEarly setup silence left) (early_moves setup plant.net.controller.live.cyclic.route silence (suc left))
+        (early_ages setup silence left) plant.net round.net round.round facing.way.net.device facing.to_device every)))
 
-    early_by : (its : RelationState) → units_left its ≤ silence → IsEarly silence its
-    early_by its few = by_timer (is_timed its.phase) refl
+    -- The units until data is exchanged, if each record is kept that there is room for.
+    abbrev early_limit : ℕ
+    early_limit = silence + plug_limit setup.plan silence
+
+    room_few : (room reserve : ℕ) → room ≤ 64 → room * reserve ≤ 64 * reserve
+    room_few room reserve less = mul-le room reserve 64 reserve less (omega arith)
+
+    early_by : (its : RelationState) → limit_of its ≤ silence → units_left its ≤ silence → IsEarly setup silence early_limit its
+    early_by its limit few = by_timer (is_timed its.phase) refl
       where
-        by_timer : (timed : Bool) → is_timed its.phase ≡ timed → IsEarly silence its
-        by_timer true e = inr (e, few)
+        by_timer : (timed : Bool) → is_timed its.phase ≡ timed → IsEarly setup silence early_limit its
+        by_timer true e =
+            let room : room_of its * reserve_of setup silence ≤ 64 * reserve_of setup silence =
+            room_few (room_of its) (reserve_of setup silence) (omega arith) in
+            inr (record { timed = e; limit = limit; few = omega (arith, few, room) })
         by_timer false e = inl (untimed its.phase e)
 
     -- ---- the first round, with anything under way
 
-    whole_few : rest ≤ sum (suc silence) decided_limit
-    whole_few = sum_few (suc silence) decided_limit (sum_few (suc silence) muted_limit muted_few)
+    whole_few : rest ≤ sum (suc early_limit) decided_limit
+    whole_few = sum_few (suc early_limit) decided_limit (sum_few (suc silence) muted_limit muted_few)
 
-    all_lead : (plant : Plant F) → OnTheWay plant → plant.net.controller.live.phase ≡ Exchanging → Leads (suc (suc (sum silence decided_limit))) plant
+    limit_few : (link : Option RelationState) (its : RelationState) → AllLast setup silence link → link ≡ Some its → limit_of its ≤ silence
+    limit_few link its lasts has = (subst (AllLast setup silence) has lasts).active
+
+    all_lead : (plant : Plant F) → OnTheWay plant → plant.net.controller.live.phase ≡ Exchanging → Leads (suc (suc (sum early_limit decided_limit))) plant
     all_lead plant way in_phase = inr (λ after round.
-        face_round (sum (suc silence) decided_limit) whole_few plant after way in_phase round (λ on later.
-        early_leads silence (going plant round.net) later
-        (λ its has. early_by its (lasts_few silence round.net.device.live.rest.link its later.way.net.device.lasts has))))
+        face_round (sum (suc early_limit) decided_limit) whole_few plant after way in_phase round (λ on later.
+        early_leads early_limit (going plant round.net) later
+        (λ its has.
+        early_by its (limit_few round.net.device.live.rest.link its later.way.net.device.lasts has)
+        (lasts_few setup silence round.net.device.live.rest.link its later.way.net.device.lasts has))))
 
-    is_whole : suc (suc (sum silence decided_limit)) ≡ silence + silence + hold_of setup.plan + 5 + rest
+    is_whole : suc (suc (sum early_limit decided_limit)) ≡ parting_limit setup.plan silence + rest
     is_whole =
-        let first : sum silence decided_limit ≡ silence + decided_limit = sum_is silence decided_limit in
+        let first : sum early_limit decided_limit ≡ early_limit + decided_limit = sum_is early_limit decided_limit in
         let second : sum silence muted_limit ≡ silence + muted_limit = sum_is silence muted_limit in
         let third : sum (hold_of setup.plan) rest ≡ hold_of setup.plan + rest = sum_is (hold_of setup.plan) rest in
         omega (arith, first, second, third)

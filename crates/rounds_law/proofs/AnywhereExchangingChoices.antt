@@ -79,13 +79,14 @@ untimed Awaiting e = absurd cc
 untimed in_exchange e = refl
 
 -- No relation lasts longer than the longest time without its controller.
-pub lasts_few : (silence : ℕ) (link : Option RelationState) (its : RelationState) → AllLast silence link → link ≡ Some its → units_left its ≤ silence
-lasts_few silence link its lasts has = by_lasts (subst (AllLast silence) has lasts)
+pub lasts_few : (setup : Setup) (silence : ℕ) (link : Option RelationState) (its : RelationState) → AllLast setup silence link → link ≡ Some its
+    → units_left its ≤ silence
+lasts_few setup silence link its lasts has = by_lasts (subst (AllLast setup silence) has lasts)
   where
     by_timer : (timed : Bool) (limit inactive hold held : ℕ) → limit ≤ silence → hold ≤ silence → (if timed then limit - inactive else hold - held) ≤ silence
     by_timer true limit inactive hold held active holds = omega (arith, active)
     by_timer false limit inactive hold held active holds = omega (arith, holds)
 
-    by_lasts : Lasts silence its → units_left its ≤ silence
+    by_lasts : Lasts setup silence its → units_left its ≤ silence
     by_lasts each =
         by_timer (is_timed its.phase) (limit_of its) its.inactive its.flow.cyclic.hearing.limit its.flow.cyclic.hearing.held each.active each.holds

@@ -53,10 +53,10 @@ module _ {F : Type 0} {S : ℕ} (as_flash : Flash F S) (setup next : Setup) (ide
   own_frame route octets own = record { message = own.message; frame = own.frame; sendable = own.sendable; way = own.way; is = tt }
 
   module _ (route : Route) (Is : RelationState → Type 0)
-      (moves : (before after : RelationState) → LinkGoesOn before after → IsMoved setup route before after → Is before → Is after) where
+      (moves : (before after : RelationState) → LinkGoesOn setup before after → IsMoved setup route before after → Is before → Is after) where
     moved : (after : State F) (its : RelationState) → Is its
         → (after.live.rest.link ≡ None)
-        ⊎ ((later : RelationState) × (after.live.rest.link ≡ Some later) × LinkGoesOn its later × IsMoved setup route its later)
+        ⊎ ((later : RelationState) × (after.live.rest.link ≡ Some later) × LinkGoesOn setup its later × IsMoved setup route its later)
         → Every Is after.live.rest.link
     moved after its is (inl none) = every_none Is after.live.rest.link none
     moved after its is (inr on) = every_some Is after.live.rest.link on.0 on.1 (moves its on.0 on.2 on.3 is)
@@ -81,11 +81,11 @@ module _ {F : Type 0} {S : ℕ} (as_flash : Flash F S) (setup next : Setup) (ide
         ((device.0, kept_by_frame before after octets frames hears at.0 own at.1), device.1))
 
   module _ (Is Will : RelationState → Type 0)
-      (ages : (before after : RelationState) → LinkGoesOn before after → after.phase ≡ before.phase → suc (units_left after) ≤ units_left before → Is before
+      (ages : (before after : RelationState) → LinkGoesOn setup before after → after.phase ≡ before.phase → suc (units_left after) ≤ units_left before → Is before
       → Will after) where
     aged : (after : State F) (its : RelationState) → Is its
         → (after.live.rest.link ≡ None)
-        ⊎ ((later : RelationState) × (after.live.rest.link ≡ Some later) × LinkGoesOn its later × (later.phase ≡ its.phase)
+        ⊎ ((later : RelationState) × (after.live.rest.link ≡ Some later) × LinkGoesOn setup its later × (later.phase ≡ its.phase)
         × (suc (units_left later) ≤ units_left its))
         → Every Will after.live.rest.link
     aged after its is (inl none) = every_none Will after.live.rest.link none
@@ -102,8 +102,8 @@ module _ {F : Type 0} {S : ℕ} (as_flash : Flash F S) (setup next : Setup) (ide
 
   -- A round.
   pub kept_by_round : (route : Route) (Is Will : RelationState → Type 0)
-      → ((before after : RelationState) → LinkGoesOn before after → IsMoved setup route before after → Is before → Is after)
-      → ((before after : RelationState) → LinkGoesOn before after → after.phase ≡ before.phase → suc (units_left after) ≤ units_left before → Is before
+      → ((before after : RelationState) → LinkGoesOn setup before after → IsMoved setup route before after → Is before → Is after)
+      → ((before after : RelationState) → LinkGoesOn setup before after → after.phase ≡ before.phase → suc (units_left after) ≤ units_left before → Is before
       → Will after)
       → (net after : Net F) → Round as_flash net after → IsAt net.device → AreOwn setup (IsOfExchange route) net.to_device
       → Every Is net.device.live.rest.link → Every Will after.device.live.rest.link
@@ -113,7 +113,7 @@ module _ {F : Type 0} {S : ℕ} (as_flash : Flash F S) (setup next : Setup) (ide
 
   -- ---- a relation whose inputs the controller does not accept
 
-  refused_on : (controller : Controlling) (before after : RelationState) → LinkGoesOn before after → IsRefused identity controller before
+  refused_on : (controller : Controlling) (before after : RelationState) → LinkGoesOn setup before after → IsRefused identity controller before
       → IsRefused identity controller after
   refused_on controller before after on refused accepts = refused (record {
     inputs = ap (λ (r : Route). r.sent_id) (sym on.route) ∙ accepts.inputs;
@@ -134,7 +134,7 @@ module _ {F : Type 0} {S : ℕ} (as_flash : Flash F S) (setup next : Setup) (ide
     answers_refused route before after octets frames hears at own every = by_link before.live.rest.link refl
       where
         by_link : (link : Option RelationState) → before.live.rest.link ≡ link → NoneAccepted controller frames
-        by_link None e = subst (NoneAccepted controller) (sym ((link_frame long route before after octets frames hears at own).0 e).1) tt
+        by_link None e = ((link_frame long route before after octets frames hears at own).0 e).1 controller is.of_setup
         by_link (Some its) e =
             refused_frames its frames (every its e)
             (inputs_of_frame long controller is exchanges route before after octets frames hears at own its e)

@@ -46,13 +46,12 @@ module _ {F : Type 0} {S : ℕ} (as_flash : Flash F S) (setup next : Setup) (ide
       })
 
 -- A controller that was just made is in such a state.
-pub any_first : (setup : Setup) → setup.plan.parameters_after_plug ≡ false → IsAnyController setup (made setup)
-any_first setup keyless = record {
+pub any_first : (setup : Setup) → IsAnyController setup (made setup)
+any_first setup = record {
   of_setup = refl;
   reached = record { plan = setup.plan; ar = setup.ar; activity = setup.activity; options = setup.options; events = []; made = refl };
   routed = λ stands. not_yet stands;
   alone = refl;
-  turnless = keyless;
 }
   where
     not_yet : {A : Type 0} → false ≡ true → A

@@ -65,6 +65,6 @@ module _ {F : Type 0} {S : ℕ} (as_flash : Flash F S) (setup next : Setup) (ide
       (exchanging_leads as_flash setup next identity silence (controller_frame laws.controller setup) (controller_unit laws.controller setup)
       (exchange_frame laws.controller setup) (exchange_unit laws.controller setup)
       (ended_frame laws.controller setup) (ended_unit laws.controller setup) (device_frame as_flash setup next identity silence laws.device)
-      (device_unit as_flash setup next identity silence laws.device) (link_frame as_flash setup next identity silence laws.exchange)
-      (link_unit as_flash setup next identity silence) (inputs_of_frame as_flash setup next identity silence laws.reads laws.exchange)
+      (device_unit as_flash setup next identity silence laws.device) (link_frame as_flash setup next identity silence laws.device laws.reads laws.exchange)
+      (link_unit as_flash setup next identity silence) (inputs_of_frame as_flash setup next identity silence laws.device laws.reads laws.exchange)
       (inputs_of_unit as_flash setup next identity silence laws.reads) Also)

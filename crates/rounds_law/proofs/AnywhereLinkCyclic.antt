@@ -23,23 +23,14 @@ use Rattle.diagnosis.specs.reports.Message.{ToController, alarm_of}
 use Rattle.plans.specs.declared.parts.Controller.{Controller}
 use Rattle.controller_messages.specs.declared.refusal.Refusal.{Refusal}
 use Rattle.controller_messages.specs.Refusal.{refusal_of}
-use Rattle.controller_messages.specs.Heard.{Heard, Alarms, Answers, Calls, Cyclic, Nothing, Refuses, Responds}
+use Rattle.controller_messages.specs.Heard.{Heard, Cyclic, Nothing}
 use Rattle.controller_messages.specs.Heard.{heard_alarm, heard_answer, heard_body, heard_call, heard_content, heard_first, heard_of}
 use Rattle.controller_messages.specs.Heard.{heard_read, heard_real_time, heard_refusal, heard_response, is_to}
 use Rattle.rounds_law.proofs.AnywhereLinkLaws.{ReadLaws}
 use Rattle.rounds_law.proofs.Choices.{where_not, where_so}
-
 -- ---- what is no cyclic frame to a controller
 
--- A frame that a controller does not hear as a cyclic frame.
-abbrev pub IsNoData : Heard → Type 0
-IsNoData Nothing = Unit {0}
-IsNoData (Answers source answer) = Unit {0}
-IsNoData (Responds response) = Unit {0}
-IsNoData (Refuses refusal) = Unit {0}
-IsNoData (Calls caller call) = Unit {0}
-IsNoData (Cyclic source frame_id body) = ⊥
-IsNoData (Alarms source under header notice) = Unit {0}
+pub use Rattle.rounds_law.specs.Anywhere.{IsNoData}
 
 pub not_data : (heard : Heard) (source : Mac) (frame_id : ℕ) (body : List ℕ) → IsNoData heard → heard ≡ Cyclic source frame_id body → ⊥
 not_data heard source frame_id body none e = subst IsNoData e none

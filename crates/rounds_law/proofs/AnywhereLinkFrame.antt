@@ -1,8 +1,9 @@
 -- What a message of a controller that exchanges data does to a relation of a device, and what the device sends then.
-use Rattle.std.proofs.Common.{◌≡◌, inl, inr, ◌-◌, ◌≤◌, ◌==◌, ◌&&◌, ℕ, Bool, true, false, nat_eq, List, Option, Some, None, refl, sym, ap, subst, ◌∙◌}
+use Rattle.std.proofs.Common.{◌≡◌, ◌⊎◌, inl, inr, ◌-◌, ◌≤◌, ◌==◌, ◌&&◌, ℕ, Bool, true, false, nat_eq, List, [], Option, Some, None, refl, sym, ap, subst, ◌∙◌}
 use Rattle.std.specs.Prelude.{if◌then◌else◌}
 use Rattle.std.specs.Cmp.Lexicographic.{pointwise, same_text}
-use Rattle.std.proofs.lemmas.Bool.{eqb-true}
+use Rattle.std.specs.List.{AllByRecursion}
+use Rattle.std.proofs.lemmas.Bool.{eqb-true, false≢true}
 use Rattle.flash_model.specs.declared.flash.Flash.{Ghosts as Flash}
 use Rattle.pn_values.specs.declared.identity.Identity.{Identity}
 use Rattle.pn_values.specs.declared.mac.Mac.{Mac}
@@ -46,18 +47,22 @@ use Rattle.device_frames.specs.Heard.{Heard, Elsewhere, Reported, Cyclic, Alarms
 use Rattle.device_frames.specs.Relation.{low_alarms_of, plug_calls}
 use Rattle.device_frames.specs.declared.note.Note.{Note}
 use Rattle.device_frames.specs.declared.note.Note.TheVariants as note
-use Rattle.device_core.specs.State.{Live, Station}
+use Rattle.device_core.specs.State.{Live, State, Station}
 use Rattle.device_core.specs.Handled.{Refuses, handled_alarm, handled_answer, handled_low, handled_low_message, handled_low_pdu, handled_message, handled_pdu}
 use Rattle.device_core.specs.Handled.{handled_next_call, handled_plug_answer, handled_received, handled_said, is_running}
 use Rattle.device_core.specs.Machine.{handled_step, heard_step}
 use Rattle.controller_messages.specs.declared.setup.Setup.{Setup}
 use Rattle.end_laws.specs.hearing.Hearing.{comes}
+use Rattle.controller_core.specs.stored.State.{Controlling}
 use Rattle.rounds_law.specs.Again.{units_left}
+use Rattle.rounds_law.specs.Anywhere.{AllLast, IsAnyDevice, IsUntold}
 use Rattle.rounds_law.proofs.AgainVain.{Keeps, in_vain}
-use Rattle.rounds_law.proofs.AnywhereLinkHears.{IsNoCall, IsOfData, own_is_of_data}
-use Rattle.rounds_law.proofs.AnywhereLinkLaws.{ExchangeLaws}
+use Rattle.rounds_law.proofs.AnywhereDeviceLaw.{DeviceLaws}
+use Rattle.rounds_law.proofs.AnywhereLinkHears.{IsNoCall, IsNoPlug, IsOfData, own_is_of_data}
+use Rattle.rounds_law.proofs.AnywhereLinkLaws.{ExchangeLaws, ReadLaws}
+use Rattle.rounds_law.proofs.AnywhereLinkPlugs.{IsPlugOwn, data_or_plug, plug_none, plug_refused, plug_some}
 use Rattle.rounds_law.proofs.AnywhereLinkMoved.{IsNow, Went, as_before, calls_of_link, due_of_link, no_more, report_of_link, timed_in, timed_units}
-use Rattle.rounds_law.proofs.AnywhereParts.{AcceptsOutputs, IsMoved, LinkFrame}
+use Rattle.rounds_law.proofs.AnywhereParts.{Accepts, AcceptsOutputs, Hears, IsLong, IsMoved, IsOwn, LinkFrame, room_of}
 use Rattle.rounds_law.proofs.DevicePassingLeft.{frame_left}
 use Rattle.rounds_law.proofs.DevicePassingTaken.{with_link}
 
@@ -81,14 +86,15 @@ reported_as is_sent flow link =
     let sent = first_sent is_sent flow.low in
     with_reported flow (taken_after sent link.plugs.places link.taken) (plugs_after sent flow.low.waiting link.plugs) link
 
-module _ (setup : Setup) (route : Route) (outcomes : List Outcome) (station : Station) (live : Live) (link : RelationState) where
+module _ (setup : Setup) (route : Route) (outcomes : List Outcome) (station : Station) (live : Live) (link : RelationState)
+    (untold : setup.plan.parameters_after_plug ≡ true → IsUntold link) where
   -- The device with this relation.
   abbrev now : Live
   now = with_link live link
 
   refused_went : (why : Note) → Went setup route link (handled_step outcomes station now (Refuses why))
   unfolding handled_step
-  refused_went why = (as_before setup route link link refl refl (no_more (units_left link)), tt)
+  refused_went why = (as_before setup route link link refl refl refl (no_more (units_left link)) (λ keyed timed. no_more (room_of link)), tt)
 
   answer_went : (answer : ReadyAnswer) → (answer ≡ to_ready.Confirmed → is_timed link.phase ≡ true)
       → Went setup route link (handled_step outcomes station now (handled_answer station now answer))
@@ -102,8 +108,8 @@ module _ (setup : Setup) (route : Route) (outcomes : List Outcome) (station : St
         inr (
           reported_as (begins_with_one real live.rest.diagnoses begun.flow) flow begun,
           refl,
-          record { route = refl },
-          inr (inr (timed refl, refl)),
+          record { route = refl; limit = refl; room = λ keyed later. absurd (false≢true later) },
+          inr (inr (inl (timed refl, refl))),
         ),
         due_of_link link.flow.cyclic.route (begin_one real live.rest.diagnoses (Some begun)) (low_alarms_of (Some flow))
             (report_of_link link.flow.cyclic.route flow flow.low.alarms.sender.standing),
@@ -114,12 +120,12 @@ module _ (setup : Setup) (route : Route) (outcomes : List Outcome) (station : St
 
   answered_now : (heard : PlugAnswer) (plugs : PlugState)
       → IsNow setup route link (Some (record link { flow = flow_answered heard plugs link.flow; plugs = next_called plugs }))
-  answered_now to_plug.NotWanted plugs = as_before setup route link (record link { plugs = next_called plugs }) refl refl (no_more (units_left link))
-  answered_now to_plug.Garbled plugs = as_before setup route link (record link { plugs = next_called plugs }) refl refl (no_more (units_left link))
+  answered_now to_plug.NotWanted plugs = as_before setup route link (record link { plugs = next_called plugs }) refl refl refl (no_more (units_left link)) (λ keyed timed. no_more (room_of link))
+  answered_now to_plug.Garbled plugs = as_before setup route link (record link { plugs = next_called plugs }) refl refl refl (no_more (units_left link)) (λ keyed timed. no_more (room_of link))
   answered_now to_plug.Confirmed plugs =
-      as_before setup route link (record link { flow = restated_flow plugs link.flow; plugs = next_called plugs }) refl refl (no_more (units_left link))
+      as_before setup route link (record link { flow = restated_flow plugs link.flow; plugs = next_called plugs }) refl refl refl (no_more (units_left link)) (λ keyed timed. no_more (room_of link))
   answered_now to_plug.Refused plugs =
-      as_before setup route link (record link { flow = restated_flow plugs link.flow; plugs = next_called plugs }) refl refl (no_more (units_left link))
+      as_before setup route link (record link { flow = restated_flow plugs link.flow; plugs = next_called plugs }) refl refl refl (no_more (units_left link)) (λ keyed timed. no_more (room_of link))
 
   next_went : (response : Answered)
       → Went setup route link (handled_step outcomes station now (handled_next_call now (plug_answering response (Some link))))
@@ -175,7 +181,7 @@ module _ (setup : Setup) (route : Route) (outcomes : List Outcome) (station : St
   received_went flow way Short accepts = refused_went note.Fault
   received_went flow way Stale accepts = refused_went note.StaleCycle
   received_went flow way Taken accepts =
-      (inr (with_flow flow link, refl, record { route = way }, taken_moved flow (accepts refl) (is_timed link.phase) refl), tt)
+      (inr (with_flow flow link, refl, record { route = way; limit = refl; room = λ keyed timed. no_more (room_of link) }, taken_moved flow (accepts refl) (is_timed link.phase) refl), tt)
 
   -- A frame that is accepted is one of the partner, under the FrameID of the relation.
   taken_of_partner : (partner : Bool) (received : Received) → (if partner then received else Foreign) ≡ Taken → partner ≡ true
@@ -203,9 +209,9 @@ module _ (setup : Setup) (route : Route) (outcomes : List Outcome) (station : St
       (updated (hearing_as what (behind_message link.flow message)) (Some link))))
   unfolding handled_step
   pdu_went message (fate.Data taken) =
-      (as_before setup route link (with_flow (behind_message link.flow message) link) refl refl (no_more (units_left link)), (tt, tt))
+      (as_before setup route link (with_flow (behind_message link.flow message) link) refl refl refl (no_more (units_left link)) (λ keyed timed. no_more (room_of link)), (tt, tt))
   pdu_went message fate.Done =
-      (as_before setup route link (with_flow (behind_message link.flow message) link) refl refl (no_more (units_left link)), tt)
+      (as_before setup route link (with_flow (behind_message link.flow message) link) refl refl refl (no_more (units_left link)) (λ keyed timed. no_more (room_of link)), tt)
   pdu_went message fate.Ignored = refused_went note.Filter
   pdu_went message (fate.Aborted status) = (inl refl, tt)
 
@@ -214,43 +220,51 @@ module _ (setup : Setup) (route : Route) (outcomes : List Outcome) (station : St
   alarm_went message true = pdu_went message (heard_as link.flow.alarms message)
   alarm_went message false = refused_went note.NoRelation
 
-  low_pdu_went : (message : ToDevice) (what : PduFate)
+  -- An alarm of low priority was sent: so data is exchanged, if the plan writes parameters after a plug.
+  abbrev HasSent : Type 0
+  HasSent = has_sent_low (Some link) ≡ true
+
+  untimed : HasSent → setup.plan.parameters_after_plug ≡ true → is_timed link.phase ≡ true → ⊥
+  untimed sent keyed timed = false≢true (sym (untold keyed timed).0 ∙ sent)
+
+  low_pdu_went : HasSent → (message : ToDevice) (what : PduFate)
       → Went setup route link (handled_step outcomes station now (handled_low_pdu station now what (Some (with_flow (behind_low link.flow message) link))))
   unfolding handled_step
-  low_pdu_went message (fate.Data taken) =
+  low_pdu_went has_sent message (fate.Data taken) =
       let later = with_flow (behind_low link.flow message) link in
       let flow = next_reported later.flow in (
-        as_before setup route link (reported_as (is_next later.flow.low) flow later) refl refl (no_more (units_left link)),
+        as_before setup route link (reported_as (is_next later.flow.low) flow later) refl refl refl (no_more (units_left link))
+            (λ keyed timed. absurd (untimed has_sent keyed timed)),
         (
           tt,
           due_of_link link.flow.cyclic.route (report_one (Some later)) (low_alarms_of (Some flow))
               (report_of_link link.flow.cyclic.route flow flow.low.alarms.sender.standing),
         ),
       )
-  low_pdu_went message fate.Done =
-      (as_before setup route link (with_flow (behind_low link.flow message) link) refl refl (no_more (units_left link)), tt)
-  low_pdu_went message fate.Ignored = refused_went note.Filter
-  low_pdu_went message (fate.Aborted status) = refused_went note.Filter
+  low_pdu_went has_sent message fate.Done =
+      (as_before setup route link (with_flow (behind_low link.flow message) link) refl refl refl (no_more (units_left link)) (λ keyed timed. no_more (room_of link)), tt)
+  low_pdu_went has_sent message fate.Ignored = refused_went note.Filter
+  low_pdu_went has_sent message (fate.Aborted status) = refused_went note.Filter
 
-  low_went : (source : Mac) (header : Header) (message : ToDevice)
+  low_went : HasSent → (source : Mac) (header : Header) (message : ToDevice)
       → Went setup route link (handled_step outcomes station now (handled_low station now source header message))
-  low_went source header message = by_belongs (is_alarm_of source header.destination header.source (Some link))
+  low_went has_sent source header message = by_belongs (is_alarm_of source header.destination header.source (Some link))
     where
       by_belongs : (belongs : Bool)
           → Went setup route link (handled_step outcomes station now (if belongs then handled_low_message station now message else Refuses note.NoRelation))
-      by_belongs true = low_pdu_went message (heard_as link.flow.low.alarms message)
+      by_belongs true = low_pdu_went has_sent message (heard_as link.flow.low.alarms message)
       by_belongs false = refused_went note.NoRelation
 
-  low_reply_went : (source : Mac) (header : Header) (message : ToDevice) (low : Bool)
+  low_reply_went : (source : Mac) (header : Header) (message : ToDevice) (low : Bool) → has_sent_low (Some link) ≡ low
       → Went setup route link (handled_step outcomes station now
       (if low then handled_low station now source header message else handled_alarm now source header message))
-  low_reply_went source header message true = low_went source header message
-  low_reply_went source header message false = alarm_went message (is_alarm_of source header.destination header.source (Some link))
+  low_reply_went source header message true sent = low_went sent source header message
+  low_reply_went source header message false sent = alarm_went message (is_alarm_of source header.destination header.source (Some link))
 
-  low_confirm_went : (source : Mac) (header : Header) (message : ToDevice) (low : Bool)
+  low_confirm_went : (source : Mac) (header : Header) (message : ToDevice) (low : Bool) → has_sent_low (Some link) ≡ low
       → Went setup route link (handled_step outcomes station now (if low then handled_low station now source header message else Refuses note.Fault))
-  low_confirm_went source header message true = low_went source header message
-  low_confirm_went source header message false = refused_went note.Fault
+  low_confirm_went source header message true sent = low_went sent source header message
+  low_confirm_went source header message false sent = refused_went note.Fault
 
   -- ---- all that belongs to an exchange
 
@@ -262,8 +276,8 @@ module _ (setup : Setup) (route : Route) (outcomes : List Outcome) (station : St
       received_went (behind_frame link.flow source frame_id body) (frame_left link.flow.cyclic source frame_id body).route
       (received_as link.flow source frame_id body) (accepts_by source frame_id body is.0 is.1)
   now_went (Alarms source header message) is = alarm_went message (is_alarm_of source header.destination header.source (Some link))
-  now_went (LowReplies source header message) is = low_reply_went source header message (has_sent_low (Some link))
-  now_went (LowConfirms source header message) is = low_confirm_went source header message (has_sent_low (Some link))
+  now_went (LowReplies source header message) is = low_reply_went source header message (has_sent_low (Some link)) refl
+  now_went (LowConfirms source header message) is = low_confirm_went source header message (has_sent_low (Some link)) refl
   now_went heard is = absurd is
 
   pub data_went : (heard : Heard) → IsOfData setup route heard → live.rest.link ≡ Some link → Went setup route link (heard_step outcomes station live heard)
@@ -307,15 +321,46 @@ data_in_vain setup route outcomes station live heard is none = absurd is
 -- ---- the part
 
 module _ {F : Type 0} {S : ℕ} (as_flash : Flash F S) (setup next : Setup) (identity : Identity) (silence : ℕ) where
-  pub link_frame : ExchangeLaws setup → LinkFrame as_flash setup next identity silence
-  link_frame laws = λ long route before after octets frames goes device own.
-      let outcomes = goes.steps.outcomes in
-      let heard = heard_of before.station.identity (comes octets) in
-      let is = own_is_of_data setup laws long.real before.station.identity route octets own in (
+  module _ (laws : ExchangeLaws setup) (long : IsLong as_flash setup next identity silence) (route : Route) (before after : State F) (octets : List ℕ)
+      (frames : List (List ℕ)) (goes : Hears as_flash before octets frames after)
+      (device : IsAnyDevice setup next identity silence before.station before.live) (own : IsOwn setup (IsNoPlug route) octets) where
+    is_data : IsOfData setup route (heard_of before.station.identity (comes octets))
+    is_data = own_is_of_data setup laws long.real before.station.identity route octets own
+
+    -- Without a relation nothing is sent.
+    data_none : before.live.rest.link ≡ None → (after.live.rest.link ≡ None) × (frames ≡ [])
+    data_none none =
+        let kept = data_in_vain setup route goes.steps.outcomes before.station before.live (heard_of before.station.identity (comes octets)) is_data none in
+        (ap (λ (l : Live). l.rest.link) (goes.steps.live ∙ kept.1) ∙ none, goes.steps.frames ∙ kept.0)
+
+    data_some : (link : RelationState) → before.live.rest.link ≡ Some link → IsNow setup route link after.live.rest.link
+    data_some link has =
+        subst (IsNow setup route link) (sym (ap (λ (l : Live). l.rest.link) goes.steps.live))
+        (data_went setup route goes.steps.outcomes before.station before.live link (subst (AllLast setup silence) has device.lasts).untold
+        (heard_of before.station.identity (comes octets)) is_data has).0
+
+  pub link_frame : DeviceLaws setup identity → ReadLaws → ExchangeLaws setup → LinkFrame as_flash setup next identity silence
+  link_frame parts reads laws long route before after octets frames goes device own = by_kind (data_or_plug setup route octets own)
+    where
+      nothing_accepted : frames ≡ [] → (controller : Controlling) → controller.setup ≡ setup
+          → AllByRecursion (λ frame. Accepts controller frame → ⊥) frames
+      nothing_accepted none controller same = subst (AllByRecursion (λ frame. Accepts controller frame → ⊥)) (sym none) tt
+
+      by_kind : IsOwn setup (IsNoPlug route) octets ⊎ IsPlugOwn setup octets
+          → (before.live.rest.link ≡ None
+          → (after.live.rest.link ≡ None)
+          × ((controller : Controlling) → controller.setup ≡ setup → AllByRecursion (λ frame. Accepts controller frame → ⊥) frames))
+          × ((link : RelationState) → before.live.rest.link ≡ Some link → IsNow setup route link after.live.rest.link)
+      by_kind (inl its) = (
+        λ none.
+            let silent = data_none laws long route before after octets frames goes device its none in
+            (silent.0, nothing_accepted silent.1),
+        λ link has. data_some laws long route before after octets frames goes device its link has,
+      )
+      by_kind (inr plug) = (
         λ none. (
-            let kept = data_in_vain setup route outcomes before.station before.live heard is none in
-            (ap (λ (l : Live). l.rest.link) (goes.steps.live ∙ kept.1) ∙ none, goes.steps.frames ∙ kept.0)
-            ),
-        λ link has. subst (IsNow setup route link) (sym (ap (λ (l : Live). l.rest.link) goes.steps.live))
-            (data_went setup route outcomes before.station before.live link heard is has).0,
+          plug_none as_flash setup next identity silence parts long before after octets frames goes device plug none,
+          λ controller same. plug_refused as_flash setup next identity silence parts long before after octets frames goes device plug reads controller same,
+        ),
+        λ link has. plug_some as_flash setup next identity silence parts long before after octets frames goes device plug route link has,
       )

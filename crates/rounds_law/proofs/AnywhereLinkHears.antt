@@ -20,7 +20,18 @@ use Rattle.end_laws.specs.hearing.Hearing.{comes, own_hears}
 use Rattle.end_laws.specs.hearing.Stations.{IsSetup}
 use Rattle.end_laws.specs.sending.Messages.{CanBeSent}
 use Rattle.rounds_law.proofs.AnywhereLinkLaws.{ExchangeLaws}
-use Rattle.rounds_law.proofs.AnywhereParts.{HasWay, IsOfExchange, IsOwn}
+use Rattle.rounds_law.proofs.AnywhereParts.{HasWay, IsOwn}
+
+-- What is sent in an exchange under this route, but for the calls after a plug.
+abbrev pub IsNoPlug : Route → Sent → Type 0
+IsNoPlug route (Requests device request) = ⊥
+IsNoPlug route (Accesses device request octets) = ⊥
+IsNoPlug route (Parametrizes device request) = ⊥
+IsNoPlug route (Agrees caller answer) = Unit {0}
+IsNoPlug route (Cycles way shown counter) = way ≡ route
+IsNoPlug route (Confirms way priority header ack) = Unit {0}
+IsNoPlug route (Replies way priority header) = Unit {0}
+IsNoPlug route (Ends way header reason) = Unit {0}
 
 -- No call.
 abbrev pub IsNoCall : Said → Type 0
@@ -64,7 +75,7 @@ module _ (setup : Setup) (laws : ExchangeLaws setup) (good : IsSetup setup) (ide
   abbrev as_device : Identity
   as_device = record identity { mac = setup.plan.controller.mac }
 
-  message_so : (message : Sent) → CanBeSent setup message → HasWay message → IsOfExchange route message
+  message_so : (message : Sent) → CanBeSent setup message → HasWay setup message → IsNoPlug route message
       → IsOfData setup route (heard_of identity (comes (controller_bytes setup message)))
   message_so (Requests device request) can way is = absurd is
   message_so (Accesses device request octets) can way is = absurd is
@@ -91,6 +102,6 @@ module _ (setup : Setup) (laws : ExchangeLaws setup) (good : IsSetup setup) (ide
   message_so (Ends sent header reason) can way is =
       heard_so (controller_bytes setup (Ends sent header reason)) sent.partner _ (laws.ends identity sent header reason way can.1) tt
 
-  pub own_is_of_data : (octets : List ℕ) → IsOwn setup (IsOfExchange route) octets → IsOfData setup route (heard_of identity (comes octets))
+  pub own_is_of_data : (octets : List ℕ) → IsOwn setup (IsNoPlug route) octets → IsOfData setup route (heard_of identity (comes octets))
   own_is_of_data octets own =
       subst (λ (xs : List ℕ). IsOfData setup route (heard_of identity (comes xs))) (sym own.frame) (message_so own.message own.sendable own.way own.is)

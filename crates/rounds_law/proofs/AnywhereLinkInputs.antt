@@ -1,5 +1,5 @@
 -- Which frames of a device a controller accepts as cyclic frames: the inputs of a relation with its route.
-use Rattle.std.proofs.Common.{◌≡◌, inl, inr, ◌==◌, ◌++◌, ℕ, false, nat_eq, List, [], ◌∷◌, map, Option, Some, None, refl, sym, ap, subst, ◌∙◌}
+use Rattle.std.proofs.Common.{◌≡◌, ◌⊎◌, inl, inr, ◌==◌, ◌++◌, ℕ, false, nat_eq, List, [], ◌∷◌, map, Option, Some, None, refl, sym, ap, subst, ◌∙◌}
 use Rattle.std.specs.Prelude.{option_map}
 use Rattle.std.specs.Cmp.Lexicographic.{pointwise}
 use Rattle.std.specs.List.{AllByRecursion}
@@ -39,10 +39,14 @@ use Rattle.controller_core.specs.stored.State.{Controlling}
 use Rattle.end_laws.specs.hearing.Hearing.{comes}
 use Rattle.rounds_law.proofs.AnywhereLinkCyclic.{IsNoData, and_true, here_from, is_read, not_data, same_mac, tagged_no_data, udp_no_data}
 use Rattle.rounds_law.proofs.AnywhereLinkFrame.{data_went}
-use Rattle.rounds_law.proofs.AnywhereLinkHears.{own_is_of_data}
+use Rattle.rounds_law.specs.Anywhere.{AllLast}
+use Rattle.rounds_law.proofs.AnywhereDeviceLaw.{DeviceLaws}
+use Rattle.rounds_law.proofs.AnywhereLinkHears.{IsNoPlug, own_is_of_data}
 use Rattle.rounds_law.proofs.AnywhereLinkLaws.{ExchangeLaws, ReadLaws}
 use Rattle.rounds_law.proofs.AnywhereLinkMoved.{AreOfLink, IsOfLink, calls_of_link, due_of_link, report_of_link}
-use Rattle.rounds_law.proofs.AnywhereParts.{Accepts, AcceptsInputs, InputsOfFrame, InputsOfUnit}
+use Rattle.rounds_law.proofs.AnywhereLinkPlugs.{IsPlugOwn, data_or_plug, plug_refused}
+use Rattle.rounds_law.proofs.AnywhereParts.{Accepts, AcceptsInputs, InputsOfFrame, InputsOfUnit, IsOwn}
+use Rattle.rounds_law.proofs.AnywhereRounds.{all_as}
 use Rattle.rounds_law.proofs.AskedUnits.{IsLate, late_at, late_of, unit_sends}
 
 -- ---- the messages of a relation
@@ -161,14 +165,24 @@ module _ (outcomes : List Outcome) (station : Station) (live : Live) (link : Rel
 -- ---- the parts
 
 module _ {F : Type 0} {S : ℕ} (as_flash : Flash F S) (setup next : Setup) (identity : Identity) (silence : ℕ) where
-  pub inputs_of_frame : ReadLaws → ExchangeLaws setup → InputsOfFrame as_flash setup next identity silence
-  inputs_of_frame reads laws = λ long controller of exchanges route before after octets frames goes device own link has.
-      let outcomes = goes.steps.outcomes in
-      let heard = device_hears before.station.identity (comes octets) in
-      let is = own_is_of_data setup laws long.real before.station.identity route octets own in
-      subst (AllByRecursion (λ frame. Accepts controller frame → AcceptsInputs identity controller link)) (sym goes.steps.frames)
-      (step_well reads identity controller link outcomes before.station before.live heard device.of_device
-      (data_went setup route outcomes before.station before.live link heard is has).1 goes.steps.sendable)
+  pub inputs_of_frame : DeviceLaws setup identity → ReadLaws → ExchangeLaws setup → InputsOfFrame as_flash setup next identity silence
+  inputs_of_frame parts reads laws long controller of exchanges route before after octets frames goes device own link has =
+      by_kind (data_or_plug setup route octets own)
+    where
+      by_kind : IsOwn setup (IsNoPlug route) octets ⊎ IsPlugOwn setup octets
+          → AllByRecursion (λ frame. Accepts controller frame → AcceptsInputs identity controller link) frames
+      by_kind (inl its) =
+          let outcomes = goes.steps.outcomes in
+          let heard = device_hears before.station.identity (comes octets) in
+          let is = own_is_of_data setup laws long.real before.station.identity route octets its in
+          subst (AllByRecursion (λ frame. Accepts controller frame → AcceptsInputs identity controller link)) (sym goes.steps.frames)
+          (step_well reads identity controller link outcomes before.station before.live heard device.of_device
+          (data_went setup route outcomes before.station before.live link (subst (AllLast setup silence) has device.lasts).untold heard is has).1
+          goes.steps.sendable)
+      by_kind (inr plug) =
+          all_as (λ frame. Accepts controller frame → AcceptsInputs identity controller link) (λ frame. Accepts controller frame → ⊥)
+          (λ frame refuses accepts. absurd (refuses accepts)) frames
+          (plug_refused as_flash setup next identity silence parts long before after octets frames goes device plug reads controller of.of_setup)
 
   pub inputs_of_unit : ReadLaws → InputsOfUnit as_flash setup next identity silence
   inputs_of_unit reads = λ long controller of exchanges before after frames goes device link has.

@@ -7,7 +7,7 @@ use Rattle.pn_alarms.specs.declared.pdu.PduType.TheVariants.{Data}
 use Rattle.cyclic_data.specs.declared.exchange.route.Route.{Route}
 use Rattle.relations.specs.declared.plugging.PlugReady.{PlugReady}
 use Rattle.relations.specs.RelationState.{RelationState, is_awaiting}
-use Rattle.relations.specs.Timers.{is_timed}
+use Rattle.relations.specs.Timers.{is_timed, limit_of}
 use Rattle.relations.specs.declared.phase.Phase.{Phase}
 use Rattle.relations.specs.declared.phase.Phase.TheVariants.{Awaiting, Exchanging as in_exchange, Preparing, Started}
 use Rattle.relations.specs.exchange.Diagnosis.{low_header_of}
@@ -18,7 +18,7 @@ use Rattle.device_frames.specs.Sent.{Sent, IdentifyAnswer, GetAnswer, SetAnswer,
 use Rattle.device_core.specs.Machine.{Stepped}
 use Rattle.controller_messages.specs.declared.setup.Setup.{Setup}
 use Rattle.rounds_law.specs.Again.{units_left}
-use Rattle.rounds_law.proofs.AnywhereParts.{IsMoved, LinkGoesOn}
+use Rattle.rounds_law.proofs.AnywhereParts.{IsMoved, LinkGoesOn, room_of}
 
 -- ---- what a device sends in a relation
 
@@ -62,7 +62,7 @@ calls_of_link route address (Some ready) = (tt, tt)
 -- It is over, or it goes on and was moved.
 abbrev pub IsNow : Setup → Route → RelationState → Option RelationState → Type 0
 IsNow setup route link after = (after ≡ None)
-    ⊎ ((later : RelationState) × (after ≡ Some later) × LinkGoesOn link later × IsMoved setup route link later)
+    ⊎ ((later : RelationState) × (after ≡ Some later) × LinkGoesOn setup link later × IsMoved setup route link later)
 
 -- The same of a step, and all that is sent with it are messages of this relation.
 abbrev pub Went : Setup → Route → RelationState → Stepped → Type 0
@@ -72,10 +72,12 @@ Went setup route link step = IsNow setup route link step.live.rest.link × AreOf
 pub no_more : (n : ℕ) → n ≤ n
 no_more n = omega arith
 
--- It is in the same phase, and its units are the same.
+-- It is in the same phase, and has no more units and room.
 pub as_before : (setup : Setup) (route : Route) (link later : RelationState) → later.flow.cyclic.route ≡ link.flow.cyclic.route → later.phase ≡ link.phase
-    → units_left later ≤ units_left link → IsNow setup route link (Some later)
-as_before setup route link later way phase units = inr (later, refl, record { route = way }, inl (phase, units))
+    → limit_of later ≡ limit_of link → units_left later ≤ units_left link
+    → (setup.plan.parameters_after_plug ≡ true → is_timed later.phase ≡ true → room_of later ≤ room_of link) → IsNow setup route link (Some later)
+as_before setup route link later way phase limit units room =
+    inr (later, refl, record { route = way; limit = limit; room = room }, inl (phase, units))
 
 -- Before data is exchanged the units depend on the activity time alone.
 pub timed_units : (timed : Bool) (limit inactive one other : ℕ) → timed ≡ true

@@ -23,7 +23,8 @@ use Rattle.controller_messages.specs.declared.setup.Setup.{Setup}
 use Rattle.rounds_law.specs.Again.{units_left}
 use Rattle.rounds_law.specs.Anywhere.{AllLast}
 use Rattle.rounds_law.proofs.AgainUnits.{no_relation_unit}
-use Rattle.rounds_law.proofs.AnywhereParts.{LinkGoesOn, LinkUnit}
+use Rattle.rounds_law.proofs.AnywhereLinkMoved.{no_more}
+use Rattle.rounds_law.proofs.AnywhereParts.{LinkGoesOn, LinkUnit, room_of}
 use Rattle.rounds_law.proofs.DevicePassingTimers.{tick_ending}
 use Rattle.rounds_law.proofs.AskedUnits.{unit_link}
 use Rattle.rounds_law.proofs.AnywhereAsked.{unrelated_asked}
@@ -65,19 +66,25 @@ nearer link runs stays =
 -- ---- the step
 
 -- It is over, or goes on, a unit nearer to its end, in the same phase.
-abbrev pub Ages : RelationState → Option RelationState → Type 0
-Ages link after = (after ≡ None)
-    ⊎ ((later : RelationState) × (after ≡ Some later) × LinkGoesOn link later × (later.phase ≡ link.phase) × (suc (units_left later) ≤ units_left link))
+abbrev pub Ages : Setup → RelationState → Option RelationState → Type 0
+Ages setup link after = (after ≡ None)
+    ⊎ ((later : RelationState) × (after ≡ Some later) × LinkGoesOn setup link later × (later.phase ≡ link.phase) × (suc (units_left later) ≤ units_left link))
 
-module _ (outcomes : List Outcome) (station : Station) (live : Live) (link : RelationState) where
+module _ (setup : Setup) (outcomes : List Outcome) (station : Station) (live : Live) (link : RelationState) where
   ages_by : (is_timed link.phase ≡ false → link.flow.cyclic.begun ≡ true) → (ending : Option Abort) → ending_of link ≡ ending
-      → Ages link (updated (passing_by ending) (Some link))
+      → Ages setup link (updated (passing_by ending) (Some link))
   ages_by runs (Some reason) is = inl refl
-  ages_by runs None is = inr (unit_later link, refl, record { route = refl }, refl, nearer link runs is)
+  ages_by runs None is = inr (
+    unit_later link,
+    refl,
+    record { route = refl; limit = refl; room = λ keyed timed. no_more (room_of link) },
+    refl,
+    nearer link runs is,
+  )
 
   pub ages : (is_timed link.phase ≡ false → link.flow.cyclic.begun ≡ true) → live.rest.link ≡ Some link
-      → Ages link (heard_step outcomes station live Ticks).live.rest.link
-  ages runs has = subst (Ages link) (sym (unit_link outcomes station live link (ending_of link) has refl)) (ages_by runs (ending_of link) refl)
+      → Ages setup link (heard_step outcomes station live Ticks).live.rest.link
+  ages runs has = subst (Ages setup link) (sym (unit_link outcomes station live link (ending_of link) has refl)) (ages_by runs (ending_of link) refl)
 
 module _ {F : Type 0} {S : ℕ} (as_flash : Flash F S) (setup next : Setup) (identity : Identity) (silence : ℕ) where
   pub link_unit : LinkUnit as_flash setup next identity silence
@@ -88,6 +95,6 @@ module _ {F : Type 0} {S : ℕ} (as_flash : Flash F S) (setup next : Setup) (ide
             let quiet = no_relation_unit goes.steps.outcomes before.station before.live none nothing in
             (ap (λ (l : Live). l.rest.link) goes.steps.live ∙ quiet.3, goes.steps.frames ∙ quiet.0)
             ),
-        λ link has. subst (Ages link) (sym (ap (λ (l : Live). l.rest.link) goes.steps.live))
-            (ages goes.steps.outcomes before.station before.live link (subst (AllLast silence) has device.lasts).runs has),
+        λ link has. subst (Ages setup link) (sym (ap (λ (l : Live). l.rest.link) goes.steps.live))
+            (ages setup goes.steps.outcomes before.station before.live link (subst (AllLast setup silence) has device.lasts).runs has),
       )

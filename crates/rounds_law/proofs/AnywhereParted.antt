@@ -34,17 +34,17 @@ there_or_not None = inl refl
 there_or_not (Some link) = inr (link, refl)
 
 -- It lasts no longer than the silence.
-left_few : (silence : ℕ) (link : RelationState) → Lasts silence link → units_left link ≤ silence
-left_few silence link lasts = by_test (is_timed link.phase)
+left_few : (setup : Setup) (silence : ℕ) (link : RelationState) → Lasts setup silence link → units_left link ≤ silence
+left_few setup silence link lasts = by_test (is_timed link.phase)
   where
     by_test : (timed : Bool)
         → (if timed then limit_of link - link.inactive else link.flow.cyclic.hearing.limit - link.flow.cyclic.hearing.held) ≤ silence
     by_test true = omega (arith, lasts.active)
     by_test false = omega (arith, lasts.holds)
 
-pub remains_few : (silence : ℕ) (link : Option RelationState) → AllLast silence link → remains link ≤ silence
-remains_few silence None all = omega arith
-remains_few silence (Some link) all = left_few silence link all
+pub remains_few : (setup : Setup) (silence : ℕ) (link : Option RelationState) → AllLast setup silence link → remains link ≤ silence
+remains_few setup silence None all = omega arith
+remains_few setup silence (Some link) all = left_few setup silence link all
 
 module _ {F : Type 0} {S : ℕ} (as_flash : Flash F S) (setup next : Setup) (identity : Identity) (silence : ℕ)
     (controller_frame : ControllerFrame setup) (ended_frame : EndedFrame setup) (ended_unit : EndedUnit setup)
@@ -130,7 +130,7 @@ module _ {F : Type 0} {S : ℕ} (as_flash : Flash F S) (setup next : Setup) (ide
           → (round.device.live.rest.link ≡ None → (after.device.live.rest.link ≡ None) × (after.to_controller ≡ []))
           → ((link : RelationState) → round.device.live.rest.link ≡ Some link
           → (after.device.live.rest.link ≡ None)
-          ⊎ ((later : RelationState) × (after.device.live.rest.link ≡ Some later) × LinkGoesOn link later × (later.phase ≡ link.phase)
+          ⊎ ((later : RelationState) × (after.device.live.rest.link ≡ Some later) × LinkGoesOn setup link later × (later.phase ≡ link.phase)
           × (suc (units_left later) ≤ units_left link)))
           → (after.device.live.rest.link ≡ None) ⊎ (suc (remains after.device.live.rest.link) ≤ remains before.device.live.rest.link)
       by_link (inl gone) there unrelated related = inl (unrelated gone).0
@@ -138,7 +138,7 @@ module _ {F : Type 0} {S : ℕ} (as_flash : Flash F S) (setup next : Setup) (ide
       by_link (inr same) (inr is) unrelated related = by_unit (related is.0 (same ∙ is.1))
         where
           by_unit : (after.device.live.rest.link ≡ None)
-              ⊎ ((later : RelationState) × (after.device.live.rest.link ≡ Some later) × LinkGoesOn is.0 later × (later.phase ≡ is.0.phase)
+              ⊎ ((later : RelationState) × (after.device.live.rest.link ≡ Some later) × LinkGoesOn setup is.0 later × (later.phase ≡ is.0.phase)
               × (suc (units_left later) ≤ units_left is.0))
               → (after.device.live.rest.link ≡ None) ⊎ (suc (remains after.device.live.rest.link) ≤ remains before.device.live.rest.link)
           by_unit (inl gone) = inl gone
@@ -219,7 +219,7 @@ module _ {F : Type 0} {S : ℕ} (as_flash : Flash F S) (setup next : Setup) (ide
         → Round as_flash plant.net net → IsUnderWay as_flash setup next identity silence net
         → (net.device.live.rest.link ≡ None) ⊎ (remains net.device.live.rest.link + (plant.idle + 1) ≤ silence + 2)
     late_on plant net (inl early) under round now =
-        let few = remains_few silence net.device.live.rest.link now.device.lasts in inr (omega (arith, early, few))
+        let few = remains_few setup silence net.device.live.rest.link now.device.lasts in inr (omega (arith, early, few))
     late_on plant net (inr (releases, inl none)) under round now = inl ((nearer plant.net net under releases round).none none).0
     late_on plant net (inr (releases, inr few)) under round now = by_some (nearer plant.net net under releases round).some
       where

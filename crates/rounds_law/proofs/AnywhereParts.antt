@@ -1,5 +1,5 @@
 -- The parts of the law of any state: what each has to show. Each is proved in a file of its own.
-use Rattle.std.specs.Prelude.{◌≡◌, ◌≢◌, ◌⊎◌, ◌≤◌, ◌<◌, ◌+◌, ◌*◌, ℕ, suc, true, false, List, [], ◌∷◌, if◌then◌else◌, Some, None}
+use Rattle.std.specs.Prelude.{◌≡◌, ◌≢◌, ◌⊎◌, ◌≤◌, ◌<◌, ◌+◌, ◌-◌, ◌*◌, ℕ, suc, true, false, List, [], ◌∷◌, length, if◌then◌else◌, Some, None}
 use Rattle.std.specs.List.{AllByRecursion}
 use Rattle.flash_model.specs.declared.flash.Flash.{Ghosts as Flash}
 use Rattle.pn_values.specs.declared.identity.Identity.{Identity}
@@ -9,7 +9,7 @@ use Rattle.cyclic_data.specs.declared.exchange.route.Route.{Route}
 use Rattle.cyclic_data.specs.exchange.Received.{is_of_partner}
 use Rattle.relations.specs.RelationState.{RelationState}
 use Rattle.relations.specs.declared.phase.Phase.TheVariants.{Exchanging as in_exchange}
-use Rattle.relations.specs.Timers.{is_timed}
+use Rattle.relations.specs.Timers.{is_timed, limit_of}
 use Rattle.device_frames.specs.Heard.{Ticks, heard_of}
 use Rattle.device_core.specs.State.{State}
 use Rattle.controller_messages.specs.declared.setup.ControllerOptions.{ControllerOptions}
@@ -34,11 +34,11 @@ use Rattle.rounds_law.specs.Start.{CanStart}
 
 -- ---- the frames of a controller
 
--- Those of a controller that exchanges data under this route.
+-- Those of a controller that exchanges data under this route. Parameters may be written after a plug.
 abbrev pub IsOfExchange : Route → Sent → Type 0
 IsOfExchange route (Requests device request) = ⊥
 IsOfExchange route (Accesses device request octets) = ⊥
-IsOfExchange route (Parametrizes device request) = ⊥
+IsOfExchange route (Parametrizes device request) = Unit {0}
 IsOfExchange route (Agrees caller answer) = Unit {0}
 IsOfExchange route (Cycles way shown counter) = way ≡ route
 IsOfExchange route (Confirms way priority header ack) = Unit {0}
@@ -144,9 +144,16 @@ module _ (setup : Setup) (identity : Identity) where
 abbrev pub Hears : {F : Type 0} {S : ℕ} → Flash F S → State F → List ℕ → List (List ℕ) → State F → Type 0
 Hears as_flash before octets frames after = Goes as_flash before (heard_of before.station.identity (comes octets)) frames after
 
--- The relation goes on: its route is the same.
-pub record LinkGoesOn (before after : RelationState) : Type 0 where
+-- How many more parameter records a relation keeps.
+abbrev pub room_of : RelationState → ℕ
+room_of link = 64 - length link.taken
+
+-- The relation goes on: its route and its activity time are the same. If the plan of this set-up writes parameters after a plug, it has no more
+-- room for records before data is exchanged.
+pub record LinkGoesOn (setup : Setup) (before after : RelationState) : Type 0 where
   pub route : after.flow.cyclic.route ≡ before.flow.cyclic.route
+  pub limit : limit_of after ≡ limit_of before
+  pub room : setup.plan.parameters_after_plug ≡ true → is_timed after.phase ≡ true → room_of after ≤ room_of before
 
 -- The relation would accept cyclic frames of this controller under this route.
 pub record AcceptsOutputs (setup : Setup) (route : Route) (link : RelationState) : Type 0 where
@@ -160,12 +167,14 @@ pub record AcceptsInputs (identity : Identity) (controller : Controlling) (link 
   pub sender : controller.live.cyclic.route.partner ≡ identity.mac
 
 -- What a frame of a controller that exchanges data under this route does to a relation: it is in the same phase, and no further from its end, or it
--- accepts its outputs; or data is exchanged from now on.
+-- accepts its outputs; or data is exchanged from now on; or it has kept a record that was written after a plug, and has less room.
 abbrev pub IsMoved : Setup → Route → RelationState → RelationState → Type 0
 IsMoved setup route before after =
     ((after.phase ≡ before.phase) × (units_left after ≤ units_left before))
     ⊎ (((is_timed before.phase ≡ false) × (after.phase ≡ before.phase) × AcceptsOutputs setup route before)
-    ⊎ ((is_timed before.phase ≡ true) × (after.phase ≡ in_exchange)))
+    ⊎ (((is_timed before.phase ≡ true) × (after.phase ≡ in_exchange))
+    ⊎ ((setup.plan.parameters_after_plug ≡ true) × (is_timed before.phase ≡ true) × (after.phase ≡ before.phase)
+    × (suc (room_of after) ≤ room_of before))))
 
 module _ {F : Type 0} {S : ℕ} (as_flash : Flash F S) (setup next : Setup) (identity : Identity) (silence : ℕ) where
   -- The stations have their sizes, both starts are possible, and a relation of the plan does not last longer than any other.
@@ -198,7 +207,7 @@ module _ {F : Type 0} {S : ℕ} (as_flash : Flash F S) (setup next : Setup) (ide
       → (before.live.rest.link ≡ None → (after.live.rest.link ≡ None) × (frames ≡ []))
       × ((link : RelationState) → before.live.rest.link ≡ Some link
       → (after.live.rest.link ≡ None)
-      ⊎ ((later : RelationState) × (after.live.rest.link ≡ Some later) × LinkGoesOn link later × (later.phase ≡ link.phase)
+      ⊎ ((later : RelationState) × (after.live.rest.link ≡ Some later) × LinkGoesOn setup link later × (later.phase ≡ link.phase)
       × (suc (units_left later) ≤ units_left link)))
 
   -- A Release: the relation is over, or it is the same. The frames are ones that a controller of the next start ignores.
@@ -220,10 +229,12 @@ module _ {F : Type 0} {S : ℕ} (as_flash : Flash F S) (setup next : Setup) (ide
   abbrev pub LinkFrame : Type 0
   LinkFrame = IsLong → (route : Route) (before after : State F) (octets : List ℕ) (frames : List (List ℕ)) → Hears as_flash before octets frames after
       → IsAnyDevice setup next identity silence before.station before.live → IsOwn setup (IsOfExchange route) octets
-      → (before.live.rest.link ≡ None → (after.live.rest.link ≡ None) × (frames ≡ []))
+      → (before.live.rest.link ≡ None
+      → (after.live.rest.link ≡ None)
+      × ((controller : Controlling) → controller.setup ≡ setup → AllByRecursion (λ frame. Accepts controller frame → ⊥) frames))
       × ((link : RelationState) → before.live.rest.link ≡ Some link
       → (after.live.rest.link ≡ None)
-      ⊎ ((later : RelationState) × (after.live.rest.link ≡ Some later) × LinkGoesOn link later × IsMoved setup route link later))
+      ⊎ ((later : RelationState) × (after.live.rest.link ≡ Some later) × LinkGoesOn setup link later × IsMoved setup route link later))
 
   -- What the device sends then, and with a unit: the controller accepts cyclic frames of a relation that it would accept, and of no other.
   abbrev pub InputsOfFrame : Type 0

@@ -11,7 +11,9 @@ use Rattle.diagnosis.specs.Queue.{is_plug}
 use Rattle.expected_places.specs.declared.calls.PlugCall.{PlugCall}
 use Rattle.expected_places.specs.declared.calls.WaitingCall.{WaitingCall}
 use Rattle.expected_places.specs.Calls.{PlugQueue, counted, counted_with, first_ready, next_sequence, sent_beside, sent_with}
-use Rattle.expected_places.specs.Machine.{PlugState, answered_by, next_called, told}
+use Rattle.expected_places.specs.declared.place.ExpectedPlace.{ExpectedPlace}
+use Rattle.expected_places.specs.Machine.{PlugState, answered_by, ended, ended_at, next_called, told}
+use Rattle.expected_places.specs.Places.{first_told}
 use Rattle.relations.specs.declared.plugging.PlugAnswer.{PlugAnswer}
 use Rattle.relations.specs.declared.plugging.PlugAnswer.TheVariants as answer
 use Rattle.relations.specs.Plugging.{plugs_after, plugs_answered, plugs_told}
@@ -66,6 +68,24 @@ beside_numbered : (calls : PlugQueue) (standing : Option PlugCall) → AreNumber
 beside_numbered calls (Some call) are = are
 beside_numbered calls None are = sent_numbered calls (first_ready calls.waiting) are
 
+-- The parameters of a place end: its call waits.
+ended_in : (number : ℕ) (is_ready : Bool) (plugs : PlugState) (place : Option ExpectedPlace) → AreNumbered plugs.calls
+    → AreNumbered (unwrap_or (option_map (ended_at number is_ready plugs) place) plugs).calls
+ended_in number is_ready plugs None are = are
+ended_in number is_ready plugs (Some place) are = are
+
+-- Whether a plug was reported stays.
+ended_told_in : (number : ℕ) (is_ready : Bool) (plugs : PlugState) (place : Option ExpectedPlace)
+    → (unwrap_or (option_map (ended_at number is_ready plugs) place) plugs).has_told ≡ plugs.has_told
+ended_told_in number is_ready plugs None = refl
+ended_told_in number is_ready plugs (Some place) = refl
+
+pub ended_told : (number : ℕ) (is_ready : Bool) (plugs : PlugState) → (ended number is_ready plugs).has_told ≡ plugs.has_told
+ended_told number is_ready plugs = ended_told_in number is_ready plugs (first_told number plugs.places)
+
+pub ended_numbered : (number : ℕ) (is_ready : Bool) (plugs : PlugState) → AreNumbered plugs.calls → AreNumbered (ended number is_ready plugs).calls
+ended_numbered number is_ready plugs are = ended_in number is_ready plugs (first_told number plugs.places) are
+
 pub next_numbered : (plugs : PlugState) → AreNumbered plugs.calls → AreNumbered (next_called plugs).calls
 next_numbered plugs are = beside_numbered plugs.calls plugs.calls.standing are
 
@@ -73,6 +93,17 @@ answered_numbered : (is_positive : Bool) (plugs : PlugState) (standing : Option 
     → AreNumbered (answered_by is_positive plugs standing).calls
 answered_numbered is_positive plugs None are = are
 answered_numbered is_positive plugs (Some call) are = (are.0, tt)
+
+-- Whether a plug was reported stays.
+answered_told : (is_positive : Bool) (plugs : PlugState) (standing : Option PlugCall) → (answered_by is_positive plugs standing).has_told ≡ plugs.has_told
+answered_told is_positive plugs None = refl
+answered_told is_positive plugs (Some call) = refl
+
+pub heard_told : (heard : PlugAnswer) (plugs : PlugState) → (plugs_answered heard plugs).has_told ≡ plugs.has_told
+heard_told answer.NotWanted plugs = refl
+heard_told answer.Garbled plugs = refl
+heard_told answer.Confirmed plugs = answered_told true plugs plugs.calls.standing
+heard_told answer.Refused plugs = answered_told false plugs plugs.calls.standing
 
 pub heard_numbered : (heard : PlugAnswer) (plugs : PlugState) → AreNumbered plugs.calls → AreNumbered (plugs_answered heard plugs).calls
 heard_numbered answer.NotWanted plugs are = are

@@ -52,9 +52,10 @@ module _ {F : Type 0} {S : ℕ} (as_flash : Flash F S) (setup next : Setup) (ide
     named = record { name = ap (λ (live : Live). live.values.running.name) state ∙ stored.named };
     sized = subst (λ (live : Live). IsSized live.values.running.suite) (sym state) stored.sized;
     addressed = suite_by stored.addressed;
-    lasts = subst (λ link. AllLast silence link) (sym unrelated) tt;
+    lasts = subst (λ link. AllLast setup silence link) (sym unrelated) tt;
     stored = λ kept has. none_stored kept has;
     stored_other = λ kept has. none_stored kept has;
+    answers = λ keyed kept has. none_stored kept has;
     uncalled_next = ap (λ (live : Live). kept_of next.activity live.rest.calls) state;
     asked = nothing_asked setup next (uuid_of device.live.rest.link) device.live.rest.asked.standing (ap (λ (live : Live). live.rest.asked.standing) state);
   }

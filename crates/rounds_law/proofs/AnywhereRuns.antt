@@ -46,7 +46,7 @@ module _ {F : Type 0} {S : ℕ} (as_flash : Flash F S) (setup next : Setup) (ide
 
   pub holds_first : (past : Past F) → IsBeginning as_flash setup identity past → Holds past
   holds_first past at = record {
-    controller = subst (IsAnyController setup) (sym at.controller) (any_first setup at.turnless);
+    controller = subst (IsAnyController setup) (sym at.controller) (any_first setup);
     device = any_again as_flash setup next identity silence past.device.station at.flash past.device at.of_device
         (of_given setup past.device.station past.device.live.rest.real at.of_plan (given_first past at)) at.stored at.starts;
     given = given_first past at;

@@ -42,22 +42,25 @@ use Rattle.rpc_core.specs.declared.response.Status.{Status}
 use Rattle.device_core.specs.State.{Live, Rest, Station}
 use Rattle.device_core.specs.Asking.{kept_reply, reply_to}
 use Rattle.device_core.specs.Handled.{answer_from, kept_for, outcome_of}
+use Rattle.controller_messages.specs.declared.plug_request.PlugRequest.{PlugRequest}
 use Rattle.controller_messages.specs.declared.request.Request.{Request}
 use Rattle.controller_messages.specs.declared.request.Request.TheVariants as asks
 use Rattle.controller_messages.specs.declared.setup.Setup.{Setup}
 use Rattle.controller_messages.specs.Heard.{Responds}
+use Rattle.controller_messages.specs.PlugRequests.{plug_call}
 use Rattle.controller_messages.specs.Requests.{blocks_of, call_for, write_count}
 use Rattle.end_laws.specs.device.Does.{AreReadied, Connected, Declines, Does, Following, IsEffect, IsExchange, IsOther, Plugging, Readying, Replies, Serves}
 use Rattle.end_laws.specs.device.Does.{readied_from}
 use Rattle.end_laws.specs.device.Owed.{IsOfRelation}
 use Rattle.end_laws.specs.hearing.Stations.{IsCalled}
 use Rattle.end_laws.specs.turns.Turns.{chosen_in}
-use Rattle.both_ends.specs.startup.answer.Answer.{IsAllThere, chosen_with}
+use Rattle.both_ends.specs.startup.answer.Answer.{IsAllThere, caller_of, chosen_with}
 use Rattle.both_ends.specs.startup.request.Request.{no_rows, request_for}
 use Rattle.rounds_law.specs.Anywhere.{AllLast, Lasts}
+use Rattle.rounds_law.specs.AnywhereFrames.{IsOfPlug}
 use Rattle.rounds_law.specs.AnywhereSame.{Chooses, IsNoneChosen, StoresChosen}
 use Rattle.rounds_law.proofs.AnywhereDeviceSays.{IsSizedIfPlug, IsSizedReady}
-use Rattle.rounds_law.proofs.AnywhereSameHears.{IsOwnHeard, which_is, which_of}
+use Rattle.rounds_law.proofs.AnywhereSameHears.{IsOwnCall, IsOwnHeard, IsPlugCall, which_is, which_of}
 use Rattle.rounds_law.proofs.AnywhereSameLink.{none_before, request_is}
 use Rattle.rounds_law.proofs.AnywhereSameReleased.{IsUnchosen}
 use Rattle.rounds_law.proofs.AnywhereSameSays.{IsSaying}
@@ -155,9 +158,9 @@ module _ (setup : Setup) (Holds : Chosen → Type 0) (silence : ℕ) (station : 
   exchange_says (Exchanges route frame ∷ sent) all = (tt, exchange_says sent all.1)
   exchange_says (message ∷ sent) all = absurd all.0
 
-  ready_sized : (ready : Ready) → IsOfRelation live.rest.link ready → AllLast silence live.rest.link → IsSizedReady ready
+  ready_sized : (ready : Ready) → IsOfRelation live.rest.link ready → AllLast setup silence live.rest.link → IsSizedReady ready
   ready_sized ready of lasts =
-      let its : Lasts silence of.link = subst (AllLast silence) of.is lasts in
+      let its : Lasts setup silence of.link = subst (AllLast setup silence) of.is lasts in
       record {
         header = subst IsHeader (sym of.header)
             (record { object = its.object; interface = refl; activity = its.named; sequence = omega arith; operation = omega arith });
@@ -165,7 +168,7 @@ module _ (setup : Setup) (Holds : Chosen → Type 0) (silence : ℕ) (station : 
         uuid = subst (λ (b : ControlBlock). IsUuid b.ar_uuid) (sym of.block) its.named;
       }
 
-  other_says : (after : Option RelationState) (message : Sent) → AllLast silence live.rest.link → IsOther live after message → IsSizedIfPlug message
+  other_says : (after : Option RelationState) (message : Sent) → AllLast setup silence live.rest.link → IsOther live after message → IsSizedIfPlug message
       → Saying message
   other_says after (CallAnswer caller address answer) lasts is sized = absurd is
   other_says after (Again frame) lasts is sized = absurd is
@@ -173,12 +176,12 @@ module _ (setup : Setup) (Holds : Chosen → Type 0) (silence : ℕ) (station : 
   other_says after (PlugReadyCall address ready) lasts is sized = sized
   other_says after message lasts is sized = tt
 
-  others_say : (after : Option RelationState) (sent : List Sent) → AllLast silence live.rest.link → AllByRecursion (IsOther live after) sent
+  others_say : (after : Option RelationState) (sent : List Sent) → AllLast setup silence live.rest.link → AllByRecursion (IsOther live after) sent
       → AllByRecursion IsSizedIfPlug sent → AllByRecursion Saying sent
   others_say after [] lasts all sized = tt
   others_say after (message ∷ sent) lasts all sized = (other_says after message lasts all.0 sized.0, others_say after sent lasts all.1 sized.1)
 
-  readied_says : (after : Option RelationState) (address : List ℕ) (ready : Option Following) → AllLast silence live.rest.link → AreReadied live after ready
+  readied_says : (after : Option RelationState) (address : List ℕ) (ready : Option Following) → AllLast setup silence live.rest.link → AreReadied live after ready
       → AllByRecursion IsSizedIfPlug (readied_from address ready) → AllByRecursion Saying (readied_from address ready)
   readied_says after address None lasts is sized = tt
   readied_says after address (Some (Readying ready)) lasts is sized = (ready_sized ready is.0 lasts, tt)
@@ -211,12 +214,18 @@ module _ (setup : Setup) (Holds : Chosen → Type 0) (silence : ℕ) (station : 
   abbrev Went : Rest → List Sent → Type 0
   Went after sent = AllByRecursion Saying sent × IsStoredFrom after.calls sent
 
-  served : (heard : Heard) (after : Rest) (sent : List Sent) → AllLast silence live.rest.link → IsOwnHeard setup heard
-      → ((caller : Caller) (address : List ℕ) (sequence : ℕ) → heard ≡ Reported caller address (Calls (call_for setup (asks.Release sequence)))
-      → AllByRecursion (IsUnchosen setup) sent)
-      → AllByRecursion IsSizedIfPlug sent → Serves station live heard after sent → Went after sent
-  served heard after sent lasts known releases sized it =
-      let own = subst (IsOwnHeard setup) it.is known in
+  -- What a device sends with a Release, and with a call after a plug, chooses nothing.
+  abbrev Releases : Heard → List Sent → Type 0
+  Releases heard sent = (caller : Caller) (address : List ℕ) (sequence : ℕ) → heard ≡ Reported caller address (Calls (call_for setup (asks.Release sequence)))
+      → AllByRecursion (IsUnchosen setup) sent
+
+  abbrev Plugs : Heard → List Sent → Type 0
+  Plugs heard sent = (caller : Caller) (address : List ℕ) (request : PlugRequest) → caller ≡ caller_of setup.plan.controller → IsOfPlug setup request
+      → heard ≡ Reported caller address (Calls (plug_call setup request)) → AllByRecursion (IsUnchosen setup) sent
+
+  served_own : (heard : Heard) (after : Rest) (sent : List Sent) → AllLast setup silence live.rest.link → Releases heard sent
+      → AllByRecursion IsSizedIfPlug sent → (it : Serves station live heard after sent) → IsOwnCall setup it.caller it.call → Went after sent
+  served_own heard after sent lasts releases sized it own =
       let request = own.request in
       let address = live.values.running.suite.address in
       let which : it.which ≡ which_of request = same_Some it.which (which_of request)
@@ -252,9 +261,38 @@ module _ (setup : Setup) (Holds : Chosen → Type 0) (silence : ℕ) (station : 
       by_release asks.PrmEnd called is caller address e = absurd cc
       by_release (asks.Release sequence) called is caller address e = releases caller address sequence e
 
+  -- The response to a call after a plug.
+  served_plug : (heard : Heard) (after : Rest) (sent : List Sent) → AllLast setup silence live.rest.link → Plugs heard sent
+      → AllByRecursion IsSizedIfPlug sent → (it : Serves station live heard after sent) → IsPlugCall setup it.caller it.call → Went after sent
+  served_plug heard after sent lasts plugs sized it plug =
+      let address = live.values.running.suite.address in
+      let answer = answer_to it.call (outcome_of it.which it.outcome).0 (outcome_of it.which it.outcome).1 in
+      let first : Sent = CallAnswer it.caller address answer in
+      let all = plugs it.caller it.address plug.request plug.by plug.of
+      (it.is ∙ ap (λ (c : Call). Reported it.caller it.address (Calls c)) plug.is) in
+      let none = (subst (AllByRecursion (IsUnchosen setup)) it.sends all).0 in (
+        subst (AllByRecursion Saying) (sym it.sends) (
+          none_says answer none,
+          readied_says after.link address it.ready lasts it.readied (subst (AllByRecursion IsSizedIfPlug) it.sends sized).1,
+        ),
+        more_stored after.calls (kept_for station.identity it.call first) [] first (readied_from address it.ready) sent it.keeps refl it.sends,
+      )
+
+  served : (heard : Heard) (after : Rest) (sent : List Sent) → AllLast setup silence live.rest.link → IsOwnHeard setup heard → Releases heard sent
+      → Plugs heard sent → AllByRecursion IsSizedIfPlug sent → Serves station live heard after sent → Went after sent
+  served heard after sent lasts known releases plugs sized it = by_call (subst (IsOwnHeard setup) it.is known)
+    where
+      by_call : IsOwnCall setup it.caller it.call ⊎ IsPlugCall setup it.caller it.call → Went after sent
+      by_call (inl own) = served_own heard after sent lasts releases sized it own
+      by_call (inr plug) = served_plug heard after sent lasts plugs sized it plug
+
   repeats_activity : (heard : Heard) (caller : Caller) (address : List ℕ) (call : Call) → IsOwnHeard setup heard → heard ≡ Reported caller address (Calls call)
       → call.header.activity ≡ setup.activity
-  repeats_activity heard caller address call known is = ap (λ (c : Call). c.header.activity) (subst (IsOwnHeard setup) is known).is
+  repeats_activity heard caller address call known is = by_call (subst (IsOwnHeard setup) is known)
+    where
+      by_call : IsOwnCall setup caller call ⊎ IsPlugCall setup caller call → call.header.activity ≡ setup.activity
+      by_call (inl own) = ap (λ (c : Call). c.header.activity) own.is
+      by_call (inr plug) = ap (λ (c : Call). c.header.activity) plug.is
 
   -- ---- a call that is asked
 
@@ -285,7 +323,7 @@ module _ (setup : Setup) (Holds : Chosen → Type 0) (silence : ℕ) (station : 
         more_stored after.calls (kept_for station.identity call message) [] message [] sent (ap (λ (r : Rest). r.calls) it.becomes) refl it.sends,
       )
 
-  replied : (heard : Heard) (after : Rest) (sent : List Sent) → AllLast silence live.rest.link
+  replied : (heard : Heard) (after : Rest) (sent : List Sent) → AllLast setup silence live.rest.link
       → ((question : Question) → question_in live.rest.asked ≡ Some question → question.header.activity ≡ setup.activity
       → (question.header.sequence == 0) ≡ false)
       → AllByRecursion IsSizedIfPlug sent → Replies station live heard after sent → Went after sent
@@ -299,19 +337,18 @@ module _ (setup : Setup) (Holds : Chosen → Type 0) (silence : ℕ) (station : 
       )
 
   -- All that is sent, and what is stored afterwards.
-  pub turn_says : (heard : Heard) (after : Rest) (sent : List Sent) → AllLast silence live.rest.link → IsOwnHeard setup heard → StoresChosen setup Holds live
-      → ((caller : Caller) (address : List ℕ) (sequence : ℕ) → heard ≡ Reported caller address (Calls (call_for setup (asks.Release sequence)))
-      → AllByRecursion (IsUnchosen setup) sent)
+  pub turn_says : (heard : Heard) (after : Rest) (sent : List Sent) → AllLast setup silence live.rest.link → IsOwnHeard setup heard → StoresChosen setup Holds live
+      → Releases heard sent → Plugs heard sent
       → ((question : Question) → question_in live.rest.asked ≡ Some question → question.header.activity ≡ setup.activity
       → (question.header.sequence == 0) ≡ false)
       → AllByRecursion IsSizedIfPlug sent → Does station live heard after sent → Went after sent
-  turn_says heard after sent lasts known stored releases others sized (inl it) =
+  turn_says heard after sent lasts known stored releases plugs others sized (inl it) =
       (subst (AllByRecursion Saying) (sym it.silent) tt, same_stored after.calls sent (ap (λ (r : Rest). r.calls) it.same))
-  turn_says heard after sent lasts known stored releases others sized (inr (inl it)) =
+  turn_says heard after sent lasts known stored releases plugs others sized (inr (inl it)) =
       (others_say after.link sent lasts it.others sized, same_stored after.calls sent it.calls)
-  turn_says heard after sent lasts known stored releases others sized (inr (inr (inl it))) =
+  turn_says heard after sent lasts known stored releases plugs others sized (inr (inr (inl it))) =
       (exchange_says sent it.others, same_stored after.calls sent (ap (λ (r : Rest). r.calls) it.becomes))
-  turn_says heard after sent lasts known stored releases others sized (inr (inr (inr (inl it)))) = (
+  turn_says heard after sent lasts known stored releases plugs others sized (inr (inr (inr (inl it)))) = (
     subst (AllByRecursion Saying) (sym it.sends) (
       stored it.kept (subst (λ (activity : List ℕ). kept_of activity live.rest.calls ≡ Some it.kept)
           (repeats_activity heard it.caller it.address it.call known it.is) it.there),
@@ -319,10 +356,10 @@ module _ (setup : Setup) (Holds : Chosen → Type 0) (silence : ℕ) (station : 
     ),
     same_stored after.calls sent (ap (λ (r : Rest). r.calls) it.same),
   )
-  turn_says heard after sent lasts known stored releases others sized (inr (inr (inr (inr (inl it))))) =
-      served heard after sent lasts known releases sized it
-  turn_says heard after sent lasts known stored releases others sized (inr (inr (inr (inr (inr (inl it)))))) =
+  turn_says heard after sent lasts known stored releases plugs others sized (inr (inr (inr (inr (inl it))))) =
+      served heard after sent lasts known releases plugs sized it
+  turn_says heard after sent lasts known stored releases plugs others sized (inr (inr (inr (inr (inr (inl it)))))) =
       (subst (AllByRecursion Saying) (sym it.silent) tt, same_stored after.calls sent (ap (λ (r : Rest). r.calls) it.becomes))
-  turn_says heard after sent lasts known stored releases others sized (inr (inr (inr (inr (inr (inr (inl it))))))) = declined heard after sent it
-  turn_says heard after sent lasts known stored releases others sized (inr (inr (inr (inr (inr (inr (inr it))))))) =
+  turn_says heard after sent lasts known stored releases plugs others sized (inr (inr (inr (inr (inr (inr (inl it))))))) = declined heard after sent it
+  turn_says heard after sent lasts known stored releases plugs others sized (inr (inr (inr (inr (inr (inr (inr it))))))) =
       replied heard after sent lasts others sized it

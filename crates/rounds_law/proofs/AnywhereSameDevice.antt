@@ -1,5 +1,5 @@
 -- A step of a device: its relation stays that of this start, and what it stores and sends chooses as before.
-use Rattle.std.proofs.Common.{◌≡◌, ◌<◌, ◌⊎◌, inl, inr, ◌==◌, ◌++◌, ℕ, true, false, List, [], ◌∷◌, map, Some, None, Ok, refl, sym, subst, ◌∙◌}
+use Rattle.std.proofs.Common.{◌≡◌, ◌<◌, ◌⊎◌, inl, inr, ◌==◌, ◌++◌, ℕ, true, false, List, [], ◌∷◌, map, Some, None, Ok, refl, sym, ap, subst, ◌∙◌}
 use Rattle.std.specs.List.{AllByRecursion}
 use Rattle.flash_model.specs.declared.flash.Flash.{Ghosts as Flash}
 use Rattle.pn_values.specs.declared.identity.Identity.{Identity}
@@ -19,18 +19,20 @@ use Rattle.device_frames.specs.Heard.{Calls, Heard, Reported, Ticks, heard_of}
 use Rattle.device_frames.specs.Sent.{Sent, bytes_of}
 use Rattle.device_core.specs.State.{Live, Rest, State, Station}
 use Rattle.device_core.specs.Machine.{handled_step, heard_step}
+use Rattle.controller_messages.specs.declared.plug_request.PlugRequest.{PlugRequest}
 use Rattle.controller_messages.specs.declared.request.Request.TheVariants as asks
 use Rattle.controller_messages.specs.declared.setup.Setup.{Setup}
+use Rattle.controller_messages.specs.PlugRequests.{plug_call}
 use Rattle.controller_messages.specs.Requests.{call_for}
 use Rattle.end_laws.specs.both.Small.{Rules}
 use Rattle.end_laws.specs.device.Small.{IsPlanned}
 use Rattle.end_laws.specs.device.Turn.{Turn}
 use Rattle.end_laws.specs.hearing.Hearing.{comes}
 use Rattle.end_laws.specs.hearing.Stations.{IsDevice}
-use Rattle.both_ends.specs.startup.answer.Answer.{chosen_with}
+use Rattle.both_ends.specs.startup.answer.Answer.{caller_of, chosen_with}
 use Rattle.both_ends.specs.startup.request.Request.{request_for}
 use Rattle.rounds_law.specs.Anywhere.{IsAnyDevice}
-use Rattle.rounds_law.specs.AnywhereFrames.{IsAnything, IsOwn}
+use Rattle.rounds_law.specs.AnywhereFrames.{IsAnything, IsOfPlug, IsOwn}
 use Rattle.rounds_law.specs.AnywhereSame.{ChoosesIn, IsOfStart, StoresChosen}
 use Rattle.rounds_law.specs.Rounds.{Goes}
 use Rattle.rounds_law.proofs.AnywhereDeviceAnswers.{CallLaws}
@@ -42,6 +44,7 @@ use Rattle.rounds_law.proofs.AnywhereSameAnswers.{AnswersLaws, IsStoredFrom, tur
 use Rattle.rounds_law.proofs.AnywhereControllerLaws.{ControllerLaws}
 use Rattle.rounds_law.proofs.AnywhereSameHears.{IsKnown, message_known, rules_for, unit_known}
 use Rattle.rounds_law.proofs.AnywhereSameLink.{link_on}
+use Rattle.rounds_law.proofs.AnywhereSamePlugs.{plug_chooses_none}
 use Rattle.rounds_law.proofs.AnywhereSameReleased.{IsUnchosen, release_unchosen}
 use Rattle.rounds_law.proofs.AnywhereSameSays.{IsSaying, PacketsAreNothing, all_say}
 
@@ -100,6 +103,13 @@ module _ {F : Type 0} {S : ℕ} (as_flash : Flash F S) (setup next : Setup) (ide
         subst (λ (h : Heard). AllByRecursion (IsUnchosen setup) (heard_step outcomes before.station before.live h).sent) (sym is)
         (release_unchosen setup outcomes before.station before.live caller call_laws.negative call_laws.released call_laws.unchosen sequence address)
 
+    plug_calls : (caller : Caller) (address : List ℕ) (request : PlugRequest) → caller ≡ caller_of setup.plan.controller → IsOfPlug setup request
+        → heard ≡ Reported caller address (Calls (plug_call setup request)) → AllByRecursion (IsUnchosen setup) sent
+    plug_calls caller address request by of is =
+        subst (λ (h : Heard). AllByRecursion (IsUnchosen setup) (heard_step outcomes before.station before.live h).sent)
+        (sym (is ∙ ap (λ (c : Caller). Reported c address (Calls (plug_call setup request))) by))
+        (plug_chooses_none setup next identity silence before.station before.live call_laws any request of outcomes address)
+
     module _ (Holds : Chosen → Type 0) (allows : before.live.rest.link ≡ None → (number : ℕ) → number < 14336 → Holds (chosen_with number))
         (stored : StoresChosen setup Holds before.live) where
       answers : AnswersLaws setup Holds before.station before.live
@@ -122,7 +132,7 @@ module _ {F : Type 0} {S : ℕ} (as_flash : Flash F S) (setup next : Setup) (ide
       all_sent : AllByRecursion (ChoosesIn setup Holds) (map (bytes_of before.station.identity) sent)
       all_sent =
           all_say laws.device.says laws.packets setup Holds before.station.identity long.real device sent
-          (turn_says setup Holds silence before.station before.live answers heard rest sent any.lasts known.1 stored releases replies plugs turn.does).0
+          (turn_says setup Holds silence before.station before.live answers heard rest sent any.lasts known.1 stored releases plug_calls replies plugs turn.does).0
           goes.steps.sendable
 
       middle : (front : List Sent) (message : Sent) (others : List Sent)
@@ -143,7 +153,7 @@ module _ {F : Type 0} {S : ℕ} (as_flash : Flash F S) (setup next : Setup) (ide
           (subst (λ (messages : List Sent). AllByRecursion (ChoosesIn setup Holds) (map (bytes_of before.station.identity) messages)) new.3 all_sent))
 
       went : AllByRecursion (IsSaying setup Holds) sent × IsStoredFrom setup Holds silence before.station before.live answers rest.calls sent
-      went = turn_says setup Holds silence before.station before.live answers heard rest sent any.lasts known.1 stored releases replies plugs turn.does
+      went = turn_says setup Holds silence before.station before.live answers heard rest sent any.lasts known.1 stored releases plug_calls replies plugs turn.does
 
       -- What it stores and sends.
       stays_chosen : StoresChosen setup Holds after.live × AllByRecursion (ChoosesIn setup Holds) frames

@@ -1,6 +1,6 @@
 -- What a device hears of its controller, as the law of its turns needs it: each call is one of the controller's start-up, and nothing comes
 -- from the application of the device.
-use Rattle.std.proofs.Common.{◌≡◌, inl, inr, false, [], Option, Some, None, Ok, refl, sym, subst, List}
+use Rattle.std.proofs.Common.{◌≡◌, ◌⊎◌, inl, inr, false, [], Option, Some, None, Ok, refl, sym, ap, subst, ◌∙◌, List}
 use Rattle.pn_values.specs.declared.real.Real.{Real}
 use Rattle.frame_codec.specs.declared.udp.Caller.{Caller}
 use Rattle.rpc_core.specs.Call.{Asked as Call}
@@ -18,9 +18,13 @@ use Rattle.diagnosis.specs.declared.reports.priority.Priority.TheVariants.{High,
 use Rattle.plans.specs.Connect.{connect_of}
 use Rattle.device_frames.specs.Heard.{Calls, Applied, Heard, Reported, Ticks}
 use Rattle.asked_records.specs.declared.names.RecordName.{RecordName}
+use Rattle.controller_messages.specs.declared.plug_request.PlugRequest.{PlugRequest}
+use Rattle.controller_messages.specs.declared.plug_request.PlugStep.{PlugStep}
+use Rattle.controller_messages.specs.declared.plug_request.PlugStep.TheVariants.{PrmEnd, Record}
 use Rattle.controller_messages.specs.declared.request.Request.{Request}
 use Rattle.controller_messages.specs.declared.request.Request.TheVariants as asks
 use Rattle.controller_messages.specs.declared.setup.Setup.{Setup}
+use Rattle.controller_messages.specs.PlugRequests.{plug_blocks, plug_call, plug_operation}
 use Rattle.controller_messages.specs.Requests.{blocks_of, call_for}
 use Rattle.controller_messages.specs.Sent.{Sent, Requests, Accesses, Parametrizes, Agrees, Cycles, Confirms, Replies, Ends}
 use Rattle.end_laws.specs.both.Small as small
@@ -29,8 +33,8 @@ use Rattle.end_laws.specs.device.Small.{IsPlanned, IsPlannedAs, IsPlannedCall}
 use Rattle.end_laws.specs.hearing.Stations.{IsCalled}
 use Rattle.both_ends.specs.startup.answer.Answer.{caller_of}
 use Rattle.both_ends.specs.startup.request.Request.{request_for}
+use Rattle.rounds_law.specs.AnywhereFrames.{HasWay, IsOfPlug}
 use Rattle.rounds_law.proofs.AnywhereDeviceHears.{IsHeardAs, message_said, replied_said, request_said}
-use Rattle.rounds_law.proofs.AnywhereParts.{HasWay}
 use Rattle.rounds_law.proofs.DeviceCallingConnected.{is_connect}
 
 -- ---- operations
@@ -62,6 +66,15 @@ which_is setup (asks.Write number) called = is_write
 which_is setup asks.PrmEnd called = is_control
 which_is setup (asks.Release sequence) called = is_release
 
+-- What is asked for with a request after a plug.
+abbrev pub plug_which : PlugStep → Operation
+plug_which (Record number) = Write
+plug_which PrmEnd = Control
+
+plug_which_is : (step : PlugStep) → operation_of (plug_operation step) ≡ Some (plug_which step)
+plug_which_is (Record number) = is_write
+plug_which_is PrmEnd = is_control
+
 -- ---- what is heard
 
 -- A call of this controller: its Connect, a Write, its PrmEnd or a Release.
@@ -71,9 +84,21 @@ pub record IsOwnCall (setup : Setup) (caller : Caller) (call : Call) : Type 0 wh
   pub called : IsCalled request
   pub is : call ≡ call_for setup request
 
+-- A call of this controller after a plug: a Write, or the PrmEnd of a place.
+pub record IsPlugCall (setup : Setup) (caller : Caller) (call : Call) : Type 0 where
+  pub by : caller ≡ caller_of setup.plan.controller
+  pub request : PlugRequest
+  pub of : IsOfPlug setup request
+  pub is : call ≡ plug_call setup request
+
+-- It is no other call.
+pub plug_asks : (setup : Setup) (caller : Caller) (call : Call) → (plug : IsPlugCall setup caller call)
+    → operation_of call.header.operation ≡ Some (plug_which plug.request.step)
+plug_asks setup caller call plug = ap (λ (c : Call). operation_of c.header.operation) plug.is ∙ plug_which_is plug.request.step
+
 -- Each call is one, and nothing comes from an application.
 abbrev pub IsOwnHeard : Setup → Heard → Type 0
-IsOwnHeard setup (Reported caller address (Calls call)) = IsOwnCall setup caller call
+IsOwnHeard setup (Reported caller address (Calls call)) = IsOwnCall setup caller call ⊎ IsPlugCall setup caller call
 IsOwnHeard setup (Applied local) = ⊥
 IsOwnHeard setup heard = Unit {0}
 
@@ -111,8 +136,29 @@ module _ (setup : Setup) (named : List RecordName) (real : Real)
     asks = subst (PlannedAs request) (sym (which_is setup request called)) plans;
   }
 
-  own_call : (request : Request) → IsCalled request → IsOwnCall setup (caller_of setup.plan.controller) (call_for setup request)
-  own_call request called = record { by = refl; request = request; called = called; is = refl }
+  abbrev IsOwnSaid : Call → Type 0
+  IsOwnSaid call = IsOwnCall setup (caller_of setup.plan.controller) call ⊎ IsPlugCall setup (caller_of setup.plan.controller) call
+
+  own_call : (request : Request) → IsCalled request → IsOwnSaid (call_for setup request)
+  own_call request called = inl (record { by = refl; request = request; called = called; is = refl })
+
+  abbrev PlugPlannedAs : PlugRequest → Option Operation → Type 0
+  PlugPlannedAs request which = IsPlannedAs (rules_for setup) named real request.sequence (plug_blocks setup request request.step) which
+
+  plug_plans : (request : PlugRequest) (step : PlugStep) → PlugPlannedAs request (Some (plug_which step))
+  plug_plans request (Record number) = λ planned. absurd cc
+  plug_plans request PrmEnd = tt
+
+  plug_planned : (request : PlugRequest) → IsPlannedCall (rules_for setup) setup.activity named real (plug_call setup request)
+  plug_planned request = record {
+    own = refl;
+    blocks = plug_blocks setup request request.step;
+    counted = refl;
+    asks = subst (PlugPlannedAs request) (sym (plug_which_is request.step)) (plug_plans request request.step);
+  }
+
+  plug_known : (request : PlugRequest) → IsOfPlug setup request → IsKnown (Reported (caller_of setup.plan.controller) setup.plan.station.suite.address (Calls (plug_call setup request)))
+  plug_known request of = (plug_planned request, inr (record { by = refl; request = request; of = of; is = refl }))
 
   request_known : (request : Request) → IsKnown (request_said setup request)
   request_known asks.Identify = (tt, tt)
@@ -129,10 +175,10 @@ module _ (setup : Setup) (named : List RecordName) (real : Real)
   reply_known priority header pdu.Data = (tt, tt)
   reply_known priority header pdu.Error = (tt, tt)
 
-  said_known : (message : Sent) → HasWay message → IsKnown (message_said setup message)
+  said_known : (message : Sent) → HasWay setup message → IsKnown (message_said setup message)
   said_known (Requests device request) way = request_known request
   said_known (Accesses device request octets) way = absurd way
-  said_known (Parametrizes device request) way = absurd way
+  said_known (Parametrizes device request) way = plug_known request way
   said_known (Agrees caller answer) way = (tt, tt)
   said_known (Cycles route shown counter) way = (tt, tt)
   said_known (Confirms route High header ack) way = (tt, tt)
@@ -141,7 +187,7 @@ module _ (setup : Setup) (named : List RecordName) (real : Real)
   said_known (Ends route header reason) way = (tt, tt)
 
   -- A message of the controller, for this device or another one, and a unit.
-  pub message_known : (heard : Heard) (message : Sent) → HasWay message → IsHeardAs heard (message_said setup message) → IsKnown heard
+  pub message_known : (heard : Heard) (message : Sent) → HasWay setup message → IsHeardAs heard (message_said setup message) → IsKnown heard
   message_known heard message way (inl is) = subst IsKnown (sym is) (said_known message way)
   message_known heard message way (inr is) = subst IsKnown (sym is) (tt, tt)
 

@@ -45,7 +45,7 @@ module _ {F : Type 0} {S : ℕ} (as_flash : Flash F S) (setup next : Setup) (ide
       setups = at.controller.of_setup
 
       stands : net.controller.live.stands ≡ true
-      stands = (reached_kept laws.controller setup net.controller long.real setups at.controller.reached at.controller.turnless).stands
+      stands = (reached_kept laws.controller setup net.controller long.real setups at.controller.reached).stands
           ∙ ap stands_in both.controller
 
       never : {A : Type 0} → true ≡ false → A

@@ -1,5 +1,5 @@
 -- The relation of a device after a turn: it is over, it has the request, the route and the endpoint that it had, or it is one of this start.
-use Rattle.std.proofs.Common.{◌≡◌, inl, inr, ℕ, Bool, List, Option, Some, None, Result, Ok, Err, refl, sym, ap, subst, ◌∙◌}
+use Rattle.std.proofs.Common.{◌≡◌, ◌⊎◌, inl, inr, ℕ, Bool, List, Option, Some, None, Result, Ok, Err, refl, sym, ap, subst, ◌∙◌}
 use Rattle.std.proofs.lemmas.Option.{none-some, same_Some}
 use Rattle.frame_codec.specs.declared.udp.Caller.{Caller}
 use Rattle.rpc_core.specs.Cache.{Kept}
@@ -25,6 +25,8 @@ use Rattle.relations.specs.exchange.Diagnosis.{begins_with_one, diagnoses_begun,
 use Rattle.relations.specs.exchange.Flow.{Flow}
 use Rattle.device_frames.specs.Heard.{Applied, Heard}
 use Rattle.device_frames.specs.Sent.{Sent}
+use Rattle.controller_messages.specs.declared.plug_request.PlugStep.{PlugStep}
+use Rattle.controller_messages.specs.declared.plug_request.PlugStep.TheVariants.{PrmEnd, Record}
 use Rattle.controller_messages.specs.declared.request.Request.{Request}
 use Rattle.controller_messages.specs.declared.request.Request.TheVariants as asks
 use Rattle.controller_messages.specs.declared.setup.Setup.{Setup}
@@ -34,7 +36,7 @@ use Rattle.end_laws.specs.hearing.Stations.{IsCalled}
 use Rattle.both_ends.specs.startup.request.Request.{request_for}
 use Rattle.rounds_law.specs.AnywhereSame.{AreOfNumber, IsOfStart}
 use Rattle.rounds_law.proofs.AgainKept.{refused_within}
-use Rattle.rounds_law.proofs.AnywhereSameHears.{IsOwnCall, IsOwnHeard, which_is, which_of}
+use Rattle.rounds_law.proofs.AnywhereSameHears.{IsOwnCall, IsOwnHeard, IsPlugCall, plug_asks, plug_which, which_is, which_of}
 use Rattle.rounds_law.proofs.DevicePassingLeft.{frame_left}
 
 -- ---- the Connect of this start
@@ -118,7 +120,7 @@ module _ (setup : Setup) (read : request_of None (plan_connect setup.plan setup.
   connect_asked (asks.Release sequence) called is = absurd cc
 
   -- The blocks of a call that is a Connect are those of the Connect.
-  pub connect_blocks_are : (caller : Caller) (call : Call) (blocks : List ℕ) → IsOwnCall setup caller call
+  connect_blocks_are : (caller : Caller) (call : Call) (blocks : List ℕ) → IsOwnCall setup caller call
       → operation_of call.header.operation ≡ Some Connect → call.blocks ≡ Some blocks → blocks ≡ blocks_of setup asks.Connect
   connect_blocks_are caller call blocks own connects counted =
       let asked = connect_asked own.request own.called
@@ -126,11 +128,22 @@ module _ (setup : Setup) (read : request_of None (plan_connect setup.plan setup.
       same_Some blocks (blocks_of setup asks.Connect)
       (sym counted ∙ (ap (λ (c : Call). c.blocks) own.is ∙ ap (λ (r : Request). Some (blocks_of setup r)) asked))
 
+  -- A call after a plug is no Connect.
+  plug_step : (step : PlugStep) → Some (plug_which step) ≡ Some Connect → ⊥
+  plug_step (Record number) e = absurd cc
+  plug_step PrmEnd e = absurd cc
+
+  said_blocks_are : (caller : Caller) (call : Call) (blocks : List ℕ) → IsOwnCall setup caller call ⊎ IsPlugCall setup caller call
+      → operation_of call.header.operation ≡ Some Connect → call.blocks ≡ Some blocks → blocks ≡ blocks_of setup asks.Connect
+  said_blocks_are caller call blocks (inl own) connects counted = connect_blocks_are caller call blocks own connects counted
+  said_blocks_are caller call blocks (inr plug) connects counted =
+      absurd (plug_step plug.request.step (sym (plug_asks setup caller call plug) ∙ connects))
+
   made_on : (calls : List Kept) (before : Option RelationState) (heard : Heard) (after : Option RelationState) (sent : List Sent)
       → Makes calls before heard after sent → IsOwnHeard setup heard → IsOfStart setup after
   made_on calls before heard after sent it own =
       let by = subst (IsOwnHeard setup) it.is own in
-      let same = request_is before it.blocks it.request (connect_blocks_are it.caller it.call it.blocks by it.connects it.counted) it.read in
+      let same = request_is before it.blocks it.request (said_blocks_are it.caller it.call it.blocks by it.connects it.counted) it.read in
       subst (IsOfStart setup) (sym it.made)
       (subst (λ (request : Asked). IsOfStart setup (Some (made_of request it.partner it.rows it.options it.starting))) (sym same)
       (λ partner. (refl, record { number = it.starting.number; few = it.few; outputs = refl; alarms = refl })))

@@ -109,9 +109,10 @@ module _ {F : Type 0} {S : ℕ} (as_flash : Flash F S) (setup next : Setup) (ide
         (ended_unit laws.controller setup)
         (device_frame as_flash setup next identity silence laws.device) (link_unit as_flash setup next identity silence) releases_heard
         (keeps as_flash setup next identity silence laws long) releases_ignored next_starts long patience device.live is.0.addressed;
-    lasts = subst (AllLast silence) (sym is.1) tt;
+    lasts = subst (AllLast next silence) (sym is.1) tt;
     stored = λ kept found. none_found kept found;
     stored_other = λ kept found. none_found kept found;
+    answers = λ keyed kept found. none_found kept found;
     uncalled_next = uncalled next device.live.rest.calls;
     asked = nothing_asked next (third device) (uuid_of device.live.rest.link) device.live.rest.asked.standing
         (unrelated_asked setup next device.live.rest.link device.live.rest.asked.standing is.1 is.0.asked);
@@ -123,10 +124,9 @@ module _ {F : Type 0} {S : ℕ} (as_flash : Flash F S) (setup next : Setup) (ide
           not_both : {A : Type 0} (kept : Kept) → None ≡ Some kept → A
           not_both kept bad = absurd cc
 
-  under_first : (device : State F) → IsBare device → next.plan.parameters_after_plug ≡ false
-      → IsUnderWay as_flash next (third device) identity silence (first device)
-  under_first device is keyless = record {
-    controller = any_first next keyless;
+  under_first : (device : State F) → IsBare device → IsUnderWay as_flash next (third device) identity silence (first device)
+  under_first device is = record {
+    controller = any_first next;
     device = device_is device is;
     to_device = (own_opening next, tt);
     to_controller = tt;
@@ -192,8 +192,7 @@ module _ {F : Type 0} {S : ℕ} (as_flash : Flash F S) (setup next : Setup) (ide
       let other = third parts.between in
       let longer = long_after as_flash setup next identity silence parts.between.live.rest.calls long in
       let one = first_round net round.net silent round.round parts heard.1 in
-      let keyless = subst (λ (p : Parts). p.parameters_after_plug ≡ false) (sym long.starts.plan) under.controller.turnless in
-      let under_one = under_first parts.between heard.0 keyless in
+      let under_one = under_first parts.between heard.0 in
       let at = under_on as_flash next other identity silence next_laws longer patience_next (first parts.between) round.net under_one one in
       let same = same_on as_flash next other identity silence next_laws longer (first parts.between) round.net under_one one
       (same_first parts.between heard.0) in

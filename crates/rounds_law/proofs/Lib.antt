@@ -67,6 +67,9 @@ pub mod ComesLaw
 pub mod AskingController
 pub mod AskingRounds
 pub mod AnywhereParts
+pub mod AnywherePlugBlocks
+pub mod AnywherePlugWalk
+pub mod AnywhereLinkPlugs
 pub mod AnywherePlants
 pub mod AnywhereDeviceAnswers
 pub mod AnywhereDeviceLaw
@@ -74,7 +77,7 @@ pub mod AnywhereDeviceReleased
 pub mod AnywhereControllerHeard
 pub mod AnywhereControllerKept
 pub mod AnywhereControllerLaws
-pub mod AnywhereTurnless
+pub mod AnywhereTurning
 pub mod AnywhereControllerReached
 pub mod AnywhereControllerAcks
 pub mod AnywhereControllerSent
@@ -132,6 +135,7 @@ pub mod AnywhereSameSays
 pub mod AnywhereSameHears
 pub mod AnywhereSameLink
 pub mod AnywhereSameReleased
+pub mod AnywhereSamePlugs
 pub mod AnywhereSameAnswers
 pub mod AnywhereSameDevice
 pub mod AnywhereSameController

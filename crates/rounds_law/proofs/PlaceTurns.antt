@@ -95,7 +95,7 @@ abbrev pub HoldsBeside : (Live → Type 0) → Live → Type 0
 HoldsBeside Holds live = (waited : ℕ) (places : Told) (access : Accessing) → waited ≤ live.waited → access.waiting ≡ live.access.waiting
     → Holds (with_turn live waited places access)
 
-begun_beside : (Holds : Live → Type 0) (setup : Setup) (live : Live) → HoldsBeside Holds live → Holds (begun_turn setup live)
+pub begun_beside : (Holds : Live → Type 0) (setup : Setup) (live : Live) → HoldsBeside Holds live → Holds (begun_turn setup live)
 begun_beside Holds setup live is = by_test (can_begin live) (next_waiting live.places)
   where
     by_test : (can : Bool) (next : Option Plug) → Holds (if can then begun_by setup next live else live)

@@ -85,11 +85,11 @@ module _ (real : Real) (named : List RecordName) (caller : Caller) (call : Call)
         r >>= λ x. or_fault fault.BlockForm (in_iod_write_req x.0) >>= λ write. in_relation standing write.header.ar_uuid >>= λ _. Ok (write, x.1))
         (single_is long asked rest read)
 
-    block_asks : (asked : IodWriteReq) (rest : List ℕ) → block_of (block_bytes (is.IodWriteReq asked) ++ rest) ≡ front (is.IodWriteReq asked) rest
+    pub block_asks : (asked : IodWriteReq) (rest : List ℕ) → block_of (block_bytes (is.IodWriteReq asked) ++ rest) ≡ front (is.IodWriteReq asked) rest
         → asked_name real named asked.header ≡ None → asks (write_within standing (block_bytes (is.IodWriteReq asked) ++ rest)) ≡ Ok None
     block_asks asked rest read none = ap asks (within_is asked rest read) ∙ asked_none asked rest none (in_relation standing asked.header.ar_uuid)
 
-  empty_asks : (standing : Option (List ℕ)) → asks (write_within standing []) ≡ Ok None
+  pub empty_asks : (standing : Option (List ℕ)) → asks (write_within standing []) ≡ Ok None
   unfolding write_within single_of
   empty_asks standing = refl
 

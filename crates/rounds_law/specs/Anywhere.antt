@@ -1,5 +1,5 @@
 -- Both ends in any state, with any of their frames under way: what losses, repeats, power failures and restarts can leave.
-use Rattle.std.specs.Prelude.{◌≡◌, ◌≢◌, ◌⊎◌, ◌≤◌, ◌<◌, ◌+◌, ◌*◌, ◌==◌, ℕ, zero, suc, true, false, List, ◌∷◌, Option, Some, None}
+use Rattle.std.specs.Prelude.{◌≡◌, ◌≢◌, ◌⊎◌, ◌≤◌, ◌<◌, ◌+◌, ◌*◌, ◌==◌, ℕ, zero, suc, true, false, if◌then◌else◌, List, ◌∷◌, Option, Some, None}
 use Rattle.std.specs.List.{AllByRecursion}
 use Rattle.flash_model.specs.declared.flash.Flash.{Ghosts as Flash}
 use Rattle.pn_values.specs.declared.identity.Identity.{Identity}
@@ -13,13 +13,14 @@ use Rattle.asked_records.specs.Asked.{Standing}
 use Rattle.asked_records.specs.Questions.{is_of_relation}
 use Rattle.plans.specs.declared.parts.Parts.{Parts}
 use Rattle.relations.specs.RelationState.{RelationState, uuid_of}
+use Rattle.relations.specs.Diagnosed.{has_sent_low}
 use Rattle.relations.specs.Timers.{is_timed, limit_of}
 use Rattle.relations.specs.declared.phase.Phase.TheVariants.{Exchanging as in_exchange}
 use Rattle.device_core.specs.State.{Live, Station}
 use Rattle.controller_messages.specs.declared.request.Request.TheVariants as asks
 use Rattle.controller_messages.specs.declared.setup.ControllerOptions.{ControllerOptions}
 use Rattle.controller_messages.specs.declared.setup.Setup.{Setup}
-use Rattle.controller_messages.specs.Heard.{Heard, Responds, Calls, heard_of}
+use Rattle.controller_messages.specs.Heard.{Heard, Nothing, Answers, Responds, Refuses, Calls, Cyclic, Alarms, heard_of}
 use Rattle.connects.specs.answers.Connect.{Chosen}
 use Rattle.controller_core.specs.start_up.Answers.{is_answer}
 use Rattle.controller_core.specs.declared.stored.state.State.TheVariants.{Exchanging}
@@ -37,10 +38,14 @@ use Rattle.rounds_law.specs.Again.{Plant, PlantRound, units_left}
 
 -- ---- the device
 
+-- Before data is exchanged no alarm of low priority was sent, and so no plug was reported.
+abbrev pub IsUntold : RelationState → Type 0
+IsUntold link = is_timed link.phase ≡ true → (has_sent_low (Some link) ≡ false) × (link.plugs.has_told ≡ false)
+
 -- A relation of anybody: its data hold time runs while data is exchanged, and neither that nor its activity time has more units than these. So
 -- it ends after at most that many if its controller is silent. Its identifiers and the numbers of its calls for plugs have their sizes, and its
--- inputs have a FrameID of cyclic data.
-pub record Lasts (silence : ℕ) (link : RelationState) : Type 0 where
+-- inputs have a FrameID of cyclic data. If the plan of this set-up writes parameters after a plug, no plug was reported before data is exchanged.
+pub record Lasts (setup : Setup) (silence : ℕ) (link : RelationState) : Type 0 where
   pub runs : is_timed link.phase ≡ false → link.flow.cyclic.begun ≡ true
   pub active : limit_of link ≤ silence
   pub holds : link.flow.cyclic.hearing.limit ≤ silence
@@ -48,11 +53,12 @@ pub record Lasts (silence : ℕ) (link : RelationState) : Type 0 where
   pub object : IsUuid link.request.ar.object
   pub called : AreNumbered link.plugs.calls
   pub inputs : is_cyclic link.flow.cyclic.route.sent_id ≡ true
+  pub untold : setup.plan.parameters_after_plug ≡ true → IsUntold link
 
 -- The relation of the device, if it has one, lasts at most this long without its controller.
-abbrev pub AllLast : ℕ → Option RelationState → Type 0
-AllLast silence None = Unit {0}
-AllLast silence (Some link) = Lasts silence link
+abbrev pub AllLast : Setup → ℕ → Option RelationState → Type 0
+AllLast setup silence None = Unit {0}
+AllLast setup silence (Some link) = Lasts setup silence link
 
 -- The outputs of a controller with an established relation have a FrameID of cyclic data, and the alarm endpoint of the device has two octets.
 abbrev pub HasRoute : Controlling → Type 0
@@ -85,33 +91,49 @@ IsQuestionOf setup next (Some uuid) (Some standing) =
 abbrev pub StoresWell : Setup → Live → Type 0
 StoresWell setup live = (kept : Kept) → kept_of setup.activity live.rest.calls ≡ Some kept → ChoosesWell setup kept.frame
 
+-- No frame of cyclic data.
+abbrev pub IsNoData : Heard → Type 0
+IsNoData Nothing = Unit {0}
+IsNoData (Answers source answer) = Unit {0}
+IsNoData (Responds response) = Unit {0}
+IsNoData (Refuses refusal) = Unit {0}
+IsNoData (Calls caller call) = Unit {0}
+IsNoData (Cyclic source frame_id body) = ⊥
+IsNoData (Alarms source under header notice) = Unit {0}
+
+-- The stored answers to one controller are no frames of cyclic data.
+abbrev pub StoresAnswers : Setup → Live → Type 0
+StoresAnswers setup live =
+    (kept : Kept) → kept_of setup.activity live.rest.calls ≡ Some kept → IsNoData (heard_of setup.plan.controller kept.frame)
+
 -- The stored answers to one controller are not for one of the next start, as all answers of a device to its calls are not.
 abbrev pub StoresForOther : Setup → Setup → Live → Type 0
 StoresForOther setup next live = (kept : Kept) → kept_of setup.activity live.rest.calls ≡ Some kept → IsIgnored next kept.frame
 
 -- The device is the plan's, uses its name, and has its IP suite or can store it. It may have any relation, or none, and what is asked of its
--- application was asked in that relation. It has stored no answer of the next start.
+-- application was asked in that relation. It has stored no answer of the next start. If the plan writes parameters after a plug, the stored
+-- answers are no frames of cyclic data.
 pub record IsAnyDevice (setup next : Setup) (identity : Identity) (silence : ℕ) (station : Station) (live : Live) : Type 0 where
   pub of_device : station.identity ≡ identity
   pub of_plan : IsOfPlan setup station live.rest.real
   pub named : IsNamed setup live
   pub sized : IsSized live.values.running.suite
   pub addressed : IsAddressed setup live ⊎ CanBeAddressed live
-  pub lasts : AllLast silence live.rest.link
+  pub lasts : AllLast setup silence live.rest.link
   pub stored : StoresWell setup live
+  pub answers : setup.plan.parameters_after_plug ≡ true → StoresAnswers setup live
   pub stored_other : StoresForOther setup next live
   pub uncalled_next : kept_of next.activity live.rest.calls ≡ None
   pub asked : IsQuestionOf setup next (uuid_of live.rest.link) live.rest.asked.standing
 
 -- ---- the controller
 
--- Any events have led to this state of the controller. No request of its application is open, and its plan writes no parameters after a plug.
+-- Any events have led to this state of the controller. No request of its application is open.
 pub record IsAnyController (setup : Setup) (controller : Controlling) : Type 0 where
   pub of_setup : controller.setup ≡ setup
   pub reached : IsReached controller
   pub routed : HasRoute controller
   pub alone : controller.live.access.waiting ≡ None
-  pub turnless : setup.plan.parameters_after_plug ≡ false
 
 -- Each state but the search, the exchange and the end has a patience.
 pub record HasPatience (options : ControllerOptions) : Type 0 where
@@ -183,10 +205,15 @@ pub record HasStored {F : Type 0} {S : ℕ} (as_flash : Flash F S) (setup : Setu
 abbrev pub ahead_limit : ControllerOptions → ℕ
 ahead_limit options = 32001 + (4 * options.patience + options.waiting_patience)
 
+-- The units by which records that are written after a plug can delay that: before data is exchanged each of them starts the activity time again,
+-- and a relation keeps 64.
+abbrev pub plug_limit : Parts → ℕ → ℕ
+plug_limit plan silence = 64 * (if plan.parameters_after_plug then silence else 0)
+
 -- The units until it has ended then, unless both serve: the relation of the device ends before data is exchanged, or while it is, and then the
 -- data hold time of the controller.
 abbrev pub parting_limit : Parts → ℕ → ℕ
-parting_limit plan silence = silence + silence + hold_of plan + 5
+parting_limit plan silence = silence + silence + hold_of plan + 5 + plug_limit plan silence
 
 -- Within how many units both exchange data, from any state.
 abbrev pub anywhere_limit : Setup → ℕ → ℕ → ℕ

@@ -1,5 +1,5 @@
 -- Both ends over any run: frames are lost, repeated, delayed and overtaken, and the device loses its power.
-use Rattle.std.specs.Prelude.{◌≡◌, ◌⊎◌, ◌++◌, ℕ, zero, suc, false, List, [], ◌∷◌}
+use Rattle.std.specs.Prelude.{◌≡◌, ◌⊎◌, ◌++◌, ℕ, zero, suc, List, [], ◌∷◌}
 use Rattle.std.specs.List.{AllByRecursion, Contains}
 use Rattle.flash_model.specs.declared.flash.Flash.{Ghosts as Flash}
 use Rattle.pn_values.specs.declared.identity.Identity.{Identity}
@@ -65,12 +65,10 @@ Happened as_flash setup zero before after = after ≡ before
 Happened {F} as_flash setup (suc number) before after =
     (between : Past F) × Happens as_flash setup before between × Happened as_flash setup number between after
 
--- The beginning: the controller was just made, and has sent its Identify. Its plan writes no parameters after a plug. The device was just
--- started from its flash.
+-- The beginning: the controller was just made, and has sent its Identify. The device was just started from its flash.
 pub record IsBeginning {F : Type 0} {S : ℕ} (as_flash : Flash F S) (setup : Setup) (identity : Identity) (past : Past F) : Type 0 where
   pub controller : past.controller ≡ made setup
   pub opened : past.by_controller ≡ opening_of (made setup) ∷ []
-  pub turnless : setup.plan.parameters_after_plug ≡ false
   pub silent : past.by_device ≡ []
   pub of_device : past.device.station.identity ≡ identity
   pub of_plan : IsOfPlan setup past.device.station past.device.live.rest.real

@@ -48,15 +48,15 @@ use records::refusals_are_not_done;
 /// The premises: the plan can start with this device. Each state of the controller has a patience. No relation of the device lasts longer
 /// without its controller than `silence`, which has at least the 1,920,000 units (60 seconds) of its activity time and the units of the
 /// plan's data hold time. A controller that ends is started again, with the next set-up, after a pause that is four units longer. The device
-/// is the plan's, has the plan's name, and has the plan's IP suite or can store it. No request of the application is open, and the plan writes no
-/// parameters after a plug.
+/// is the plan's, has the plan's name, and has the plan's IP suite or can store it. No request of the application is open. The plan may write
+/// parameters after a plug: requests for that may wait and be under way, and places may be plugged.
 pub fn both_ends_come_back_from_anywhere<F: Flash<S>, const S: usize>(
     setup: &Setup,
     next: &Setup,
     identity: &Identity,
 )
     // From each such state both ends exchange data within this limit: a second, the patience of each state of the controller, the time until
-    // it ends if its relation is not the device's, the pause, and the time of a start.
+    // it ends if its relation is not the device's, which is longer if the plan writes parameters after a plug, the pause, and the time of a start.
     ensures anywhere { CanStart setup.now identity.now → CanStart next.now identity.now → AreStarts setup.now next.now → HasPatience setup.now.options
         → (silence pause : ℕ) → 1920000 ≤ silence → hold_of setup.now.plan ≤ silence → silence + 4 ≤ pause
         → (plant : Plant F) → IsAnywhere setup.now next.now identity.now silence plant
@@ -75,8 +75,8 @@ pub fn both_ends_come_back_from_anywhere<F: Flash<S>, const S: usize>(
         → (number : ℕ) (first last : Past F) → IsBeginning F.Flash setup.now identity.now first → Happened F.Flash setup.now number first last
         → (plant : Plant F) → IsLeftBy next.now last plant
         → LeadsBack F.Flash pause (anywhere_limit setup.now silence pause) plant }
-    // A controller that was just made is in such a state, if its plan writes no parameters after a plug.
-    ensures first { setup.now.plan.parameters_after_plug ≡ false → IsAnyController setup.now (made setup.now) }
+    // A controller that was just made is in such a state.
+    ensures first { IsAnyController setup.now (made setup.now) }
     // So is a controller after each unit, and after each frame of a device in such a state. What it sends is what a device in such a state
     // may hear.
     ensures controller { HasPatience setup.now.options → (controller : Controlling) → IsAnyController setup.now controller

@@ -15,6 +15,7 @@ device_laws g c setup laws = record {
     identify = c.requests_are_heard.ensures.identify;
     address = c.requests_are_heard.ensures.address;
     call_can = c.calls_can_be_sent.ensures.call;
+    plug_can = c.calls_can_be_sent.ensures.plug_call;
     call = c.calls_are_heard.ensures.device;
     answer = c.ready_answers_are_heard.ensures.device;
     real_time = c.frames_are_read.ensures.real_time;
