@@ -1,6 +1,6 @@
 -- The Write of a record after a plug at the device: what it answers grants the record only if the relation accepted it.
-use Rattle.std.proofs.Common.{◌≡◌, ◌⊎◌, inl, inr, ◌<◌, ◌++◌, ◌==◌, ◌&&◌, ℕ, Bool, true, false, cond, List, [], ◌∷◌, map, Option, Some, None, option_map, refl, sym, ap, subst, ◌∙◌, arith}
-use Rattle.std.specs.Prelude.{if◌then◌else◌, nat_eq, unwrap_or}
+use Rattle.std.proofs.Common.{◌≡◌, ◌⊎◌, inl, inr, ◌<◌, ◌++◌, ◌==◌, ◌&&◌, ℕ, Bool, true, false, List, [], ◌∷◌, Option, Some, None, option_map, refl, sym, ap, subst, ◌∙◌, arith}
+use Rattle.std.specs.Prelude.{if◌then◌else◌, nat_eq}
 use Rattle.std.specs.List.{AllByRecursion}
 use Rattle.std.specs.Cmp.Lexicographic.{pointwise}
 use Rattle.settings_journal.specs.settings_store.Machine.{Outcome}
@@ -20,12 +20,10 @@ use Rattle.block_codec.specs.Writable.{CanBeWritten}
 use Rattle.connects.specs.requests.Request.{Request}
 use Rattle.records.specs.declared.status.call_fault.CallFault.{CallFault}
 use Rattle.records.specs.declared.status.operation.Operation.{Operation}
-use Rattle.records.specs.declared.status.operation.Operation.TheVariants as operation
 use Rattle.records.specs.status.Operation.{operation_of}
 use Rattle.records.specs.status.Status.{status_of}
 use Rattle.records.specs.declared.writes.taken.TakenRecord.{TakenRecord}
 use Rattle.plans.specs.declared.parts.Controller.{Controller}
-use Rattle.plans.specs.declared.parts.PlanRecord.{PlanRecord}
 use Rattle.asked_records.specs.Asked.{question_in}
 use Rattle.asked_records.specs.declared.question.Question.{Question}
 use Rattle.relations.specs.RelationState.{RelationState, passes_on}
@@ -48,8 +46,7 @@ use Rattle.end_laws.specs.hearing.Hearing.{mine_reported, own_reported}
 use Rattle.end_laws.specs.hearing.Stations.{IsDevice, IsSetup}
 use Rattle.end_laws.specs.both.Small as small
 use Rattle.end_laws.specs.both.Small.{Ask, Rules, ToController, ToDevice}
-use Rattle.end_laws.specs.both.Steps.{DeviceSteps, GoesBy, IsDull, IsNew, IsReady, SaysAtMost}
-use Rattle.end_laws.specs.controller.Small.{is_positive}
+use Rattle.end_laws.specs.both.Steps.{DeviceSteps, IsDull, IsNew, IsReady, SaysAtMost}
 use Rattle.end_laws.specs.device.Owed.{IsOwed}
 use Rattle.end_laws.specs.device.Small.{IsHeardAs, IsPlanned, IsPlannedCall, Planned, heard_as, kept_in, link_of, written_by}
 use Rattle.end_laws.specs.device.Small as device
@@ -60,7 +57,7 @@ use Rattle.plug_ends.specs.Taken.{IsPositive, IsWriteOf, TakesOne, hears_plug, t
 use Rattle.plug_ends.proofs.CallsFine.{FineSo, kept_after}
 use Rattle.plug_ends.proofs.CallsFrames.{answers_same, idle_call, nothing_answers, readies_answers}
 use Rattle.plug_ends.proofs.CallsRuns.{all_at, all_both, all_map, kept_for}
-use Rattle.plug_ends.proofs.CallsTurns.{none_some, some_same}
+use Rattle.plug_ends.proofs.CallsTurns.{some_same}
 use Rattle.plug_ends.proofs.PluggedLists.{IsRecordAt}
 use Rattle.plug_ends.proofs.PluggedState.{Grants, WasIn, grants_answers}
 use Rattle.plug_ends.proofs.PluggedWorlds.{IsPlugFrame, Numbered}

@@ -6,9 +6,7 @@ use Rattle.frame_codec.specs.declared.udp.Caller.{Caller}
 use Rattle.record_blocks.specs.declared.alarm_notification.AlarmNotification.{AlarmNotification}
 use Rattle.expected_places.specs.declared.place.Step.{Step}
 use Rattle.expected_places.specs.declared.place.Step.TheVariants.{Settled, Pulled, Plugged, Told, Ended, Refused}
-use Rattle.relations.specs.Plugging.{plug_answer_in}
 use Rattle.relations.specs.RelationState.{RelationState}
-use Rattle.rpc_core.specs.Response.{Answered as Response}
 use Rattle.device_frames.specs.declared.event.Event.TheVariants.{Frame}
 use Rattle.device_frames.specs.Heard.{Heard, Reported, Responds, Said, heard_of}
 use Rattle.device_core.specs.State.{Live, Station}

@@ -1,5 +1,5 @@
 -- The laws of the records of one submodule after a plug, for any run of worlds.
-use Rattle.std.proofs.Common.{◌≡◌, ◌⊎◌, inl, inr, ◌≤◌, ◌<◌, ℕ, Bool, true, false, List, [], ◌∷◌, length, Option, Some, None, option_map, refl, sym, ap, subst, ◌∙◌, arith}
+use Rattle.std.proofs.Common.{◌≡◌, ◌⊎◌, inl, inr, ◌≤◌, ◌<◌, ℕ, true, false, List, [], ◌∷◌, length, Option, Some, None, option_map, refl, sym, ap, subst, ◌∙◌, arith}
 use Rattle.std.specs.List.{AllByRecursion}
 use Rattle.flash_model.specs.declared.flash.Flash.{Ghosts as Flash}
 use Rattle.pn_values.specs.declared.identity.Identity.{Identity}
@@ -7,20 +7,18 @@ use Rattle.record_blocks.specs.declared.alarm_notification.AlarmNotification.{Al
 use Rattle.rpc_core.specs.Cache.{Kept as Answer, kept_of}
 use Rattle.diagnosis.specs.declared.reports.priority.Priority.TheVariants.{Low as low_priority}
 use Rattle.expected_places.specs.declared.place.Step.TheVariants.{Settled}
-use Rattle.plan_places.specs.declared.place.PlaceState.{PlaceState}
 use Rattle.plan_places.specs.declared.place.PlaceState.TheVariants.{Ready}
-use Rattle.plan_places.specs.Places.{Told, state_at}
+use Rattle.plan_places.specs.Places.{state_at}
 use Rattle.asked_records.specs.Asked.{question_in}
 use Rattle.asked_records.specs.declared.question.Question.{Question}
 use Rattle.relations.specs.RelationState.{RelationState}
-use Rattle.device_core.specs.State.{Live, Station}
+use Rattle.device_core.specs.State.{Station}
 use Rattle.controller_messages.specs.declared.plug_request.PlugRequest.{PlugRequest}
 use Rattle.controller_messages.specs.declared.record_request.RecordRequest.{RecordRequest}
 use Rattle.controller_messages.specs.declared.request.Request.TheVariants as asks
 use Rattle.controller_messages.specs.declared.setup.Setup.{Setup}
 use Rattle.controller_messages.specs.Sent.{Requests, bytes_of}
 use Rattle.controller_core.specs.stored.State.{Controlling, Live as ControllerLive}
-use Rattle.controller_core.specs.Machine.{first as first_live}
 use Rattle.network_world.specs.declared.moves.Move.{Move}
 use Rattle.network_world.specs.World.{AreMade, World, is_ended, last_world}
 use Rattle.end_laws.specs.turns.Alarms.{AreAllTaken, AreTakenInOrder}
@@ -32,7 +30,7 @@ use Rattle.both_ends.specs.exchange.Over.{reported_over, taken_over}
 use Rattle.both_ends.specs.exchange.Sized.{AreSizedModules, NoneIsAtZero}
 use Rattle.both_ends.specs.exchange.Told.{AreSizedMoves}
 use Rattle.both_ends.specs.startup.request.Request.{request_for}
-use Rattle.both_ends.specs.startup.Played.{AreMeant, ArePlaced, AreUnnamed, Begins, CanMeet, IsParameter}
+use Rattle.both_ends.specs.startup.Played.{AreMeant, ArePlaced, AreUnnamed, Begins, CanMeet}
 use Rattle.both_ends.specs.startup.View.{rules_of}
 use Rattle.both_ends.proofs.ExchangeLaw.{DeviceSo, lacks_none}
 use Rattle.both_ends.proofs.ExchangeMessages.{HearsSo}
@@ -40,9 +38,8 @@ use Rattle.plug_ends.specs.Places.{step_in, taken_at}
 use Rattle.plug_ends.specs.Plugged.{AreUndisturbed, EndsWith, IsReadyAt, IsUndisturbed, records_at}
 use Rattle.plug_ends.specs.Told.{LastPlug, concerns_any}
 use Rattle.plug_ends.proofs.AskedLists.{last_was, plug_here}
-use Rattle.plug_ends.proofs.AskedWords.{IsDoneAt}
 use Rattle.plug_ends.proofs.AskedWorlds.{AskedSo, first_asked}
-use Rattle.plug_ends.proofs.CallsFine.{ArePlans, Both, first_both, plans_from}
+use Rattle.plug_ends.proofs.CallsFine.{ArePlans, first_both, plans_from}
 use Rattle.plug_ends.proofs.CallsFrames.{idle_call}
 use Rattle.plug_ends.proofs.CallsRuns.{kept_for}
 use Rattle.plug_ends.proofs.CallsTurns.{false_true, none_some}

@@ -6,7 +6,7 @@ use Rattle.std.proofs.lemmas.Bool.{and_parts, eqb-true}
 use Rattle.records.specs.declared.writes.taken.TakenRecord.{TakenRecord}
 use Rattle.plans.specs.declared.parts.Parts.{Parts}
 use Rattle.plans.specs.declared.parts.PlanRecord.{PlanRecord}
-use Rattle.plan_places.specs.Records.{first_record, is_record_of, record_from}
+use Rattle.plan_places.specs.Records.{first_record, is_record_of}
 use Rattle.controller_messages.specs.declared.plug_request.PlugStep.{PlugStep}
 use Rattle.controller_messages.specs.declared.plug_request.PlugStep.TheVariants.{Record, PrmEnd}
 use Rattle.controller_core.specs.Machine.{step_from, step_of_record}

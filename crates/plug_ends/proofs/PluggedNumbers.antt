@@ -5,7 +5,7 @@ use Rattle.pn_alarms.specs.Receiver.{taken_as}
 use Rattle.controller_messages.specs.declared.plug_request.PlugRequest.{PlugRequest}
 use Rattle.controller_messages.specs.declared.record_request.RecordRequest.{RecordRequest}
 use Rattle.controller_messages.specs.declared.setup.Setup.{Setup}
-use Rattle.controller_messages.specs.Access.{Accessing, call_number, plugged, unplugged}
+use Rattle.controller_messages.specs.Access.{Accessing, call_number, unplugged}
 use Rattle.controller_messages.specs.PlugRequests.{plug_answer}
 use Rattle.controller_messages.specs.Sent.{Agrees}
 use Rattle.controller_core.specs.declared.stored.event.Event.{Event}

@@ -1,21 +1,15 @@
 -- The records of one submodule after a plug, over any run of worlds.
-use Rattle.std.proofs.Common.{◌≡◌, ◌⊎◌, inl, inr, ◌==◌, ◌≤◌, ◌<◌, ◌+◌, ◌++◌, ℕ, Bool, true, false, List, [], ◌∷◌, length, map, Option, Some, None, refl, sym, ap, subst, ◌∙◌, append-nil, append_assoc, arith}
-use Rattle.std.specs.Prelude.{if◌then◌else◌, slice_get}
+use Rattle.std.proofs.Common.{◌≡◌, ◌⊎◌, inl, inr, ◌≤◌, ◌<◌, ◌+◌, ◌++◌, ℕ, Bool, true, false, List, [], ◌∷◌, length, map, Option, Some, None, refl, sym, ap, subst, ◌∙◌, append-nil, append_assoc, arith}
+use Rattle.std.specs.Prelude.{if◌then◌else◌}
 use Rattle.std.specs.List.{AllByRecursion}
 use Rattle.std.proofs.lemmas.Bool.{and_parts, eq-eqb}
 use Rattle.std.proofs.lemmas.List.{length-append}
 use Rattle.flash_model.specs.declared.flash.Flash.{Ghosts as Flash}
-use Rattle.pn_values.specs.declared.identity.Identity.{Identity}
 use Rattle.frame_codec.specs.declared.udp.Caller.{Caller}
 use Rattle.record_blocks.specs.declared.alarm_notification.AlarmNotification.{AlarmNotification}
 use Rattle.diagnosis.specs.World.{IsPrefixOf}
 use Rattle.diagnosis.specs.declared.reports.priority.Priority.TheVariants.{Low as low_priority}
-use Rattle.expected_places.specs.declared.place.Step.{Step}
-use Rattle.expected_places.specs.declared.place.Step.TheVariants.{Settled, Told}
-use Rattle.plan_places.specs.declared.place.PlaceState.{PlaceState}
-use Rattle.plan_places.specs.declared.place.PlaceState.TheVariants.{Ready}
-use Rattle.plan_places.specs.Places.{state_at}
-use Rattle.relations.specs.RelationState.{RelationState}
+use Rattle.expected_places.specs.declared.place.Step.TheVariants.{Told}
 use Rattle.device_frames.specs.declared.event.Event.TheVariants.{Frame}
 use Rattle.device_frames.specs.Heard.{Heard, Reported, Said, heard_of}
 use Rattle.device_core.specs.State.{Live, Station}
@@ -26,44 +20,41 @@ use Rattle.controller_messages.specs.declared.setup.Setup.{Setup}
 use Rattle.controller_messages.specs.Sent.{Sent, bytes_of}
 use Rattle.controller_messages.specs.Heard.{heard_of as heard_by}
 use Rattle.controller_messages.specs.Requests.{write_count}
-use Rattle.controller_core.specs.declared.stored.event.Event.{Event}
 use Rattle.controller_core.specs.stored.State.{Controlling, Live as ControllerLive, with_live}
 use Rattle.controller_core.specs.Machine.{step_from, step_of, turn_of}
 use Rattle.network_world.specs.declared.moves.Move.{Move}
-use Rattle.network_world.specs.World.{AreMade, AtDevice, Happens, World, at_controller, is_ended, last_world}
-use Rattle.end_laws.specs.turns.Alarms.{AreAllTaken, AreTakenInOrder}
-use Rattle.end_laws.specs.hearing.Stations.{IsDevice, IsSetup}
+use Rattle.network_world.specs.World.{AreMade, Happens, World, at_controller, is_ended, last_world}
+use Rattle.end_laws.specs.turns.Alarms.{AreTakenInOrder}
+use Rattle.end_laws.specs.hearing.Stations.{IsSetup}
 use Rattle.end_laws.specs.both.Small as small
 use Rattle.end_laws.specs.both.Small.{Ask}
 use Rattle.end_laws.specs.both.Steps.{SaysToDevice}
 use Rattle.end_laws.specs.controller.Small.{said_by, said_in, small_of}
 use Rattle.both_ends.specs.exchange.Over.{is_same_number, number_in, reported_over, reported_with, taken_over, taken_with}
-use Rattle.both_ends.specs.exchange.Sized.{AreSizedModules, NoneIsAtZero}
 use Rattle.both_ends.specs.exchange.Told.{AreSizedMoves, IsSizedMove}
-use Rattle.both_ends.specs.startup.Played.{AreMeant, ArePlaced, AreUnnamed, Begins, CanMeet, IsParameter}
+use Rattle.both_ends.specs.startup.Played.{AreMeant, ArePlaced, IsParameter}
 use Rattle.both_ends.specs.startup.View.{IsMeant, IsSaidAs, rules_of}
-use Rattle.both_ends.proofs.ExchangeLaw.{DeviceSo, in_order, lacks_none}
+use Rattle.both_ends.proofs.ExchangeLaw.{DeviceSo, in_order}
 use Rattle.both_ends.proofs.ExchangeMessages.{HearsSo}
 use Rattle.plug_ends.specs.Calls.{WasSent}
-use Rattle.plug_ends.specs.Places.{step_in, taken_at}
-use Rattle.plug_ends.specs.Plugged.{AreUndisturbed, EndsWith, IsUndisturbed, records_at}
-use Rattle.plug_ends.specs.Told.{AreNumberedFrom, LastPlug, concerns_any}
-use Rattle.plug_ends.proofs.AskedLists.{last_was, numbered_front, plug_here}
-use Rattle.plug_ends.proofs.AskedWords.{HearsDone, HearsEnd, IsDoneAt, WasPlug}
-use Rattle.plug_ends.proofs.AskedWorlds.{AskedAt, AskedGoes, AskedSo, IsBegunPlug, IsNextPlug, first_asked, one_asked}
-use Rattle.plug_ends.proofs.CallsFine.{ArePlans, Both, FineSo, first_both, one_both, plans_from}
+use Rattle.plug_ends.specs.Plugged.{AreUndisturbed, IsUndisturbed}
+use Rattle.plug_ends.specs.Told.{AreNumberedFrom}
+use Rattle.plug_ends.proofs.AskedLists.{numbered_front}
+use Rattle.plug_ends.proofs.AskedWords.{WasPlug}
+use Rattle.plug_ends.proofs.AskedWorlds.{AskedAt, AskedGoes, AskedSo, one_asked}
+use Rattle.plug_ends.proofs.CallsFine.{ArePlans, Both, one_both}
 use Rattle.plug_ends.proofs.CallsHeard.{IsPlans}
 use Rattle.plug_ends.proofs.CallsRuns.{Held, all_both, all_map, ended_on, ended_said, heard_said, small_ended}
 use Rattle.plug_ends.proofs.CallsTurns.{IsAsked, event_turns, none_some, some_same}
 use Rattle.plug_ends.proofs.CallsWorlds.{HeldAt}
 use Rattle.plug_ends.proofs.PluggedDevice.{PluggedSo}
-use Rattle.plug_ends.proofs.PluggedDone.{HasDone, IsDone, device_done, done_more}
+use Rattle.plug_ends.proofs.PluggedDone.{IsDone, device_done, done_more}
 use Rattle.plug_ends.proofs.PluggedNumbers.{event_numbers}
-use Rattle.plug_ends.proofs.PluggedState.{EndsNow, Grants, Joined, PlugTurns, WasIn}
+use Rattle.plug_ends.proofs.PluggedState.{Joined, PlugTurns, WasIn}
 use Rattle.plug_ends.proofs.PluggedTurns.{controller_joined, device_joined}
 use Rattle.plug_ends.proofs.PluggedWorlds.{ControllerMoved, DeviceMoved, Moved, Numbered, controller_numbered, moved}
 use Rattle.plug_ends.proofs.PluggedWritten.{Known}
-use Rattle.plug_ends.proofs.ToldRuns.{Telling, device_goes, first_few, first_telling, one_telling}
+use Rattle.plug_ends.proofs.ToldRuns.{Telling, device_goes, first_few, one_telling}
 
 few_front : {A : Type 0} (xs ys all : List A) → xs ++ ys ≡ all → length all ≤ 2048 → length xs ≤ 2048
 few_front xs ys all e few =

@@ -1,17 +1,12 @@
 -- What both ends make of the records of one submodule after a plug, in one state: while the Write of a record is asked, while PrmEnd is
 -- on its way, and when its parameters ended.
-use Rattle.std.proofs.Common.{◌≡◌, ◌⊎◌, inl, inr, ◌<◌, ◌+◌, ◌++◌, ℕ, suc, Bool, true, false, List, [], ◌∷◌, map, take, Option, Some, None, refl, sym, ap, subst, ◌∙◌}
+use Rattle.std.proofs.Common.{◌≡◌, ◌⊎◌, ◌<◌, ◌+◌, ℕ, suc, Bool, true, false, List, take, Some, None, ap, ◌∙◌}
 use Rattle.std.specs.Prelude.{if◌then◌else◌, nat_eq, slice_get}
-use Rattle.std.specs.List.{AllByRecursion}
 use Rattle.std.specs.Cmp.Lexicographic.{pointwise}
-use Rattle.pn_values.specs.declared.mac.Mac.{Mac}
 use Rattle.frame_codec.specs.Sendable.{IsMac}
 use Rattle.record_blocks.specs.declared.alarm_notification.AlarmNotification.{AlarmNotification}
 use Rattle.rpc_core.specs.Response.{Answered as Response, is_done}
-use Rattle.connects.specs.requests.Request.{Request}
 use Rattle.records.specs.declared.writes.taken.TakenRecord.{TakenRecord}
-use Rattle.plans.specs.declared.parts.Parts.{Parts}
-use Rattle.expected_places.specs.declared.place.Step.{Step}
 use Rattle.expected_places.specs.declared.place.Step.TheVariants.{Settled, Told, Ended}
 use Rattle.relations.specs.RelationState.{RelationState}
 use Rattle.device_core.specs.State.{Live, Station}
@@ -20,8 +15,8 @@ use Rattle.controller_messages.specs.declared.plug_request.PlugStep.TheVariants.
 use Rattle.controller_messages.specs.declared.setup.Setup.{Setup}
 use Rattle.controller_messages.specs.Access.{call_number}
 use Rattle.controller_messages.specs.Heard.{Heard, Responds, heard_of as heard_by}
-use Rattle.controller_messages.specs.Sent.{Sent, Requests, Accesses, Parametrizes, Agrees, Cycles, Confirms, Replies, Ends, bytes_of}
-use Rattle.controller_core.specs.stored.State.{Controlling, Live as ControllerLive, with_live}
+use Rattle.controller_messages.specs.Sent.{Sent, Requests, Accesses, Parametrizes, bytes_of}
+use Rattle.controller_core.specs.stored.State.{Controlling, Live as ControllerLive}
 use Rattle.controller_core.specs.Machine.{step_from}
 use Rattle.network_world.specs.World.{is_ended}
 use Rattle.end_laws.specs.hearing.Stations.{IsPlugCall, IsRecordCall}
@@ -90,7 +85,7 @@ module _ (slot subslot : ℕ) where
 
   -- ---- the state
 
-  -- It is asked, and the place is told with its number: while its call is new, the records before it were accepted last; once it is granted,
+  -- It is asked, and the place is reported with its number: while its call is new, the records before it were accepted last; once it is granted,
   -- its own too.
   pub record AskedSo (setup : Setup) (live : Live) (sent : List (List ℕ)) (since : List TakenRecord) (request : PlugRequest) : Type 0 where
     pub new : IsNew request.sequence (kept_for setup live) → EndsWith since (planned_before setup.plan slot subslot request.step)

@@ -1,5 +1,5 @@
 -- The records of one submodule after a plug, with a step of either end.
-use Rattle.std.proofs.Common.{◌≡◌, ◌⊎◌, inl, inr, ◌<◌, ◌≤◌, ◌+◌, ◌++◌, ℕ, zero, suc, Bool, true, false, List, [], ◌∷◌, length, map, take, Option, Some, None, option_map, refl, sym, ap, subst, ◌∙◌, append-nil, add-one, arith}
+use Rattle.std.proofs.Common.{◌≡◌, ◌⊎◌, inl, inr, ◌<◌, ◌+◌, ◌++◌, ℕ, suc, Bool, true, false, List, [], ◌∷◌, length, take, Option, Some, None, option_map, refl, sym, ap, subst, ◌∙◌, append-nil, add-one, arith}
 use Rattle.std.specs.Prelude.{slice_get, if◌then◌else◌}
 use Rattle.std.specs.List.{AllByRecursion}
 use Rattle.settings_journal.specs.settings_store.Machine.{Outcome}
@@ -14,7 +14,7 @@ use Rattle.records.specs.declared.status.operation.Operation.{Operation}
 use Rattle.records.specs.declared.status.operation.Operation.TheVariants as operation
 use Rattle.records.specs.status.Operation.{operation_of}
 use Rattle.records.specs.declared.writes.taken.TakenRecord.{TakenRecord}
-use Rattle.asked_records.specs.Asked.{AskedState, question_in}
+use Rattle.asked_records.specs.Asked.{question_in}
 use Rattle.asked_records.specs.Questions.{operation_of as operation_asked}
 use Rattle.asked_records.specs.declared.question.Question.{Question}
 use Rattle.asked_records.specs.declared.question.Request.{Request as Wanted}
@@ -25,7 +25,6 @@ use Rattle.device_frames.specs.Heard.{Calls, Heard, Reported, Said, heard_of}
 use Rattle.device_frames.specs.Sendable.{AreSendable}
 use Rattle.device_core.specs.State.{Live, Station}
 use Rattle.device_core.specs.Machine.{heard_step}
-use Rattle.plans.specs.declared.parts.PlanRecord.{PlanRecord}
 use Rattle.controller_messages.specs.declared.plug_request.PlugRequest.{PlugRequest}
 use Rattle.controller_messages.specs.declared.plug_request.PlugStep.{PlugStep}
 use Rattle.controller_messages.specs.declared.plug_request.PlugStep.TheVariants.{Record, PrmEnd}
@@ -35,35 +34,34 @@ use Rattle.controller_messages.specs.Sent.{Sent, Requests, Accesses, Parametrize
 use Rattle.controller_core.specs.stored.State.{Controlling, Live as ControllerLive, with_live}
 use Rattle.controller_core.specs.Machine.{step_from}
 use Rattle.network_world.specs.World.{is_ended}
-use Rattle.end_laws.specs.hearing.Stations.{IsDevice, IsPlugCall, IsSetup}
+use Rattle.end_laws.specs.hearing.Stations.{IsDevice, IsSetup}
 use Rattle.end_laws.specs.both.Small as small
 use Rattle.end_laws.specs.both.Small.{Ask, Rules, ToController, ToDevice}
 use Rattle.end_laws.specs.both.Steps.{DeviceSteps, IsNew}
-use Rattle.end_laws.specs.controller.Small.{IsSteady}
-use Rattle.end_laws.specs.device.Owed.{IsAskedLater, IsAsking}
+use Rattle.end_laws.specs.device.Owed.{IsAsking}
 use Rattle.end_laws.specs.device.Small.{IsHeardAs, IsPlanned, IsPlannedCall, heard_as}
 use Rattle.end_laws.specs.device.Small as device
 use Rattle.both_ends.specs.startup.Played.{ArePlaced, IsParameter}
 use Rattle.both_ends.specs.startup.View.{is_planned, rules_of, taken_for}
 use Rattle.plug_ends.specs.Places.{step_in, taken_at}
 use Rattle.plug_ends.specs.Plugged.{EndsWith, records_at}
-use Rattle.plug_ends.specs.Taken.{TakesOne, hears_plug, taken_in}
+use Rattle.plug_ends.specs.Taken.{TakesOne, taken_in}
 use Rattle.plug_ends.specs.Told.{LastPlug, concerns_any}
 use Rattle.plug_ends.proofs.AskedLists.{last_was, plug_here, was_few, was_more}
 use Rattle.plug_ends.proofs.AskedWords.{HearsEnd, WasPlug}
 use Rattle.plug_ends.proofs.CallsFine.{kept_after}
-use Rattle.plug_ends.proofs.CallsFrames.{Covers, Grows, IsFrame, covers_old, grows_new, idle_call, nothing_answers}
+use Rattle.plug_ends.proofs.CallsFrames.{Grows, IsFrame, covers_old, grows_new, idle_call, nothing_answers}
 use Rattle.plug_ends.proofs.CallsRuns.{Held, all_at, kept_for}
-use Rattle.plug_ends.proofs.CallsTurns.{none_some, plugged_is, present_of, some_same}
-use Rattle.plug_ends.proofs.DeviceGoes.{EndsPlug, TakesRecords, holding_of}
-use Rattle.plug_ends.proofs.DeviceTurns.{AnswersAt, EndsAt, TakesAt}
+use Rattle.plug_ends.proofs.CallsTurns.{none_some, plugged_is, some_same}
+use Rattle.plug_ends.proofs.DeviceGoes.{TakesRecords, holding_of}
+use Rattle.plug_ends.proofs.DeviceTurns.{AnswersAt, EndsAt}
 use Rattle.plug_ends.proofs.PluggedDevice.{PluggedSo, came, frames_show, its_call, kept_shows, not_new, unasked, unreported_idle}
 use Rattle.plug_ends.proofs.PluggedLists.{IsRecordAt, IsStepAt, ends_more, ends_none, none_before, own_step, planned_before, step_next}
-use Rattle.plug_ends.proofs.PluggedState.{AskedSo, EndsNow, Grants, HasEnd, IsBegunNow, IsKnownWrite, IsNewIn, IsNextNow, IsWriteBy, Joined, PlugTurns, WasIn, all_of, grants_answers}
+use Rattle.plug_ends.proofs.PluggedState.{AskedSo, Grants, HasEnd, IsBegunNow, IsKnownWrite, IsNewIn, IsNextNow, IsWriteBy, Joined, PlugTurns, WasIn, all_of, grants_answers}
 use Rattle.plug_ends.proofs.PluggedWorlds.{IsIdle, IsNumberedIn, IsPlugFrame, Numbered, beside_alone, device_numbered, next_of, steps_idle}
 use Rattle.plug_ends.proofs.PluggedWrites.{own_more}
 use Rattle.plug_ends.proofs.PluggedWritten.{Known, in_more, present_new, same_since, split_in, write_fresh, write_no_end, write_no_release, writes_known}
-use Rattle.plug_ends.proofs.ToldGoes.{Goes, IsAnsweredNow, IsEndedNow, IsKeptAt, IsTakenNow, IsToldNow, IsTouchedAt}
+use Rattle.plug_ends.proofs.ToldGoes.{Goes}
 use Rattle.plug_ends.proofs.ToldPlaces.{HasTold, has_told_more}
 
 -- ---- frames
@@ -439,7 +437,7 @@ module _ (so : PluggedSo) (slot subslot : ℕ) (c : Controlling) (station : Stat
       (write_no_end so slot subslot c station live sent outcomes heard good planned placed parameters write it.0 it.2)
       (write_no_release so slot subslot c station live sent outcomes heard good planned placed parameters write it.0 it.2))
 
-  -- ---- the request that waits, while its place is told
+  -- ---- the request that waits, while its place is reported
 
   module _ (link next : RelationState) (before_is : live.rest.link ≡ Some link) (after_is : after.rest.link ≡ Some next) (request : PlugRequest)
       (waits : c.live.access.plug ≡ Some request) (slot_is : request.slot ≡ slot) (subslot_is : request.subslot ≡ subslot)
@@ -608,7 +606,7 @@ module _ (so : PluggedSo) (slot subslot : ℕ) (c : Controlling) (station : Stat
               (sym (ap (λ (l : Option RelationState). taken_in l) after_is) ∙ (same ∙ ap (λ (l : Option RelationState). taken_in l) before_is))))
           by_came is_new (inr one) = inr (one, is_new)
 
-    -- a Write of a call that is PrmEnd is none
+    -- PrmEnd is no Write
     end_no_write : request.step ≡ PrmEnd → TakesRecords live heard live.rest.link after.rest.link → ⊥
     end_no_write step_is write =
         let it = framed write.caller write.came.address write.call write.came.is in
@@ -678,7 +676,7 @@ module _ (so : PluggedSo) (slot subslot : ℕ) (c : Controlling) (station : Stat
       pub settled : step_in slot subslot next ≡ Some Settled → concerns_any slot subslot (raised ++ now) ≡ true
           → EndsWith then_taken (all_of slot subslot c.setup) × (number : ℕ) × LastPlug slot subslot number (raised ++ now) × HasEnd slot subslot station (sent ++ frames) number
 
-    -- it is not told, not ended and not settled
+    -- it is not reported, not ended and not settled
     elsewhere : (step : Step) → step_in slot subslot next ≡ Some step → ((number : ℕ) → step ≡ Told number → ⊥) → ((number : ℕ) → step ≡ Ended number → ⊥)
         → (step ≡ Settled → ⊥) → At
     elsewhere step is no_told no_ended no_settled = record {

@@ -19,7 +19,7 @@ use Rattle.controller_messages.specs.declared.record_request.RecordRequest.{Reco
 use Rattle.controller_messages.specs.declared.request.Request.{Request as Asking}
 use Rattle.controller_messages.specs.declared.request.Request.TheVariants as asks
 use Rattle.controller_messages.specs.declared.setup.Setup.{Setup}
-use Rattle.controller_messages.specs.Access.{Accessing, call_number}
+use Rattle.controller_messages.specs.Access.{call_number}
 use Rattle.controller_messages.specs.Heard.{heard_of as heard_by}
 use Rattle.controller_messages.specs.Requests.{sequence_of, write_count}
 use Rattle.controller_messages.specs.Sent.{Sent, Requests, Accesses, Parametrizes, Agrees, Cycles, Confirms, Replies, Ends, bytes_of}
@@ -28,7 +28,6 @@ use Rattle.controller_core.specs.declared.stored.event.Event.TheVariants as cont
 use Rattle.controller_core.specs.declared.stored.state.State.{State}
 use Rattle.controller_core.specs.declared.stored.state.State.TheVariants.{Looking, Addressing, Connecting, Writing, Ending, Waiting, Exchanging, Ended}
 use Rattle.controller_core.specs.stored.State.{Controlling, Live as ControllerLive}
-use Rattle.controller_core.specs.Machine.{Turn, turn_of}
 use Rattle.network_world.specs.declared.moves.End.TheVariants.{Device, Controller}
 use Rattle.network_world.specs.declared.moves.Move.{Move}
 use Rattle.network_world.specs.declared.moves.Move.TheVariants as move
@@ -37,7 +36,7 @@ use Rattle.end_laws.specs.sending.Addressed.{IsAimedAt, IsEventFrom}
 use Rattle.end_laws.specs.hearing.Stations.{IsPlugCall, IsSetup}
 use Rattle.end_laws.specs.both.Small as small
 use Rattle.end_laws.specs.both.Small.{Ask, Rules, ToDevice}
-use Rattle.end_laws.specs.both.Steps.{DeviceSteps, GoesBy, IsDull, IsNew, IsReady, IsSameOrNone}
+use Rattle.end_laws.specs.both.Steps.{DeviceSteps, GoesBy, IsDull, IsReady}
 use Rattle.end_laws.specs.controller.Small.{IsInStep, IsSteady, MayWait}
 use Rattle.end_laws.specs.device.Small as device
 use Rattle.both_ends.specs.startup.View.{IsMeant, IsMeantAtController, IsMeantAtDevice, IsSaidAs, rules_of}
@@ -49,7 +48,7 @@ use Rattle.plug_ends.proofs.CallsHeard.{IsFineAt, fine_from, fine_unrefused}
 use Rattle.plug_ends.proofs.CallsRuns.{all_at, all_both, all_map, heard_said, kept_for, number_said, plain_said}
 use Rattle.plug_ends.proofs.CallsTurns.{IsAsked, IsUnrefused, none_some, number_in, present_by, present_of, some_same}
 use Rattle.plug_ends.proofs.ToldRuns.{HeardWith}
-use Rattle.plug_ends.proofs.PluggedNumbers.{IsAccessMade, IsPlugMade, IsSameOr, NoneIsMade, Numbers}
+use Rattle.plug_ends.proofs.PluggedNumbers.{IsSameOr, Numbers}
 
 -- ---- moves
 

@@ -1,7 +1,6 @@
 -- What a Write of the application of a controller leaves at other submodules, and one record more at a submodule.
-use Rattle.std.proofs.Common.{◌≡◌, ◌⊎◌, inl, inr, ◌&&◌, ◌==◌, ◌++◌, ℕ, Bool, true, false, not, cond, List, [], ◌∷◌, length, take, Option, Some, None, Result, Ok, Err, refl, sym, ap, subst, ◌∙◌}
-use Rattle.std.specs.Prelude.{if◌then◌else◌, nat_lt}
-use Rattle.std.specs.List.{filter}
+use Rattle.std.proofs.Common.{◌≡◌, inl, inr, ◌&&◌, ◌==◌, ◌++◌, ℕ, Bool, true, false, not, cond, List, [], ◌∷◌, length, take, Option, Some, None, Result, Ok, Err, refl, sym, ap, subst, ◌∙◌}
+use Rattle.std.specs.Prelude.{nat_lt}
 use Rattle.std.proofs.lemmas.Bool.{and_from, and_parts, cond-false, eq-eqb, eqb-true}
 use Rattle.std.proofs.lemmas.List.Elements.{filter-append}
 use Rattle.wire.specs.Codec.{◌>>=◌}
@@ -20,7 +19,6 @@ use Rattle.im_records.specs.declared.fault.RecordFault.{RecordFault}
 use Rattle.im_records.specs.Indices.{is_read_only, record_with}
 use Rattle.im_records.specs.Writable.{is_writable}
 use Rattle.im_records.specs.Writes.{command_of}
-use Rattle.records.specs.declared.status.call_fault.CallFault.{CallFault}
 use Rattle.records.specs.declared.status.call_fault.CallFault.TheVariants as fault
 use Rattle.records.specs.calls.Single.{single_of}
 use Rattle.records.specs.reads.Parameters.{parameter_length}
@@ -29,7 +27,7 @@ use Rattle.records.specs.declared.writes.write.Effect.{Effect}
 use Rattle.records.specs.declared.writes.write.Effect.TheVariants.{Keeps, Stores}
 use Rattle.records.specs.declared.writes.write.Write.{Write}
 use Rattle.records.specs.declared.writes.writing.Writing.{Writing}
-use Rattle.records.specs.declared.writes.writing.Writing.TheVariants.{One, Each}
+use Rattle.records.specs.declared.writes.writing.Writing.TheVariants.{One}
 use Rattle.records.specs.writes.Asked.{handled_writing, writing_of}
 use Rattle.records.specs.writes.Handled.{effect_of, is_known, is_length, handled_request, kept, stored, targeted, text_in, written}
 use Rattle.records.specs.writes.Several.{is_several}

@@ -1,27 +1,24 @@
 -- Which Write is new to the device, and that a Write leaves the records of a place whose parameters ended.
 use Rattle.std.proofs.Common.{◌≡◌, ◌⊎◌, inl, inr, ◌<◌, ◌≤◌, ◌++◌, ◌==◌, ℕ, zero, suc, Bool, true, false, List, [], ◌∷◌, length, map, Option, Some, None, option_map, refl, sym, ap, subst, ◌∙◌, append-nil, arith}
-use Rattle.std.specs.Prelude.{slice_get, unwrap_or}
+use Rattle.std.specs.Prelude.{unwrap_or}
 use Rattle.std.specs.List.{AllByRecursion}
 use Rattle.std.proofs.lemmas.Bool.{eqb-true, ne_eqb}
 use Rattle.settings_journal.specs.settings_store.Machine.{Outcome}
 use Rattle.frame_codec.specs.declared.udp.Caller.{Caller}
 use Rattle.record_blocks.specs.declared.alarm_notification.AlarmNotification.{AlarmNotification}
-use Rattle.rpc_core.specs.Cache.{Kept as Answer, kept_of, looked, new}
+use Rattle.rpc_core.specs.Cache.{kept_of}
 use Rattle.rpc_core.specs.Call.{Asked as Call}
 use Rattle.block_codec.specs.declared.block.Block.TheVariants as variant
-use Rattle.block_codec.specs.Block.{block_bytes}
 use Rattle.block_codec.specs.Writable.{CanBeWritten}
-use Rattle.connects.specs.requests.Request.{Request}
 use Rattle.diagnosis.specs.World.{IsPrefixOf}
 use Rattle.records.specs.declared.status.operation.Operation.{Operation}
 use Rattle.records.specs.declared.status.operation.Operation.TheVariants as operation
 use Rattle.records.specs.status.Operation.{operation_of}
 use Rattle.records.specs.declared.writes.taken.TakenRecord.{TakenRecord}
-use Rattle.records.specs.declared.writes.writing.Writing.{Writing}
 use Rattle.records.specs.writes.Asked.{writing_of}
 use Rattle.relations.specs.RelationState.{RelationState, uuid_of}
 use Rattle.device_frames.specs.declared.event.Event.TheVariants.{Frame}
-use Rattle.device_frames.specs.Heard.{Calls, Heard, Reported, Said, heard_of}
+use Rattle.device_frames.specs.Heard.{Calls, Heard, Reported, heard_of}
 use Rattle.device_core.specs.State.{Live, Station}
 use Rattle.device_core.specs.Machine.{heard_step}
 use Rattle.controller_messages.specs.declared.plug_request.PlugRequest.{PlugRequest}
@@ -31,7 +28,6 @@ use Rattle.controller_messages.specs.declared.record_request.RecordRequest.{Reco
 use Rattle.controller_messages.specs.declared.record_request.RecordService.{RecordService}
 use Rattle.controller_messages.specs.declared.record_request.RecordService.TheVariants as service
 use Rattle.controller_messages.specs.declared.request.Request.{Request as Asking}
-use Rattle.controller_messages.specs.declared.setup.Setup.{Setup}
 use Rattle.controller_messages.specs.PlugRequests.{plug_call, plug_operation}
 use Rattle.controller_messages.specs.RecordRequests.{record_blocks, record_call, service_operation, written_of}
 use Rattle.controller_messages.specs.Sent.{Sent, Requests, Accesses, Parametrizes, Agrees, Cycles, Confirms, Replies, Ends, bytes_of}
@@ -56,15 +52,14 @@ use Rattle.plug_ends.specs.Taken.{IsWriteOf, TakesOne, hears_plug, taken_in}
 use Rattle.plug_ends.specs.Told.{LastPlug}
 use Rattle.plug_ends.proofs.AskedKinds.{IsStarting}
 use Rattle.plug_ends.proofs.AskedLists.{last_upper, last_was, plug_here, was_more}
-use Rattle.plug_ends.proofs.AskedWords.{HearsEnd, IsEndedAt, IsRecord, WasPlug}
-use Rattle.plug_ends.proofs.CallsFrames.{IsFrame}
-use Rattle.plug_ends.proofs.CallsRuns.{Held, all_at, kept_for}
+use Rattle.plug_ends.proofs.AskedWords.{HearsEnd, IsEndedAt, WasPlug}
+use Rattle.plug_ends.proofs.CallsRuns.{Held, all_at}
 use Rattle.plug_ends.proofs.CallsTurns.{none_some, present_of, some_same}
 use Rattle.plug_ends.proofs.CallsWorlds.{new_kept}
 use Rattle.plug_ends.proofs.DeviceGoes.{TakesRecords}
 use Rattle.plug_ends.proofs.PluggedDevice.{PluggedSo, frame_call}
 use Rattle.plug_ends.proofs.PluggedLists.{IsRecordAt, IsStepAt}
-use Rattle.plug_ends.proofs.PluggedState.{AreEndedBefore, HasEnd, IsKnownWrite, IsNewIn, IsWriteBy, Joined, WasIn}
+use Rattle.plug_ends.proofs.PluggedState.{HasEnd, IsKnownWrite, IsNewIn, IsWriteBy, Joined, WasIn}
 use Rattle.plug_ends.proofs.PluggedWorlds.{present_as}
 use Rattle.plug_ends.proofs.Written.{any_came, plain_rules}
 use Rattle.plug_ends.proofs.PluggedWrites.{other_more, writes_elsewhere}

@@ -149,7 +149,7 @@ module _ (slot subslot : ℕ) (live : Live) (heard : Heard) (before after : Opti
     pub step : (step : Step) → step_in slot subslot next ≡ Some step → step ≡ Settled
     pub taken : next.taken ≡ []
 
-  -- There is none then.
+  -- No relation exists then.
   pub record IsGoneNow : Type 0 where
     pub over : after ≡ None
     pub silent : now ≡ []

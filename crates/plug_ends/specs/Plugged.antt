@@ -1,5 +1,5 @@
 -- What both ends of a network know of the records of a submodule after a plug.
-use Rattle.std.specs.Prelude.{◌≡◌, ◌<◌, ◌++◌, false, ℕ, List, map, Option, Some, None}
+use Rattle.std.specs.Prelude.{◌≡◌, ◌<◌, ◌++◌, false, ℕ, List, map, Some}
 use Rattle.std.specs.List.{AllByRecursion, filter}
 use Rattle.records.specs.declared.writes.taken.TakenRecord.{TakenRecord}
 use Rattle.plans.specs.declared.parts.PlanRecord.{PlanRecord}
