@@ -1,6 +1,6 @@
 -- The blocks of PrmEnd and of the answers to ApplicationReady: those of a start-up are not read as those after a plug, and the number of a
 -- plug is read as it was written.
-use Rattle.std.proofs.Common.{◌≡◌, ◌<◌, ◌==◌, ◌&&◌, ◌++◌, ◌%◌, ◌/◌, ℕ, Bool, true, false, List, [], ◌∷◌, length, drop, Result, Ok, Err, refl, sym, ap, subst, ◌∙◌, arith}
+use Rattle.std.proofs.Common.{◌≡◌, ◌<◌, ◌==◌, ◌%◌, ◌/◌, ℕ, Bool, true, false, List, [], ◌∷◌, length, drop, Result, Ok, Err, refl, sym, ap, ◌∙◌, arith}
 use Rattle.std.specs.Prelude.{if◌then◌else◌, nat_lt}
 use Rattle.std.proofs.lemmas.Bool.{eq-eqb, eqb-true}
 use Rattle.wire.specs.Formats.{big_number}
@@ -8,7 +8,6 @@ use Rattle.wire.specs.blocks.Fields.{blank, number_at, number_bytes, octet_bytes
 use Rattle.wire.specs.declared.blocks.fault.BlockFault.{BlockFault}
 use Rattle.wire.specs.declared.blocks.fault.BlockFault.TheVariants.{Field, Length}
 use Rattle.wire.proofs.Fields.{bind_ok, ok_is}
-use Rattle.block_codec.specs.declared.block.Block.{Block}
 use Rattle.block_codec.specs.declared.block.Block.TheVariants as is
 use Rattle.block_codec.specs.Block.{block_bytes}
 use Rattle.block_codec.specs.Kinds.{number_of}

@@ -16,7 +16,6 @@ use Rattle.frame_codec.specs.declared.arp.Arp.{Arp}
 use Rattle.frame_codec.specs.declared.arp.ArpOperation.TheVariants.{Reply}
 use Rattle.frame_codec.specs.declared.arp.Holder.{Holder}
 use Rattle.frame_codec.specs.declared.udp.Caller.{Caller}
-use Rattle.frame_codec.specs.declared.udp.Endpoint.{Endpoint}
 use Rattle.frame_codec.specs.Frame.{frame_bytes}
 use Rattle.frame_codec.specs.Meaning.{RealTime}
 use Rattle.frame_codec.specs.Sendable.{IsHolder, IsMac, IsTag, carrying}
@@ -33,22 +32,18 @@ use Rattle.diagnosis.specs.declared.reports.priority.Priority.TheVariants.{High,
 use Rattle.plans.specs.declared.parts.Controller.{Controller}
 use Rattle.plans.specs.Connect.{alarm_block}
 use Rattle.plans.specs.Numbers.{session_number}
-use Rattle.records.specs.declared.status.call_fault.CallFault.{CallFault}
-use Rattle.records.specs.declared.status.operation.Operation.{Operation}
 use Rattle.records.specs.declared.status.operation.Operation.TheVariants.{Control}
 use Rattle.records.specs.status.Operation.{operation_of}
 use Rattle.asked_records.specs.Asked.{AskedState, question_in}
 use Rattle.asked_records.specs.declared.question.Question.{Question}
 use Rattle.expected_places.specs.declared.calls.PlugCall.{PlugCall}
-use Rattle.relations.specs.declared.plugging.PlugAnswer.{PlugAnswer}
 use Rattle.relations.specs.declared.plugging.PlugAnswer.TheVariants as answer_is
 use Rattle.relations.specs.declared.plugging.PlugReady.{PlugReady}
 use Rattle.relations.specs.declared.ready.Ready.{Ready}
-use Rattle.relations.specs.Plugging.{answer_to, answer_to_call, block_in, done_block, plug_answer_in, plug_confirmed, plug_end_in, plug_named, plug_told}
+use Rattle.relations.specs.Plugging.{answer_to, answer_to_call, block_in, done_block, plug_confirmed, plug_end_in, plug_named, plug_told}
 use Rattle.relations.specs.Plugging.{is_plug_answer as is_answer_to_plug}
 use Rattle.relations.specs.RelationState.{RelationState}
-use Rattle.device_frames.specs.declared.event.Event.TheVariants.{Frame}
-use Rattle.device_frames.specs.Heard.{Calls, Elsewhere, Garbled, Heard, Reported, Resolves, Responds, Said, broadcast, heard_of, is_own}
+use Rattle.device_frames.specs.Heard.{Calls, Elsewhere, Garbled, Heard, Reported, Resolves, Responds, broadcast, heard_of, is_own}
 use Rattle.device_frames.specs.Sendable.{IsSendable}
 use Rattle.device_frames.specs.Sent.{Sent, IdentifyAnswer, GetAnswer, SetAnswer, ArpReply, CallAnswer, Again, ReadyCall, PlugReadyCall, Ends}
 use Rattle.device_frames.specs.Sent.{Exchanges, bytes_of, plug_ready_frame, ready_frame, response_frame}
@@ -58,7 +53,6 @@ use Rattle.controller_messages.specs.declared.plug_request.PlugStep.{PlugStep}
 use Rattle.controller_messages.specs.declared.plug_request.PlugStep.TheVariants.{Record, PrmEnd}
 use Rattle.controller_messages.specs.declared.record_request.RecordService.{RecordService}
 use Rattle.controller_messages.specs.declared.record_request.RecordService.TheVariants as service
-use Rattle.controller_messages.specs.declared.request.Request.{Request}
 use Rattle.controller_messages.specs.declared.request.Request.TheVariants as asks
 use Rattle.controller_messages.specs.declared.setup.Setup.{Setup}
 use Rattle.controller_messages.specs.PlugRequests.{is_plug_ready, plug_answer, plug_blocks, plug_call, plug_done, plug_end, plug_operation}

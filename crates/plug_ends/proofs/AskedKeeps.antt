@@ -1,5 +1,5 @@
 -- What stays true of the places of a controller and of its request after a plug, with each thing that a turn does.
-use Rattle.std.proofs.Common.{◌≡◌, ◌⊎◌, inl, inr, ◌<◌, ◌≤◌, ◌==◌, ◌&&◌, ◌+◌, ◌++◌, ◌%◌, ℕ, zero, suc, Bool, true, false, cond, List, [], ◌∷◌, length, Option, Some, None}
+use Rattle.std.proofs.Common.{◌≡◌, ◌⊎◌, inl, inr, ◌<◌, ◌≤◌, ◌==◌, ◌&&◌, ◌+◌, ◌++◌, ◌%◌, ℕ, Bool, true, false, cond, List, [], ◌∷◌, length, Option, Some, None}
 use Rattle.std.proofs.Common.{refl, sym, ap, subst, ◌∙◌, append_assoc, arith}
 use Rattle.std.specs.Prelude.{if◌then◌else◌}
 use Rattle.std.specs.List.{AllByRecursion, list_any}
@@ -19,12 +19,11 @@ use Rattle.plan_places.specs.declared.report.PlaceReport.{PlaceReport}
 use Rattle.plan_places.specs.declared.report.PlaceReport.TheVariants as reports
 use Rattle.plan_places.specs.declared.report.Plug.{Plug}
 use Rattle.plan_places.specs.Listed.{is_listed_in}
-use Rattle.plan_places.specs.Places.{Told, first_state, has_turn, has_turn_at, is_about, is_at, is_awaited, is_told, next_waiting, opened, readied, reported_state}
+use Rattle.plan_places.specs.Places.{has_turn, has_turn_at, is_about, is_at, is_awaited, is_told, next_waiting, opened, reported_state}
 use Rattle.plan_places.specs.Places.{told_by, with_state}
 use Rattle.controller_messages.specs.declared.plug_request.PlugRequest.{PlugRequest}
 use Rattle.controller_messages.specs.declared.plug_request.PlugStep.{PlugStep}
 use Rattle.controller_messages.specs.declared.plug_request.PlugStep.TheVariants.{Record, PrmEnd}
-use Rattle.controller_messages.specs.declared.request.Request.{Request}
 use Rattle.controller_messages.specs.declared.request.Request.TheVariants as asks
 use Rattle.controller_messages.specs.declared.setup.Setup.{Setup}
 use Rattle.controller_messages.specs.PlugRequests.{is_plug_answer, is_plug_ready, plug_answer}
@@ -832,19 +831,22 @@ module _ (setup : Setup) (live : Live) (alarms : List AlarmNotification) (states
         base = ready_base setup.plan alarms (view_of live) states base number;
         ends = ready_ended setup.plan alarms (view_of live) states base number;
         dones = ready_done setup.plan alarms (view_of live) states base number;
-        said = (inr (record {
-          call = call;
-          block = block;
-          is = refl;
-          right = right;
-          slot = awaited.slot;
-          subslot = awaited.subslot;
-          done = record {
-            was = last_was awaited.slot awaited.subslot number alarms last;
-            ready = λ up plug. ap (λ (b : Bool). cond b (Ready number) (states awaited.slot awaited.subslot)) awaited.told;
-            there = λ up. ready_there awaited.slot awaited.subslot number live.places awaited.there;
-          };
-        }), tt);
+        said = (
+          inr (record {
+            call = call;
+            block = block;
+            is = refl;
+            right = right;
+            slot = awaited.slot;
+            subslot = awaited.subslot;
+            done = record {
+              was = last_was awaited.slot awaited.subslot number alarms last;
+              ready = λ up plug. ap (λ (b : Bool). cond b (Ready number) (states awaited.slot awaited.subslot)) awaited.told;
+              there = λ up. ready_there awaited.slot awaited.subslot number live.places awaited.there;
+            };
+          }),
+          tt,
+        );
         steps = by_end (is_end_of number live.access.plug);
         sends = λ r f. inl (unplug_some (is_end_of number live.access.plug) live.access.plug r f);
         device = inl refl;

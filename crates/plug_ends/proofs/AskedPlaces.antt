@@ -13,8 +13,8 @@ use Rattle.plan_places.specs.declared.place.PlaceState.TheVariants.{There, Diffe
 use Rattle.plan_places.specs.declared.report.PlaceReport.{PlaceReport}
 use Rattle.plan_places.specs.declared.report.PlaceReport.TheVariants as reports
 use Rattle.plan_places.specs.declared.report.Plug.{Plug}
-use Rattle.plan_places.specs.Places.{Told, after_report, first_place, first_state, first_waiting, has_turn, has_turn_at, in_state, is_about, is_at, is_awaited}
-use Rattle.plan_places.specs.Places.{is_moved, is_plugged_by, is_told, is_turn, made_ready, moved, next_waiting, or_next, place_at, places_of, plug_at}
+use Rattle.plan_places.specs.Places.{Told, after_report, first_place, first_state, first_waiting, has_turn, has_turn_at, in_state, is_about, is_at}
+use Rattle.plan_places.specs.Places.{is_moved, is_plugged_by, is_told, is_turn, made_ready, moved, next_waiting, or_next, places_of, plug_at}
 use Rattle.plan_places.specs.Places.{plugged_number, readied, reported_state, set_at, state_at, told_after, told_by, with_state}
 
 -- ---- one state for each

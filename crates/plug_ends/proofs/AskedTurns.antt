@@ -3,7 +3,7 @@ use Rattle.std.proofs.Common.{◌≡◌, ◌⊎◌, inl, inr, ◌==◌, ◌&&◌
 use Rattle.std.proofs.Common.{subst, ◌∙◌, append-nil}
 use Rattle.std.specs.Prelude.{if◌then◌else◌, is_some, nat_lt}
 use Rattle.std.specs.List.{AllByRecursion}
-use Rattle.std.proofs.lemmas.Bool.{and_parts, false≢true, true≢false}
+use Rattle.std.proofs.lemmas.Bool.{and_parts, false≢true}
 use Rattle.pn_values.specs.declared.mac.Mac.{Mac}
 use Rattle.frame_codec.specs.declared.udp.Caller.{Caller}
 use Rattle.dcp_core.specs.Answered.{is_agreed}
@@ -48,11 +48,11 @@ use Rattle.controller_messages.specs.declared.setup.Setup.{Setup}
 use Rattle.controller_messages.specs.declared.request.Request.{Request}
 use Rattle.controller_messages.specs.declared.request.Request.TheVariants as asks
 use Rattle.controller_messages.specs.Access.{Accessing, call_number, is_rejected, is_reply, record_in, unplugged}
-use Rattle.controller_messages.specs.Heard.{Heard, Nothing, Answers, Responds, Refuses, Calls, Cyclic, Alarms, heard_of}
+use Rattle.controller_messages.specs.Heard.{Heard, Nothing, Answers, Responds, Refuses, Calls, Cyclic, Alarms}
 use Rattle.controller_messages.specs.PlugRequests.{is_plug_answer, is_plug_ready, plug_answer, plug_ready_in}
 use Rattle.controller_messages.specs.RecordRequests.{most_record_octets}
 use Rattle.controller_messages.specs.Requests.{first_of, writing_from}
-use Rattle.controller_messages.specs.Sent.{Sent, Requests, Accesses, Parametrizes, Agrees, ready_answer}
+use Rattle.controller_messages.specs.Sent.{Sent, Requests, Parametrizes, Agrees, ready_answer}
 use Rattle.controller_core.specs.declared.start_up.outcomes.Outcomes.{Outcomes}
 use Rattle.controller_core.specs.declared.start_up.outcomes.Outcomes.TheVariants.{AllWritten, Unreadable}
 use Rattle.controller_core.specs.declared.start_up.outcomes.Outcomes.TheVariants.{Refused as Denied}
@@ -73,7 +73,7 @@ use Rattle.controller_core.specs.Machine.{asks_next, behind_ack, behind_data, be
 use Rattle.controller_core.specs.Machine.{decided, done, due_frames, end_of, exchange_later, flowed, gone_on, granted, is_again, is_end_of, is_exchanging}
 use Rattle.controller_core.specs.Machine.{is_plug_awaited, is_spent, later, noted, noticed, outputs_of, over, past_record, pending_by, pending_of, placed}
 use Rattle.controller_core.specs.Machine.{plug_asked, plug_called, plug_finished, plug_passed, plug_passed_by, plug_readied, plug_refused, plug_rejected}
-use Rattle.controller_core.specs.Machine.{plug_responded, plugs_by, plugs_of, quit, readied, refused, refused_beside, refused_by, refused_place, rejected}
+use Rattle.controller_core.specs.Machine.{plug_responded, plugs_by, quit, readied, refused, refused_beside, refused_by, refused_place, rejected}
 use Rattle.controller_core.specs.Machine.{related_by, released, replied, requested, requests_of, responded, standing, state_of_step, stays, step_from, taken}
 use Rattle.controller_core.specs.Machine.{ticked, turn_due, turn_of, turned, undone, where_due, writing}
 use Rattle.end_laws.specs.controller.Small.{IsInStep, IsSteady, MayWait}

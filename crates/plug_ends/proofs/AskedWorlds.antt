@@ -1,9 +1,8 @@
 -- Over any run of worlds: what the controller asks of its places after their plugs, and what it confirmed.
 use Rattle.std.proofs.Common.{◌≡◌, ◌⊎◌, inl, inr, ◌<◌, ◌≤◌, ◌&&◌, ◌+◌, ◌++◌, ℕ, zero, suc, Bool, true, false, List, [], ◌∷◌, length, map, Option, Some, None, option_map, refl}
-use Rattle.std.proofs.Common.{sym, ap, subst, ◌∙◌, append-nil, append_assoc, arith}
+use Rattle.std.proofs.Common.{sym, ap, subst, ◌∙◌, append-nil, arith}
 use Rattle.std.specs.Prelude.{slice_get, if◌then◌else◌}
 use Rattle.std.specs.List.{AllByRecursion}
-use Rattle.std.proofs.lemmas.Bool.{and_parts, false≢true}
 use Rattle.lldp.specs.Views.{peer_as}
 use Rattle.flash_model.specs.declared.flash.Flash.{Ghosts as Flash}
 use Rattle.settings_journal.specs.settings_store.Machine.{Outcome}
@@ -16,31 +15,24 @@ use Rattle.pn_alarms.specs.declared.message.Notice.TheVariants as notice
 use Rattle.pn_alarms.specs.declared.pdu.Header.{Header}
 use Rattle.pn_alarms.specs.Receiver.{taken_as}
 use Rattle.diagnosis.specs.Line.{more_taken}
-use Rattle.diagnosis.specs.declared.reports.priority.Priority.{Priority}
-use Rattle.diagnosis.specs.declared.reports.priority.Priority.TheVariants.{High, Low}
+use Rattle.diagnosis.specs.declared.reports.priority.Priority.TheVariants.{Low}
 use Rattle.diagnosis.specs.reports.Message.{ToController as AlarmReported}
-use Rattle.asked_records.specs.Asked.{AskedState, question_in}
-use Rattle.asked_records.specs.declared.question.Question.{Question}
-use Rattle.connects.specs.requests.Request.{Request as Asked_for}
-use Rattle.records.specs.declared.writes.taken.TakenRecord.{TakenRecord}
 use Rattle.plan_places.specs.declared.place.PlaceState.{PlaceState}
-use Rattle.plan_places.specs.declared.place.PlaceState.TheVariants.{There, Plugged, Writing as Writing_place, Ready}
+use Rattle.plan_places.specs.declared.place.PlaceState.TheVariants.{There, Plugged, Writing as Writing_place}
 use Rattle.plan_places.specs.Places.{state_at}
-use Rattle.relations.specs.RelationState.{RelationState}
 use Rattle.device_frames.specs.declared.event.Event.TheVariants.{Frame}
 use Rattle.device_frames.specs.Heard.{Applied, Heard, Met, Ticks, heard_of}
 use Rattle.device_frames.specs.Sendable.{AreSendable}
 use Rattle.device_core.specs.State.{Live, Station}
 use Rattle.device_core.specs.Machine.{handled_step, heard_step}
 use Rattle.controller_messages.specs.declared.plug_request.PlugRequest.{PlugRequest}
-use Rattle.controller_messages.specs.declared.plug_request.PlugStep.{PlugStep}
 use Rattle.controller_messages.specs.declared.plug_request.PlugStep.TheVariants.{Record, PrmEnd}
 use Rattle.controller_messages.specs.declared.request.Request.TheVariants as asks
 use Rattle.controller_messages.specs.declared.setup.Setup.{Setup}
 use Rattle.controller_messages.specs.Access.{call_number}
 use Rattle.controller_messages.specs.Heard as controller
 use Rattle.controller_messages.specs.Heard.{heard_of as heard_by}
-use Rattle.controller_messages.specs.PlugRequests.{is_plug_answer, plug_answer}
+use Rattle.controller_messages.specs.PlugRequests.{is_plug_answer}
 use Rattle.controller_messages.specs.Sent as said
 use Rattle.controller_messages.specs.Sent.{bytes_of}
 use Rattle.controller_core.specs.declared.stored.event.Event.{Event}
@@ -48,7 +40,7 @@ use Rattle.controller_core.specs.declared.stored.event.Event.TheVariants as even
 use Rattle.controller_core.specs.declared.stored.state.State.TheVariants.{Exchanging}
 use Rattle.controller_core.specs.stored.Alarms.{is_alarm}
 use Rattle.controller_core.specs.stored.State.{Controlling, Live as ControllerLive, with_live}
-use Rattle.controller_core.specs.Machine.{Turn, after_turn, end_of, first as first_live, flow_later, opening_of, step_from, step_of, turn_due, turn_of}
+use Rattle.controller_core.specs.Machine.{Turn, after_turn, end_of, first as first_live, flow_later, step_from, step_of, turn_due, turn_of}
 use Rattle.network_world.specs.declared.moves.End.TheVariants.{Device, Controller}
 use Rattle.network_world.specs.declared.moves.Move.{Move}
 use Rattle.network_world.specs.declared.moves.Move.TheVariants as move
@@ -60,28 +52,26 @@ use Rattle.end_laws.specs.controller.Small.{GoesOn, IsSteady, said_in}
 use Rattle.end_laws.specs.device.Owed.{IsOfKept}
 use Rattle.end_laws.specs.device.Small.{IsPlanned, IsPlannedCall, heard_as, kept_in}
 use Rattle.end_laws.specs.device.Small as device
-use Rattle.end_laws.specs.device.Turn.{Turn as DeviceTurn}
 use Rattle.end_laws.specs.turns.Alarms.{is_priority}
 use Rattle.end_laws.specs.turns.Beside.{MayBegin, MayFollow, flow_begun}
 use Rattle.end_laws.specs.turns.Turns.{IsTurn, came_by}
-use Rattle.both_ends.specs.startup.request.Request.{request_for}
 use Rattle.both_ends.specs.startup.View.{IsMeant, IsMeantAtDevice, is_planned, rules_of}
-use Rattle.both_ends.specs.startup.Played.{Begins, CanMeet}
+use Rattle.both_ends.specs.startup.Played.{Begins}
 use Rattle.both_ends.specs.exchange.Over.{taken_by, taken_from, taken_in, taken_of, taken_with}
 use Rattle.both_ends.proofs.ExchangeFollows.{IsIn}
 use Rattle.both_ends.proofs.ExchangeLaw.{DeviceSo, FollowsAt}
 use Rattle.both_ends.proofs.ExchangeReported.{IsGood}
 use Rattle.plug_ends.specs.Calls.{WasSent}
-use Rattle.plug_ends.specs.Told.{AreNumberedFrom, LastPlug}
+use Rattle.plug_ends.specs.Told.{AreNumberedFrom}
 use Rattle.plug_ends.proofs.AskedFrames.{FramesSo, IsAskedBy, IsCalledAt, IsCalledBy, IsDoneOf, IsEndOf, IsQuietAt, IsReadAs, IsSmallIn, asked_later, confirms_number}
 use Rattle.plug_ends.proofs.AskedFrames.{messages_quiet, quiet_called, quiet_done, quiet_end, said_done, said_end, said_mine, start_no_number}
-use Rattle.plug_ends.proofs.AskedKeeps.{AreFew, Base, Done, Ended, Follows as FollowsBy, Begins as BeginsBy, IsConfirming, IsIn as IsAmong, IsOfStart, IsSaid, Reached, StepsBy, reached_closed}
+use Rattle.plug_ends.proofs.AskedKeeps.{AreFew, Base, Done, Ended, IsConfirming, IsIn as IsAmong, IsOfStart, IsSaid, Reached, StepsBy, reached_closed}
 use Rattle.plug_ends.proofs.AskedKinds.{IsBefore, IsStarting, PhaseGoes, asked_connects, event_phase, plugged_exchanges, unplugged_starting}
-use Rattle.plug_ends.proofs.AskedLists.{last_was, none_was, was_few}
+use Rattle.plug_ends.proofs.AskedLists.{was_few}
 use Rattle.plug_ends.proofs.AskedPlaces.{States, state_by, there_by}
 use Rattle.plug_ends.proofs.AskedRecords.{IsOwn}
-use Rattle.plug_ends.proofs.AskedTurns.{Goes, IsNoFrame, View, event_goes, heard_goes, view_of}
-use Rattle.plug_ends.proofs.AskedWords.{HearsDone, HearsEnd, IsDoneAt, IsEndedAt, IsRecord, IsStateOf, WasPlug}
+use Rattle.plug_ends.proofs.AskedTurns.{IsNoFrame, View, event_goes, heard_goes, view_of}
+use Rattle.plug_ends.proofs.AskedWords.{HearsDone, HearsEnd, IsDoneAt, IsEndedAt, IsStateOf, WasPlug}
 use Rattle.plug_ends.proofs.CallsFine.{all_joined, kept_after}
 use Rattle.plug_ends.proofs.CallsHeard.{IsPlans}
 use Rattle.plug_ends.proofs.CallsRuns.{all_at, all_both, controller_is, kept_for}
@@ -621,21 +611,26 @@ module _ (so : AskedSo) {F : Type 0} where
         number_is : request.number ≡ number
         frame_is : bytes_of c.setup (said.Parametrizes turn.live.device request) ≡ frame
 
+      end_by : (message : said.Sent) (frame : List ℕ) (number : ℕ) → IsEndOf message number → IsSaid c.setup all (view_of turn.live) reached.states message
+          → bytes_of c.setup message ≡ frame → NewEnd frame number
+      end_by message frame number is said_so e =
+          let own : IsSaid c.setup all (view_of turn.live) reached.states (said.Parametrizes is.to is.request) =
+          subst (λ (m : said.Sent). IsSaid c.setup all (view_of turn.live) reached.states m) is.is said_so in
+          record {
+            request = is.request;
+            plug = own.0;
+            step = is.step;
+            number_is = is.number_is;
+            frame_is = ap (λ (to : Mac). bytes_of c.setup (said.Parametrizes to is.request)) (sym own.1)
+                ∙ (ap (λ (m : said.Sent). bytes_of c.setup m) (sym is.is) ∙ e);
+          }
+
       new_end : (frame : List ℕ) (number : ℕ) → WasIn frames frame → HearsEnd station.identity frame number → NewEnd frame number
       new_end frame number was end =
           let found = get_mapped (bytes_of c.setup) IsSent turn.sent was.number frame sent_so was.is in
-          let is = said_end so.frames c.setup station.identity asking.good asking.real found.0 number found.1.0 (small_said found.0 found.1.1)
-          (subst (λ (f : List ℕ). HearsEnd station.identity f number) (sym found.2) end) in
-          let said_so : IsSaid c.setup all (view_of turn.live) reached.states (said.Parametrizes is.to is.request) =
-          subst (λ (m : said.Sent). IsSaid c.setup all (view_of turn.live) reached.states m) is.is found.1.1 in
-          record {
-            request = is.request;
-            plug = said_so.0;
-            step = is.step;
-            number_is = is.number_is;
-            frame_is = ap (λ (to : Mac). bytes_of c.setup (said.Parametrizes to is.request)) (sym said_so.1)
-                ∙ (ap (λ (m : said.Sent). bytes_of c.setup m) (sym is.is) ∙ found.2);
-          }
+          end_by found.0 frame number
+          (said_end so.frames c.setup station.identity asking.good asking.real found.0 number found.1.0 (small_said found.0 found.1.1)
+          (subst (λ (f : List ℕ). HearsEnd station.identity f number) (sym found.2) end)) found.1.1 found.2
 
       done_by : (number : ℕ) (answer : Response) → IsReadAs 0x8113 answer.blocks number
           → IsOfStart answer ⊎ IsConfirming c.setup all (view_of turn.live) reached.states answer → DoneSome all (view_of turn.live) reached.states number
@@ -653,13 +648,18 @@ module _ (so : AskedSo) {F : Type 0} where
             confirming.done;
       }
 
+      done_of : (message : said.Sent) (number : ℕ) → IsDoneOf message number → IsSaid c.setup all (view_of turn.live) reached.states message
+          → DoneSome all (view_of turn.live) reached.states number
+      done_of message number is said_so =
+          done_by number is.answer is.read (subst (λ (m : said.Sent). IsSaid c.setup all (view_of turn.live) reached.states m) is.is said_so)
+
       new_done : (frame : List ℕ) (number : ℕ) → WasIn frames frame → HearsDone station.identity frame number
           → DoneSome all (view_of turn.live) reached.states number
       new_done frame number was done =
           let found = get_mapped (bytes_of c.setup) IsSent turn.sent was.number frame sent_so was.is in
-          let is = said_done so.frames c.setup station.identity asking.good asking.real found.0 number found.1.0
-          (subst (λ (f : List ℕ). HearsDone station.identity f number) (sym found.2) done) in
-          done_by number is.answer is.read (subst (λ (m : said.Sent). IsSaid c.setup all (view_of turn.live) reached.states m) is.is found.1.1)
+          done_of found.0 number
+          (said_done so.frames c.setup station.identity asking.good asking.real found.0 number found.1.0
+          (subst (λ (f : List ℕ). HearsDone station.identity f number) (sym found.2) done)) found.1.1
 
       said_called : (messages : List said.Sent) → AllByRecursion (IsAimedAt station.identity.mac) messages
           → AllByRecursion (IsCalledAt c.setup.plan.controller.mac station.identity) (map (bytes_of c.setup) messages)
@@ -830,8 +830,7 @@ module _ (so : AskedSo) {F : Type 0} where
           let there : World F = record { device = before.device; controller = with_live c turn.live; sent = before.sent ++ frames } in
           let same : after ≡ there =
           happens ∙ (ap (λ (next : Controlling). record { device = before.device; controller = next; sent = before.sent ++ (step_of c one).frames }) (controller_is c one)
-          ∙ ap (λ (fs : List (List ℕ)). record { device = before.device; controller = with_live c turn.live; sent = before.sent ++ fs }) (frames_are c one)) in
-          (
+          ∙ ap (λ (fs : List (List ℕ)). record { device = before.device; controller = with_live c turn.live; sent = before.sent ++ fs }) (frames_are c one)) in (
             subst (λ (w : World F). AskingAt w all) (sym same) now_asking,
             subst (λ (w : World F). AskedBy before w) (sym same) now_steps,
           )
