@@ -13,7 +13,6 @@ pub mod DeviceRuns
 pub mod AskedWords
 pub mod AskedLists
 pub mod AskedPlaces
-pub mod AskedRecords
 pub mod AskedBlocks
 pub mod AskedTurns
 pub mod AskedKeeps
