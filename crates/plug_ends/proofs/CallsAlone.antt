@@ -28,7 +28,7 @@ same_alone : (before after : Live) → after.access ≡ before.access → IsAlon
 same_alone before after same (inl none) = inl (ap (λ (a : Accessing). a.plug) same ∙ none)
 same_alone before after same (inr none) = inr (ap (λ (a : Accessing). a.waiting) same ∙ none)
 
-end_access : (before : Live) (priority : Priority) (end : ControllerEnd) → (with_end before priority end).access ≡ before.access
+pub end_access : (before : Live) (priority : Priority) (end : ControllerEnd) → (with_end before priority end).access ≡ before.access
 end_access before High end = refl
 end_access before Low end = refl
 
@@ -37,7 +37,7 @@ kept_access : (before : Live) (priority : Priority) (alarm : AlarmNotification) 
 kept_access before High alarm structure = refl
 kept_access before Low alarm structure = refl
 
-taken_access : (before : Live) (report : Report) (as_what : Taken) → (taken before report as_what).live.access ≡ before.access
+pub taken_access : (before : Live) (report : Report) (as_what : Taken) → (taken before report as_what).live.access ≡ before.access
 taken_access before report New =
     kept_access (acking before report.priority (ack_of report.notification)) report.priority (kept_alarm report.notification) report.user_structure
     ∙ end_access before report.priority _

@@ -239,7 +239,7 @@ module _ (so : FineSo) (setup : Setup) {F : Type 0} where
 
   -- ---- a run
 
-  abbrev ArePlans : World F → List (Move × World F) → Type 0
+  abbrev pub ArePlans : World F → List (Move × World F) → Type 0
   ArePlans before [] = Unit {0}
   ArePlans before (one ∷ run) = IsPlans setup before.device.live.rest.link × ArePlans one.1 run
 
@@ -263,7 +263,7 @@ module _ (so : FineSo) (setup : Setup) {F : Type 0} where
   module _ {S : ℕ} (as_flash : Flash F S) (first : World F)
       (relation : (run : List (Move × World F)) → AreMade as_flash first run → (link : RelationState)
       → (last_world first run).device.live.rest.link ≡ Some link → link.request ≡ request_for setup.plan setup.ar) where
-    plans_from : (front run : List (Move × World F)) (before : World F) → last_world first front ≡ before → AreMade as_flash first front
+    pub plans_from : (front run : List (Move × World F)) (before : World F) → last_world first front ≡ before → AreMade as_flash first front
         → AreMade as_flash before run → ArePlans before run
     plans_from front [] before is made more = tt
     plans_from front (one ∷ run) before is made more = (
@@ -289,7 +289,7 @@ module _ (so : FineSo) (setup : Setup) {F : Type 0} where
       unkept_here = ap (λ (answer : Option Answer). option_map kept_in answer)
           (ap (λ (s : Setup). kept_of s.activity first.device.live.rest.calls) begins.of_setup ∙ begins.uncalled)
 
-      first_both : Both first
+      pub first_both : Both first
       first_both = record {
         held = first_held so.calls setup identity first good begins;
         fine = record {

@@ -20,7 +20,7 @@ covers_old sequence (Some kept) covers is_new = omega arith
 abbrev pub Grows : Option Kept → Option Kept → Type 0
 Grows before after = (after ≡ before) ⊎ ((answer : Kept) × (after ≡ Some answer) × IsNew answer.sequence before)
 
-grows_new : (before after : Option Kept) → Grows before after → (sequence : ℕ) → IsNew sequence after → IsNew sequence before
+pub grows_new : (before after : Option Kept) → Grows before after → (sequence : ℕ) → IsNew sequence after → IsNew sequence before
 grows_new before after (inl same) sequence is_new = subst (λ (k : Option Kept). IsNew sequence k) same is_new
 grows_new before after (inr more) sequence is_new = by_kept before more.2 (subst (λ (k : Option Kept). IsNew sequence k) more.1 is_new)
   where
@@ -36,16 +36,16 @@ grows_covers before after (inr more) sequence covers = subst (λ (k : Option Kep
     by_kept None one other = absurd other
     by_kept (Some kept) one other = omega arith
 
-idle_call : (sequence : ℕ) (ask : Ask) → Idle ≡ Call sequence ask → ⊥
+pub idle_call : (sequence : ℕ) (ask : Ask) → Idle ≡ Call sequence ask → ⊥
 idle_call sequence ask e = absurd cc
 
-nothing_answers : (sequence : ℕ) (positive : Bool) → Nothing ≡ Answers sequence positive → ⊥
+pub nothing_answers : (sequence : ℕ) (positive : Bool) → Nothing ≡ Answers sequence positive → ⊥
 nothing_answers sequence positive e = absurd cc
 
-readies_answers : (sequence : ℕ) (positive : Bool) → Readies ≡ Answers sequence positive → ⊥
+pub readies_answers : (sequence : ℕ) (positive : Bool) → Readies ≡ Answers sequence positive → ⊥
 readies_answers sequence positive e = absurd cc
 
-answers_same : (one other : ℕ) (first second : Bool) → Answers one first ≡ Answers other second → one ≡ other
+pub answers_same : (one other : ℕ) (first second : Bool) → Answers one first ≡ Answers other second → one ≡ other
 answers_same one other first second e = cc
 
 some_kept : (one other : Kept) → Some one ≡ Some other → one ≡ other

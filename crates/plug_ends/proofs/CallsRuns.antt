@@ -87,7 +87,7 @@ all_at P [] all number x e = absurd (none_some x e)
 all_at P (y ∷ xs) all zero x e = subst P (some_same y x e) all.0
 all_at P (y ∷ xs) all (suc number) x e = all_at P xs all.1 number x e
 
-all_map : {A B : Type 0} (P : A → Type 0) (Q : B → Type 0) (f : A → B) → ((x : A) → P x → Q (f x)) → (xs : List A) → AllByRecursion P xs
+pub all_map : {A B : Type 0} (P : A → Type 0) (Q : B → Type 0) (f : A → B) → ((x : A) → P x → Q (f x)) → (xs : List A) → AllByRecursion P xs
     → AllByRecursion Q (map f xs)
 all_map P Q f to [] all = tt
 all_map P Q f to (x ∷ xs) all = (to x all.0, all_map P Q f to xs all.1)
@@ -129,7 +129,7 @@ module _ (setup : Setup) where
   abbrev Says : Sent → ℕ → Ask → Type 0
   Says message sequence ask = says_to_device setup message ≡ small.Call sequence ask
 
-  number_said : (message : Sent) (sequence : ℕ) (ask : Ask) → Says message sequence ask → sequence ≡ number_in setup.plan message
+  pub number_said : (message : Sent) (sequence : ℕ) (ask : Ask) → Says message sequence ask → sequence ≡ number_in setup.plan message
   number_said (Requests to asks.Identify) sequence ask e = absurd (idle_no_call sequence ask e)
   number_said (Requests to asks.Address) sequence ask e = absurd (idle_no_call sequence ask e)
   number_said (Requests to asks.Connect) sequence ask e = call_number_same _ _ _ _ (sym e)
@@ -170,7 +170,7 @@ module _ (setup : Setup) where
   uncounted_said (Replies route priority header) is sequence ask e = absurd is
   uncounted_said (Ends route header reason) is sequence ask e = absurd is
 
-  plain_said : (message : Sent) → IsPlain message → (sequence : ℕ) (ask : Ask) → Says message sequence ask → ⊥
+  pub plain_said : (message : Sent) → IsPlain message → (sequence : ℕ) (ask : Ask) → Says message sequence ask → ⊥
   plain_said (Requests to request) is sequence ask e = is
   plain_said (Accesses to request octets) is sequence ask e = is
   plain_said (Parametrizes to request) is sequence ask e = is
@@ -201,7 +201,7 @@ module _ (setup : Setup) where
   abbrev MaySay : ToDevice → Type 0
   MaySay says = SaysToDevice (write_count setup.plan) small.Ended says
 
-  ended_said : (message : Sent) → MaySay (said_by setup.plan message) → (sequence : ℕ) (ask : Ask) → Says message sequence ask → ask ≡ small.Releases
+  pub ended_said : (message : Sent) → MaySay (said_by setup.plan message) → (sequence : ℕ) (ask : Ask) → Says message sequence ask → ask ≡ small.Releases
   ended_said (Requests to request) may sequence ask e = releases_alone sequence ask (subst (λ (says : ToDevice). MaySay says) e may)
   ended_said (Accesses to request octets) may sequence ask e = absurd (access_released request.sequence may)
   ended_said (Parametrizes to request) may sequence ask e = absurd (access_released request.sequence may)
@@ -216,7 +216,7 @@ module _ (setup : Setup) where
     rules = rules_of setup station
 
     -- the device hears in its octets what the message says, or no call
-    heard_said : (message : Sent) → IsSaidAs setup station message → (sequence : ℕ) (ask : Ask)
+    pub heard_said : (message : Sent) → IsSaidAs setup station message → (sequence : ℕ) (ask : Ask)
         → rules.to_device (bytes_of setup message) ≡ small.Call sequence ask → Says message sequence ask
     heard_said message said sequence ask e = by_case said.1
       where
@@ -293,13 +293,13 @@ ended_by Waiting e = absurd (false_true e)
 ended_by Exchanging e = absurd (false_true e)
 
 module _ (so : CallsSo) where
-  ended_on : (c : Controlling) (one : Event) → IsReached c → is_ended c.live.phase ≡ true → is_ended (turn_of c.setup c.live one).live.phase ≡ true
+  pub ended_on : (c : Controlling) (one : Event) → IsReached c → is_ended c.live.phase ≡ true → is_ended (turn_of c.setup c.live one).live.phase ≡ true
   ended_on c one reached e =
       let found = ended_by c.live.phase e in
       let after = so.cause c found.0 (one ∷ []) (record { reached = reached; phase = found.1 }) in
       ap (λ (old : Controlling). is_ended old.live.phase) (sym (controller_is c one)) ∙ ap (λ (phase : State). is_ended phase) after.phase
 
-  small_ended : (plan : _) (live : ControllerLive) → is_ended live.phase ≡ true → small_of plan live ≡ small.Ended
+  pub small_ended : (plan : _) (live : ControllerLive) → is_ended live.phase ≡ true → small_of plan live ≡ small.Ended
   small_ended plan live e =
       let found = ended_by live.phase e in
       ap (λ (phase : State). Rattle.end_laws.specs.controller.Small.state_of plan phase live.asked) found.1

@@ -156,15 +156,15 @@ IsUnrefused setup one = Unit {0}
 
 -- ---- a call of each kind waits
 
-requested_is : (l : Live) (request : Request) → l.asked ≡ Some request → present_of l ≡ Some (Requests l.device request)
+pub requested_is : (l : Live) (request : Request) → l.asked ≡ Some request → present_of l ≡ Some (Requests l.device request)
 requested_is l request e = ap (λ (asked : Option Request). present_by l.device asked l.access.plug l.access.octets l.access.waiting) e
 
-plugged_is : (l : Live) (request : PlugRequest) → l.asked ≡ None → l.access.plug ≡ Some request → present_of l ≡ Some (Parametrizes l.device request)
+pub plugged_is : (l : Live) (request : PlugRequest) → l.asked ≡ None → l.access.plug ≡ Some request → present_of l ≡ Some (Parametrizes l.device request)
 plugged_is l request none e =
     ap (λ (asked : Option Request). present_by l.device asked l.access.plug l.access.octets l.access.waiting) none
     ∙ ap (λ (plug : Option PlugRequest). present_by l.device None plug l.access.octets l.access.waiting) e
 
-waiting_is : (l : Live) (request : RecordRequest) → l.asked ≡ None → l.access.plug ≡ None → l.access.waiting ≡ Some request
+pub waiting_is : (l : Live) (request : RecordRequest) → l.asked ≡ None → l.access.plug ≡ None → l.access.waiting ≡ Some request
     → present_of l ≡ Some (Accesses l.device request l.access.octets)
 waiting_is l request none unplugged_now e =
     ap (λ (asked : Option Request). present_by l.device asked l.access.plug l.access.octets l.access.waiting) none

@@ -75,7 +75,7 @@ uncalled_nothing setup (Rattle.controller_messages.specs.Heard.Refuses refusal) 
 uncalled_nothing setup (Rattle.controller_messages.specs.Heard.Calls caller call) un = absurd un
 uncalled_nothing setup heard un = refl
 
-opening_said : (so : CallsSo) (setup : Setup) (station : Station) (to : Mac) → IsSetup setup → IsSaidAs setup station (Requests to asks.Identify)
+pub opening_said : (so : CallsSo) (setup : Setup) (station : Station) (to : Mac) → IsSetup setup → IsSaidAs setup station (Requests to asks.Identify)
 opening_said so setup station to good = (
   uncalled_nothing setup _ (so.uncalled setup.plan.controller identify_multicast setup.plan.controller.mac None _ _ multicast_six good.mac tt),
   inl (unreported_idle (is_planned setup) _ (so.unreported station.identity identify_multicast setup.plan.controller.mac None _ _ multicast_six good.mac tt)),
@@ -88,7 +88,7 @@ opening_is c = refl
 -- ---- calls
 
 -- a call that the cache does not have is later than the last response
-new_kept : (activity : List ℕ) (sequence : ℕ) (calls : List Answer) → looked activity sequence calls ≡ new
+pub new_kept : (activity : List ℕ) (sequence : ℕ) (calls : List Answer) → looked activity sequence calls ≡ new
     → IsNew sequence (option_map kept_in (kept_of activity calls))
 new_kept activity sequence calls e = by_kept (kept_of activity calls) e
   where

@@ -99,13 +99,23 @@ use Rattle.device_core.specs.Machine.{effect_link, finished, handled_step, heard
 use Rattle.device_core.specs.Machine.{first_answer}
 use Rattle.device_core.specs.Modules.{calling_after}
 use Rattle.device_core.specs.Several.{Judged, judged_each}
-use Rattle.end_laws.specs.device.Turn.{change_by}
+use Rattle.end_laws.specs.device.Turn.{change_by, modules_after}
 use Rattle.records.specs.declared.status.call_fault.CallFault.TheVariants as fault
 use Rattle.records.specs.declared.writes.write.Write.{Write as Written}
 use Rattle.records.specs.reads.Within.{names_relation}
 use Rattle.records.specs.writes.Entry.{Entry}
 use Rattle.diagnosis.specs.Existing.{remaining}
-use Rattle.pn_alarms.specs.Device.{heard_as}
+use Rattle.pn_alarms.specs.Device.{end_behind, heard_as, sender_after}
+use Rattle.pn_alarms.specs.declared.message.Notice.TheVariants as notice
+use Rattle.pn_alarms.specs.declared.receiver.Taken.{Taken}
+use Rattle.pn_alarms.specs.declared.receiver.Taken.TheVariants.{New, Again, Refused}
+use Rattle.pn_alarms.specs.Alarming.{Alarming}
+use Rattle.pn_alarms.specs.Ends.{DeviceEnd}
+use Rattle.pn_alarms.specs.Numbers.{is_last}
+use Rattle.pn_alarms.specs.Receiver.{taken_as}
+use Rattle.pn_alarms.specs.Sender.{is_end}
+use Rattle.pn_alarms.specs.Sending.{Sending, rested}
+use Rattle.record_blocks.specs.declared.alarm_ack.AlarmAck.{AlarmAck}
 use Rattle.relations.specs.declared.phase.Phase.TheVariants.{Awaiting}
 use Rattle.relations.specs.exchange.Received.{behind_frame, received_as}
 use Rattle.wire.proofs.Fields.{ok_is}
@@ -224,6 +234,9 @@ pub record Tells (before after : Option RelationState) : Type 0 where
   pub was : before ≡ Some link
   pub middle : RelationState
   pub same : holding_of middle ≡ holding_of link
+  pub waiting : middle.flow.low.waiting ≡ link.flow.low.waiting
+  pub last : middle.flow.low.alarms.sender.sending.last ≡ link.flow.low.alarms.sender.sending.last
+  pub specifier : middle.flow.low.alarms.sender.specifier ≡ link.flow.low.alarms.sender.specifier
   pub is_sent : Bool
   pub flow : Flow
   pub telling : IsTelling is_sent flow middle.flow
@@ -236,6 +249,8 @@ pub record Alters (live : Live) (heard : Heard) (before after : Option RelationS
   pub made : RealChange
   pub is : change_by live.rest.real.modules.items heard ≡ Some made
   pub now : List RealModule
+  pub modules : modules_after live.rest.real.modules.items heard ≡ Some now
+  pub open_room : is_crowded (affected_by made) before ≡ false
   pub diagnoses : List Diagnosis
   pub becomes : after ≡ modules_changing now made diagnoses before
 
@@ -245,6 +260,35 @@ LinkGoes live heard before after =
     (held after ≡ held before) ⊎ ((after ≡ None) ⊎ (IsMade live heard after ⊎ (IsLater before after ⊎ (IsReadied before after
     ⊎ (AnswersPlug heard before after ⊎ (EndsPlug live heard before after ⊎ (TakesRecords live heard before after
     ⊎ (Tells before after ⊎ Alters live heard before after))))))))
+
+-- ---- a PDU of low priority leaves the number of the last alarm, and that of the next one
+
+ended_keeps : {A : Type 0} (part : Alarming → A) (a : Alarming) (b : Bool) → part (record { sending = rested a.sending; specifier = a.specifier; standing = None }) ≡ part a
+    → part (cond b (record { sending = rested a.sending; specifier = a.specifier; standing = None }) a) ≡ part a
+ended_keeps part a true same = same
+ended_keeps part a false same = refl
+
+sender_keeps : {A : Type 0} (part : Alarming → A) (a : Alarming) (ack : AlarmAck) (came : Taken)
+    → part (record { sending = rested a.sending; specifier = a.specifier; standing = None }) ≡ part a → part (sender_after a ack came) ≡ part a
+sender_keeps part a ack New same = ended_keeps part a (is_end ack a.standing) same
+sender_keeps part a ack Again same = refl
+sender_keeps part a ack Refused same = refl
+
+acked_last : (s : Sending) (b : Bool) → (cond b (rested s) s).last ≡ s.last
+acked_last s true = refl
+acked_last s false = refl
+
+pub end_last : (end : DeviceEnd) (message : ToDevice) → (end_behind end message).sender.sending.last ≡ end.sender.sending.last
+end_last end (notice.Data number ack) = sender_keeps (λ a. a.sending.last) end.sender ack (taken_as end.seen number) refl
+end_last end (notice.Ack number) = acked_last end.sender.sending (is_last end.sender.sending.last number)
+end_last end notice.Nack = refl
+end_last end (notice.Abort status) = refl
+
+pub end_specifier : (end : DeviceEnd) (message : ToDevice) → (end_behind end message).sender.specifier ≡ end.sender.specifier
+end_specifier end (notice.Data number ack) = sender_keeps (λ a. a.specifier) end.sender ack (taken_as end.seen number) refl
+end_specifier end (notice.Ack number) = refl
+end_specifier end notice.Nack = refl
+end_specifier end (notice.Abort status) = refl
 
 -- ---- outcomes that leave them
 
@@ -507,6 +551,9 @@ module _ (live : Live) (heard : Heard) where
         was = refl;
         middle = middle;
         same = refl;
+        waiting = refl;
+        last = end_last link.flow.low.alarms message;
+        specifier = end_specifier link.flow.low.alarms message;
         is_sent = is_next middle.flow.low;
         flow = next_reported middle.flow;
         telling = inl (refl, refl);
@@ -523,6 +570,9 @@ module _ (live : Live) (heard : Heard) where
         was = refl;
         middle = middle;
         same = refl;
+        waiting = refl;
+        last = refl;
+        specifier = refl;
         is_sent = begins_with_one real diagnoses middle.flow;
         flow = diagnoses_begun real diagnoses middle.flow;
         telling = inr (inl (real, diagnoses, refl, refl));
@@ -538,6 +588,9 @@ module _ (live : Live) (heard : Heard) where
         was = refl;
         middle = link;
         same = refl;
+        waiting = refl;
+        last = refl;
+        specifier = refl;
         is_sent = is_diagnosed real change diagnoses link.flow;
         flow = diagnosed real change diagnoses link.flow;
         telling = inr (inr (real, change, diagnoses, refl, refl));
@@ -545,14 +598,17 @@ module _ (live : Live) (heard : Heard) where
       })
 
   changing_goes : (made : RealChange) (now : List RealModule) (diagnoses : List Diagnosis) (link : Option RelationState)
-      → change_by live.rest.real.modules.items heard ≡ Some made → Goes link (modules_changing now made diagnoses link)
-  changing_goes made now diagnoses None is = inl refl
-  changing_goes made now diagnoses (Some link) is = inr (inr (inr (inr (inr (inr (inr (inr (inr (record {
+      → change_by live.rest.real.modules.items heard ≡ Some made → modules_after live.rest.real.modules.items heard ≡ Some now
+      → is_crowded (affected_by made) link ≡ false → Goes link (modules_changing now made diagnoses link)
+  changing_goes made now diagnoses None is modules open_room = inl refl
+  changing_goes made now diagnoses (Some link) is modules open_room = inr (inr (inr (inr (inr (inr (inr (inr (inr (record {
     link = link;
     was = refl;
     made = made;
     is = is;
     now = now;
+    modules = modules;
+    open_room = open_room;
     diagnoses = diagnoses;
     becomes = refl;
   })))))))))
@@ -780,10 +836,10 @@ module _ (station : Station) (live : Live) (answers : List BlockError) (heard : 
   change_goes change (Some diagnoses) = diagnosing_goes live heard live.rest.real.modules.items change diagnoses live.rest.link
 
   modules_goes : (made : RealChange) (real : Option (List RealModule)) → change_by live.rest.real.modules.items heard ≡ Some made
-      → LinkBy (handled_modules live made real)
-  modules_goes made None is = stays
-  modules_goes made (Some real) is = cond_both (is_crowded (affected_by made) live.rest.link) _ _ LinkBy (λ _. stays)
-      (λ _. changing_goes live heard made real (remaining (affected_by made) live.rest.diagnoses) live.rest.link is)
+      → modules_after live.rest.real.modules.items heard ≡ real → LinkBy (handled_modules live made real)
+  modules_goes made None is after = stays
+  modules_goes made (Some real) is after = cond_both (is_crowded (affected_by made) live.rest.link) _ _ LinkBy (λ _. stays)
+      (λ open_room. changing_goes live heard made real (remaining (affected_by made) live.rest.diagnoses) live.rest.link is after open_room)
 
   local_goes : (said : Local (ArrayVec ℕ)) → heard ≡ Applied said → LinkBy (handled_local station live said)
   local_goes (local.Answer number octets) is = judged_goes (gives_octets octets.items) (judged number (gives_octets octets.items) live.rest.asked)
@@ -798,12 +854,12 @@ module _ (station : Station) (live : Live) (answers : List BlockError) (heard : 
       cond_both (may_be_diagnosed station live change) _ _ LinkBy (λ _. change_goes change (changed change live.rest.diagnoses)) (λ _. stays)
   local_goes (local.Pull slot subslot) is =
       modules_goes (pull_of live.rest.real.modules.items slot subslot) (outside slot (pulled slot subslot live.rest.real.modules.items))
-      (ap (λ (h : Heard). change_by live.rest.real.modules.items h) is)
+      (ap (λ (h : Heard). change_by live.rest.real.modules.items h) is) (ap (λ (h : Heard). modules_after live.rest.real.modules.items h) is)
   local_goes (local.PullModule slot) is =
       modules_goes (slot_pull_of live.rest.real.modules.items slot) (outside slot (slot_pulled slot live.rest.real.modules.items))
-      (ap (λ (h : Heard). change_by live.rest.real.modules.items h) is)
+      (ap (λ (h : Heard). change_by live.rest.real.modules.items h) is) (ap (λ (h : Heard). modules_after live.rest.real.modules.items h) is)
   local_goes (local.Plug slot ident part) is = modules_goes (plug_of slot ident part) (plugged_with slot ident part live.rest.real.modules.items)
-      (ap (λ (h : Heard). change_by live.rest.real.modules.items h) is)
+      (ap (λ (h : Heard). change_by live.rest.real.modules.items h) is) (ap (λ (h : Heard). modules_after live.rest.real.modules.items h) is)
   local_goes (local.ReadyAt slot subslot) is = cond_both (is_readied_in slot subslot live.rest.link) _ _ LinkBy
       (λ _. readying_goes live heard slot subslot live.rest.link) (λ _. stays)
   local_goes local.Ready is = cond_both (is_preparing (phase_of live.rest.link)) _ _ LinkBy (λ _. inl (quiet_same Prepared live.rest.link tt)) (λ _. stays)

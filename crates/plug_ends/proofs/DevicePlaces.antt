@@ -288,7 +288,7 @@ first_is_told number plugs place is e =
     by_step (Ended other) f = absurd (false≢true f)
     by_step Refused f = absurd (false≢true f)
 
-covers_self : (slot subslot : ℕ) → covers (there slot subslot) slot subslot ≡ true
+pub covers_self : (slot subslot : ℕ) → covers (there slot subslot) slot subslot ≡ true
 covers_self slot subslot = and_from (slot == slot) (subslot == subslot) (eq-eqb slot slot refl) (eq-eqb subslot subslot refl)
 
 covers_flips : (slot subslot at below : ℕ) → covers (there slot subslot) at below ≡ false → covers (there at below) slot subslot ≡ false

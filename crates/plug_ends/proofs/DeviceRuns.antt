@@ -35,7 +35,7 @@ use Rattle.module_diff.specs.Changes.{affected_by, covers}
 
 -- ---- a relation begins
 
-abbrev IsSettled : ExpectedPlace → Type 0
+abbrev pub IsSettled : ExpectedPlace → Type 0
 IsSettled place = place.step ≡ Settled
 
 each_both : {A : Type 0} (P : A → Type 0) (xs ys : List A) → AllByRecursion P xs → AllByRecursion P ys → AllByRecursion P (xs ++ ys)
@@ -47,7 +47,7 @@ first_settled : (rows : Listed DiffModule DiffSubmodule) (slot : ℕ) (parts : L
 first_settled rows slot [] = tt
 first_settled rows slot (part ∷ parts) = (refl, first_settled rows slot parts)
 
-all_settled : (rows : Listed DiffModule DiffSubmodule) (wanteds : List Wanted) → AllByRecursion IsSettled (places_of rows wanteds)
+pub all_settled : (rows : Listed DiffModule DiffSubmodule) (wanteds : List Wanted) → AllByRecursion IsSettled (places_of rows wanteds)
 all_settled rows [] = tt
 all_settled rows (wanted ∷ wanteds) =
     each_both IsSettled (map (first_place rows wanted.entry.slot_number) wanted.submodules) (places_of rows wanteds)

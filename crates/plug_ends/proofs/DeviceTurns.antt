@@ -229,7 +229,7 @@ SentGoes slot subslot sent waiting before after =
     IsSameAt slot subslot before after ⊎ (IsForgotten slot subslot sent before after ⊎ IsTold slot subslot sent waiting before after)
 
 -- The place that an alarm names is reached by it.
-reach_there : (change : ModuleChange) (slot subslot : ℕ) → change.slot ≡ slot → change.subslot ≡ subslot → covers (reach_of change) slot subslot ≡ true
+pub reach_there : (change : ModuleChange) (slot subslot : ℕ) → change.slot ≡ slot → change.subslot ≡ subslot → covers (reach_of change) slot subslot ≡ true
 reach_there change slot subslot slots subslots =
     and_from (change.slot == slot) (reaches (if change.subslot == 0 then None else Some change.subslot) subslot) (eq-eqb change.slot slot slots)
     (by_zero (change.subslot == 0))
@@ -239,14 +239,14 @@ reach_there change slot subslot slots subslots =
     by_zero false = eq-eqb change.subslot subslot subslots
 
 module _ (slot subslot : ℕ) (step : Step) (waiting : List QueuedAlarm) (before : Holding) (is : step_at slot subslot before.plugs.places ≡ Some step) where
-  abbrev After : Option SentAlarm → Holding
+  abbrev pub After : Option SentAlarm → Holding
   After sent = record { taken = taken_after sent before.plugs.places before.taken; plugs = plugs_after sent waiting before.plugs }
 
   -- What follows from an alarm of this change.
-  abbrev told_with : SentAlarm → LowChange → Holding
+  abbrev pub told_with : SentAlarm → LowChange → Holding
   told_with alarm change = record { taken = taken_told change before.plugs.places before.taken; plugs = plugs_told change alarm.number waiting before.plugs }
 
-  sent_goes : (sent : Option SentAlarm) → SentGoes slot subslot sent waiting before (After sent)
+  pub sent_goes : (sent : Option SentAlarm) → SentGoes slot subslot sent waiting before (After sent)
   sent_goes None = inl (record { step = refl; taken = refl })
   sent_goes (Some alarm) = by_change alarm.change refl
     where
@@ -301,6 +301,8 @@ pub record AnswersAt (slot subslot : ℕ) (heard : Heard) (link next : Option Re
   pub answer : AnswersPlug heard link next
   pub call : PlugCall
   pub active : before.plugs.calls.standing ≡ Some call
+  pub slot_is : call.slot ≡ slot
+  pub subslot_is : call.subslot ≡ subslot
   pub was : step_at slot subslot before.plugs.places ≡ Some (Ended call.number)
   pub now : step_at slot subslot after.plugs.places ≡ Some (if answer.is_positive then Settled else Refused)
   pub taken : taken_at slot subslot after.taken ≡ taken_at slot subslot before.taken
@@ -436,10 +438,13 @@ module _ (live : Live) (heard : Heard) (before after : Option RelationState) whe
               })
           by_cover true g =
               let was = same_place call.slot call.subslot slot subslot it.link.plugs.places g ∙ called.standing call f in
+              let both = and_parts (call.slot == slot) (call.subslot == subslot) g in
               inr (inr (inr (inl (record {
                 answer = it;
                 call = call;
                 active = f;
+                slot_is = eqb-true call.slot slot both.0;
+                subslot_is = eqb-true call.subslot subslot both.1;
                 was = was;
                 now = covered_at (there call.slot call.subslot) (if it.is_positive then Settled else Refused)
                     (Ended call.number) it.link.plugs.places slot subslot g was;

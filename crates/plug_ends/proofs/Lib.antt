@@ -10,6 +10,12 @@ pub mod DevicePlaces
 pub mod DeviceTurns
 pub mod Written
 pub mod DeviceRuns
+pub mod ToldQueue
+pub mod ToldPlaces
+pub mod ToldSends
+pub mod ToldGoes
+pub mod ToldReady
+pub mod ToldRuns
 pub mod AskedWords
 pub mod AskedLists
 pub mod AskedPlaces
@@ -19,3 +25,14 @@ pub mod AskedKeeps
 pub mod AskedKinds
 pub mod AskedFrames
 pub mod AskedWorlds
+pub mod PluggedLists
+pub mod PluggedNumbers
+pub mod PluggedWrites
+pub mod PluggedWorlds
+pub mod PluggedState
+pub mod PluggedDevice
+pub mod PluggedWritten
+pub mod PluggedTurns
+pub mod PluggedDone
+pub mod PluggedRuns
+pub mod PluggedLaw

@@ -65,13 +65,24 @@ use Rattle.controller_messages.specs.declared.setup.Setup.{Setup}
 use Rattle.controller_messages.specs.PlugRequests.{plug_blocks, plug_call, plug_operation, plug_write_blocks}
 use Rattle.end_laws.specs.both.Small as small
 use Rattle.end_laws.specs.both.Small.{Rules}
-use Rattle.end_laws.specs.device.Does.{Does, Following, IsEffect, IsUncalled, Plugging, Readying, Serves, Written, readied_from}
+use Rattle.end_laws.specs.device.Does.{Does, Following, IsEffect, IsUncalled, Plugging, Questions, Readying, Serves, Written, readied_from}
 use Rattle.end_laws.specs.device.Small.{IsPlanned, IsPlannedAs, Planned, heard_as}
 use Rattle.end_laws.specs.device.Turn.{Turn}
 use Rattle.end_laws.specs.hearing.Stations.{IsSetup}
-use Rattle.both_ends.specs.startup.Played.{IsParameter}
+use Rattle.both_ends.specs.startup.Played.{IsParameter, IsUnnamed}
 use Rattle.both_ends.specs.startup.request.Request.{request_for}
 use Rattle.both_ends.specs.startup.View.{taken_for}
+use Rattle.std.specs.Option.{option_map}
+use Rattle.asked_records.specs.Asked.{question_in}
+use Rattle.asked_records.specs.Judging.{asked_name, asked_write, write_found}
+use Rattle.asked_records.specs.Names.{named_at}
+use Rattle.asked_records.specs.declared.names.RecordName.{RecordName}
+use Rattle.asked_records.specs.declared.question.Question.{Question}
+use Rattle.asked_records.specs.declared.question.Request.TheVariants as wanted
+use Rattle.records.specs.calls.Naming.{in_relation}
+use Rattle.records.specs.reads.Handled.{has_parameter}
+use Rattle.device_core.specs.Asking.{Asking, asking_of, asking_write, question_of, write_within}
+use Rattle.end_laws.specs.both.Steps.{IsSameOrNone}
 use Rattle.plug_ends.specs.Taken.{IsPositive, IsWriteOf, TakesOne, hears_plug, taken_in}
 
 some_is : {A : Type 0} (x y : A) → Some x ≡ Some y → x ≡ y
@@ -103,7 +114,7 @@ IsErr (Err why) = Unit {0}
 IsErr (Ok octets) = ⊥
 
 -- if no earlier judgement fails, the rest decides
-handled_ok : {A : Type 0} (judgements : List (Bool × CallFault)) (otherwise : Result A CallFault) (value : A) → in_order judgements otherwise ≡ Ok value
+pub handled_ok : {A : Type 0} (judgements : List (Bool × CallFault)) (otherwise : Result A CallFault) (value : A) → in_order judgements otherwise ≡ Ok value
     → otherwise ≡ Ok value
 handled_ok [] otherwise value e = e
 handled_ok {A} (judgement ∷ others) otherwise value e = by_test judgement.0 (λ f. handled_ok others otherwise value f) e
@@ -113,7 +124,7 @@ handled_ok {A} (judgement ∷ others) otherwise value e = by_test judgement.0 (�
     by_test true rest f = absurd cc
     by_test false rest f = rest f
 
-fault_ok : {A : Type 0} (why : CallFault) (value : Option A) (x : A) → or_fault why value ≡ Ok x → value ≡ Some x
+pub fault_ok : {A : Type 0} (why : CallFault) (value : Option A) (x : A) → or_fault why value ≡ Ok x → value ≡ Some x
 fault_ok why (Some value) x e = ap (λ y. Some y) (ok_is value x e)
 fault_ok why None x e = absurd cc
 
@@ -123,7 +134,7 @@ formed_ok (Err why) x e = absurd cc
 
 -- ---- a record that is written
 
-single_is : (type : BlockType) (blocks : List ℕ) (x : Block × List ℕ) → single_of type blocks ≡ Ok x → block_of blocks ≡ Ok x
+pub single_is : (type : BlockType) (blocks : List ℕ) (x : Block × List ℕ) → single_of type blocks ≡ Ok x → block_of blocks ≡ Ok x
 unfolding single_of
 single_is type blocks x e = formed_ok (block_of blocks) x (handled_ok
     ((length blocks == 0, fault.BlockMissing)
@@ -520,3 +531,77 @@ module _ (read : (block : Block) (rest : List ℕ) → CanBeWritten block → bl
         by_does (inr (inr (inr (inr (inr (inr (inl it))))))) =
             subst (λ (messages : List Sent). Each_so messages) (sym it.sends) ((λ positive. absurd (false≢true (sym it.undone ∙ positive))), tt)
         by_does (inr (inr (inr (inr (inr (inr (inr it))))))) = absurd (call_not_idle (sym (heard_is caller address) ∙ it.idle none_planned))
+
+    -- it is not asked of the application, whose records are others
+    module _ (unnamed : IsUnnamed station.named entry) where
+      question_of_write : (standing : Option (List ℕ)) (which : Caller) (call : Call) (asking : Asking) (written_here : Result (IodWriteReq × List ℕ) CallFault)
+          → write_within standing (block_bytes (variant.IodWriteReq block) ++ entry.data.items) ≡ written_here
+          → asking_write live.rest.real station.named which call written_here ≡ Ok (Some asking) → ⊥
+      unfolding write_within asked_write
+      question_of_write standing which call asking (Err why) e f = absurd cc
+      question_of_write standing which call asking (Ok x) e f =
+          let blocks = block_bytes (variant.IodWriteReq block) ++ entry.data.items in
+          let one = bind_ok (single_of kind.IodWriteReq blocks) (λ y. or_fault fault.BlockForm
+          (in_iod_write_req y.0) >>= λ write. in_relation standing write.header.ar_uuid >>= λ _. Ok (write, y.1)) x e in
+          let same : one.0 ≡ (variant.IodWriteReq block, entry.data.items) =
+          ok_is one.0 (variant.IodWriteReq block, entry.data.items)
+          (sym (single_is kind.IodWriteReq blocks one.0 one.1) ∙ read (variant.IodWriteReq block) entry.data.items can_be) in
+          let two = bind_ok (in_relation standing block.header.ar_uuid) (λ _. Ok (block, entry.data.items)) x
+          (subst (λ (y : Block × List ℕ). (or_fault fault.BlockForm (in_iod_write_req y.0) >>= λ write. in_relation standing write.header.ar_uuid >>= λ _.
+          Ok (write, y.1)) ≡ Ok x) same one.2) in
+          none_asked (subst (λ (y : IodWriteReq × List ℕ). asking_write live.rest.real station.named which call (Ok y) ≡ Ok (Some asking))
+          (sym (ok_is (block, entry.data.items) x two.2)) f)
+        where
+          by_parameter : (b : Bool) → cond b None (named_at entry.slot entry.subslot entry.index station.named) ≡ None
+          by_parameter true = refl
+          by_parameter false = unnamed
+
+          none_there : asked_name live.rest.real station.named block.header ≡ None
+          none_there = by_parameter (has_parameter live.rest.real entry.slot entry.subslot entry.index)
+
+          none_asked : asking_write live.rest.real station.named which call (Ok (block, entry.data.items)) ≡ Ok (Some asking) → ⊥
+          none_asked g = not_some (sym (ap (λ (found : Option RecordName). write_found live.rest.real block entry.data.items found >>= λ name. Ok (option_map
+              (λ (n : RecordName). (question_of which call (wanted.Write block) n, take block.header.record_data_length entry.data.items)) name)) none_there) ∙ g)
+            where
+              not_some : ◌≡◌ {A = Result (Option Asking) CallFault} (Ok None) (Ok (Some asking)) → ⊥
+              not_some h = absurd cc
+
+      same_or : (before now : Option Question) → IsSameOrNone before now → (question : Question) → now ≡ Some question → before ≡ Some question
+      same_or before now (inl same) question e = sym same ∙ e
+      same_or before now (inr none) question e = absurd (none_question (sym none ∙ e))
+        where
+          none_question : None ≡ Some question → ⊥
+          none_question f = absurd cc
+
+      pub unasked_so : (question : Question) → question_in after.asked ≡ Some question → question_in live.rest.asked ≡ Some question
+      unasked_so question e = by_does (turns rules setup.activity outcomes station live heard planned).does
+        where
+          same_rest : after ≡ live.rest → question_in live.rest.asked ≡ Some question
+          same_rest f = ap (λ (r : Rest). question_in r.asked) (sym f) ∙ e
+
+          asks_none : (it : Questions station live heard after sent) → ⊥
+          asks_none it =
+              let call_is : plug_call setup request ≡ it.new_call.call =
+              same_call caller it.new_call.caller address it.new_call.address (plug_call setup request) it.new_call.call it.new_call.is in
+              let which_is : it.new_call.which ≡ operation.Write =
+              some_is it.new_call.which operation.Write (sym it.new_call.operation_is
+              ∙ (ap (λ (call : Call). operation_of call.header.operation) (sym call_is) ∙ operation_is)) in
+              let blocks_here : it.new_call.blocks ≡ block_bytes (variant.IodWriteReq block) ++ entry.data.items =
+              some_is it.new_call.blocks (plug_blocks setup request request.step)
+              (sym it.new_call.counted ∙ ap (λ (call : Call). call.blocks) (sym call_is)) ∙ blocks_are in
+              question_of_write (uuid_of live.rest.link) it.new_call.caller it.new_call.call it.asking
+              (write_within (uuid_of live.rest.link) (block_bytes (variant.IodWriteReq block) ++ entry.data.items)) refl
+              (subst (λ (blocks : List ℕ). asking_of live.rest.real station.named (uuid_of live.rest.link) it.new_call.caller it.new_call.call blocks operation.Write
+              ≡ Ok (Some it.asking)) blocks_here
+              (subst (λ (which : Operation). asking_of live.rest.real station.named (uuid_of live.rest.link) it.new_call.caller it.new_call.call it.new_call.blocks which
+              ≡ Ok (Some it.asking)) which_is it.new_call.asks))
+
+          by_does : Does station live heard after sent → question_in live.rest.asked ≡ Some question
+          by_does (inl it) = same_rest it.same
+          by_does (inr (inl it)) = same_or _ _ it.asked question e
+          by_does (inr (inr (inl it))) = absurd (call_not_confirms (sym (heard_is caller address) ∙ it.confirms none_planned))
+          by_does (inr (inr (inr (inl it)))) = same_rest it.same
+          by_does (inr (inr (inr (inr (inl it))))) = same_or _ _ it.asked question e
+          by_does (inr (inr (inr (inr (inr (inl it)))))) = absurd (asks_none it)
+          by_does (inr (inr (inr (inr (inr (inr (inl it))))))) = ap (λ (r : Rest). question_in r.asked) (sym it.becomes) ∙ e
+          by_does (inr (inr (inr (inr (inr (inr (inr it))))))) = absurd (call_not_idle (sym (heard_is caller address) ∙ it.idle none_planned))

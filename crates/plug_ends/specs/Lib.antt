@@ -2,3 +2,4 @@ pub mod Calls
 pub mod Taken
 pub mod Places
 pub mod Told
+pub mod Plugged

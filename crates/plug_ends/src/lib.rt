@@ -3,8 +3,10 @@
 
 mod law;
 mod places;
+mod plugged;
 mod taken;
 
 pub use law::calls_come_one_at_a_time;
 pub use places::places_follow_their_plugs;
+pub use plugged::records_follow_their_plugs;
 pub use taken::writes_after_plugs_are_taken;

@@ -1,0 +1,524 @@
+-- The moves of a world, the call that its controller makes, and the numbers of all calls.
+use Rattle.std.proofs.Common.{◌≡◌, ◌⊎◌, inl, inr, ◌<◌, ◌≤◌, ◌+◌, ◌%◌, ◌++◌, ℕ, Bool, true, false, List, [], ◌∷◌, map, Option, Some, None, option_map, refl, sym, ap, subst, ◌∙◌, arith}
+use Rattle.std.specs.Prelude.{slice_get}
+use Rattle.std.specs.List.{AllByRecursion}
+use Rattle.std.proofs.Math.Nat.{mod-eq_of_lt}
+use Rattle.lldp.specs.Views.{peer_as}
+use Rattle.flash_model.specs.declared.flash.Flash.{Ghosts as Flash}
+use Rattle.pn_values.specs.declared.mac.Mac.{Mac}
+use Rattle.frame_codec.specs.declared.udp.Caller.{Caller}
+use Rattle.frame_codec.specs.Sendable.{IsMac}
+use Rattle.connects.specs.requests.Request.{Request}
+use Rattle.records.specs.declared.writes.taken.TakenRecord.{TakenRecord}
+use Rattle.plans.specs.declared.parts.Parts.{Parts}
+use Rattle.device_frames.specs.declared.event.Event.TheVariants.{Frame}
+use Rattle.device_frames.specs.Heard.{Applied, Heard, Met, Reported, Said, Ticks, heard_of}
+use Rattle.device_core.specs.State.{Live, Station}
+use Rattle.controller_messages.specs.declared.plug_request.PlugRequest.{PlugRequest}
+use Rattle.controller_messages.specs.declared.record_request.RecordRequest.{RecordRequest}
+use Rattle.controller_messages.specs.declared.request.Request.{Request as Asking}
+use Rattle.controller_messages.specs.declared.request.Request.TheVariants as asks
+use Rattle.controller_messages.specs.declared.setup.Setup.{Setup}
+use Rattle.controller_messages.specs.Access.{call_number}
+use Rattle.controller_messages.specs.Heard.{heard_of as heard_by}
+use Rattle.controller_messages.specs.Requests.{sequence_of, write_count}
+use Rattle.controller_messages.specs.Sent.{Sent, Requests, Accesses, Parametrizes, Agrees, Cycles, Confirms, Replies, Ends, bytes_of}
+use Rattle.controller_core.specs.declared.stored.event.Event.{Event}
+use Rattle.controller_core.specs.declared.stored.event.Event.TheVariants as controller
+use Rattle.controller_core.specs.declared.stored.state.State.{State}
+use Rattle.controller_core.specs.declared.stored.state.State.TheVariants.{Looking, Addressing, Connecting, Writing, Ending, Waiting, Exchanging, Ended}
+use Rattle.controller_core.specs.stored.State.{Controlling, Live as ControllerLive}
+use Rattle.network_world.specs.declared.moves.End.TheVariants.{Device, Controller}
+use Rattle.network_world.specs.declared.moves.Move.{Move}
+use Rattle.network_world.specs.declared.moves.Move.TheVariants as move
+use Rattle.network_world.specs.World.{at_controller, AtDevice, Comes, Delivers, Happens, is_ended, is_skipped, World}
+use Rattle.end_laws.specs.sending.Addressed.{IsAimedAt, IsEventFrom}
+use Rattle.end_laws.specs.hearing.Stations.{IsPlugCall, IsSetup}
+use Rattle.end_laws.specs.both.Small as small
+use Rattle.end_laws.specs.both.Small.{Ask, Rules, ToDevice}
+use Rattle.end_laws.specs.both.Steps.{DeviceSteps, GoesBy, IsDull, IsReady}
+use Rattle.end_laws.specs.controller.Small.{IsInStep, IsSteady, MayWait}
+use Rattle.end_laws.specs.device.Small as device
+use Rattle.both_ends.specs.startup.View.{IsMeant, IsMeantAtController, IsMeantAtDevice, IsSaidAs, rules_of}
+use Rattle.both_ends.proofs.StartupPlanned.{count_few}
+use Rattle.plug_ends.specs.Calls.{WasSent}
+use Rattle.plug_ends.proofs.CallsFine.{Both, FineSo}
+use Rattle.plug_ends.proofs.CallsFrames.{idle_call}
+use Rattle.plug_ends.proofs.CallsHeard.{IsFineAt, fine_from, fine_unrefused}
+use Rattle.plug_ends.proofs.CallsRuns.{all_at, all_both, all_map, heard_said, kept_for, number_said, plain_said}
+use Rattle.plug_ends.proofs.CallsTurns.{IsAsked, IsUnrefused, none_some, number_in, present_by, present_of, some_same}
+use Rattle.plug_ends.proofs.ToldRuns.{HeardWith}
+use Rattle.plug_ends.proofs.PluggedNumbers.{IsSameOr, Numbers}
+
+-- ---- moves
+
+-- What is heard comes in a frame that was sent, or is no call and no response.
+abbrev pub IsFrom : {F : Type 0} → World F → Heard → Type 0
+IsFrom world heard =
+    ((frame : List ℕ) × WasSent world frame × (heard ≡ heard_of world.device.station.identity (Frame (record { items = frame }))))
+    ⊎ ((caller : Caller) (address : List ℕ) (said : Said) → heard ≡ Reported caller address said → ⊥)
+
+-- The device hears something.
+pub record DeviceMoved {F : Type 0} {S : ℕ} (as_flash : Flash F S) (before : World F) (one : Move) (after : World F) : Type 0 where
+  pub heard : Heard
+  pub by : HeardWith before one heard
+  pub meant : IsMeantAtDevice before heard
+  pub made : AtDevice as_flash before heard after
+  pub from : IsFrom before heard
+
+-- The controller handles an event.
+pub record ControllerMoved {F : Type 0} (before after : World F) : Type 0 where
+  pub event : Event
+  pub meant : IsMeantAtController before event
+  pub from : IsEventFrom before.device.station.identity.mac before.controller.setup event
+  pub unrefused : IsUnrefused before.controller.setup event
+  pub happens : after ≡ at_controller before event
+
+abbrev pub Moved : {F : Type 0} {S : ℕ} → Flash F S → World F → Move → World F → Type 0
+Moved as_flash before one after = (after ≡ before) ⊎ (DeviceMoved as_flash before one after ⊎ ControllerMoved before after)
+
+module _ (so : FineSo) (setup : Setup) {F : Type 0} {S : ℕ} (as_flash : Flash F S) (before after : World F) (both : Both so setup before) where
+  no_tick : (caller : Caller) (address : List ℕ) (said : Said) → Ticks ≡ Reported caller address said → ⊥
+  no_tick caller address said e = absurd cc
+
+  by_device : (one : Move) (heard : Heard) → HeardWith before one heard → IsFrom before heard → IsMeantAtDevice before heard → AtDevice as_flash before heard after
+      → Moved as_flash before one after
+  by_device one heard by from meant made = inr (inl (record { heard = heard; by = by; meant = meant; made = made; from = from }))
+
+  by_controller : (one : Move) (event : Event) → IsEventFrom before.device.station.identity.mac before.controller.setup event
+      → IsUnrefused before.controller.setup event → IsMeantAtController before event → after ≡ at_controller before event → Moved as_flash before one after
+  by_controller one event from unrefused meant happens =
+      inr (inr (record { event = event; meant = meant; from = from; unrefused = unrefused; happens = happens }))
+
+  comes_to_device : (number : ℕ) (frame : List ℕ) → slice_get before.sent number ≡ Some frame → (skipped : Bool)
+      → IsMeantAtDevice before (heard_of before.device.station.identity (Frame (record { items = frame })))
+      → Comes as_flash skipped before Device frame after → Moved as_flash before (move.Deliver Device number) after
+  comes_to_device number frame there true meant happens = inl happens
+  comes_to_device number frame there false meant happens =
+      by_device (move.Deliver Device number) _ (frame, there, refl) (inl (frame, record { number = number; is = there }, refl)) meant happens
+
+  to_device : (number : ℕ) (found : Option (List ℕ)) → slice_get before.sent number ≡ found
+      → ((frame : List ℕ) → found ≡ Some frame → IsMeantAtDevice before (heard_of before.device.station.identity (Frame (record { items = frame }))))
+      → Delivers as_flash found before Device after → Moved as_flash before (move.Deliver Device number) after
+  to_device number None there meant happens = inl happens
+  to_device number (Some frame) there meant happens =
+      comes_to_device number frame there (is_skipped before.device before.controller Device frame) (meant frame refl) happens
+
+  comes_to_controller : (one : Move) (frame : List ℕ) → IsFineAt before.controller.setup before.device.station.identity frame → (skipped : Bool)
+      → IsMeantAtController before (controller.Frame (record { items = frame })) → Comes as_flash skipped before Controller frame after
+      → Moved as_flash before one after
+  comes_to_controller one frame fine true meant happens = inl happens
+  comes_to_controller one frame fine false meant happens =
+      let heard = heard_by before.controller.setup.plan.controller frame in
+      by_controller one (controller.Frame (record { items = frame })) (fine_from before.device.station.identity.mac heard fine)
+      (λ refusal e. fine_unrefused before.device.station.identity.mac heard fine refusal e) meant happens
+
+  to_controller : (number : ℕ) (found : Option (List ℕ)) → slice_get before.sent number ≡ found
+      → ((frame : List ℕ) → found ≡ Some frame → IsMeantAtController before (controller.Frame (record { items = frame })))
+      → Delivers as_flash found before Controller after → Moved as_flash before (move.Deliver Controller number) after
+  to_controller number None there meant happens = inl happens
+  to_controller number (Some frame) there meant happens =
+      comes_to_controller (move.Deliver Controller number) frame
+      (all_at (IsFineAt before.controller.setup before.device.station.identity) before.sent both.fine.frames number frame there)
+      (is_skipped before.device before.controller Controller frame) (meant frame refl) happens
+
+  pub moved : (one : Move) → IsMeant before one → Happens as_flash before one after → Moved as_flash before one after
+  moved (move.Deliver Device number) meant happens = to_device number (slice_get before.sent number) refl meant happens
+  moved (move.Deliver Controller number) meant happens = to_controller number (slice_get before.sent number) refl meant happens
+  moved (move.Tick Device) meant happens = by_device (move.Tick Device) Ticks refl (inr no_tick) meant happens
+  moved (move.Tick Controller) meant happens = by_controller (move.Tick Controller) controller.Tick tt tt meant happens
+  moved (move.Application local) meant happens =
+      by_device (move.Application local) (Applied local) refl (inr (λ caller address said e. absurd cc)) meant happens
+  moved (move.Neighbour neighbour) meant happens =
+      by_device (move.Neighbour neighbour) (Met (option_map peer_as neighbour)) refl (inr (λ caller address said e. absurd cc)) meant happens
+  moved (move.Give slot subslot value) meant happens =
+      by_controller (move.Give slot subslot value) (controller.Give slot subslot value) tt tt meant happens
+  moved (move.OutputStatus slot subslot is_good) meant happens =
+      by_controller (move.OutputStatus slot subslot is_good) (controller.Status slot subslot is_good) tt tt meant happens
+  moved (move.Read slot subslot index) meant happens =
+      by_controller (move.Read slot subslot index) (controller.Read slot subslot index) tt tt meant happens
+  moved (move.Write slot subslot index octets) meant happens =
+      by_controller (move.Write slot subslot index octets) (controller.Write slot subslot index octets) tt tt meant happens
+  moved move.Stop meant happens = by_controller move.Stop controller.Stop tt tt meant happens
+
+-- ---- the call that waits
+
+abbrev pub IsPresentAs : ControllerLive → Sent → Type 0
+IsPresentAs live (Requests to request) = live.asked ≡ Some request
+IsPresentAs live (Accesses to request octets) =
+    (live.access.waiting ≡ Some request) × (live.access.plug ≡ None) × (octets ≡ live.access.octets) × (to ≡ live.device)
+IsPresentAs live (Parametrizes to request) = (live.asked ≡ None) × (live.access.plug ≡ Some request) × (to ≡ live.device)
+IsPresentAs live message = ⊥
+
+pub present_as : (live : ControllerLive) (message : Sent) → present_of live ≡ Some message → IsPresentAs live message
+present_as live message e = by_asked live.asked refl e
+  where
+    by_waiting : (waiting : Option RecordRequest) → live.access.waiting ≡ waiting → live.access.plug ≡ None
+        → present_by live.device None None live.access.octets waiting ≡ Some message → IsPresentAs live message
+    by_waiting None f g is = absurd (none_some message is)
+    by_waiting (Some request) f g is =
+        subst (λ (m : Sent). IsPresentAs live m) (some_same (Accesses live.device request live.access.octets) message is) (f, g, refl, refl)
+
+    by_plug : (plug : Option PlugRequest) → live.access.plug ≡ plug → live.asked ≡ None
+        → present_by live.device None plug live.access.octets live.access.waiting ≡ Some message → IsPresentAs live message
+    by_plug None f g is = by_waiting live.access.waiting refl f is
+    by_plug (Some request) f g is = subst (λ (m : Sent). IsPresentAs live m) (some_same (Parametrizes live.device request) message is) (g, f, refl)
+
+    by_asked : (asked : Option Asking) → live.asked ≡ asked
+        → present_by live.device asked live.access.plug live.access.octets live.access.waiting ≡ Some message → IsPresentAs live message
+    by_asked None f is = by_plug live.access.plug refl f is
+    by_asked (Some request) f is = subst (λ (m : Sent). IsPresentAs live m) (some_same (Requests live.device request) message is) f
+
+-- a request of the start-up has a number below those of the requests beside the exchange
+step_number : (plan : Parts) (phase : State) (asked : Option Asking) (request : Asking) → IsInStep plan phase asked → asked ≡ Some request
+    → is_ended phase ≡ false → sequence_of plan request < write_count plan + 2
+step_number plan phase asked request step is going = by_phase phase step going
+  where
+    below : (other : Asking) → asked ≡ Some other → sequence_of plan other < write_count plan + 2 → sequence_of plan request < write_count plan + 2
+    below other same less = subst (λ (r : Asking). sequence_of plan r < write_count plan + 2) (some_same other request (sym same ∙ is)) less
+
+    write_below : (number : ℕ) → number < write_count plan → number + 1 < write_count plan + 2
+    write_below number less = omega (arith, less)
+
+    zero_below : 0 < write_count plan + 2
+    zero_below = omega arith
+
+    end_below : write_count plan + 1 < write_count plan + 2
+    end_below = omega arith
+
+    true_false : true ≡ false → ⊥
+    true_false e = absurd cc
+
+    by_phase : (p : State) → IsInStep plan p asked → is_ended p ≡ false → sequence_of plan request < write_count plan + 2
+    by_phase Looking same g = below asks.Identify same zero_below
+    by_phase Addressing same g = below asks.Address same zero_below
+    by_phase Connecting same g = below asks.Connect same zero_below
+    by_phase Writing same g = below (asks.Write same.0) same.2 (write_below same.0 same.1)
+    by_phase Ending same g = below asks.PrmEnd same end_below
+    by_phase Waiting same g = absurd (none_some request (sym same ∙ is))
+    by_phase Exchanging same g = absurd (none_some request (sym same ∙ is))
+    by_phase (Ended cause) same g = absurd (true_false g)
+
+-- while a request after a plug waits, none of the start-up does, and the controller has not ended
+pub beside_alone : (plan : Parts) (live : ControllerLive) (request : PlugRequest) → IsSteady plan live → live.access.plug ≡ Some request
+    → (live.asked ≡ None) × (is_ended live.phase ≡ false)
+beside_alone plan live request steady is = by_phase live.phase steady.asked steady.plug
+  where
+    none : live.access.plug ≡ None → (live.asked ≡ None) × (is_ended live.phase ≡ false)
+    none e = absurd (none_some request (sym e ∙ is))
+
+    by_phase : (p : State) → IsInStep plan p live.asked → MayWait p live.access.plug → (live.asked ≡ None) × (is_ended p ≡ false)
+    by_phase Looking step wait = absurd (none_some request (sym wait ∙ is))
+    by_phase Addressing step wait = absurd (none_some request (sym wait ∙ is))
+    by_phase Connecting step wait = absurd (none_some request (sym wait ∙ is))
+    by_phase Writing step wait = absurd (none_some request (sym wait ∙ is))
+    by_phase Ending step wait = absurd (none_some request (sym wait ∙ is))
+    by_phase Waiting step wait = absurd (none_some request (sym wait ∙ is))
+    by_phase Exchanging step wait = (step, refl)
+    by_phase (Ended cause) step wait = absurd (none_some request (sym wait ∙ is))
+
+-- ---- numbers
+
+-- A frame that is the call of this request.
+pub record IsPlugFrame (setup : Setup) (request : PlugRequest) (frame : List ℕ) : Type 0 where
+  pub to : Mac
+  pub mac : IsMac to
+  pub can : IsPlugCall request
+  pub is : frame ≡ bytes_of setup (Parametrizes to request)
+
+abbrev pub next_of : Controlling → ℕ
+next_of c = call_number c.setup.plan c.live.access.calls
+
+-- The numbers of calls that were made are below the next one, and those before the request after a plug that waits below its own.
+abbrev pub IsNumberedIn : Controlling → ℕ → Type 0
+IsNumberedIn c number = (number < next_of c) × ((request : PlugRequest) → c.live.access.plug ≡ Some request → number < request.sequence)
+
+abbrev pub IsNumberedFrame : Rules TakenRecord Request → Controlling → List ℕ → Type 0
+IsNumberedFrame rules c frame = (sequence : ℕ) (ask : Ask) → rules.to_device frame ≡ small.Call sequence ask
+    → (sequence < next_of c)
+    × ((request : PlugRequest) → c.live.access.plug ≡ Some request → (sequence < request.sequence) ⊎ IsPlugFrame c.setup request frame)
+
+pub record Numbered (c : Controlling) (station : Station) (live : Live) (sent : List (List ℕ)) : Type 0 where
+  pub frames : AllByRecursion (IsNumberedFrame (rules_of c.setup station) c) sent
+  pub kept : (answer : small.Kept) → kept_for c.setup live ≡ Some answer → answer.sequence < next_of c
+  pub question : (sequence : ℕ) → (device.small_of c.setup.activity live).asked ≡ Some sequence → IsNumberedIn c sequence
+  pub waiting : (request : RecordRequest) → c.live.access.waiting ≡ Some request → request.sequence < next_of c
+  pub plug : (request : PlugRequest) → c.live.access.plug ≡ Some request → request.sequence < next_of c
+
+all_joined : {A : Type 0} (P : A → Type 0) (one other : List A) → AllByRecursion P one → AllByRecursion P other → AllByRecursion P (one ++ other)
+all_joined P [] other first second = second
+all_joined P (x ∷ one) other first second = (first.0, all_joined P one other first.1 second)
+
+all_to : {A : Type 0} (P Q : A → Type 0) → ((x : A) → P x → Q x) → (xs : List A) → AllByRecursion P xs → AllByRecursion Q xs
+all_to P Q to [] all = tt
+all_to P Q to (x ∷ xs) all = (to x all.0, all_to P Q to xs all.1)
+
+-- ---- the frames of a device say nothing to a device
+
+module _ (rules : Rules TakenRecord Request) where
+  abbrev pub IsIdle : List ℕ → Type 0
+  IsIdle frame = rules.to_device frame ≡ small.Idle
+
+  other_idle : (after : small.Device TakenRecord Request) (frame : List ℕ) → IsDull rules frame ⊎ IsReady rules after frame → IsIdle frame
+  other_idle after frame (inl dull) = dull.0
+  other_idle after frame (inr ready) = ready.to_device
+
+  pub steps_idle : (heard : ToDevice) (before after : small.Device TakenRecord Request) (frames : List (List ℕ)) → DeviceSteps rules heard before after frames
+      → ((answer : small.Kept) → before.kept ≡ Some answer → IsIdle answer.frame) → AllByRecursion IsIdle frames
+  steps_idle heard before after frames steps kept = by_steps heard steps
+    where
+      are : (fs : List (List ℕ)) → frames ≡ fs → AllByRecursion IsIdle fs → AllByRecursion IsIdle frames
+      are fs same all = subst (λ (xs : List (List ℕ)). AllByRecursion IsIdle xs) (sym same) all
+
+      others : (fs : List (List ℕ)) → AllByRecursion (λ f. IsDull rules f ⊎ IsReady rules after f) fs → AllByRecursion IsIdle fs
+      others fs all = all_to (λ f. IsDull rules f ⊎ IsReady rules after f) IsIdle (other_idle after) fs all
+
+      goes : GoesBy rules before after frames → AllByRecursion IsIdle frames
+      goes it = others frames it.sent
+
+      by_steps : (what : ToDevice) → DeviceSteps rules what before after frames → AllByRecursion IsIdle frames
+      by_steps (small.Call sequence ask) (inl it) = are _ it.sent (it.to_device, others it.others it.readies)
+      by_steps (small.Call sequence ask) (inr (inl it)) = are _ it.sent (kept it.kept it.has, tt)
+      by_steps (small.Call sequence ask) (inr (inr (inl it))) = are _ it.1 tt
+      by_steps (small.Call sequence ask) (inr (inr (inr it))) = are _ it.silent tt
+      by_steps small.Confirms (inl it) = all_to (IsDull rules) IsIdle (λ frame dull. dull.0) frames it.dull
+      by_steps small.Confirms (inr it) = goes it
+      by_steps small.Idle (inl it) = goes it
+      by_steps small.Idle (inr it) = are _ it.sent (all_joined IsIdle it.others (it.frame ∷ []) (others it.others it.dull) (it.to_device, tt))
+
+-- ---- a step of the device
+
+module _ (c : Controlling) (station : Station) (before after : Live) (sent frames : List (List ℕ)) (heard : ToDevice)
+    (steps : DeviceSteps (rules_of c.setup station) heard (device.small_of c.setup.activity before) (device.small_of c.setup.activity after) frames)
+    (idle : AllByRecursion (IsIdle (rules_of c.setup station)) frames)
+    (called : (sequence : ℕ) (ask : Ask) → heard ≡ small.Call sequence ask → sequence < next_of c)
+    (asked : (sequence : ℕ) → (device.small_of c.setup.activity after).asked ≡ Some sequence
+    → ((device.small_of c.setup.activity before).asked ≡ Some sequence) ⊎ IsNumberedIn c sequence) (was : Numbered c station before sent) where
+  kept_numbered : (what : ToDevice) → heard ≡ what
+      → DeviceSteps (rules_of c.setup station) what (device.small_of c.setup.activity before) (device.small_of c.setup.activity after) frames
+      → (answer : small.Kept) → kept_for c.setup after ≡ Some answer → answer.sequence < next_of c
+  kept_numbered what e it answer is = by_steps what e it
+    where
+      same : kept_for c.setup after ≡ kept_for c.setup before → answer.sequence < next_of c
+      same f = was.kept answer (sym f ∙ is)
+
+      stored : (sequence : ℕ) (frame : List ℕ) → kept_for c.setup after ≡ Some (record { sequence = sequence; frame = frame }) → sequence < next_of c
+          → answer.sequence < next_of c
+      stored sequence frame f below =
+          subst (λ (k : small.Kept). k.sequence < next_of c) (some_same (record { sequence = sequence; frame = frame }) answer (sym f ∙ is)) below
+
+      by_steps : (w : ToDevice) → heard ≡ w
+          → DeviceSteps (rules_of c.setup station) w (device.small_of c.setup.activity before) (device.small_of c.setup.activity after) frames
+          → answer.sequence < next_of c
+      by_steps (small.Call sequence ask) f (inl one) = stored sequence one.frame one.keeps (called sequence ask f)
+      by_steps (small.Call sequence ask) f (inr (inl one)) = same (ap (λ (d : small.Device TakenRecord Request). d.kept) one.unchanged)
+      by_steps (small.Call sequence ask) f (inr (inr (inl one))) = same (ap (λ (d : small.Device TakenRecord Request). d.kept) one.0)
+      by_steps (small.Call sequence ask) f (inr (inr (inr one))) = same (ap (λ (d : small.Device TakenRecord Request). d.kept) one.becomes)
+      by_steps small.Confirms f (inl one) = same (ap (λ (d : small.Device TakenRecord Request). d.kept) one.becomes)
+      by_steps small.Confirms f (inr one) = same one.keeps
+      by_steps small.Idle f (inl one) = same one.keeps
+      by_steps small.Idle f (inr one) = stored one.sequence one.frame one.keeps (was.question one.sequence one.asked).0
+
+  idle_numbered : (frame : List ℕ) → IsIdle (rules_of c.setup station) frame → IsNumberedFrame (rules_of c.setup station) c frame
+  idle_numbered frame none sequence ask e = absurd (idle_call sequence ask (sym none ∙ e))
+
+  pub device_numbered : Numbered c station after (sent ++ frames)
+  device_numbered = record {
+    frames = all_joined (IsNumberedFrame (rules_of c.setup station) c) sent frames was.frames
+        (all_to (IsIdle (rules_of c.setup station)) (IsNumberedFrame (rules_of c.setup station) c) idle_numbered frames idle);
+    kept = kept_numbered heard refl steps;
+    question = λ sequence is. by_asked sequence (asked sequence is);
+    waiting = was.waiting;
+    plug = was.plug;
+  }
+    where
+      by_asked : (sequence : ℕ) → ((device.small_of c.setup.activity before).asked ≡ Some sequence) ⊎ IsNumberedIn c sequence → IsNumberedIn c sequence
+      by_asked sequence (inl old) = was.question sequence old
+      by_asked sequence (inr now) = now
+
+-- ---- a step of the controller
+
+module _ (setup : Setup) (good : IsSetup setup) (station : Station) (mac : Mac) (before after : Controlling) (live : Live) (sent : List (List ℕ))
+    (messages : List Sent) (before_of : before.setup ≡ setup) (after_of : after.setup ≡ setup) (was : Numbered before station live sent)
+    (few : before.live.access.calls < 4294967000) (few_now : after.live.access.calls < 4294967000) (steady : IsSteady setup.plan after.live)
+    (going : is_ended after.live.phase ≡ false) (numbers : Numbers setup before.live.access after.live.access)
+    (said : AllByRecursion (IsSaidAs setup station) messages) (made : AllByRecursion (IsAsked after.live) messages)
+    (aimed : AllByRecursion (IsAimedAt mac) messages) where
+  count : write_count setup.plan ≤ 32
+  count = count_few setup.plan good.plan.few_records
+
+  small_sum : (calls : ℕ) → calls < 4294967000 → write_count setup.plan + 2 + calls < 4294967296
+  small_sum calls less = omega (arith, less, count)
+
+  number_is : (calls : ℕ) → calls < 4294967000 → call_number setup.plan calls ≡ write_count setup.plan + 2 + calls
+  number_is calls less = mod-eq_of_lt (small_sum calls less)
+
+  before_is : next_of before ≡ write_count setup.plan + 2 + before.live.access.calls
+  before_is = ap (λ (s : Setup). call_number s.plan before.live.access.calls) before_of ∙ number_is before.live.access.calls few
+
+  after_is : next_of after ≡ write_count setup.plan + 2 + after.live.access.calls
+  after_is = ap (λ (s : Setup). call_number s.plan after.live.access.calls) after_of ∙ number_is after.live.access.calls few_now
+
+  -- the next number is the same, or a later one
+  same_next : after.live.access.calls ≡ before.live.access.calls → next_of before ≤ next_of after
+  same_next e = omega (arith, before_is, after_is, e)
+
+  calls_small : before.live.access.calls + 1 < 4294967296
+  calls_small = omega (arith, few)
+
+  more_next : after.live.access.calls ≡ (before.live.access.calls + 1) % 4294967296 → next_of before < next_of after
+  more_next e =
+      let is : after.live.access.calls ≡ before.live.access.calls + 1 = e ∙ mod-eq_of_lt calls_small in
+      omega (arith, before_is, after_is, is)
+
+  weaker : (one other : ℕ) → one < other → one ≤ other
+  weaker one other less = omega (arith, less)
+
+  next_later : Numbers setup before.live.access after.live.access → next_of before ≤ next_of after
+  next_later (inl none) = same_next none.calls
+  next_later (inr (inl one)) = weaker (next_of before) (next_of after) (more_next one.calls)
+  next_later (inr (inr one)) = weaker (next_of before) (next_of after) (more_next one.calls)
+
+  below : (number : ℕ) → number < next_of before → number < next_of after
+  below number less =
+      let later = next_later numbers in
+      omega (arith, less, later)
+
+  own_number : (request : ℕ) → request ≡ call_number setup.plan before.live.access.calls → request ≡ next_of before
+  own_number request e = e ∙ ap (λ (s : Setup). call_number s.plan before.live.access.calls) (sym before_of)
+
+  less_than : (one other number : ℕ) → number ≡ other → one < other → one < number
+  less_than one other number e less = omega (arith, e, less)
+
+  some_or : {A : Type 0} (one other : Option A) (value : A) → IsSameOr one other → other ≡ Some value → one ≡ Some value
+  some_or one other value (inl same) e = sym same ∙ e
+  some_or one other value (inr none) e = absurd (none_some value (sym none ∙ e))
+
+  -- what was true of the one that waited is true of the one that waits, or that is a new one
+  plugs : (P : PlugRequest → Type 0) → ((request : PlugRequest) → before.live.access.plug ≡ Some request → P request)
+      → ((request : PlugRequest) → request.sequence ≡ next_of before → P request) → (request : PlugRequest) → after.live.access.plug ≡ Some request → P request
+  plugs P old fresh request e = by_numbers numbers
+    where
+      by_numbers : Numbers setup before.live.access after.live.access → P request
+      by_numbers (inl none) = old request (some_or before.live.access.plug after.live.access.plug request none.plug e)
+      by_numbers (inr (inl one)) =
+          subst P (some_same one.request request (sym one.plug ∙ e)) (fresh one.request (own_number one.request.sequence one.sequence))
+      by_numbers (inr (inr one)) = old request (some_or before.live.access.plug after.live.access.plug request one.plug e)
+
+  numbered_in : (number : ℕ) → IsNumberedIn before number → IsNumberedIn after number
+  numbered_in number is = (
+    below number is.0,
+    plugs (λ request. number < request.sequence) is.1 (λ request fresh. less_than number (next_of before) request.sequence fresh is.0),
+  )
+
+  -- the frames so far
+  old_frame : (frame : List ℕ) → IsNumberedFrame (rules_of before.setup station) before frame → IsNumberedFrame (rules_of after.setup station) after frame
+  old_frame frame is sequence ask e =
+      let old = is sequence ask (ap (λ (s : Setup). (rules_of s station).to_device frame) (before_of ∙ sym after_of) ∙ e) in (
+        below sequence old.0,
+        plugs (λ request. (sequence < request.sequence) ⊎ IsPlugFrame after.setup request frame)
+            (λ request waits. subst (λ (s : Setup). (sequence < request.sequence) ⊎ IsPlugFrame s request frame) (before_of ∙ sym after_of) (old.1 request waits))
+            (λ request fresh. inl (less_than sequence (next_of before) request.sequence fresh old.0)),
+      )
+
+  -- those that are sent now
+  abbrev Now : Sent → Type 0
+  Now message = IsSaidAs setup station message × (IsAsked after.live message × IsAimedAt mac message)
+
+  after_least : write_count setup.plan + 2 ≤ next_of after
+  after_least = omega (arith, after_is)
+
+  start_below : (number : ℕ) → number < write_count setup.plan + 2 → number < next_of after
+  start_below number less = omega (arith, less, after_least)
+
+  waiting_now : (request : RecordRequest) → after.live.access.waiting ≡ Some request → request.sequence < next_of after
+  waiting_now request e = by_numbers numbers
+    where
+      by_numbers : Numbers setup before.live.access after.live.access → request.sequence < next_of after
+      by_numbers (inl none) = below request.sequence (was.waiting request (some_or before.live.access.waiting after.live.access.waiting request none.waiting e))
+      by_numbers (inr (inl one)) =
+          below request.sequence (was.waiting request (some_or before.live.access.waiting after.live.access.waiting request one.waiting e))
+      by_numbers (inr (inr one)) =
+          let more = more_next one.calls in
+          let same = own_number one.request.sequence one.sequence in
+          subst (λ (r : RecordRequest). r.sequence < next_of after) (some_same one.request request (sym one.waiting ∙ e)) (omega (arith, more, same))
+
+  plug_below : (number : ℕ) → number ≡ next_of before → next_of before < next_of after → number < next_of after
+  plug_below number e less = omega (arith, e, less)
+
+  plug_now : (request : PlugRequest) → after.live.access.plug ≡ Some request → request.sequence < next_of after
+  plug_now request e = by_numbers numbers
+    where
+      by_numbers : Numbers setup before.live.access after.live.access → request.sequence < next_of after
+      by_numbers (inl none) = below request.sequence (was.plug request (some_or before.live.access.plug after.live.access.plug request none.plug e))
+      by_numbers (inr (inl one)) =
+          subst (λ (r : PlugRequest). r.sequence < next_of after) (some_same one.request request (sym one.plug ∙ e))
+          (plug_below one.request.sequence (own_number one.request.sequence one.sequence) (more_next one.calls))
+      by_numbers (inr (inr one)) = below request.sequence (was.plug request (some_or before.live.access.plug after.live.access.plug request one.plug e))
+
+  none_waits : (request : Asking) → after.live.asked ≡ Some request → (other : PlugRequest) → after.live.access.plug ≡ Some other → ⊥
+  none_waits request e other f = none_some request (sym (beside_alone setup.plan after.live other steady f).0 ∙ e)
+
+  abbrev Below : Sent → ℕ → Type 0
+  Below message sequence =
+      (sequence < next_of after)
+      × ((request : PlugRequest) → after.live.access.plug ≡ Some request
+      → (sequence < request.sequence) ⊎ IsPlugFrame after.setup request (bytes_of setup message))
+
+  new_frame : (message : Sent) → Now message → IsNumberedFrame (rules_of after.setup station) after (bytes_of setup message)
+  new_frame message now sequence ask e = by_asked now.1.0
+    where
+      says : Rattle.both_ends.specs.startup.View.says_to_device setup message ≡ small.Call sequence ask
+      says = heard_said setup station message now.0 sequence ask
+          (ap (λ (s : Setup). (rules_of s station).to_device (bytes_of setup message)) (sym after_of) ∙ e)
+
+      is_number : sequence ≡ number_in setup.plan message
+      is_number = number_said setup message sequence ask says
+
+      same_below : (number : ℕ) → sequence ≡ number → number < next_of after → sequence < next_of after
+      same_below number same less = omega (arith, same, less)
+
+      by_message : (m : Sent) → m ≡ message → IsPresentAs after.live m → Below message sequence
+      by_message (Requests to request) same is = (
+        same_below (sequence_of setup.plan request) (is_number ∙ ap (λ (x : Sent). number_in setup.plan x) (sym same))
+            (start_below (sequence_of setup.plan request)
+            (step_number setup.plan after.live.phase after.live.asked request steady.asked is going)),
+        λ other f. absurd (none_waits request is other f),
+      )
+      by_message (Accesses to request octets) same is = (
+        same_below request.sequence (is_number ∙ ap (λ (x : Sent). number_in setup.plan x) (sym same)) (waiting_now request is.0),
+        λ other f. absurd (none_some other (sym is.1 ∙ f)),
+      )
+      by_message (Parametrizes to request) same is =
+          let towards = subst (λ (x : Sent). IsAimedAt mac x) (sym same) now.1.1 in (
+            same_below request.sequence (is_number ∙ ap (λ (x : Sent). number_in setup.plan x) (sym same)) (plug_now request is.1),
+            λ other f. inr (subst (λ (r : PlugRequest). IsPlugFrame after.setup r (bytes_of setup message)) (some_same request other (sym is.1 ∙ f)) (record {
+              to = to;
+              mac = towards.0;
+              can = towards.1;
+              is = ap (λ (x : Sent). bytes_of setup x) (sym same) ∙ ap (λ (s : Setup). bytes_of s (Parametrizes to request)) (sym after_of);
+            })),
+          )
+      by_message (Agrees caller answer) same is = absurd is
+      by_message (Cycles route shown counter) same is = absurd is
+      by_message (Confirms route priority header ack) same is = absurd is
+      by_message (Replies route priority header) same is = absurd is
+      by_message (Ends route header reason) same is = absurd is
+
+      by_asked : IsAsked after.live message → Below message sequence
+      by_asked (inl present) = by_message message refl (present_as after.live message present)
+      by_asked (inr plain) = absurd (plain_said setup message plain sequence ask says)
+
+  pub controller_numbered : Numbered after station live (sent ++ map (bytes_of setup) messages)
+  controller_numbered = record {
+    frames = all_joined (IsNumberedFrame (rules_of after.setup station) after) sent (map (bytes_of setup) messages)
+        (all_to (IsNumberedFrame (rules_of before.setup station) before) (IsNumberedFrame (rules_of after.setup station) after) old_frame sent was.frames)
+        (all_map (λ m. IsSaidAs setup station m × (IsAsked after.live m × IsAimedAt mac m)) (IsNumberedFrame (rules_of after.setup station) after) (bytes_of setup) new_frame messages
+        (all_both (IsSaidAs setup station) (λ m. IsAsked after.live m × IsAimedAt mac m) messages said
+        (all_both (IsAsked after.live) (IsAimedAt mac) messages made aimed)));
+    kept = λ answer e. below answer.sequence (was.kept answer (ap (λ (s : Setup). kept_for s live) (before_of ∙ sym after_of) ∙ e));
+    question = λ sequence e. numbered_in sequence
+        (was.question sequence (ap (λ (s : Setup). (device.small_of s.activity live).asked) (before_of ∙ sym after_of) ∙ e));
+    waiting = waiting_now;
+    plug = plug_now;
+  }
