@@ -9,9 +9,8 @@ use Rattle.wire.specs.declared.blocks.fault.BlockFault.{BlockFault}
 use Rattle.wire.specs.declared.blocks.fault.BlockFault.TheVariants.{Field, Length}
 use Rattle.wire.proofs.Fields.{bind_ok, ok_is}
 use Rattle.block_codec.specs.declared.block.Block.TheVariants as is
-use Rattle.block_codec.specs.Block.{block_bytes}
+use Rattle.block_codec.specs.Block.{block as block_format, block_bytes}
 use Rattle.block_codec.specs.Kinds.{number_of}
-use Rattle.block_codec.proofs.Sound.{block_parts}
 use Rattle.connect_blocks.specs.declared.control.ControlBlock.{ControlBlock}
 use Rattle.connect_blocks.specs.declared.plug_control.PlugControlBlock.{PlugControlBlock}
 use Rattle.connect_blocks.specs.PlugControl.{plug_control}
@@ -39,12 +38,12 @@ type_read kind bytes x e =
 
 -- PrmEnd of a start-up, and the answer to its ApplicationReady.
 pub end_type : (block : ControlBlock) → big_number 2 (block_bytes (is.PrmEnd block)) ≡ 0x0110
-unfolding number_of
-end_type block = ap (λ (bytes : List ℕ). big_number 2 bytes) (block_parts (is.PrmEnd block))
+unfolding block_bytes block_format number_of
+end_type block = refl
 
 pub ready_type : (block : ControlBlock) → big_number 2 (block_bytes (is.ApplicationReadyRes block)) ≡ 0x8112
-unfolding number_of
-ready_type block = ap (λ (bytes : List ℕ). big_number 2 bytes) (block_parts (is.ApplicationReadyRes block))
+unfolding block_bytes block_format number_of
+ready_type block = refl
 
 -- ---- numbers
 

@@ -343,9 +343,6 @@ no_service service.Write e = no_write e
 some_is : {A : Type 0} (x y : A) → Some x ≡ Some y → x ≡ y
 some_is x y e = cc
 
-apart_types : ℕ → ℕ → Type 0
-apart_types one other = one ≡ other → ⊥
-
 start_end : ◌≡◌ {A = ℕ} 0x0110 0x0111 → ⊥
 start_end e = omega (arith, e)
 

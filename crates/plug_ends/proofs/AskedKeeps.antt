@@ -36,7 +36,6 @@ use Rattle.plug_ends.proofs.AskedWords.{IsRecord, IsStateOf, WasPlug}
 use Rattle.plug_ends.proofs.AskedLists.{last_back, last_more, last_now, last_number, last_was, none_was, plug_is, plug_number, was_few, was_more}
 use Rattle.plug_ends.proofs.AskedPlaces.{AreBy, States, awaited_by, first_by, ready_by, ready_there, set_by, set_there, states_after, states_first, states_ready}
 use Rattle.plug_ends.proofs.AskedPlaces.{states_with, told_as, told_there, turn_by, waits_by}
-use Rattle.plug_ends.proofs.AskedRecords.{IsOwn, step_own}
 use Rattle.plug_ends.proofs.AskedTurns.{ArePlain, Closed, IsPlain, View, asked_view, next_request, over_view, ready_view, unplugged_by, view_of, viewed}
 
 -- ---- what is known
@@ -55,11 +54,10 @@ pub record Done (alarms : List AlarmNotification) (v : View) (states : States) (
   pub there : v.stands ≡ true → list_any (is_at slot subslot) v.places.places ≡ true
 
 -- The places are in these states, which belong to the last plugs; the request belongs to a plug.
-pub record Base (plan : Parts) (alarms : List AlarmNotification) (v : View) (states : States) : Type 0 where
+pub record Base (alarms : List AlarmNotification) (v : View) (states : States) : Type 0 where
   pub by : AreBy states v.places.places
   pub told : (slot subslot : ℕ) → IsStateOf alarms slot subslot (states slot subslot)
   pub request : (r : PlugRequest) → v.plug ≡ Some r → WasPlug r.slot r.subslot r.number alarms
-  pub own : (r : PlugRequest) → v.plug ≡ Some r → IsOwn plan r.slot r.subslot r.step
   pub turn : (r : PlugRequest) → v.plug ≡ Some r → has_turn (states r.slot r.subslot) ≡ true
       → states r.slot r.subslot ≡ state_of_step r.step r.number
   pub ending : (r : PlugRequest) → v.plug ≡ Some r → r.step ≡ PrmEnd → Ended alarms v.plug states r.slot r.subslot r.number
@@ -232,8 +230,8 @@ along P slot subslot at below one other is = subst (λ (n : ℕ). P slot n) othe
 
 -- ---- a step is asked of a place
 
-module _ (plan : Parts) (all : List AlarmNotification) (v : View) (states : States) (base : Base plan all v states) (request : PlugRequest)
-    (last : LastPlug request.slot request.subslot request.number all) (own : IsOwn plan request.slot request.subslot request.step)
+module _ (all : List AlarmNotification) (v : View) (states : States) (base : Base all v states) (request : PlugRequest)
+    (last : LastPlug request.slot request.subslot request.number all)
     (unready : (number : ℕ) → states request.slot request.subslot ≡ Ready number → ⊥)
     (upper : (number : ℕ) → Ended all v.plug states request.slot request.subslot number → IsRecord request.step → number < request.number) where
   abbrev state : PlaceState
@@ -274,7 +272,7 @@ module _ (plan : Parts) (all : List AlarmNotification) (v : View) (states : Stat
     there = λ up. set_there at below request.slot request.subslot state v.places (done.there up);
   }
 
-  asked_base : Base plan all (asked_view request.slot request.subslot request.number request v) now
+  asked_base : Base all (asked_view request.slot request.subslot request.number request v) now
   asked_base = record {
     by = set_by states request.slot request.subslot state v.places base.by;
     told = λ at below. set_case states request.slot request.subslot state at below (λ (s : PlaceState). IsStateOf all at below s)
@@ -283,7 +281,6 @@ module _ (plan : Parts) (all : List AlarmNotification) (v : View) (states : Stat
         (base.told at below);
     request = λ r e. subst (λ (q : PlugRequest). WasPlug q.slot q.subslot q.number all) (some_is request r e)
         (last_was request.slot request.subslot request.number all last);
-    own = λ r e. subst (λ (q : PlugRequest). IsOwn plan q.slot q.subslot q.step) (some_is request r e) own;
     turn = λ r e turn. subst (λ (q : PlugRequest). now q.slot q.subslot ≡ state_of_step q.step q.number) (some_is request r e)
         (set_here states request.slot request.subslot state);
     ending = λ r e is. subst (λ (q : PlugRequest). Ended all (Some request) now q.slot q.subslot q.number) (some_is request r e)
@@ -301,7 +298,7 @@ module _ (plan : Parts) (all : List AlarmNotification) (v : View) (states : Stat
 
 -- ---- a place is refused
 
-module _ (plan : Parts) (all : List AlarmNotification) (v : View) (states : States) (base : Base plan all v states) (slot subslot : ℕ)
+module _ (all : List AlarmNotification) (v : View) (states : States) (base : Base all v states) (slot subslot : ℕ)
     (turn : has_turn (states slot subslot) ≡ true) where
   abbrev refused : States
   refused = states_with slot subslot Refused states
@@ -334,12 +331,11 @@ module _ (plan : Parts) (all : List AlarmNotification) (v : View) (states : Stat
     there = λ up. set_there at below slot subslot Refused v.places (done.there up);
   }
 
-  refused_base : Base plan all after_refused refused
+  refused_base : Base all after_refused refused
   refused_base = record {
     by = set_by states slot subslot Refused v.places base.by;
     told = λ at below. set_case states slot subslot Refused at below (λ (s : PlaceState). IsStateOf all at below s) (λ one other. tt) (base.told at below);
     request = λ r e. absurd (none_some e);
-    own = λ r e. absurd (none_some e);
     turn = λ r e. absurd (none_some e);
     ending = λ r e. absurd (none_some e);
   }
@@ -370,7 +366,7 @@ ready_case states number at below Q here other = by_test (is_told number (states
     by_test true e = here e
     by_test false e = other
 
-module _ (plan : Parts) (all : List AlarmNotification) (v : View) (states : States) (base : Base plan all v states) (number : ℕ) where
+module _ (all : List AlarmNotification) (v : View) (states : States) (base : Base all v states) (number : ℕ) where
   abbrev readied_now : States
   readied_now = states_ready number states
 
@@ -399,13 +395,12 @@ module _ (plan : Parts) (all : List AlarmNotification) (v : View) (states : Stat
     there = λ up. ready_there at below number v.places (done.there up);
   }
 
-  ready_base : Base plan all (ready_view number v) readied_now
+  ready_base : Base all (ready_view number v) readied_now
   ready_base = record {
     by = ready_by states number v.places base.by;
     told = λ at below. ready_case states number at below (λ (s : PlaceState). IsStateOf all at below s)
         (λ e. told_last number (states at below) all at below e (base.told at below)) (base.told at below);
     request = λ r e. base.request r (was r e);
-    own = λ r e. base.own r (was r e);
     turn = λ r e. ready_case states number r.slot r.subslot (λ (s : PlaceState). has_turn s ≡ true → s ≡ state_of_step r.step r.number)
         (λ told turn. absurd (no_turn turn)) (base.turn r (was r e));
     ending = λ r e is. ready_ended r.slot r.subslot r.number (base.ending r (was r e) is);
@@ -433,7 +428,7 @@ after_case states alarm at below Q other here = by_report (report_in alarm) refl
         by_test true f = here report e f
         by_test false f = other (ap (λ (o : Option PlaceReport). is_about_any at below o) e ∙ f)
 
-module _ (plan : Parts) (alarms : List AlarmNotification) (v : View) (states : States) (base : Base plan alarms v states) (alarm : AlarmNotification)
+module _ (alarms : List AlarmNotification) (v : View) (states : States) (base : Base alarms v states) (alarm : AlarmNotification)
     (numbered : alarm.alarm_specifier % 0x800 ≡ length alarms) where
   abbrev alarms_now : List AlarmNotification
   alarms_now = alarms ++ alarm ∷ []
@@ -507,13 +502,12 @@ module _ (plan : Parts) (alarms : List AlarmNotification) (v : View) (states : S
     there = λ up. told_there at below (report_in alarm) v.places (done.there up);
   }
 
-  told_base : Base plan alarms_now after_told told_now
+  told_base : Base alarms_now after_told told_now
   told_base = record {
     by = told_as states (report_in alarm) v.places base.by;
     told = λ at below. after_case states alarm at below (λ (s : PlaceState). IsStateOf alarms_now at below s)
         (λ apart. more_told at below (states at below) apart (base.told at below)) (λ report e f. told_is at below report e f);
     request = λ r e. was_more r.slot r.subslot r.number alarms (alarm ∷ []) (base.request r e);
-    own = base.own;
     turn = λ r e. after_case states alarm r.slot r.subslot (λ (s : PlaceState). has_turn s ≡ true → s ≡ state_of_step r.step r.number)
         (λ apart. base.turn r e) (λ report found f turn. absurd (reported_no_turn report turn));
     ending = λ r e is. told_ended r.slot r.subslot r.number (base.ending r e is);
@@ -521,7 +515,7 @@ module _ (plan : Parts) (alarms : List AlarmNotification) (v : View) (states : S
 
 -- ---- a relation begins
 
-module _ (plan : Parts) (alarms : List AlarmNotification) (none : alarms ≡ []) (v : View) (states : States) (base : Base plan alarms v states)
+module _ (plan : Parts) (alarms : List AlarmNotification) (none : alarms ≡ []) (v : View) (states : States) (base : Base alarms v states)
     (blocks : List ℕ) (stands : Bool) where
   abbrev after_opened : View
   after_opened = viewed v.plug (opened plan 400 blocks) stands v.device
@@ -540,12 +534,11 @@ module _ (plan : Parts) (alarms : List AlarmNotification) (none : alarms ≡ [])
       by_test true f = absurd cc
       by_test false f = absurd cc
 
-  opened_base : Base plan alarms after_opened (states_first 400 blocks)
+  opened_base : Base alarms after_opened (states_first 400 blocks)
   opened_base = record {
     by = first_by 400 blocks plan.real.modules.items;
     told = first_told;
     request = base.request;
-    own = base.own;
     turn = λ r e turn. absurd (first_no_turn r.slot r.subslot turn);
     ending = λ r e is. absurd (none_was r.slot r.subslot r.number alarms none (base.request r e));
   }
@@ -556,7 +549,7 @@ module _ (plan : Parts) (alarms : List AlarmNotification) (none : alarms ≡ [])
 pub record Reached (setup : Setup) (live : Live) (alarms : List AlarmNotification) (states0 : States) (IsResponse : Response → Type 0)
     (all : List AlarmNotification) (v : View) (sent : List Sent) : Type 0 where
   pub states : States
-  pub base : Base setup.plan all v states
+  pub base : Base all v states
   pub ends : (at below number : ℕ) → Ended alarms live.access.plug states0 at below number → Ended all v.plug states at below number
   pub dones : (at below number : ℕ) → Done alarms (view_of live) states0 at below number → Done all v states at below number
   pub said : AllByRecursion (IsSaid setup all v states) sent
@@ -575,7 +568,7 @@ few_before alarms alarm le = by_length (length alarms) (length (alarms ++ alarm 
     by_length n m e f = omega (arith, e)
 
 module _ (setup : Setup) (live : Live) (alarms : List AlarmNotification) (states : States) (IsResponse : Response → Type 0)
-    (base : Base setup.plan alarms (view_of live) states) (unbegun : live.asked ≡ Some asks.Connect → alarms ≡ []) where
+    (base : Base alarms (view_of live) states) (unbegun : live.asked ≡ Some asks.Connect → alarms ≡ []) where
   abbrev P : List AlarmNotification → View → List Sent → Type 0
   P all v sent = Reached setup live alarms states IsResponse all v sent
 
@@ -628,7 +621,7 @@ module _ (setup : Setup) (live : Live) (alarms : List AlarmNotification) (states
   found_so : (source : Mac) → live.access.plug ≡ None → P alarms (viewed live.access.plug live.places live.stands source) []
   found_so source none = record {
     states = states;
-    base = record { by = base.by; told = base.told; request = base.request; own = base.own; turn = base.turn; ending = base.ending };
+    base = record { by = base.by; told = base.told; request = base.request; turn = base.turn; ending = base.ending };
     ends = λ at below number ended. ended;
     dones = λ at below number done. record { was = done.was; ready = done.ready; there = done.there };
     said = tt;
@@ -648,7 +641,6 @@ module _ (setup : Setup) (live : Live) (alarms : List AlarmNotification) (states
       by = tt;
       told = base.told;
       request = λ r e. absurd (none_some e);
-      own = λ r e. absurd (none_some e);
       turn = λ r e. absurd (none_some e);
       ending = λ r e. absurd (none_some e);
     };
@@ -692,7 +684,6 @@ module _ (setup : Setup) (live : Live) (alarms : List AlarmNotification) (states
       by = base.by;
       told = base.told;
       request = λ r e. absurd (none_some e);
-      own = λ r e. absurd (none_some e);
       turn = λ r e. absurd (none_some e);
       ending = λ r e. absurd (none_some e);
     };
@@ -710,9 +701,9 @@ module _ (setup : Setup) (live : Live) (alarms : List AlarmNotification) (states
       let here = turn_by states live.places request.slot request.subslot base.by turn in
       record {
         states = states_with request.slot request.subslot Refused states;
-        base = refused_base setup.plan alarms (view_of live) states base request.slot request.subslot here;
-        ends = refused_ended setup.plan alarms (view_of live) states base request.slot request.subslot here;
-        dones = refused_done setup.plan alarms (view_of live) states base request.slot request.subslot here;
+        base = refused_base alarms (view_of live) states base request.slot request.subslot here;
+        ends = refused_ended alarms (view_of live) states base request.slot request.subslot here;
+        dones = refused_done alarms (view_of live) states base request.slot request.subslot here;
         said = tt;
         steps = inr (inl refl);
         sends = λ r e. absurd (none_some e);
@@ -732,16 +723,15 @@ module _ (setup : Setup) (live : Live) (alarms : List AlarmNotification) (states
       let last : LastPlug request.slot request.subslot request.number alarms =
       told_step request.step request.number alarms request.slot request.subslot
       (subst (λ (s : PlaceState). IsStateOf alarms request.slot request.subslot s) at (base.told request.slot request.subslot)) in
-      let own = step_own setup.plan request.slot request.subslot (number + 1) in
       let unready : (n : ℕ) → states request.slot request.subslot ≡ Ready n → ⊥ =
       (λ n e. turn_unready (states request.slot request.subslot) n here e) in
       let upper : (n : ℕ) → Ended alarms live.access.plug states request.slot request.subslot n → IsRecord next.step → n < request.number =
       (λ n ended record_is. ended.request request was refl refl (record { number = number; is = is })) in
       record {
         states = states_with request.slot request.subslot (state_of_step next.step request.number) states;
-        base = asked_base setup.plan alarms (view_of live) states base next last own unready upper;
-        ends = asked_ended setup.plan alarms (view_of live) states base next last own unready upper;
-        dones = asked_done setup.plan alarms (view_of live) states base next last own unready upper;
+        base = asked_base alarms (view_of live) states base next last unready upper;
+        ends = asked_ended alarms (view_of live) states base next last unready upper;
+        dones = asked_done alarms (view_of live) states base next last unready upper;
         said = ((refl, refl), tt);
         steps = inr (inr (inr (record {
           request = request;
@@ -773,50 +763,48 @@ module _ (setup : Setup) (live : Live) (alarms : List AlarmNotification) (states
       let at : p.states plug.slot plug.subslot ≡ Plugged plug.number = waits_by p.states v.places plug p.base.by waits in
       let last : LastPlug plug.slot plug.subslot plug.number all =
       subst (λ (s : PlaceState). IsStateOf all plug.slot plug.subslot s) at (p.base.told plug.slot plug.subslot) in
-      let own = step_own setup.plan plug.slot plug.subslot 0 in
       let unready : (n : ℕ) → p.states plug.slot plug.subslot ≡ Ready n → ⊥ = (λ n e. plugged_unready plug.number n (sym at ∙ e)) in
       let upper : (n : ℕ) → Ended all v.plug p.states plug.slot plug.subslot n → IsRecord first.step → n < plug.number =
       (λ n ended record_is. ended.plugged plug.number at) in
       record {
         states = states_with plug.slot plug.subslot (state_of_step first.step plug.number) p.states;
-        base = asked_base setup.plan all v p.states p.base first last own unready upper;
-        ends = λ s ss n ended. asked_ended setup.plan all v p.states p.base first last own unready upper s ss n (p.ends s ss n ended);
-        dones = λ s ss n done. asked_done setup.plan all v p.states p.base first last own unready upper s ss n (p.dones s ss n done);
+        base = asked_base all v p.states p.base first last unready upper;
+        ends = λ s ss n ended. asked_ended all v p.states p.base first last unready upper s ss n (p.ends s ss n ended);
+        dones = λ s ss n done. asked_done all v p.states p.base first last unready upper s ss n (p.dones s ss n done);
         said = all_more (IsSaid setup all (asked_view plug.slot plug.subslot plug.number first v)
             (states_with plug.slot plug.subslot (state_of_step first.step plug.number) p.states)) sent (Parametrizes v.device first ∷ [])
             (all_as (IsSaid setup all v p.states) (IsSaid setup all (asked_view plug.slot plug.subslot plug.number first v)
             (states_with plug.slot plug.subslot (state_of_step first.step plug.number) p.states))
-            (still last own unready upper) sent p.said) ((refl, refl), tt);
+            (still last unready upper) sent p.said) ((refl, refl), tt);
         steps = inr (inr (inl (record { request = first; is = refl; first = refl })));
         sends = λ r e. inr (subst (λ (q : PlugRequest). IsIn (Parametrizes v.device q) (sent ++ Parametrizes v.device first ∷ [])) (some_is first r e)
             (in_last (Parametrizes v.device first) sent));
         device = p.device;
       }
     where
-      still : LastPlug plug.slot plug.subslot plug.number all → IsOwn setup.plan plug.slot plug.subslot (first_asked setup sequence plug).step
-          → ((n : ℕ) → p.states plug.slot plug.subslot ≡ Ready n → ⊥)
+      still : LastPlug plug.slot plug.subslot plug.number all → ((n : ℕ) → p.states plug.slot plug.subslot ≡ Ready n → ⊥)
           → ((n : ℕ) → Ended all v.plug p.states plug.slot plug.subslot n → IsRecord (first_asked setup sequence plug).step → n < plug.number)
           → (message : Sent) → IsSaid setup all v p.states message
           → IsSaid setup all (asked_view plug.slot plug.subslot plug.number (first_asked setup sequence plug) v)
           (states_with plug.slot plug.subslot (state_of_step (first_asked setup sequence plug).step plug.number) p.states) message
-      still last own unready upper (Parametrizes device request) said = absurd (none_some (sym none ∙ said.0))
-      still last own unready upper (Agrees caller answer) (inl start) = inl start
-      still last own unready upper (Agrees caller answer) (inr confirms) = inr (record {
+      still last unready upper (Parametrizes device request) said = absurd (none_some (sym none ∙ said.0))
+      still last unready upper (Agrees caller answer) (inl start) = inl start
+      still last unready upper (Agrees caller answer) (inr confirms) = inr (record {
         call = confirms.call;
         block = confirms.block;
         is = confirms.is;
         right = confirms.right;
         slot = confirms.slot;
         subslot = confirms.subslot;
-        done = asked_done setup.plan all v p.states p.base (first_asked setup sequence plug) last own unready upper confirms.slot confirms.subslot
+        done = asked_done all v p.states p.base (first_asked setup sequence plug) last unready upper confirms.slot confirms.subslot
             confirms.block.alarm_sequence_number confirms.done;
       })
-      still last own unready upper (Requests device request) said = tt
-      still last own unready upper (Accesses device request octets) said = tt
-      still last own unready upper (Cycles route shown counter) said = tt
-      still last own unready upper (Confirms route priority header ack) said = tt
-      still last own unready upper (Replies route priority header) said = tt
-      still last own unready upper (Ends route header reason) said = tt
+      still last unready upper (Requests device request) said = tt
+      still last unready upper (Accesses device request octets) said = tt
+      still last unready upper (Cycles route shown counter) said = tt
+      still last unready upper (Confirms route priority header ack) said = tt
+      still last unready upper (Replies route priority header) said = tt
+      still last unready upper (Ends route header reason) said = tt
 
   ready_so : (caller : Caller) (call : Call) (block : PlugControlBlock) → is_plug_ready setup block ≡ true
       → is_awaited block.alarm_sequence_number live.places ≡ true
@@ -828,9 +816,9 @@ module _ (setup : Setup) (live : Live) (alarms : List AlarmNotification) (states
       told_last number (states awaited.slot awaited.subslot) alarms awaited.slot awaited.subslot awaited.told (base.told awaited.slot awaited.subslot) in
       record {
         states = states_ready number states;
-        base = ready_base setup.plan alarms (view_of live) states base number;
-        ends = ready_ended setup.plan alarms (view_of live) states base number;
-        dones = ready_done setup.plan alarms (view_of live) states base number;
+        base = ready_base alarms (view_of live) states base number;
+        ends = ready_ended alarms (view_of live) states base number;
+        dones = ready_done alarms (view_of live) states base number;
         said = (
           inr (record {
             call = call;
@@ -862,9 +850,9 @@ module _ (setup : Setup) (live : Live) (alarms : List AlarmNotification) (states
       let numbered = last_number alarms alarm few.0 (few_before alarms alarm few.1) in
       record {
         states = states_after (report_in alarm) states;
-        base = told_base setup.plan alarms (view_of live) states base alarm numbered;
-        ends = told_ended setup.plan alarms (view_of live) states base alarm numbered;
-        dones = told_done setup.plan alarms (view_of live) states base alarm numbered;
+        base = told_base alarms (view_of live) states base alarm numbered;
+        ends = told_ended alarms (view_of live) states base alarm numbered;
+        dones = told_done alarms (view_of live) states base alarm numbered;
         said = tt;
         steps = inl refl;
         sends = λ r e. inl e;

@@ -151,19 +151,6 @@ unplugged_starting plan live steady s = none_starting live.phase live.access.plu
 some_none : (r : PlugRequest) → ◌≡◌ {A = Option PlugRequest} (Some r) None → ⊥
 some_none r e = absurd cc
 
-exchanging_in : (phase : State) (r : PlugRequest) → MayWait phase (Some r) → phase ≡ Exchanging
-exchanging_in Looking r may = absurd (some_none r may)
-exchanging_in Addressing r may = absurd (some_none r may)
-exchanging_in Connecting r may = absurd (some_none r may)
-exchanging_in Writing r may = absurd (some_none r may)
-exchanging_in Ending r may = absurd (some_none r may)
-exchanging_in Waiting r may = absurd (some_none r may)
-exchanging_in Exchanging r may = refl
-exchanging_in (Ended cause) r may = absurd (some_none r may)
-
-pub plugged_exchanges : (plan : Parts) (live : Live) (r : PlugRequest) → IsSteady plan live → live.access.plug ≡ Some r → live.phase ≡ Exchanging
-plugged_exchanges plan live r steady e = exchanging_in live.phase r (subst (λ (plug : Option PlugRequest). MayWait live.phase plug) e steady.plug)
-
 -- ---- a turn
 
 -- What a turn does to the phase, to the relation, and to the number of the request after a plug.

@@ -217,7 +217,7 @@ waits_by states told plug all e = by_turns told.has_turns e
     by_turns true f = first_waits states told.places plug all f
     by_turns false f = absurd cc
 
--- a place that is reported with this number
+-- a place whose ApplicationReady may have this number
 pub record IsAwaitedAt (states : States) (places : List Place) (number : ℕ) : Type 0 where
   pub slot : ℕ
   pub subslot : ℕ

@@ -37,7 +37,6 @@ use Rattle.controller_messages.specs.Sent as said
 use Rattle.controller_messages.specs.Sent.{bytes_of}
 use Rattle.controller_core.specs.declared.stored.event.Event.{Event}
 use Rattle.controller_core.specs.declared.stored.event.Event.TheVariants as event
-use Rattle.controller_core.specs.declared.stored.state.State.TheVariants.{Exchanging}
 use Rattle.controller_core.specs.stored.Alarms.{is_alarm}
 use Rattle.controller_core.specs.stored.State.{Controlling, Live as ControllerLive, with_live}
 use Rattle.controller_core.specs.Machine.{Turn, after_turn, end_of, first as first_live, flow_later, step_from, step_of, turn_due, turn_of}
@@ -66,12 +65,11 @@ use Rattle.plug_ends.specs.Told.{AreNumberedFrom}
 use Rattle.plug_ends.proofs.AskedFrames.{FramesSo, IsAskedBy, IsCalledAt, IsCalledBy, IsDoneOf, IsEndOf, IsQuietAt, IsReadAs, IsSmallIn, asked_later, confirms_number}
 use Rattle.plug_ends.proofs.AskedFrames.{messages_quiet, quiet_called, quiet_done, quiet_end, said_done, said_end, said_mine, start_no_number}
 use Rattle.plug_ends.proofs.AskedKeeps.{AreFew, Base, Done, Ended, IsConfirming, IsIn as IsAmong, IsOfStart, IsSaid, Reached, StepsBy, reached_closed}
-use Rattle.plug_ends.proofs.AskedKinds.{IsBefore, IsStarting, PhaseGoes, asked_connects, event_phase, plugged_exchanges, unplugged_starting}
+use Rattle.plug_ends.proofs.AskedKinds.{IsBefore, IsStarting, PhaseGoes, asked_connects, event_phase, unplugged_starting}
 use Rattle.plug_ends.proofs.AskedLists.{was_few}
 use Rattle.plug_ends.proofs.AskedPlaces.{States, state_by, there_by}
-use Rattle.plug_ends.proofs.AskedRecords.{IsOwn}
 use Rattle.plug_ends.proofs.AskedTurns.{IsNoFrame, View, event_goes, heard_goes, view_of}
-use Rattle.plug_ends.proofs.AskedWords.{HearsDone, HearsEnd, IsDoneAt, IsEndedAt, IsStateOf, WasPlug}
+use Rattle.plug_ends.proofs.AskedWords.{HearsDone, HearsEnd, IsDoneAt, IsEndedAt, WasPlug}
 use Rattle.plug_ends.proofs.CallsFine.{all_joined, kept_after}
 use Rattle.plug_ends.proofs.CallsHeard.{IsPlans}
 use Rattle.plug_ends.proofs.CallsRuns.{all_at, all_both, controller_is, kept_for}
@@ -152,7 +150,7 @@ pub record DoneSome (alarms : List AlarmNotification) (v : View) (states : State
 -- Both ends, after the controller accepted these alarms.
 pub record AskingOf (c : Controlling) (station : Station) (live : Live) (sent : List (List ℕ)) (alarms : List AlarmNotification) : Type 0 where
   pub states : States
-  pub base : Base c.setup.plan alarms (view_of c.live) states
+  pub base : Base alarms (view_of c.live) states
   pub steady : IsSteady c.setup.plan c.live
   pub aimed : IsAimed c.live
   pub good : IsSetup c.setup
@@ -225,12 +223,7 @@ StepsOf identity c next sent all =
 module _ {F : Type 0} where
   pub record AskedAt (alarms : List AlarmNotification) (w : World F) : Type 0 where
     pub asking : AskingOf w.controller w.device.station w.device.live w.sent alarms
-    pub states : (slot subslot : ℕ) (state : PlaceState) → state_at slot subslot w.controller.live.places ≡ Some state → IsStateOf alarms slot subslot state
     pub request : (r : PlugRequest) → w.controller.live.access.plug ≡ Some r → WasPlug r.slot r.subslot r.number alarms
-    pub own : (r : PlugRequest) → w.controller.live.access.plug ≡ Some r → IsOwn w.controller.setup.plan r.slot r.subslot r.step
-    pub exchanges : (r : PlugRequest) → w.controller.live.access.plug ≡ Some r → w.controller.live.phase ≡ Exchanging
-    pub sent : (r : PlugRequest) → w.controller.live.access.plug ≡ Some r
-        → WasSent w (bytes_of w.controller.setup (said.Parametrizes w.controller.live.device r))
     pub starts : IsStarting w.controller.live.phase → (frame : List ℕ) (number : ℕ) → WasSent w frame
         → HearsEnd w.device.station.identity frame number → ⊥
     pub ends : (frame : List ℕ) (number : ℕ) → WasSent w frame → HearsEnd w.device.station.identity frame number
@@ -247,12 +240,7 @@ module _ {F : Type 0} where
   asked_of : (w : World F) (alarms : List AlarmNotification) → AskingOf w.controller w.device.station w.device.live w.sent alarms → AskedAt alarms w
   asked_of w alarms asking = record {
     asking = asking;
-    states = λ slot subslot state e. subst (λ (s : PlaceState). IsStateOf alarms slot subslot s)
-        (sym (state_by asking.states w.controller.live.places slot subslot state asking.base.by e)) (asking.base.told slot subslot);
     request = asking.base.request;
-    own = asking.base.own;
-    exchanges = λ r e. plugged_exchanges w.controller.setup.plan w.controller.live r asking.steady e;
-    sent = λ r e. was_sent w _ (asking.asks r e);
     starts = λ s frame number was end. asking.starts s frame number (was_in w frame was) end;
     ends = λ frame number was end. ended_at number (asking.ends frame number (was_in w frame was) end);
     dones = λ frame number was done. done_at number (asking.dones frame number (was_in w frame was) done);
@@ -611,21 +599,26 @@ module _ (so : AskedSo) {F : Type 0} where
         number_is : request.number ≡ number
         frame_is : bytes_of c.setup (said.Parametrizes turn.live.device request) ≡ frame
 
+      end_by : (message : said.Sent) (frame : List ℕ) (number : ℕ) → IsEndOf message number → IsSaid c.setup all (view_of turn.live) reached.states message
+          → bytes_of c.setup message ≡ frame → NewEnd frame number
+      end_by message frame number is said_so e =
+          let own : IsSaid c.setup all (view_of turn.live) reached.states (said.Parametrizes is.to is.request) =
+          subst (λ (m : said.Sent). IsSaid c.setup all (view_of turn.live) reached.states m) is.is said_so in
+          record {
+            request = is.request;
+            plug = own.0;
+            step = is.step;
+            number_is = is.number_is;
+            frame_is = ap (λ (to : Mac). bytes_of c.setup (said.Parametrizes to is.request)) (sym own.1)
+                ∙ (ap (λ (m : said.Sent). bytes_of c.setup m) (sym is.is) ∙ e);
+          }
+
       new_end : (frame : List ℕ) (number : ℕ) → WasIn frames frame → HearsEnd station.identity frame number → NewEnd frame number
       new_end frame number was end =
           let found = get_mapped (bytes_of c.setup) IsSent turn.sent was.number frame sent_so was.is in
-          let is = said_end so.frames c.setup station.identity asking.good asking.real found.0 number found.1.0 (small_said found.0 found.1.1)
-          (subst (λ (f : List ℕ). HearsEnd station.identity f number) (sym found.2) end) in
-          let said_so : IsSaid c.setup all (view_of turn.live) reached.states (said.Parametrizes is.to is.request) =
-          subst (λ (m : said.Sent). IsSaid c.setup all (view_of turn.live) reached.states m) is.is found.1.1 in
-          record {
-            request = is.request;
-            plug = said_so.0;
-            step = is.step;
-            number_is = is.number_is;
-            frame_is = ap (λ (to : Mac). bytes_of c.setup (said.Parametrizes to is.request)) (sym said_so.1)
-                ∙ (ap (λ (m : said.Sent). bytes_of c.setup m) (sym is.is) ∙ found.2);
-          }
+          end_by found.0 frame number
+          (said_end so.frames c.setup station.identity asking.good asking.real found.0 number found.1.0 (small_said found.0 found.1.1)
+          (subst (λ (f : List ℕ). HearsEnd station.identity f number) (sym found.2) end)) found.1.1 found.2
 
       done_by : (number : ℕ) (answer : Response) → IsReadAs 0x8113 answer.blocks number
           → IsOfStart answer ⊎ IsConfirming c.setup all (view_of turn.live) reached.states answer → DoneSome all (view_of turn.live) reached.states number
@@ -643,13 +636,18 @@ module _ (so : AskedSo) {F : Type 0} where
             confirming.done;
       }
 
+      done_of : (message : said.Sent) (number : ℕ) → IsDoneOf message number → IsSaid c.setup all (view_of turn.live) reached.states message
+          → DoneSome all (view_of turn.live) reached.states number
+      done_of message number is said_so =
+          done_by number is.answer is.read (subst (λ (m : said.Sent). IsSaid c.setup all (view_of turn.live) reached.states m) is.is said_so)
+
       new_done : (frame : List ℕ) (number : ℕ) → WasIn frames frame → HearsDone station.identity frame number
           → DoneSome all (view_of turn.live) reached.states number
       new_done frame number was done =
           let found = get_mapped (bytes_of c.setup) IsSent turn.sent was.number frame sent_so was.is in
-          let is = said_done so.frames c.setup station.identity asking.good asking.real found.0 number found.1.0
-          (subst (λ (f : List ℕ). HearsDone station.identity f number) (sym found.2) done) in
-          done_by number is.answer is.read (subst (λ (m : said.Sent). IsSaid c.setup all (view_of turn.live) reached.states m) is.is found.1.1)
+          done_of found.0 number
+          (said_done so.frames c.setup station.identity asking.good asking.real found.0 number found.1.0
+          (subst (λ (f : List ℕ). HearsDone station.identity f number) (sym found.2) done)) found.1.1
 
       said_called : (messages : List said.Sent) → AllByRecursion (IsAimedAt station.identity.mac) messages
           → AllByRecursion (IsCalledAt c.setup.plan.controller.mac station.identity) (map (bytes_of c.setup) messages)
@@ -959,12 +957,11 @@ module _ (so : AskedSo) {F : Type 0} where
             other : (caller : _) (answer : Response) → opening ≡ said.Agrees caller answer → ⊥
             other caller answer e = absurd cc
 
-    first_base : Base here.plan [] (view_of (first_live here.plan)) (λ slot subslot. There)
+    first_base : Base [] (view_of (first_live here.plan)) (λ slot subslot. There)
     first_base = record {
       by = tt;
       told = λ slot subslot. tt;
       request = λ r e. absurd (none_some e);
-      own = λ r e. absurd (none_some e);
       turn = λ r e. absurd (none_some e);
       ending = λ r e. absurd (none_some e);
     }
@@ -975,7 +972,7 @@ module _ (so : AskedSo) {F : Type 0} where
     first_asking : AskingAt first []
     first_asking = record {
       states = λ slot subslot. There;
-      base = subst (λ (l : ControllerLive). Base here.plan [] (view_of l) (λ slot subslot. There)) (sym live_here) first_base;
+      base = subst (λ (l : ControllerLive). Base [] (view_of l) (λ slot subslot. There)) (sym live_here) first_base;
       steady = subst (λ (l : ControllerLive). IsSteady here.plan l) (sym live_here) (so.begins here);
       aimed = aimed_here;
       good = good_here;

@@ -19,7 +19,6 @@ pub mod ToldRuns
 pub mod AskedWords
 pub mod AskedLists
 pub mod AskedPlaces
-pub mod AskedRecords
 pub mod AskedBlocks
 pub mod AskedTurns
 pub mod AskedKeeps
