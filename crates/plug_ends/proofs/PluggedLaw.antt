@@ -1,5 +1,5 @@
 -- The laws of the records of one submodule after a plug, for any run of worlds.
-use Rattle.std.proofs.Common.{◌≡◌, ◌⊎◌, inl, inr, ◌≤◌, ◌<◌, ℕ, true, false, List, [], ◌∷◌, length, Option, Some, None, option_map, refl, sym, ap, subst, ◌∙◌, arith}
+use Rattle.std.proofs.Common.{◌≡◌, ◌⊎◌, inl, inr, ◌≤◌, ◌+◌, ℕ, true, false, List, [], ◌∷◌, length, Option, Some, None, option_map, refl, sym, ap, subst, ◌∙◌, arith}
 use Rattle.std.specs.List.{AllByRecursion}
 use Rattle.flash_model.specs.declared.flash.Flash.{Ghosts as Flash}
 use Rattle.pn_values.specs.declared.identity.Identity.{Identity}
@@ -17,6 +17,8 @@ use Rattle.controller_messages.specs.declared.plug_request.PlugRequest.{PlugRequ
 use Rattle.controller_messages.specs.declared.record_request.RecordRequest.{RecordRequest}
 use Rattle.controller_messages.specs.declared.request.Request.TheVariants as asks
 use Rattle.controller_messages.specs.declared.setup.Setup.{Setup}
+use Rattle.controller_messages.specs.Access.{call_number}
+use Rattle.controller_messages.specs.Requests.{write_count}
 use Rattle.controller_messages.specs.Sent.{Requests, bytes_of}
 use Rattle.controller_core.specs.stored.State.{Controlling, Live as ControllerLive}
 use Rattle.network_world.specs.declared.moves.Move.{Move}
@@ -34,6 +36,7 @@ use Rattle.both_ends.specs.startup.Played.{AreMeant, ArePlaced, AreUnnamed, Begi
 use Rattle.both_ends.specs.startup.View.{rules_of}
 use Rattle.both_ends.proofs.ExchangeLaw.{DeviceSo, lacks_none}
 use Rattle.both_ends.proofs.ExchangeMessages.{HearsSo}
+use Rattle.both_ends.proofs.StartupPlanned.{count_few}
 use Rattle.plug_ends.specs.Places.{step_in, taken_at}
 use Rattle.plug_ends.specs.Plugged.{AreUndisturbed, EndsWith, IsReadyAt, IsUndisturbed, records_at}
 use Rattle.plug_ends.specs.Told.{LastPlug, concerns_any}
@@ -47,6 +50,7 @@ use Rattle.plug_ends.proofs.CallsWorlds.{opening_is, opening_said}
 use Rattle.plug_ends.proofs.PluggedDevice.{PluggedSo}
 use Rattle.plug_ends.proofs.PluggedRuns.{Base, run_done, run_joined}
 use Rattle.plug_ends.proofs.PluggedState.{Joined, all_of}
+use Rattle.plug_ends.proofs.PluggedWorlds.{next_of}
 use Rattle.plug_ends.proofs.ToldRuns.{first_telling}
 
 few_all : (count : ℕ) → count ≤ 2048 → count ≤ 32768
@@ -99,6 +103,17 @@ module _ (so : PluggedSo) (slot subslot : ℕ) (setup : Setup) (identity : Ident
   sent_is : first.sent ≡ bytes_of c.setup (Requests c.live.device asks.Identify) ∷ []
   sent_is = begins.opened ∙ ap (λ (frame : List ℕ). frame ∷ []) (opening_is c)
 
+  start_number : (calls : ℕ) → calls ≡ 0 → write_count c.setup.plan + 2 ≤ call_number c.setup.plan calls
+  start_number calls none =
+      let count = count_few c.setup.plan good_here.plan.few_records in
+      omega (arith, none, count)
+
+  least_first : write_count c.setup.plan + 2 ≤ next_of c
+  least_first = start_number c.live.access.calls (ap (λ (l : ControllerLive). l.access.calls) begins.made)
+
+  most_first : next_of c ≤ 4294967296
+  most_first = omega arith
+
   pub first_joined : Joined slot subslot first.controller first.device.station first.device.live first.sent []
   first_joined = record {
     asked = λ link is. absurd (none_link link is);
@@ -109,24 +124,25 @@ module _ (so : PluggedSo) (slot subslot : ℕ) (setup : Setup) (identity : Ident
     own = λ request is. absurd (none_plug request is);
     unnamed = subst (λ (s : Setup). AreUnnamed station.named s.plan.records.items) (sym begins.of_setup) begins.unnamed;
     idle = λ answer is. absurd (none_kept answer is);
-    numbered = λ goes. record {
-      frames = subst (λ (fs : List (List ℕ)). AllByRecursion (Rattle.plug_ends.proofs.PluggedWorlds.IsNumberedFrame (rules_of c.setup station) c) fs) (sym sent_is)
+    numbered = λ goes alive. record {
+      bound = next_of c;
+      least = least_first;
+      most = most_first;
+      frames = subst (λ (fs : List (List ℕ)). AllByRecursion (Rattle.plug_ends.proofs.PluggedWorlds.IsNumberedFrame (rules_of c.setup station) c (next_of c)) fs) (sym sent_is)
           ((λ sequence ask e. absurd (idle_call sequence ask (sym opening_idle ∙ e))), tt);
       kept = λ answer is. absurd (none_kept answer is);
       question = λ sequence is. absurd (none_asked sequence is);
       waiting = λ request is. absurd (none_waits request is);
       plug = λ request is. absurd (none_plug request is);
+      next = inl refl;
     };
   }
-
-  zero_few : 0 < 4294967000
-  zero_few = omega arith
 
   pub first_calm : IsUndisturbed slot subslot first
   first_calm = record {
     keeps = λ link is. absurd (none_link link is);
     unwritten = λ request is. absurd (none_waits request is);
-    counted = subst (λ (l : ControllerLive). l.access.calls < 4294967000) (sym begins.made) zero_few;
+    unwrapped = λ request is. absurd (none_plug request is);
   }
 
 -- ---- the laws

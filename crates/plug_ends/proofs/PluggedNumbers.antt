@@ -43,6 +43,7 @@ pub record IsAccessMade (setup : Setup) (before after : Accessing) : Type 0 wher
   pub waiting : after.waiting ≡ Some request
   pub calls : after.calls ≡ (before.calls + 1) % 4294967296
   pub plug : IsSameOr before.plug after.plug
+  pub none : after.plug ≡ None
 
 abbrev pub Numbers : Setup → Accessing → Accessing → Type 0
 Numbers setup before after = NoneIsMade before after ⊎ (IsPlugMade setup before after ⊎ IsAccessMade setup before after)
@@ -138,7 +139,7 @@ module _ (setup : Setup) (follows : (could : Bool) (turn : Turn) → MayFollow s
   kind_numbers live came (kinds.Gives slot subslot value) holds going = same live
   kind_numbers live came (kinds.GivesStatus slot subslot is_good) holds going = same live
   kind_numbers live came (kinds.Asks request octets) holds going =
-      inr (inr (record { request = request; sequence = holds.2; waiting = refl; calls = refl; plug = inl refl }))
+      inr (inr (record { request = request; sequence = holds.2; waiting = refl; calls = refl; plug = inl refl; none = holds.4 }))
   kind_numbers live came (kinds.IsReplied refusal access) holds going =
       followed_none live.access (can_begin live) (stays (record live { refusal = refusal; access = access }))
       (record { calls = holds.2; plug = inr holds.6; waiting = inr holds.1 })

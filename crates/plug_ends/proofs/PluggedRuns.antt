@@ -14,28 +14,32 @@ use Rattle.device_frames.specs.declared.event.Event.TheVariants.{Frame}
 use Rattle.device_frames.specs.Heard.{Heard, Reported, Said, heard_of}
 use Rattle.device_core.specs.State.{Live, Station}
 use Rattle.device_core.specs.Machine.{heard_step}
+use Rattle.plans.specs.declared.parts.Parts.{Parts}
+use Rattle.controller_messages.specs.declared.request.Request.{Request as Asking}
 use Rattle.controller_messages.specs.declared.plug_request.PlugRequest.{PlugRequest}
 use Rattle.controller_messages.specs.declared.plug_request.PlugStep.TheVariants.{PrmEnd}
 use Rattle.controller_messages.specs.declared.setup.Setup.{Setup}
-use Rattle.controller_messages.specs.Sent.{Sent, bytes_of}
+use Rattle.controller_messages.specs.Sent.{Sent, Requests, Accesses, Parametrizes, Agrees, Cycles, Confirms, Replies, Ends, bytes_of}
 use Rattle.controller_messages.specs.Heard.{heard_of as heard_by}
-use Rattle.controller_messages.specs.Requests.{write_count}
+use Rattle.controller_messages.specs.Requests.{sequence_of, write_count}
 use Rattle.controller_core.specs.stored.State.{Controlling, Live as ControllerLive, with_live}
 use Rattle.controller_core.specs.Machine.{step_from, step_of, turn_of}
 use Rattle.network_world.specs.declared.moves.Move.{Move}
 use Rattle.network_world.specs.World.{AreMade, Happens, World, at_controller, is_ended, last_world}
 use Rattle.end_laws.specs.turns.Alarms.{AreTakenInOrder}
+use Rattle.end_laws.specs.sending.Addressed.{IsAimedAt}
 use Rattle.end_laws.specs.hearing.Stations.{IsSetup}
 use Rattle.end_laws.specs.both.Small as small
-use Rattle.end_laws.specs.both.Small.{Ask}
+use Rattle.end_laws.specs.both.Small.{Ask, ToController}
 use Rattle.end_laws.specs.both.Steps.{SaysToDevice}
 use Rattle.end_laws.specs.controller.Small.{said_by, said_in, small_of}
 use Rattle.both_ends.specs.exchange.Over.{is_same_number, number_in, reported_over, reported_with, taken_over, taken_with}
 use Rattle.both_ends.specs.exchange.Told.{AreSizedMoves, IsSizedMove}
 use Rattle.both_ends.specs.startup.Played.{AreMeant, ArePlaced, IsParameter}
-use Rattle.both_ends.specs.startup.View.{IsMeant, IsSaidAs, rules_of}
+use Rattle.both_ends.specs.startup.View.{IsMeant, IsSaidAs, rules_of, says_to_device}
 use Rattle.both_ends.proofs.ExchangeLaw.{DeviceSo, in_order}
 use Rattle.both_ends.proofs.ExchangeMessages.{HearsSo}
+use Rattle.both_ends.proofs.StartupPlanned.{count_few}
 use Rattle.plug_ends.specs.Calls.{WasSent}
 use Rattle.plug_ends.specs.Plugged.{AreUndisturbed, IsUndisturbed}
 use Rattle.plug_ends.specs.Told.{AreNumberedFrom}
@@ -43,16 +47,17 @@ use Rattle.plug_ends.proofs.AskedLists.{numbered_front}
 use Rattle.plug_ends.proofs.AskedWords.{WasPlug}
 use Rattle.plug_ends.proofs.AskedWorlds.{AskedAt, AskedGoes, AskedSo, one_asked}
 use Rattle.plug_ends.proofs.CallsFine.{ArePlans, Both, one_both}
+use Rattle.plug_ends.proofs.CallsFrames.{Covers}
 use Rattle.plug_ends.proofs.CallsHeard.{IsPlans}
-use Rattle.plug_ends.proofs.CallsRuns.{Held, all_both, all_map, ended_on, ended_said, heard_said, small_ended}
-use Rattle.plug_ends.proofs.CallsTurns.{IsAsked, event_turns, none_some, some_same}
+use Rattle.plug_ends.proofs.CallsRuns.{Held, all_both, all_map, ended_on, ended_said, heard_said, kept_for, number_said, plain_said, small_ended}
+use Rattle.plug_ends.proofs.CallsTurns.{Goes, IsAnswered, IsAsked, IsOver, IsUncounted, event_turns, none_some, present_of, some_same}
 use Rattle.plug_ends.proofs.CallsWorlds.{HeldAt}
 use Rattle.plug_ends.proofs.PluggedDevice.{PluggedSo}
 use Rattle.plug_ends.proofs.PluggedDone.{IsDone, device_done, done_more}
 use Rattle.plug_ends.proofs.PluggedNumbers.{event_numbers}
-use Rattle.plug_ends.proofs.PluggedState.{Joined, PlugTurns, WasIn}
+use Rattle.plug_ends.proofs.PluggedState.{IsDead, Joined, PlugTurns, WasIn}
 use Rattle.plug_ends.proofs.PluggedTurns.{controller_joined, device_joined}
-use Rattle.plug_ends.proofs.PluggedWorlds.{ControllerMoved, DeviceMoved, Moved, Numbered, controller_numbered, moved}
+use Rattle.plug_ends.proofs.PluggedWorlds.{ControllerMoved, DeviceMoved, IsPresentAs, Moved, Numbered, controller_numbered, moved, present_as, step_number}
 use Rattle.plug_ends.proofs.PluggedWritten.{Known}
 use Rattle.plug_ends.proofs.ToldRuns.{Telling, device_goes, first_few, one_telling}
 
@@ -257,10 +262,6 @@ module _ (so : PluggedSo) (asking : AskedSo) (device_so : DeviceSo) (hears : Hea
         goes_here : AskedGoes before here
         goes_here = subst (λ (w : World F). AskedGoes before w) it.happens asked_all.1
 
-        few_now : (with_live before.controller next).live.access.calls < 4294967000
-        unfolding step_of
-        few_now = (subst (λ (w : World F). IsUndisturbed slot subslot w) it.happens calm_now).counted
-
         sent_in : (frame : List ℕ) → WasSent before frame → WasIn before.sent frame
         sent_in frame there = (there.number, there.is)
 
@@ -355,24 +356,125 @@ module _ (so : PluggedSo) (asking : AskedSo) (device_so : DeviceSo) (hears : Hea
         good_here : IsSetup before.controller.setup
         good_here = base.both.fine.good
 
-        numbered_now : is_ended next.phase ≡ false
+        abbrev Spoken : ToController
+        Spoken = said_in before.controller.setup (heard_by before.controller.setup.plan.controller) it.event
+
+        goes_so : is_ended next.phase ≡ false
+            → Goes Said_as before.controller.setup.plan Spoken before.controller.live (turn_of before.controller.setup before.controller.live it.event)
+        goes_so going =
+            by_so (event_turns Said_as before.controller.setup Spoken before.controller.live base.both.held.steady base.both.held.alone
+            (so.fine.calls.follows before.controller.setup) (so.fine.calls.due_so before.controller.setup) it.event refl it.unrefused on.in_step).so
+          where
+            by_so : (is_ended next.phase ≡ true)
+                ⊎ Goes Said_as before.controller.setup.plan Spoken before.controller.live (turn_of before.controller.setup before.controller.live it.event)
+                → Goes Said_as before.controller.setup.plan Spoken before.controller.live (turn_of before.controller.setup before.controller.live it.event)
+            by_so (inl over) = absurd (true_false (sym over ∙ going))
+            by_so (inr goes) = goes
+
+        aimed_so : AllByRecursion (IsAimedAt before.device.station.identity.mac) messages
+        aimed_so =
+            (so.fine.aimed before.device.station.identity.mac before.controller.setup before.controller.live it.event good_here base.both.fine.aimed it.from).1
+
+        abbrev plan : Parts
+        plan = before.controller.setup.plan
+
+        few_steps : write_count plan + 2 < 4294967295
+        few_steps =
+            let count = count_few plan good_here.plan.few_records in
+            omega (arith, count)
+
+        -- the call with the last number stays till it is answered
+        last_stays : is_ended next.phase ≡ false → (IsDead (kept_for before.controller.setup before.device.live) → ⊥) → (message : Sent)
+            → present_of before.controller.live ≡ Some message → Rattle.plug_ends.proofs.CallsTurns.number_in plan message ≡ 4294967295 → present_of next ≡ Some message
+        last_stays going alive message present last = by_goes (goes_so going).0
+          where
+            not_last : (number : ℕ) → number < 4294967295 → number ≡ 4294967295 → ⊥
+            not_last number less same = omega (arith, less, same)
+
+            -- a call of the start-up has a smaller number
+            started : (request : Asking) → before.controller.live.asked ≡ Some request → sequence_of plan request ≡ 4294967295 → ⊥
+            started request is same =
+                let less = step_number plan before.controller.live.phase before.controller.live.asked request base.both.held.steady.asked is (going_before going) in
+                let few_all = few_steps in
+                not_last (sequence_of plan request) (lower (sequence_of plan request) less few_all) same
+              where
+                lower : (number : ℕ) → number < write_count plan + 2 → write_count plan + 2 < 4294967295 → number < 4294967295
+                lower number below most = omega (arith, below, most)
+
+            by_uncounted : (m : Sent) → IsPresentAs before.controller.live m → IsUncounted m → Rattle.plug_ends.proofs.CallsTurns.number_in plan m ≡ 4294967295 → ⊥
+            by_uncounted (Requests to request) is un same = started request is same
+            by_uncounted (Accesses to request octets) is un same = un
+            by_uncounted (Parametrizes to request) is un same = not_last request.sequence (calm.unwrapped request is.1 un) same
+            by_uncounted (Agrees caller answer) is un same = un
+            by_uncounted (Cycles route shown counter) is un same = un
+            by_uncounted (Confirms route priority header ack) is un same = un
+            by_uncounted (Replies route priority header) is un same = un
+            by_uncounted (Ends route header reason) is un same = un
+
+            dead : (answer : Option small.Kept) → Covers 4294967295 answer → IsDead answer
+            dead None covers sequence few_numbers is_new = absurd covers
+            dead (Some answer) covers sequence few_numbers is_new = omega (arith, covers, few_numbers, is_new)
+
+            by_over : IsUncounted message ⊎ IsAnswered plan Spoken message → ⊥
+            by_over (inl un) = by_uncounted message (present_as before.controller.live message present) un last
+            by_over (inr answered) =
+                alive (dead (kept_for before.controller.setup before.device.live)
+                (subst (λ (n : ℕ). Covers n (kept_for before.controller.setup before.device.live)) last
+                (it.covers (Rattle.plug_ends.proofs.CallsTurns.number_in plan message) answered.positive answered.is)))
+
+            by_goes : (present_of next ≡ present_of before.controller.live) ⊎ IsOver plan Spoken (present_of before.controller.live) → present_of next ≡ Some message
+            by_goes (inl same) = same ∙ present
+            by_goes (inr over) = absurd (by_over (subst (λ (m : Option Sent). IsOver plan Spoken m) present over))
+
+        -- the calls that are sent have numbers of four octets
+        sizes : is_ended next.phase ≡ false → AllByRecursion (λ frame. (sequence : ℕ) (ask : Ask)
+            → (rules_of before.controller.setup before.device.station).to_device frame ≡ small.Call sequence ask → sequence < 4294967296) more
+        sizes going =
+            all_map (λ m. Said_as m × (IsAsked next m × IsAimedAt before.device.station.identity.mac m))
+            (λ frame. (sequence : ℕ) (ask : Ask)
+            → (rules_of before.controller.setup before.device.station).to_device frame ≡ small.Call sequence ask → sequence < 4294967296)
+            (bytes_of before.controller.setup)
+            (λ m all sequence ask e. said_size m all sequence ask (heard_said before.controller.setup before.device.station m all.0 sequence ask e)) messages
+            (all_both Said_as (λ m. IsAsked next m × IsAimedAt before.device.station.identity.mac m) messages it.meant
+            (all_both (IsAsked next) (IsAimedAt before.device.station.identity.mac) messages (goes_so going).1 aimed_so))
+          where
+            same_size : (one number : ℕ) → one ≡ number → number < 4294967296 → one < 4294967296
+            same_size one number same less = omega (arith, same, less)
+
+            step_size : (number : ℕ) → number < write_count plan + 2 → write_count plan + 2 < 4294967295 → number < 4294967296
+            step_size number below most = omega (arith, below, most)
+
+            by_message : (m : Sent) → IsPresentAs next m → IsAimedAt before.device.station.identity.mac m
+                → Rattle.plug_ends.proofs.CallsTurns.number_in plan m < 4294967296
+            by_message (Requests to request) is aims =
+                step_size (sequence_of plan request) (step_number plan next.phase next.asked request on.in_step.asked is going) few_steps
+            by_message (Accesses to request octets) is aims = aims.1.0
+            by_message (Parametrizes to request) is aims = aims.1
+            by_message (Agrees caller answer) is aims = absurd is
+            by_message (Cycles route shown counter) is aims = absurd is
+            by_message (Confirms route priority header ack) is aims = absurd is
+            by_message (Replies route priority header) is aims = absurd is
+            by_message (Ends route header reason) is aims = absurd is
+
+            said_size : (m : Sent) → Said_as m × (IsAsked next m × IsAimedAt before.device.station.identity.mac m) → (sequence : ℕ) (ask : Ask)
+                → says_to_device before.controller.setup m ≡ small.Call sequence ask → sequence < 4294967296
+            said_size m all sequence ask says = by_asked all.1.0
+              where
+                by_asked : IsAsked next m → sequence < 4294967296
+                by_asked (inl present) =
+                    same_size sequence (Rattle.plug_ends.proofs.CallsTurns.number_in plan m) (number_said before.controller.setup m sequence ask says)
+                    (by_message m (present_as next m present) all.1.1)
+                by_asked (inr plain) = absurd (plain_said before.controller.setup m plain sequence ask says)
+
+        numbered_now : is_ended next.phase ≡ false → (IsDead (kept_for before.controller.setup before.device.live) → ⊥)
             → Numbered (with_live before.controller next) before.device.station before.device.live (before.sent ++ more)
-        numbered_now going =
-            controller_numbered before.controller.setup good_here before.device.station before.device.station.identity.mac before.controller
-            (with_live before.controller next) before.device.live before.sent messages refl refl (was.numbered (going_before going)) calm.counted few_now
+        numbered_now going alive =
+            controller_numbered before.controller.setup before.device.station before.device.station.identity.mac before.controller
+            (with_live before.controller next) before.device.live before.sent messages refl refl (was.numbered (going_before going) alive)
             on.in_step going
             (event_numbers before.controller.setup (so.fine.calls.follows before.controller.setup) (so.fine.calls.flows before.controller.setup)
             before.controller.live it.event (so.fine.calls.kinds before.controller.setup before.controller.live it.event) going)
-            it.meant (made (event_turns Said_as before.controller.setup
-            (said_in before.controller.setup (heard_by before.controller.setup.plan.controller) it.event) before.controller.live base.both.held.steady base.both.held.alone
-            (so.fine.calls.follows before.controller.setup) (so.fine.calls.due_so before.controller.setup) it.event refl it.unrefused on.in_step).so)
-            (so.fine.aimed before.device.station.identity.mac before.controller.setup before.controller.live it.event good_here base.both.fine.aimed it.from).1
-          where
-            made : (is_ended next.phase ≡ true) ⊎ Rattle.plug_ends.proofs.CallsTurns.Goes Said_as before.controller.setup.plan
-                (said_in before.controller.setup (heard_by before.controller.setup.plan.controller) it.event) before.controller.live
-                (turn_of before.controller.setup before.controller.live it.event) → AllByRecursion (IsAsked next) messages
-            made (inl over) = absurd (true_false (sym over ∙ going))
-            made (inr goes) = goes.1
+            it.meant (goes_so going).1 aimed_so (last_stays going alive)
 
         ending : is_ended next.phase ≡ true → AllByRecursion (λ frame. (sequence : ℕ) (ask : Ask)
             → (rules_of before.controller.setup before.device.station).to_device frame ≡ small.Call sequence ask → ask ≡ small.Releases) more
@@ -395,7 +497,7 @@ module _ (so : PluggedSo) (asking : AskedSo) (device_so : DeviceSo) (hears : Hea
             controller_joined slot subslot before.controller next before.device.station before.device.live before.sent more taken (taken_with low_priority before one) raised
             was known base.both.held held_now goes_now silent known_now prefix_before
             (subst (λ (xs : List AlarmNotification). IsPrefixOf taken_now xs) rest_now prefix_now)
-            (λ link is number there. (base.telling.told.told link is).told (Told number) there) stays_ended numbered_now ending
+            (λ link is number there. (base.telling.told.told link is).told (Told number) there) stays_ended numbered_now last_stays sizes ending
 
         controller_joined_now : JoinedAt after raised_now
         controller_joined_now =

@@ -1,6 +1,6 @@
 -- What both ends make of the records of one submodule after a plug, in one state: while the Write of a record is asked, while PrmEnd is
 -- on its way, and when its parameters ended.
-use Rattle.std.proofs.Common.{◌≡◌, ◌⊎◌, ◌<◌, ◌+◌, ℕ, suc, Bool, true, false, List, take, Some, None, ap, ◌∙◌}
+use Rattle.std.proofs.Common.{◌≡◌, ◌⊎◌, ◌<◌, ◌+◌, ℕ, suc, Bool, true, false, List, take, Option, Some, None, ap, ◌∙◌}
 use Rattle.std.specs.Prelude.{if◌then◌else◌, nat_eq, slice_get}
 use Rattle.std.specs.Cmp.Lexicographic.{pointwise}
 use Rattle.frame_codec.specs.Sendable.{IsMac}
@@ -35,6 +35,10 @@ use Rattle.plug_ends.proofs.PluggedLists.{IsStepAt, planned_before}
 use Rattle.plug_ends.proofs.PluggedWorlds.{Numbered}
 
 -- ---- frames
+
+-- The device answered the last call there can be: none is new to it.
+abbrev pub IsDead : Option small.Kept → Type 0
+IsDead kept = (sequence : ℕ) → sequence < 4294967296 → IsNew sequence kept → ⊥
 
 abbrev pub WasIn : List (List ℕ) → List ℕ → Type 0
 WasIn sent frame = (number : ℕ) × (slice_get sent number ≡ Some frame)
@@ -104,7 +108,7 @@ module _ (slot subslot : ℕ) where
   pub record Joined (c : Controlling) (station : Station) (live : Live) (sent : List (List ℕ)) (raised : List AlarmNotification) : Type 0 where
     pub asked : (link : RelationState) → live.rest.link ≡ Some link → (request : PlugRequest) → c.live.access.plug ≡ Some request
         → request.slot ≡ slot → request.subslot ≡ subslot → step_in slot subslot link ≡ Some (Told request.number)
-        → AskedSo c.setup live sent (taken_at slot subslot link.taken) request
+        → (IsDead (kept_for c.setup live) → ⊥) → AskedSo c.setup live sent (taken_at slot subslot link.taken) request
     pub told : (link : RelationState) → live.rest.link ≡ Some link → (number : ℕ) → step_in slot subslot link ≡ Some (Told number)
         → (frame : List ℕ) → WasIn sent frame → HearsEnd station.identity frame number → IsNewIn c.setup station live frame
         → EndsWith (taken_at slot subslot link.taken) (all_of c.setup)
@@ -117,7 +121,7 @@ module _ (slot subslot : ℕ) where
     pub own : (request : PlugRequest) → c.live.access.plug ≡ Some request → IsStepAt c.setup.plan request.slot request.subslot request.step
     pub unnamed : AreUnnamed station.named c.setup.plan.records.items
     pub idle : (answer : small.Kept) → kept_for c.setup live ≡ Some answer → (rules_of c.setup station).to_device answer.frame ≡ small.Idle
-    pub numbered : is_ended c.live.phase ≡ false → Numbered c station live sent
+    pub numbered : is_ended c.live.phase ≡ false → (IsDead (kept_for c.setup live) → ⊥) → Numbered c station live sent
 
 -- ---- what becomes of the request after a plug
 

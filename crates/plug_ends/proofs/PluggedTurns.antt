@@ -52,13 +52,13 @@ use Rattle.plug_ends.proofs.AskedWords.{HearsEnd, WasPlug}
 use Rattle.plug_ends.proofs.CallsFine.{kept_after}
 use Rattle.plug_ends.proofs.CallsFrames.{Grows, IsFrame, covers_old, grows_new, idle_call, nothing_answers}
 use Rattle.plug_ends.proofs.CallsRuns.{Held, all_at, kept_for}
-use Rattle.plug_ends.proofs.CallsTurns.{none_some, plugged_is, some_same}
+use Rattle.plug_ends.proofs.CallsTurns.{none_some, number_in, plugged_is, present_of, some_same}
 use Rattle.plug_ends.proofs.DeviceGoes.{TakesRecords, holding_of}
 use Rattle.plug_ends.proofs.DeviceTurns.{AnswersAt, EndsAt}
 use Rattle.plug_ends.proofs.PluggedDevice.{PluggedSo, came, frames_show, its_call, kept_shows, not_new, unasked, unreported_idle}
 use Rattle.plug_ends.proofs.PluggedLists.{IsRecordAt, IsStepAt, ends_more, ends_none, none_before, own_step, planned_before, step_next}
-use Rattle.plug_ends.proofs.PluggedState.{AskedSo, Grants, HasEnd, IsBegunNow, IsKnownWrite, IsNewIn, IsNextNow, IsWriteBy, Joined, PlugTurns, WasIn, all_of, grants_answers}
-use Rattle.plug_ends.proofs.PluggedWorlds.{IsIdle, IsNumberedIn, IsPlugFrame, Numbered, beside_alone, device_numbered, next_of, steps_idle}
+use Rattle.plug_ends.proofs.PluggedState.{AskedSo, Grants, HasEnd, IsBegunNow, IsDead, IsKnownWrite, IsNewIn, IsNextNow, IsWriteBy, Joined, PlugTurns, WasIn, all_of, grants_answers}
+use Rattle.plug_ends.proofs.PluggedWorlds.{IsIdle, IsLast, IsNumberedIn, IsPlugFrame, Numbered, beside_alone, device_numbered, next_of, not_first, steps_idle}
 use Rattle.plug_ends.proofs.PluggedWrites.{own_more}
 use Rattle.plug_ends.proofs.PluggedWritten.{Known, in_more, present_new, same_since, split_in, write_fresh, write_no_end, write_no_release, writes_known}
 use Rattle.plug_ends.proofs.ToldGoes.{Goes}
@@ -129,7 +129,11 @@ module _ (slot subslot : ℕ) (c : Controlling) (next : ControllerLive) (station
     (last_told : (link : RelationState) → live.rest.link ≡ Some link → (number : ℕ) → step_in slot subslot link ≡ Some (Told number)
     → LastPlug slot subslot number raised)
     (stays_ended : is_ended c.live.phase ≡ true → is_ended next.phase ≡ true)
-    (numbered_now : is_ended next.phase ≡ false → Numbered (with_live c next) station live (sent ++ more))
+    (numbered_now : is_ended next.phase ≡ false → (IsDead (kept_for c.setup live) → ⊥) → Numbered (with_live c next) station live (sent ++ more))
+    (last_stays : is_ended next.phase ≡ false → (IsDead (kept_for c.setup live) → ⊥) → (message : Sent) → present_of c.live ≡ Some message → number_in c.setup.plan message ≡ 4294967295
+    → present_of next ≡ Some message)
+    (sizes : is_ended next.phase ≡ false → AllByRecursion (λ frame. (sequence : ℕ) (ask : Ask) → (rules_of c.setup station).to_device frame ≡ small.Call sequence ask
+    → sequence < 4294967296) more)
     (ending : is_ended next.phase ≡ true → AllByRecursion (λ frame. (sequence : ℕ) (ask : Ask) → (rules_of c.setup station).to_device frame ≡ small.Call sequence ask
     → ask ≡ small.Releases) more) where
   abbrev kept : Option small.Kept
@@ -148,15 +152,23 @@ module _ (slot subslot : ℕ) (c : Controlling) (next : ControllerLive) (station
   going_now : (request : PlugRequest) → next.access.plug ≡ Some request → is_ended next.phase ≡ false
   going_now request e = (beside_alone c.setup.plan next request held_now.steady e).1
 
-  below_new : (number : ℕ) (answer : Option small.Kept) → kept ≡ answer → number ≡ next_of c → is_ended c.live.phase ≡ false → IsNew number answer
-  below_new number None e same going = tt
-  below_new number (Some answer) e same going =
-      let less = (was.numbered going).kept answer e in
-      omega (arith, less, same)
+  below_new : (number bound : ℕ) (answer : Option small.Kept) → number ≡ bound → ((found : small.Kept) → answer ≡ Some found → found.sequence < bound) → IsNew number answer
+  below_new number bound None same less = tt
+  below_new number bound (Some answer) same less =
+      let under = less answer refl in
+      omega (arith, under, same)
 
   -- the number of a request that is made is new
-  fresh : (request : PlugRequest) → next.access.plug ≡ Some request → request.sequence ≡ next_of c → IsNew request.sequence kept
-  fresh request e same = below_new request.sequence kept refl same (going_before (going_now request e))
+  fresh : (IsDead kept → ⊥) → (request : PlugRequest) → next.access.plug ≡ Some request → request.sequence ≡ next_of c → IsNew request.sequence kept
+  fresh alive request e same = by_next numbered.next
+    where
+      numbered : Numbered c station live sent
+      numbered = was.numbered (going_before (going_now request e)) alive
+
+      by_next : (next_of c ≡ numbered.bound) ⊎ ((next_of c ≡ 0) × IsLast c) → IsNew request.sequence kept
+      by_next (inl at) = below_new request.sequence numbered.bound kept (same ∙ at) numbered.kept
+      by_next (inr last) =
+          absurd (not_first c.setup.plan next request held_now.steady e (same ∙ last.0) last.1.0 (last_stays (going_now request e) alive last.1.0 last.1.1 last.1.2) last.1.2)
 
   -- so no frame grants it
   none_grants : (sequence : ℕ) → IsNew sequence kept → (frame : List ℕ) → IsFrame (rules_of c.setup station) kept held_now.last (is_ended next.phase) frame
@@ -174,9 +186,9 @@ module _ (slot subslot : ℕ) (c : Controlling) (next : ControllerLive) (station
   }
 
   asked_now : (link : RelationState) → live.rest.link ≡ Some link → (request : PlugRequest) → next.access.plug ≡ Some request
-      → request.slot ≡ slot → request.subslot ≡ subslot → step_in slot subslot link ≡ Some (Told request.number)
+      → request.slot ≡ slot → request.subslot ≡ subslot → step_in slot subslot link ≡ Some (Told request.number) → (IsDead kept → ⊥)
       → AskedSo slot subslot c.setup live (sent ++ more) (taken_at slot subslot link.taken) request
-  asked_now link is request e slot_is subslot_is told_is = by_goes goes
+  asked_now link is request e slot_is subslot_is told_is alive = by_goes goes
     where
       from_here : (from : ℕ) (one : PlugRequest) → one.slot ≡ slot → one.subslot ≡ subslot → one.step ≡ step_from c.setup.plan one.slot one.subslot from
           → one.step ≡ step_from c.setup.plan slot subslot from
@@ -185,7 +197,7 @@ module _ (slot subslot : ℕ) (c : Controlling) (next : ControllerLive) (station
 
       same_asked : c.live.access.plug ≡ Some request → AskedSo slot subslot c.setup live (sent ++ more) (taken_at slot subslot link.taken) request
       same_asked waits =
-          let old = was.asked link is request waits slot_is subslot_is told_is in
+          let old = was.asked link is request waits slot_is subslot_is told_is alive in
           record {
             new = old.new;
             granted = λ number step_is frame there grants. by_split old number step_is frame grants (split_in sent more frame there);
@@ -205,7 +217,7 @@ module _ (slot subslot : ℕ) (c : Controlling) (next : ControllerLive) (station
       begun_asked it =
           let same : it.request ≡ request = some_same it.request request (sym it.is ∙ e) in
           subst (λ (r : PlugRequest). AskedSo slot subslot c.setup live (sent ++ more) (taken_at slot subslot link.taken) r) same
-          (nothing_granted (taken_at slot subslot link.taken) it.request (fresh it.request it.is it.sequence)
+          (nothing_granted (taken_at slot subslot link.taken) it.request (fresh alive it.request it.is it.sequence)
           (subst (λ (xs : List TakenRecord). EndsWith (taken_at slot subslot link.taken) xs)
           (sym (none_before c.setup.plan slot subslot it.request.step
           (from_here 0 it.request (ap (λ (r : PlugRequest). r.slot) same ∙ slot_is) (ap (λ (r : PlugRequest). r.subslot) same ∙ subslot_is) it.step)))
@@ -218,7 +230,7 @@ module _ (slot subslot : ℕ) (c : Controlling) (next : ControllerLive) (station
           let below : it.request.subslot ≡ subslot = ap (λ (r : PlugRequest). r.subslot) same ∙ subslot_is in
           let number_same : it.last.number ≡ request.number = sym it.number_is ∙ ap (λ (r : PlugRequest). r.number) same in
           let old = was.asked link is it.last it.was (sym it.slot_is ∙ at) (sym it.subslot_is ∙ below)
-          (told_is ∙ ap (λ (n : ℕ). Some (Told n)) (sym number_same)) in
+          (told_is ∙ ap (λ (n : ℕ). Some (Told n)) (sym number_same)) alive in
           let ends = old.granted it.number it.record_is it.frame it.there it.grants in
           let step : it.request.step ≡ step_from c.setup.plan slot subslot (it.number + 1) = from_here (it.number + 1) it.request at below it.step in
           let before : planned_before c.setup.plan slot subslot it.request.step
@@ -227,7 +239,7 @@ module _ (slot subslot : ℕ) (c : Controlling) (next : ControllerLive) (station
           ∙ ((step_next c.setup.plan slot subslot (it.number + 1)).before
           ∙ ap (λ (n : ℕ). records_at slot subslot (take n c.setup.plan.records.items)) (add-one it.number)) in
           subst (λ (r : PlugRequest). AskedSo slot subslot c.setup live (sent ++ more) (taken_at slot subslot link.taken) r) same
-          (nothing_granted (taken_at slot subslot link.taken) it.request (fresh it.request it.is it.sequence) (subst (λ (xs : List TakenRecord). EndsWith (taken_at slot subslot link.taken) xs) (sym before) ends))
+          (nothing_granted (taken_at slot subslot link.taken) it.request (fresh alive it.request it.is it.sequence) (subst (λ (xs : List TakenRecord). EndsWith (taken_at slot subslot link.taken) xs) (sym before) ends))
 
       by_goes : PlugTurns c next station sent (sent ++ more) → AskedSo slot subslot c.setup live (sent ++ more) (taken_at slot subslot link.taken) request
       by_goes (inl it) = same_asked (sym it.0 ∙ e)
@@ -240,21 +252,21 @@ module _ (slot subslot : ℕ) (c : Controlling) (next : ControllerLive) (station
 
   -- PrmEnd that is sent now
   own_end : (link : RelationState) → live.rest.link ≡ Some link → (number : ℕ) → step_in slot subslot link ≡ Some (Told number) → (request : PlugRequest)
-      → next.access.plug ≡ Some request → request.sequence ≡ next_of c → request.step ≡ PrmEnd → request.number ≡ number
+      → next.access.plug ≡ Some request → request.sequence ≡ next_of c → request.step ≡ PrmEnd → request.number ≡ number → (IsDead kept → ⊥)
       → EndsWith (taken_at slot subslot link.taken) (all_of slot subslot c.setup)
-  own_end link is number told_is request e sequence step_is number_is =
+  own_end link is number told_is request e sequence step_is number_is alive =
       let last = last_told link is number told_is in
       let plug : WasPlug request.slot request.subslot number raised =
       subst (λ (n : ℕ). WasPlug request.slot request.subslot n raised) number_is
       (in_raised request.slot request.subslot request.number (known_now request e)) in
       let place = plug_here request.slot request.subslot slot subslot number raised plug (last_was slot subslot number raised last) in
-      let ends = (asked_now link is request e place.0 place.1 (told_is ∙ ap (λ (n : ℕ). Some (Told n)) (sym number_is))).new (fresh request e sequence) in
+      let ends = (asked_now link is request e place.0 place.1 (told_is ∙ ap (λ (n : ℕ). Some (Told n)) (sym number_is)) alive).new (fresh alive request e sequence) in
       subst (λ (step : PlugStep). EndsWith (taken_at slot subslot link.taken) (planned_before c.setup.plan slot subslot step)) step_is ends
 
   told_now : (link : RelationState) → live.rest.link ≡ Some link → (number : ℕ) → step_in slot subslot link ≡ Some (Told number)
       → (frame : List ℕ) → WasIn (sent ++ more) frame → HearsEnd station.identity frame number → IsNewIn c.setup station live frame
       → EndsWith (taken_at slot subslot link.taken) (all_of slot subslot c.setup)
-  told_now link is number told_is frame there hears is_new = by_goes goes
+  told_now link is number told_is frame there hears is_new = by_split (split_in sent more frame there)
     where
       old : WasIn sent frame → EndsWith (taken_at slot subslot link.taken) (all_of slot subslot c.setup)
       old before = was.told link is number told_is frame before hears is_new
@@ -263,19 +275,29 @@ module _ (slot subslot : ℕ) (c : Controlling) (next : ControllerLive) (station
       by_none (inl before) = old before
       by_none (inr never) = absurd never
 
-      by_begun : (it : IsBegunNow c next station sent (sent ++ more)) → WasIn sent frame ⊎ ((it.request.step ≡ PrmEnd) × (it.request.number ≡ number)) → EndsWith (taken_at slot subslot link.taken) (all_of slot subslot c.setup)
-      by_begun it (inl before) = old before
-      by_begun it (inr now) = own_end link is number told_is it.request it.is it.sequence now.0 now.1
+      alive_of : WasIn more frame → is_ended next.phase ≡ false → IsDead kept → ⊥
+      alive_of now going dead =
+          dead is_new.sequence (all_at _ more (sizes going) now.0 frame now.1 is_new.sequence is_new.ask is_new.is) is_new.new
 
-      by_next : (it : IsNextNow c next station sent (sent ++ more)) → WasIn sent frame ⊎ ((it.request.step ≡ PrmEnd) × (it.request.number ≡ number)) → EndsWith (taken_at slot subslot link.taken) (all_of slot subslot c.setup)
-      by_next it (inl before) = old before
-      by_next it (inr now) = own_end link is number told_is it.request it.is it.sequence now.0 now.1
+      by_begun : (it : IsBegunNow c next station sent (sent ++ more)) → WasIn more frame → WasIn sent frame ⊎ ((it.request.step ≡ PrmEnd) × (it.request.number ≡ number)) → EndsWith (taken_at slot subslot link.taken) (all_of slot subslot c.setup)
+      by_begun it here (inl before) = old before
+      by_begun it here (inr now) =
+          own_end link is number told_is it.request it.is it.sequence now.0 now.1 (λ dead. alive_of here (going_now it.request it.is) dead)
 
-      by_goes : PlugTurns c next station sent (sent ++ more) → EndsWith (taken_at slot subslot link.taken) (all_of slot subslot c.setup)
-      by_goes (inl it) = by_none (it.1 frame number there hears)
-      by_goes (inr (inl it)) = by_none (it.1 frame number there hears)
-      by_goes (inr (inr (inl it))) = by_begun it (it.ended frame number there hears)
-      by_goes (inr (inr (inr it))) = by_next it (it.ended frame number there hears)
+      by_next : (it : IsNextNow c next station sent (sent ++ more)) → WasIn more frame → WasIn sent frame ⊎ ((it.request.step ≡ PrmEnd) × (it.request.number ≡ number)) → EndsWith (taken_at slot subslot link.taken) (all_of slot subslot c.setup)
+      by_next it here (inl before) = old before
+      by_next it here (inr now) =
+          own_end link is number told_is it.request it.is it.sequence now.0 now.1 (λ dead. alive_of here (going_now it.request it.is) dead)
+
+      by_goes : WasIn more frame → PlugTurns c next station sent (sent ++ more) → EndsWith (taken_at slot subslot link.taken) (all_of slot subslot c.setup)
+      by_goes here (inl it) = by_none (it.1 frame number there hears)
+      by_goes here (inr (inl it)) = by_none (it.1 frame number there hears)
+      by_goes here (inr (inr (inl it))) = by_begun it here (it.ended frame number there hears)
+      by_goes here (inr (inr (inr it))) = by_next it here (it.ended frame number there hears)
+
+      by_split : WasIn sent frame ⊎ WasIn more frame → EndsWith (taken_at slot subslot link.taken) (all_of slot subslot c.setup)
+      by_split (inl before) = old before
+      by_split (inr here) = by_goes here goes
 
   end_more : (number : ℕ) → HasEnd slot subslot station sent number → HasEnd slot subslot station (sent ++ more) number
   end_more number it = (it.0, in_more sent more it.0 it.1, it.2)
@@ -396,6 +418,9 @@ module _ (so : PluggedSo) (slot subslot : ℕ) (c : Controlling) (station : Stat
   new_before : (sequence : ℕ) → IsNew sequence (kept_for c.setup after) → IsNew sequence (kept_for c.setup live)
   new_before sequence is_new = grows_new (kept_for c.setup live) (kept_for c.setup after) grows sequence is_new
 
+  alive_before : (IsDead (kept_for c.setup after) → ⊥) → IsDead (kept_for c.setup live) → ⊥
+  alive_before alive dead = alive (λ sequence few is_new. dead sequence few (new_before sequence is_new))
+
   fresh_before : (frame : List ℕ) → IsNewIn c.setup station after frame → IsNewIn c.setup station live frame
   fresh_before frame it = record { sequence = it.sequence; ask = it.ask; is = it.is; new = new_before it.sequence it.new }
 
@@ -441,6 +466,7 @@ module _ (so : PluggedSo) (slot subslot : ℕ) (c : Controlling) (station : Stat
 
   module _ (link next : RelationState) (before_is : live.rest.link ≡ Some link) (after_is : after.rest.link ≡ Some next) (request : PlugRequest)
       (waits : c.live.access.plug ≡ Some request) (slot_is : request.slot ≡ slot) (subslot_is : request.subslot ≡ subslot)
+      (alive : IsDead (kept_for c.setup live) → ⊥)
       (old : AskedSo slot subslot c.setup live sent (taken_at slot subslot link.taken) request) where
     abbrev since : List TakenRecord
     since = taken_at slot subslot link.taken
@@ -452,7 +478,7 @@ module _ (so : PluggedSo) (slot subslot : ℕ) (c : Controlling) (station : Stat
     going = (beside_alone c.setup.plan c.live request held.steady waits).1
 
     numbered : Numbered c station live sent
-    numbered = was.numbered going
+    numbered = was.numbered going alive
 
     -- it is PrmEnd, or another call came: nothing was accepted
     same_asked : later ≡ since → request.step ≡ PrmEnd → AskedSo slot subslot c.setup after (sent ++ frames) later request
@@ -668,7 +694,7 @@ module _ (so : PluggedSo) (slot subslot : ℕ) (c : Controlling) (station : Stat
 
     pub record At : Type 0 where
       pub asked : (request : PlugRequest) → c.live.access.plug ≡ Some request → request.slot ≡ slot → request.subslot ≡ subslot
-          → step_in slot subslot next ≡ Some (Told request.number) → AskedSo slot subslot c.setup after (sent ++ frames) then_taken request
+          → step_in slot subslot next ≡ Some (Told request.number) → (IsDead (kept_for c.setup after) → ⊥) → AskedSo slot subslot c.setup after (sent ++ frames) then_taken request
       pub told_at : (number : ℕ) → step_in slot subslot next ≡ Some (Told number) → (frame : List ℕ) → WasIn (sent ++ frames) frame
           → HearsEnd station.identity frame number → IsNewIn c.setup station after frame → EndsWith then_taken (all_of slot subslot c.setup)
       pub ended : (number : ℕ) → step_in slot subslot next ≡ Some (Ended number)
@@ -724,8 +750,9 @@ module _ (so : PluggedSo) (slot subslot : ℕ) (c : Controlling) (station : Stat
 
       kept_at : then_taken ≡ taken_at slot subslot link.taken → concerns_any slot subslot now ≡ false → At
       kept_at same quiet = record {
-        asked = λ request waits at below told_is.
-            asked_kept link next before_is after_is request waits at below (was.asked link before_is request waits at below (sym step_same ∙ told_is)) same;
+        asked = λ request waits at below told_is alive.
+            asked_kept link next before_is after_is request waits at below (alive_before alive)
+            (was.asked link before_is request waits at below (sym step_same ∙ told_is) (alive_before alive)) same;
         told_at = λ number told_is. told_same_at same number (sym step_same ∙ told_is);
         ended = λ number is.
             let it = was.ended link before_is number (sym step_same ∙ is) in
@@ -743,8 +770,9 @@ module _ (so : PluggedSo) (slot subslot : ℕ) (c : Controlling) (station : Stat
       taken_there : (write : TakesRecords live heard live.rest.link after.rest.link)
           → then_taken ≡ taken_at slot subslot link.taken ++ taken_at slot subslot write.values → concerns_any slot subslot now ≡ false → At
       taken_there write since quiet = record {
-        asked = λ request waits at below told_is.
-            asked_taken link next before_is after_is request waits at below (was.asked link before_is request waits at below (sym step_same ∙ told_is)) write;
+        asked = λ request waits at below told_is alive.
+            asked_taken link next before_is after_is request waits at below (alive_before alive)
+            (was.asked link before_is request waits at below (sym step_same ∙ told_is) (alive_before alive)) write;
         told_at = λ number told_is frame there hears is_new.
             let before = call_before frame there hears.call.header.sequence small.Parameterized (end_small c.setup station frame number hears) in
             told_same_at (same_since_at write link next before_is after_is since number (told link before_is (Told number) (sym step_same ∙ told_is)) (frame, before, hears))
@@ -905,13 +933,10 @@ module _ (so : PluggedSo) (slot subslot : ℕ) (c : Controlling) (station : Stat
   control_asked (wanted.Write write) f = absurd cc
   control_asked (wanted.ReadImplicit read) f = absurd cc
 
-  module _ (going : is_ended c.live.phase ≡ false) (sequence : ℕ) (question : Question) (same : question.header.sequence ≡ sequence)
+  module _ (numbered_before : Numbered c station live sent) (sequence : ℕ) (question : Question) (same : question.header.sequence ≡ sequence)
       (asked_is : question_in after.rest.asked ≡ Some question) where
     abbrev Asks : Type 0
-    Asks = ((device.small_of c.setup.activity live).asked ≡ Some sequence) ⊎ IsNumberedIn c sequence
-
-    numbered_before : Numbered c station live sent
-    numbered_before = was.numbered going
+    Asks = ((device.small_of c.setup.activity live).asked ≡ Some sequence) ⊎ IsNumberedIn c numbered_before.bound sequence
 
     old_question : question_in live.rest.asked ≡ Some question → Asks
     old_question there = inl (ap (λ (q : Option Question). option_map (λ (x : Question). x.header.sequence) q) there ∙ ap (λ (n : ℕ). Some n) same)
@@ -955,15 +980,15 @@ module _ (so : PluggedSo) (slot subslot : ℕ) (c : Controlling) (station : Stat
       same_call one other first second call asked_call e = cc
 
       module _ (frame : List ℕ) (there : WasIn sent frame) (is : heard ≡ heard_of station.identity (Frame (record { items = frame }))) where
-        below : (asking.call.header.sequence < next_of c)
+        below : (asking.call.header.sequence < numbered_before.bound)
             × ((request : PlugRequest) → c.live.access.plug ≡ Some request
             → (asking.call.header.sequence < request.sequence) ⊎ IsPlugFrame c.setup request frame)
         below =
             all_at _ sent numbered_before.frames there.0 frame there.1 asking.call.header.sequence asked_small.0
             (ap (λ (h : Heard). heard_as (is_planned c.setup) h) (sym is) ∙ asked_small.1)
 
-        now_below : sequence < next_of c
-        now_below = subst (λ (n : ℕ). n < next_of c) is_number below.0
+        now_below : sequence < numbered_before.bound
+        now_below = subst (λ (n : ℕ). n < numbered_before.bound) is_number below.0
 
         by_less : (request : PlugRequest) → c.live.access.plug ≡ Some request → asking.call.header.sequence < request.sequence → Asks
         by_less request waits less = inr (
@@ -1009,24 +1034,24 @@ module _ (so : PluggedSo) (slot subslot : ℕ) (c : Controlling) (station : Stat
     asks_later (inl before) = old_question before
     asks_later (inr asking) = new_question asking
 
-  asked_numbers : is_ended c.live.phase ≡ false → (sequence : ℕ) → (device.small_of c.setup.activity after).asked ≡ Some sequence
-      → ((device.small_of c.setup.activity live).asked ≡ Some sequence) ⊎ IsNumberedIn c sequence
-  asked_numbers going sequence e = by_question (question_in after.rest.asked) refl
+  asked_numbers : (numbered_before : Numbered c station live sent) → (sequence : ℕ) → (device.small_of c.setup.activity after).asked ≡ Some sequence
+      → ((device.small_of c.setup.activity live).asked ≡ Some sequence) ⊎ IsNumberedIn c numbered_before.bound sequence
+  asked_numbers numbered_before sequence e = by_question (question_in after.rest.asked) refl
     where
       by_question : (found : Option Question) → question_in after.rest.asked ≡ found
-          → ((device.small_of c.setup.activity live).asked ≡ Some sequence) ⊎ IsNumberedIn c sequence
+          → ((device.small_of c.setup.activity live).asked ≡ Some sequence) ⊎ IsNumberedIn c numbered_before.bound sequence
       by_question None is = absurd (none_some sequence (ap (λ (q : Option Question). option_map (λ (x : Question). x.header.sequence) q) (sym is) ∙ e))
       by_question (Some question) is =
-          asks_later going sequence question (some_same question.header.sequence sequence (ap (λ (q : Option Question). option_map (λ (x : Question). x.header.sequence) q) (sym is) ∙ e)) is
+          asks_later numbered_before sequence question (some_same question.header.sequence sequence (ap (λ (q : Option Question). option_map (λ (x : Question). x.header.sequence) q) (sym is) ∙ e)) is
           ((so.turns rules c.setup.activity outcomes station live heard planned).asked question is)
 
-  called_numbers : is_ended c.live.phase ≡ false → (sequence : ℕ) (ask : Ask) → heard_as (is_planned c.setup) heard ≡ small.Call sequence ask → sequence < next_of c
-  called_numbers going sequence ask e = by_from from
+  called_numbers : (numbered_before : Numbered c station live sent) → (sequence : ℕ) (ask : Ask) → heard_as (is_planned c.setup) heard ≡ small.Call sequence ask → sequence < numbered_before.bound
+  called_numbers numbered_before sequence ask e = by_from from
     where
       by_from : ((frame : List ℕ) × WasIn sent frame × (heard ≡ heard_of station.identity (Frame (record { items = frame }))))
-          ⊎ ((caller : Caller) (address : List ℕ) (said : Said) → heard ≡ Reported caller address said → ⊥) → sequence < next_of c
+          ⊎ ((caller : Caller) (address : List ℕ) (said : Said) → heard ≡ Reported caller address said → ⊥) → sequence < numbered_before.bound
       by_from (inl it) =
-          (all_at _ sent (was.numbered going).frames it.1.0 it.0 it.1.1 sequence ask (ap (λ (h : Heard). heard_as (is_planned c.setup) h) (sym it.2) ∙ e)).0
+          (all_at _ sent numbered_before.frames it.1.0 it.0 it.1.1 sequence ask (ap (λ (h : Heard). heard_as (is_planned c.setup) h) (sym it.2) ∙ e)).0
       by_from (inr un) = absurd (idle_call sequence ask (sym (unreported_idle (is_planned c.setup) heard un) ∙ e))
 
   -- ---- the state afterwards
@@ -1071,7 +1096,7 @@ module _ (so : PluggedSo) (slot subslot : ℕ) (c : Controlling) (station : Stat
     unnamed = was.unnamed;
     idle = kept_after rules (IsIdle rules) (heard_as (is_planned c.setup) heard) (device.small_of c.setup.activity live) (device.small_of c.setup.activity after) frames
         steps was.idle idle_frames;
-    numbered = λ going.
-        device_numbered c station live after sent frames (heard_as (is_planned c.setup) heard) steps idle_frames (called_numbers going) (asked_numbers going)
-        (was.numbered going);
+    numbered = λ going alive.
+        let numbered = was.numbered going (alive_before alive) in
+        device_numbered c station live after sent frames (heard_as (is_planned c.setup) heard) steps idle_frames numbered (called_numbers numbered) (asked_numbers numbered);
   }

@@ -7,6 +7,8 @@ use Rattle.plan_places.specs.declared.place.PlaceState.TheVariants.{Ready}
 use Rattle.plan_places.specs.Places.{Told, state_at}
 use Rattle.plan_places.specs.Records.{is_record_of}
 use Rattle.relations.specs.RelationState.{RelationState, passes_on}
+use Rattle.controller_messages.specs.declared.plug_request.PlugRequest.{PlugRequest}
+use Rattle.controller_messages.specs.declared.plug_request.PlugStep.TheVariants.{PrmEnd}
 use Rattle.controller_messages.specs.declared.record_request.RecordRequest.{RecordRequest}
 use Rattle.controller_messages.specs.declared.record_request.RecordService.TheVariants.{Write}
 use Rattle.network_world.specs.declared.moves.Move.{Move}
@@ -35,12 +37,12 @@ pub record IsElsewhere (slot subslot : ℕ) (request : RecordRequest) : Type 0 w
   pub other : WritesAt slot subslot request → ⊥
 
 -- Nothing but the plan's records is written at a submodule: the device keeps what its relation accepts and passes none of it on to its
--- application, and no request of the controller's application waits that writes a record there. While data is exchanged the
--- controller made fewer requests than there are numbers for calls.
+-- application, and no request of the controller's application waits that writes a record there. No PrmEnd after a plug has the last
+-- number for calls.
 pub record IsUndisturbed {F : Type 0} (slot subslot : ℕ) (world : World F) : Type 0 where
   pub keeps : (link : RelationState) → world.device.live.rest.link ≡ Some link → passes_on link ≡ false
   pub unwritten : (request : RecordRequest) → world.controller.live.access.waiting ≡ Some request → IsElsewhere slot subslot request
-  pub counted : world.controller.live.access.calls < 4294967000
+  pub unwrapped : (request : PlugRequest) → world.controller.live.access.plug ≡ Some request → request.step ≡ PrmEnd → request.sequence < 4294967295
 
 -- So it is after each move of a run.
 abbrev pub AreUndisturbed : {F : Type 0} → ℕ → ℕ → List (Move × World F) → Type 0
