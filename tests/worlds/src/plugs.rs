@@ -9,6 +9,9 @@ use world_monitor::{Choice, PlaceTally, Schedule, Watched, fresh_world};
 const SEEDS: u64 = 40;
 const MOVES: usize = 800;
 
+/// More frames than follow one another without a move of the applications or a unit of time.
+const MOST_FRAMES: usize = 1_000;
+
 /// Units after which each request and each unconfirmed alarm was sent again.
 const RESEND: usize = 32_001;
 
@@ -70,8 +73,10 @@ impl Drawn {
 
     /// The last frames come to the end that did not send them, and those that are sent then, until none is sent any more.
     fn deliver_all(&mut self, last: usize) {
-        let mut place = self.single.len().saturating_sub(last);
+        let first = self.single.len().saturating_sub(last);
+        let mut place = first;
         while place < self.single.len() {
+            assert!(place - first < MOST_FRAMES, "the frames do not end");
             let number = self.single[place];
             self.make(Choice::Deliver(self.watched.other_end(number), number));
             place += 1;
