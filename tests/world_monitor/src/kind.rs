@@ -35,6 +35,10 @@ pub enum Kind {
     Alarm,
     /// The AlarmAck of an alarm.
     AlarmAck,
+    /// An alarm of low priority.
+    LowAlarm,
+    /// The AlarmAck of an alarm of low priority.
+    LowAlarmAck,
     /// The ACK of an alarm PDU.
     Ack,
     /// The NACK of an alarm PDU.
@@ -70,6 +74,8 @@ fn data_kind(block_type: u16) -> Kind {
     match block_type {
         0x0001 => Kind::Alarm,
         0x8001 => Kind::AlarmAck,
+        0x0002 => Kind::LowAlarm,
+        0x8002 => Kind::LowAlarmAck,
         _ => Kind::Other,
     }
 }
@@ -177,6 +183,8 @@ impl Kind {
             Kind::Outputs => "outputs",
             Kind::Alarm => "alarm",
             Kind::AlarmAck => "AlarmAck",
+            Kind::LowAlarm => "alarm of low priority",
+            Kind::LowAlarmAck => "AlarmAck of low priority",
             Kind::Ack => "ACK",
             Kind::Nack => "NACK",
             Kind::Err => "ERR",
@@ -188,6 +196,38 @@ impl Kind {
 /// The SendSeqNum of an alarm PDU: 8 octets after the offset of its FrameID.
 pub(crate) fn send_number_of(octets: &[u8]) -> u16 {
     number_at(octets, type_place(octets).saturating_add(10))
+}
+
+/// The number at an offset of the block that an alarm PDU has, which begins 16 octets after the EtherType.
+fn in_block(octets: &[u8], place: usize) -> u16 {
+    number_at(octets, type_place(octets).saturating_add(16).saturating_add(place))
+}
+
+/// Whether an alarm reports a pull or a plug, in API 0: its AlarmType is Pull, Plug, Plug wrong submodule or Pull module.
+pub(crate) fn reports_change(octets: &[u8]) -> bool {
+    let is_change = matches!(in_block(octets, 6), 0x0003 | 0x0004 | 0x000a | 0x001f);
+    is_change && in_block(octets, 8) == 0 && in_block(octets, 10) == 0
+}
+
+/// SlotNumber and SubslotNumber of an alarm.
+pub(crate) fn place_of(octets: &[u8]) -> (u16, u16) {
+    (in_block(octets, 12), in_block(octets, 14))
+}
+
+/// Whether an alarm is about all of a slot: a module was pulled, which SubslotNumber 0 says too.
+pub(crate) fn whole_slot_of(octets: &[u8]) -> bool {
+    let alarm_type = in_block(octets, 6);
+    alarm_type == 0x001f || (alarm_type == 0x0003 && in_block(octets, 14) == 0)
+}
+
+/// SequenceNumber: the low 11 bits of the AlarmSpecifier of an alarm.
+pub(crate) fn low_sequence_of(octets: &[u8]) -> u16 {
+    in_block(octets, 24) & 0x07ff
+}
+
+/// The same of an AlarmAck.
+pub(crate) fn ack_sequence_of(octets: &[u8]) -> u16 {
+    in_block(octets, 16) & 0x07ff
 }
 
 /// The CycleCounter of a cyclic frame: the two octets before its last two.

@@ -25,6 +25,14 @@ pub enum Law {
     /// If n alarms were raised, the last one of the controller is the n-th or the one before it, or it has none yet if n
     /// is at most 1. It sent one AlarmAck for each alarm that it accepted.
     Alarms,
+    /// If a pull or a plug of a submodule was reported and its place is good at the device, the records that the device accepted
+    /// there since the last of these alarms end with those of the plan, in order.
+    PlugRecords,
+    /// If moreover no alarm of low priority is unconfirmed, the controller says that it is there again after a plug.
+    Ready,
+    /// If no alarm of low priority is unconfirmed and none waits, the controller says that a submodule of the plan differs, is
+    /// gone or is a wrong one exactly if the plan's is not plugged. If no pull or plug of it was reported, it is there.
+    Places,
     /// A frame that does not exist, and a cyclic frame to an end that has left, change nothing.
     Skipped,
     /// A move changes only the end at which it is made.
@@ -46,6 +54,9 @@ impl Law {
             Law::Records => "records",
             Law::Outputs => "outputs",
             Law::Alarms => "alarms",
+            Law::PlugRecords => "records after plugs",
+            Law::Ready => "ready places",
+            Law::Places => "places",
             Law::Skipped => "skipped",
             Law::OneEnd => "one end",
             Law::Frames => "frames",

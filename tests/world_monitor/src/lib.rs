@@ -4,6 +4,7 @@
 
 mod kind;
 mod law;
+mod places;
 mod schedule;
 mod told;
 mod watch;
@@ -11,6 +12,7 @@ mod watch;
 pub use both_ends::{Fresh, Net, fresh_world};
 pub use kind::Kind;
 pub use law::Law;
+pub use places::PlaceTally;
 pub use schedule::{Choice, Schedule};
 pub use told::{Outputs, Told};
 pub use watch::{Tally, Watched};

@@ -1,6 +1,7 @@
 //! The watch over worlds about which it was told a lie: each law is called broken, so that a watch that says nothing passes no test.
 
 use super::*;
+use crate::places::Place;
 use rattle_std::alloc::Global;
 
 /// The plan of the first line of the schedules of `tests/table_world`: two records, and outputs of slots 2 and 3.
@@ -152,6 +153,117 @@ fn an_alarm_that_was_acknowledged_twice() {
     let mut watched = exchanging();
     watched.acknowledged = 1;
     assert_eq!(said_after_a_unit(&mut watched), Some(Law::Alarms));
+}
+
+/// Each frame comes to the other end as soon as it was sent, from this one on.
+fn deliver_from(watched: &mut Watched, mut number: usize) {
+    while number < watched.count() {
+        let end = watched.other_end(number);
+        hold(watched, Choice::Deliver(end, number));
+        number += 1;
+    }
+}
+
+/// Both ends exchange data. The submodule of slot 1 is pulled, and gone to the controller.
+fn pulled() -> Watched {
+    let keys = r#""DataHoldFactor":3"#;
+    let text = catalogue().replace(keys, &format!(r#"{keys},"ParametersAfterPlug":true"#));
+    let mut watched = fresh_of(&text);
+    deliver_from(&mut watched, 0);
+    let count = watched.count();
+    hold(&mut watched, Choice::Pull(1));
+    deliver_from(&mut watched, count);
+    watched
+}
+
+/// It was plugged again, and both its records were written.
+fn plugged_again() -> Watched {
+    let mut watched = pulled();
+    let count = watched.count();
+    hold(&mut watched, Choice::Plug(1, 16, 2));
+    deliver_from(&mut watched, count);
+    let tally = watched.place_tally();
+    assert_eq!((tally.reported, tally.renewed, tally.parametrized, tally.ready), (2, 1, 1, 1));
+    watched
+}
+
+/// What was seen of the submodule in subslot 1 of a slot, of those after slot 0.
+fn place(watched: &mut Watched, slot: u16) -> &mut Place {
+    watched.places.all.iter_mut().find(|place| place.slot == slot).expect("a place")
+}
+
+#[test]
+fn after_a_plug_all_laws_hold() {
+    assert_eq!(said_after_a_unit(&mut pulled()), None);
+    assert_eq!(said_after_a_unit(&mut plugged_again()), None);
+}
+
+// The device had both records as the alarm of the plug was sent, and accepted none since.
+#[test]
+fn records_that_were_not_written_after_a_plug() {
+    for had in [1, 2] {
+        let mut watched = plugged_again();
+        place(&mut watched, 1).had = had;
+        assert_eq!(said_after_a_unit(&mut watched), Some(Law::PlugRecords));
+    }
+}
+
+#[test]
+fn records_in_another_order_after_a_plug() {
+    let mut watched = plugged_again();
+    watched.places.wanted.swap(0, 1);
+    assert_eq!(said_after_a_unit(&mut watched), Some(Law::PlugRecords));
+}
+
+#[test]
+fn another_record_after_a_plug() {
+    let mut watched = plugged_again();
+    watched.places.wanted[1].data[3] ^= 1;
+    assert_eq!(said_after_a_unit(&mut watched), Some(Law::PlugRecords));
+}
+
+// What the application of the controller writes there is no fault.
+#[test]
+fn another_record_of_a_place_to_which_the_application_wrote() {
+    let mut watched = plugged_again();
+    watched.places.wanted[1].data[3] ^= 1;
+    watched.places.write(1, 1);
+    assert_eq!(said_after_a_unit(&mut watched), None);
+}
+
+// A plug of slot 2 was reported, and the controller does not say that the submodule is there again.
+#[test]
+fn a_place_that_is_good_again_only_at_the_device() {
+    let mut watched = plugged_again();
+    place(&mut watched, 2).is_reported = true;
+    assert_eq!(said_after_a_unit(&mut watched), Some(Law::Ready));
+    watched.places.is_confirmed = false;
+    assert_eq!(said_after_a_unit(&mut watched), None);
+}
+
+#[test]
+fn a_place_of_which_nothing_was_reported_and_that_is_not_as_it_was() {
+    let mut watched = plugged_again();
+    place(&mut watched, 1).is_reported = false;
+    assert_eq!(said_after_a_unit(&mut watched), Some(Law::Places));
+}
+
+// The alarm of the pull is on its way.
+#[test]
+fn a_submodule_that_is_gone_at_the_device_alone() {
+    let mut watched = plugged_again();
+    hold(&mut watched, Choice::Pull(1));
+    watched.places.is_confirmed = true;
+    assert_eq!(said_after_a_unit(&mut watched), Some(Law::Places));
+}
+
+// The alarm of the plug is on its way.
+#[test]
+fn a_submodule_that_is_gone_at_the_controller_alone() {
+    let mut watched = pulled();
+    hold(&mut watched, Choice::Plug(1, 16, 2));
+    watched.places.is_confirmed = true;
+    assert_eq!(said_after_a_unit(&mut watched), Some(Law::Places));
 }
 
 #[test]

@@ -1,6 +1,7 @@
 //! What may happen next, and schedules from a seed.
 use device_core::Local;
 use network_world::{End, Move};
+use pn_values::{ParameterRecord, RealSubmodule};
 use test_stations::octets;
 
 /// A move, without the data structures of the world.
@@ -20,8 +21,30 @@ pub enum Choice {
     Read(u16),
     /// The controller's application writes these octets to the record with this index of slot 1.
     Write(u16, [u8; 2]),
+    /// The submodule in subslot 1 of this slot is pulled.
+    Pull(u16),
+    /// The module in this slot is pulled.
+    PullModule(u16),
+    /// A submodule with this ident number is plugged in subslot 1 of this slot, with a module of the same number if the slot is empty: 16
+    /// has an input of two octets, and as many records of four octets as the last number says, from index 1; others have neither.
+    Plug(u16, u32, u16),
     /// The controller is stopped.
     Stop,
+}
+
+/// The submodule that `Choice::Plug` plugs.
+fn submodule_of(ident: u32, records: u16) -> RealSubmodule {
+    let is_input = ident == 16;
+    let mut submodule = RealSubmodule {
+        subslot: 1,
+        ident,
+        input: if is_input { 2 } else { 0 },
+        ..RealSubmodule::default()
+    };
+    for index in 1..=records {
+        let _ = submodule.parameters.try_push(ParameterRecord { index, length: 4 });
+    }
+    submodule
 }
 
 impl Choice {
@@ -35,6 +58,11 @@ impl Choice {
             Choice::Give(slot, value) => Move::Give(slot, 1, octets(&value)),
             Choice::Read(index) => Move::Read(1, 1, index),
             Choice::Write(index, value) => Move::Write(1, 1, index, octets(&value)),
+            Choice::Pull(slot) => Move::Application(Local::Pull(slot, 1)),
+            Choice::PullModule(slot) => Move::Application(Local::PullModule(slot)),
+            Choice::Plug(slot, ident, records) => {
+                Move::Application(Local::Plug(slot, ident, submodule_of(ident, records)))
+            }
             Choice::Stop => Move::Stop,
         }
     }
@@ -49,6 +77,7 @@ impl Choice {
             Choice::Give(_, _) => End::Controller,
             Choice::Read(_) => End::Controller,
             Choice::Write(_, _) => End::Controller,
+            Choice::Pull(_) | Choice::PullModule(_) | Choice::Plug(..) => End::Device,
             Choice::Stop => End::Controller,
         }
     }
@@ -77,7 +106,7 @@ impl Schedule {
     }
 
     /// A number below `limit`, or 0 if `limit` is 0.
-    fn below(&mut self, limit: u64) -> u64 {
+    pub fn below(&mut self, limit: u64) -> u64 {
         (self.next() >> 16).checked_rem(limit).unwrap_or(0)
     }
 

@@ -67,9 +67,12 @@ fn is_own(net: &Net) -> bool {
     }
 }
 
-/// Whether this is the record with this index of slot 1, with `last` as the last of its four octets.
-fn is_record(taken: &TakenRecord, index: u16, last: u8) -> bool {
-    taken.slot == 1
+/// The slots, the indices and the last octets of the records of the plans, each of four octets. Most plans have the first two.
+const RECORDS: [(u16, u16, u8); 4] = [(1, 1, 100), (1, 2, 200), (4, 1, 44), (4, 2, 88)];
+
+/// Whether this is the record with this index of a slot, with `last` as the last of its four octets.
+fn is_record(taken: &TakenRecord, (slot, index, last): (u16, u16, u8)) -> bool {
+    taken.slot == slot
         && taken.subslot == 1
         && taken.index == index
         && taken.value.as_slice() == &[0, 0, 0, last][..]
@@ -77,12 +80,7 @@ fn is_record(taken: &TakenRecord, index: u16, last: u8) -> bool {
 
 /// Whether the records that the device accepted are a prefix of those of the plan.
 fn are_front(taken: &[TakenRecord]) -> bool {
-    match taken {
-        [] => true,
-        [first] => is_record(first, 1, 100),
-        [first, second] => is_record(first, 1, 100) && is_record(second, 2, 200),
-        _ => false,
-    }
+    taken.len() <= RECORDS.len() && taken.iter().zip(RECORDS).all(|(one, record)| is_record(one, record))
 }
 
 impl Told {

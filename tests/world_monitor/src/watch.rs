@@ -1,6 +1,7 @@
 //! The watch: what was seen of each frame when it was sent, and the laws after each move.
-use crate::kind::{Kind, counter_of, output_at, send_number_of, sum_of};
+use crate::kind::{Kind, ack_sequence_of, counter_of, output_at, send_number_of, sum_of};
 use crate::law::{Law, is_newer, is_row_of_controller, is_row_of_device};
+use crate::places::{PlaceTally, Places};
 use crate::schedule::Choice;
 use crate::told::{Outputs, Told, ZEROS};
 use both_ends::{Fresh, Net};
@@ -60,6 +61,7 @@ pub struct Watched {
     /// The number of AlarmAcks that the controller sent, without repeats, and the number of the last one.
     acknowledged: u16,
     last_ack: Option<u16>,
+    places: Places,
     tally: Tally,
 }
 
@@ -103,6 +105,7 @@ impl Watched {
     pub fn new(alloc: Global, fresh: Fresh) -> Result<Watched, AllocError> {
         let Fresh { net, records } = fresh;
         let told = Told::by(&net);
+        let places = Places::new(alloc, &net)?;
         let mut watched = Watched {
             net,
             records,
@@ -116,6 +119,7 @@ impl Watched {
             raised: 0,
             acknowledged: 0,
             last_ack: None,
+            places,
             tally: Tally {
                 exchanging: 0,
                 shown: 0,
@@ -150,6 +154,11 @@ impl Watched {
     /// How often something was at stake.
     pub fn tally(&self) -> Tally {
         self.tally
+    }
+
+    /// How often the laws of places spoke of something.
+    pub fn place_tally(&self) -> PlaceTally {
+        self.places.tally()
     }
 
     /// The kind of the frame with this number.
@@ -219,6 +228,7 @@ impl Watched {
                 Some(frame) => seen_of(frame.as_slice(), from, is_ready, self.given),
                 None => return Ok(()),
             };
+            self.note_report(&seen);
             self.note_ack(&seen);
             self.seen.push(seen)?;
         }
@@ -257,8 +267,12 @@ impl Watched {
         match choice {
             Choice::Give(2, value) => self.given.second = value,
             Choice::Give(3, value) => self.given.third = value,
-            Choice::Deliver(End::Device, number) => self.note_outputs(number, before),
+            Choice::Deliver(End::Device, number) => {
+                self.note_outputs(number, before);
+                self.note_confirmed(number, before);
+            }
             Choice::Deliver(End::Controller, number) => self.note_handed(number),
+            Choice::Write(_, _) => self.places.write(1, 1),
             _ => (),
         }
         if before.phase.is_none() && self.told.phase.is_some() {
@@ -266,6 +280,7 @@ impl Watched {
         }
         if self.told.phase.is_none() {
             self.last = None;
+            self.places.forget();
         }
         if self.told.state == State::Exchanging {
             self.was_exchanging = true;
@@ -307,6 +322,27 @@ impl Watched {
         }
     }
 
+    /// The device sends an alarm of low priority.
+    fn note_report(&mut self, seen: &Seen) {
+        if seen.from == End::Device
+            && seen.kind == Kind::LowAlarm
+            && let Some(frame) = self.net.sent(self.seen.len())
+        {
+            self.places.report(&self.net, frame.as_slice());
+        }
+    }
+
+    /// The AlarmAck of an alarm of low priority comes to the device in its relation.
+    fn note_confirmed(&mut self, number: usize, before: &Told) {
+        if before.is_own
+            && self.kind(number) == Kind::LowAlarmAck
+            && self.other_end(number) == End::Device
+            && let Some(frame) = self.net.sent(number)
+        {
+            self.places.confirm(ack_sequence_of(frame.as_slice()));
+        }
+    }
+
     /// An AlarmAck that is not a repeat has another number than the last one.
     fn note_ack(&mut self, seen: &Seen) {
         if seen.from == End::Controller
@@ -336,6 +372,7 @@ impl Watched {
         if self.told.alarm.is_some() {
             self.tally.alarmed = self.tally.alarmed.saturating_add(1);
         }
+        self.places.reckon(&self.net);
     }
 
     /// The first law that does not hold, or `None` if all hold.
@@ -368,13 +405,16 @@ impl Watched {
         } else if self.net.sent(self.seen.len()).is_some() {
             Some(Law::Frames)
         } else {
-            None
+            self.places.broken(&self.net)
         }
     }
 
     /// Whether the records are a prefix of those of the plan, with at most one more than before, by a Write. A Write that
-    /// carries a list brings any of its records.
+    /// carries a list brings any of its records. Once a pull or a plug is reported, records are forgotten and written again.
     fn are_in_order(&self, before: &Told, came: Option<Kind>) -> bool {
+        if self.places.is_any_reported() {
+            return true;
+        }
         let is_list = self.net.controller().plan().has_multiple_write();
         let is_more = if is_list {
             before.taken < self.told.taken

@@ -11,6 +11,7 @@ mod octets;
 mod otherwise;
 mod patience;
 mod played;
+mod plugs;
 mod requests;
 mod rounds;
 mod shown;
