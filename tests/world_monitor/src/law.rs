@@ -16,8 +16,8 @@ pub enum Law {
     Phases,
     /// The controller changes its state only by a row of its state table, on the frame that the row names.
     States,
-    /// The records that the device accepted are a prefix of those of the plan, and it accepts at most one in a move, by a
-    /// Write. Of a list it accepts any.
+    /// Until a pull or a plug is reported, the records that the device accepted are a prefix of those of the plan, and it
+    /// accepts at most one in a move, by a Write. Of a list it accepts any.
     Records,
     /// The outputs are all zeros, or those of the last frame that the device accepted in its relation: the controller
     /// sent that frame, with the values that its application had set when it was sent.
