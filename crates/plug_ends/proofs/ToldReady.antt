@@ -89,7 +89,7 @@ IsActiveCall link message = Unit {0}
 abbrev pub AreActiveCalls : Option RelationState → List Sent → Type 0
 AreActiveCalls link messages = AllByRecursion (IsActiveCall link) messages
 
--- ---- messages that are none
+-- ---- messages of other kinds
 
 abbrev IsOther : Sent → Type 0
 IsOther (PlugReadyCall address ready) = ⊥

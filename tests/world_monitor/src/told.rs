@@ -78,9 +78,13 @@ fn is_record(taken: &TakenRecord, (slot, index, last): (u16, u16, u8)) -> bool {
         && taken.value.as_slice() == &[0, 0, 0, last][..]
 }
 
-/// Whether the records that the device accepted are a prefix of those of the plan.
-fn are_front(taken: &[TakenRecord]) -> bool {
-    taken.len() <= RECORDS.len() && taken.iter().zip(RECORDS).all(|(one, record)| is_record(one, record))
+/// Whether the records that the device accepted are a prefix of those of a plan with this number of records.
+fn are_front(taken: &[TakenRecord], planned: usize) -> bool {
+    taken.len() <= planned.min(RECORDS.len())
+        && taken
+            .iter()
+            .zip(RECORDS)
+            .all(|(one, record)| is_record(one, record))
 }
 
 impl Told {
@@ -91,7 +95,10 @@ impl Told {
             phase: net.device().phase(),
             is_own: is_own(net),
             taken: net.device().taken().len(),
-            is_front: are_front(net.device().taken()),
+            is_front: are_front(
+                net.device().taken(),
+                net.controller().plan().records().len(),
+            ),
             outputs: Outputs {
                 second: output_of(net, 2),
                 third: output_of(net, 3),
