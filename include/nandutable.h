@@ -2,7 +2,9 @@
  *
  * The host hands in events (a frame, units of time, an input, an alarm). The device hands out work: flash calls first, then frames. It
  * uses only the memory of the room that it is given, allocates none, calls nothing back and keeps no time of its own. Call it for one
- * device from one thread at a time.
+ * device from one thread at a time: a call while another one with the same device runs returns PN_IN_CALL and changes nothing. That is all
+ * that one word can tell. An event with its work, and pn_news, are several calls: a thread that takes its turn between them finds the work of the
+ * other one, and octets that pn_next handed out last until the next call of any thread.
  *
  *     static pn_device device;                    // the memory of a device
  *     static pn_op op;                            // one operation: the request and the answer
@@ -40,15 +42,16 @@ extern "C" {
 #define PN_DEVICE_SIZE 77312u
 /* Octets of each of the two flash sectors. An erased sector is all ones; a program call turns ones to zeros. */
 #define PN_SECTOR_SIZE 4096u
-/* The longest sent frame, without its check sequence. A received frame may be longer; it is refused. */
+/* The longest frame, without its check sequence, with a VLAN tag; 1,514 without one. A received frame may be longer; it is refused. */
 #define PN_FRAME_SIZE 1518u
 /* The maximum number of octets of one operation, and the octets of an operation up to and with these: the library uses no others. */
 #define PN_OP_SIZE 1520u
 #define PN_OP_LENGTH 1680u
 /* A unit of time, in nanoseconds: 32 of them are a millisecond. */
 #define PN_UNIT_NS 31250u
-/* How many units a host may be late and still catch up. After a longer stall, drop the units beyond this; otherwise repeats and error
- * frames would go out in one burst. */
+/* How many units a host may be late and still catch up, from the unit on in which something was due (pn_due). Units before it are not late: a host
+ * that sleeps until something is due hands in all of them. So once the units that it has not handed in yet reach `due`, it keeps at most
+ * `due` + PN_MOST_DEBT of them and drops the rest; otherwise repeats and error frames would go out in one burst after a stall. */
 #define PN_MOST_DEBT 64u
 /* What can be plugged, at most: 16 modules, one of them the access point, 4 submodules of a module, and 2 parameter records of a submodule. A
  * Connect may expect more: 64 modules and 64 submodules in all. What is not plugged is then in its ModuleDiffBlock. */
@@ -73,7 +76,14 @@ enum pn_note {
 };
 
 /* Why the device refused what its application said (pn_op.reason, if a function returned PN_REFUSED). Nothing has changed then. Each function
- * names its reasons in their order: of several that hold it is the first one. */
+ * names its reasons in their order: of several that hold it is the first one.
+ *
+ * What to do: with PN_WHY_NO_RELATION, PN_WHY_NO_EXCHANGE and PN_WHY_TOO_EARLY wait: give an input at PN_NEW_RELATION of pn_news, an alarm at
+ * PN_EXCHANGING, pn_ready at PN_PARAMETERS_END, pn_ready_at at PN_PLACE_ENDED. With PN_WHY_ALARM_OPEN and PN_WHY_CHANGES_WAIT try again, each ten
+ * milliseconds for instance; with PN_WHY_FULL when another diagnosis has disappeared. With PN_WHY_NO_PLACE report it if
+ * pn_expected lists the submodule: the plan gives its input another length than the station. With PN_WHY_EXISTS, PN_WHY_ABSENT, PN_WHY_TOO_LATE,
+ * PN_WHY_NO_PLUG and PN_WHY_NOT_ASKED do nothing. With all others mend the program: it does not fit the station, or it plugs
+ * before it pulls. */
 enum pn_reason {
     PN_WHY_NOT_PLUGGED = 1,   /* no submodule is plugged in this slot and subslot */
     PN_WHY_NO_RELATION = 2,   /* no controller has a relation with the device */
@@ -276,13 +286,16 @@ typedef struct pn_station {
      * station may hold a relation, each parameter record is kept, each relation has the same numbers, and services beside the device. */
     uint32_t smallest_interval;    /* of cyclic frames, in units of PN_UNIT_NS, at most 65,536: a Connect with a smaller one is refused */
     uint16_t inputs_begin_bad;     /* not 0: the IOPS of a submodule with inputs is bad until its first pn_input in the relation */
-    uint16_t ready_by_application; /* not 0: ApplicationReady is sent at pn_ready, and not with the answer to PrmEnd */
+    uint16_t ready_by_application; /* not 0: ApplicationReady is sent at pn_ready, and not with the answer to PrmEnd. From PrmEnd on the activity
+                                    * timer of the relation runs (CMInitiatorActivityTimeoutFactor of the Connect): it ends the relation if
+                                    * pn_ready is later */
     uint32_t only_own_controller;  /* not 0: a Connect for another controller than its sender is refused, and only calls of the controller
                                     * (its MAC and IP address) keep a relation alive that does not exchange data yet */
     uint32_t records_passed_on;    /* not 0: records that are written while data is exchanged are passed on (pn_passed) and not kept
                                     * (pn_taken): without it a relation accepts 64 records in all */
     uint32_t numbers_go_round;     /* not 0: each relation has the next of 14,336 numbers: the FrameID of its outputs, where the Connect leaves
-                                    * the choice to the device, and the endpoint of its alarms. So a late frame of an earlier one is refused */
+                                    * the choice to the device (0xFFFF), is 0xC000 plus the number (0x8000 for RT_CLASS_2), and the endpoint of its
+                                    * alarms is the number plus 1. So a late frame of an earlier relation is refused */
     uint32_t first_number;         /* with that, the number of the first relation since the start, modulo 65,536: choose another at each start,
                                     * as 1,000 times the number of starts */
     uint32_t without_services;     /* not 0: the device alone, without the services of its IP address */
@@ -360,7 +373,7 @@ typedef struct pn_op {
     uint32_t confirmed;      /* enum pn_confirmed: what became of the open alarm of a device in an event */
     uint32_t progress;       /* enum pn_progress: how far a place of the relation is */
     uint32_t wanted;         /* enum pn_wanted: what is wanted of a record that the application answers */
-    uint32_t read_length;    /* RecordDataLength of a Read: how many octets of the record are sent at most */
+    uint32_t read_length;    /* RecordDataLength of a Read: of more octets only that many are sent. It may be more than PN_RECORD_SIZE */
     uint32_t port_length;    /* octets of the PortID of a neighbour: at most 255 */
     uint32_t chassis_length; /* octets of the ChassisID of a neighbour: at most 255 */
     uint32_t work;           /* enum pn_work: after an event the next piece of work, after pn_next the one that it handed out */
@@ -372,8 +385,9 @@ typedef struct pn_op {
     const uint8_t *data;     /* pn_next: the octets of the piece of work, in the memory of the device */
 } pn_op;
 
-/* `made` of a pn_device or a pn_controller that was made. */
+/* `made` of a pn_device or a pn_controller that was made, and while a call with it runs. */
 #define PN_MADE 0x6D616465u
+#define PN_CALLED 0x63616C6Cu
 
 /* The memory of a device. Only the library and the functions below use its contents. */
 typedef struct pn_device {
@@ -382,8 +396,58 @@ typedef struct pn_device {
 #else
     _Alignas(16) unsigned char room[PN_DEVICE_SIZE];
 #endif
-    uint32_t made; /* PN_MADE once pn_make has returned PN_OK */
+    uint32_t made; /* PN_MADE once pn_make has returned PN_OK, and PN_CALLED while a call runs */
 } pn_device;
+
+/* GCC and Clang compare and exchange a word in one operation, for each processor that can. Elsewhere (another compiler, a Cortex-M0) `made` is
+ * read and then written: this still notices each call of an interrupt, and nearly each one of a second thread. Define PN_NO_ATOMICS for a
+ * processor that has the instructions and memory in which they never succeed: a Cortex-A whose MMU is off. */
+#if defined(__GNUC__) && defined(__GCC_HAVE_SYNC_COMPARE_AND_SWAP_4) && !defined(PN_NO_ATOMICS)
+#define PN_HAS_ATOMICS 1
+#else
+#define PN_HAS_ATOMICS 0
+#endif
+
+/* Begins a call with a device or a controller that was made. Returns PN_OK, PN_NOT_MADE or PN_IN_CALL; after PN_OK pn_leave ends the call. */
+static inline uint32_t pn_enter(uint32_t *made)
+{
+#if PN_HAS_ATOMICS
+    uint32_t was = PN_MADE;
+    if (__atomic_compare_exchange_n(made, &was, PN_CALLED, 0, __ATOMIC_ACQUIRE, __ATOMIC_RELAXED))
+        return PN_OK;
+#else
+    volatile uint32_t *word = made;
+    uint32_t was = *word;
+    if (was == PN_MADE) {
+        *word = PN_CALLED;
+        return PN_OK;
+    }
+#endif
+    return was == PN_CALLED ? (uint32_t)PN_IN_CALL : (uint32_t)PN_NOT_MADE;
+}
+
+/* Begins a call that makes a device or a controller, whatever its memory holds: `*was` is what `made` was. Returns PN_OK or PN_IN_CALL. */
+static inline uint32_t pn_enter_new(uint32_t *made, uint32_t *was)
+{
+#if PN_HAS_ATOMICS
+    *was = __atomic_exchange_n(made, PN_CALLED, __ATOMIC_ACQUIRE);
+#else
+    volatile uint32_t *word = made;
+    *was = *word;
+    *word = PN_CALLED;
+#endif
+    return *was == PN_CALLED ? (uint32_t)PN_IN_CALL : (uint32_t)PN_OK;
+}
+
+/* Ends a call: `made` is this from now on. */
+static inline void pn_leave(uint32_t *made, uint32_t now)
+{
+#if PN_HAS_ATOMICS
+    __atomic_store_n(made, now, __ATOMIC_RELEASE);
+#else
+    *(volatile uint32_t *)made = now;
+#endif
+}
 
 /* The sizes that the library was built with. */
 #if defined(__cplusplus)
@@ -414,7 +478,8 @@ typedef struct pn_settings {
  * octets of a frame, an input, an alarm or a sector.
  * pn_fetch hands out the next piece of work of such a room. `*answer` is PN_OK, or why nothing was handed out; `*octets` is the place in
  * the room where the octets of the piece lie, which C may read and not write until the next of these calls with this room.
- * Pointers must not be NULL, even if the length is 0. The operation, `given`, the station and the room must not overlap. */
+ * Pointers must not be NULL, even if the length is 0. The operation, `given`, the station and the room must not overlap. One call with a room
+ * returns before the next one with it begins: the functions below see to that, and these four do not. */
 uint32_t pn_judge(size_t size, uint32_t abi, size_t op_size, const pn_station *station);
 void pn_put(void *room, const pn_station *station);
 uint32_t pn_step(void *room, pn_op *op, const uint8_t *given, size_t length);
@@ -423,7 +488,7 @@ void pn_fetch(void *room, pn_op *op, uint32_t *answer, const uint8_t **octets);
 /* --- A start --- */
 
 /* Makes a device from this station in a room of `size` octets. `abi` is the version of the caller's header, `op_size` the size of its
- * operation. It does not set `made` of a pn_device: for a room elsewhere call pn_step.
+ * operation. It does not set `made` of a pn_device, and does not notice another call: for a room elsewhere call pn_step.
  * May return PN_NULL, PN_BAD_ABI, PN_SMALL_ROOM, PN_BAD_STATION, PN_BAD_MAC to PN_BAD_OPTION, and PN_BAD_RECORD. */
 static inline uint32_t pn_device_make(void *room, size_t size, uint32_t abi, size_t op_size, const pn_station *station)
 {
@@ -440,15 +505,16 @@ static inline uint32_t pn_device_make(void *room, size_t size, uint32_t abi, siz
 
 /* Makes a device from this station, and copies the station. Call it first; a device that is made again forgets everything. Of several
  * faults of a station it returns the first of: PN_BAD_STATION, PN_BAD_MAC, PN_BAD_SLOT, PN_BAD_SUBSLOT, PN_BAD_DATA, PN_BAD_PARAMETER,
- * PN_BAD_OPTION, PN_BAD_RECORD. May also return PN_NULL, PN_BAD_ABI, PN_SMALL_ROOM. */
+ * PN_BAD_OPTION, PN_BAD_RECORD. May also return PN_NULL, PN_BAD_ABI, PN_SMALL_ROOM, PN_IN_CALL. */
 static inline uint32_t pn_make(pn_device *device, const pn_station *station)
 {
-    uint32_t answer;
+    uint32_t answer, was;
     if (device == NULL)
         return PN_NULL;
+    if (pn_enter_new(&device->made, &was) != PN_OK)
+        return PN_IN_CALL;
     answer = pn_device_make(device->room, sizeof device->room, PN_ABI, PN_OP_LENGTH, station);
-    if (answer == PN_OK)
-        device->made = PN_MADE;
+    pn_leave(&device->made, answer == PN_OK ? PN_MADE : was);
     return answer;
 }
 
@@ -456,12 +522,16 @@ static inline uint32_t pn_make(pn_device *device, const pn_station *station)
 static inline uint32_t pn_ask(pn_device *device, pn_op *op, uint32_t what, const uint8_t *given, size_t length)
 {
     static const uint8_t none[1] = {0};
+    uint32_t answer;
     if (device == NULL || op == NULL || (given == NULL && length != 0))
         return PN_NULL;
-    if (device->made != PN_MADE)
-        return PN_NOT_MADE;
+    answer = pn_enter(&device->made);
+    if (answer != PN_OK)
+        return answer;
     op->what = what;
-    return pn_step(device->room, op, given == NULL ? none : given, length);
+    answer = pn_step(device->room, op, given == NULL ? none : given, length);
+    pn_leave(&device->made, PN_MADE);
+    return answer;
 }
 
 /* One operation that changes nothing in the device. */
@@ -473,7 +543,8 @@ static inline uint32_t pn_read(const pn_device *device, pn_op *op, uint32_t what
 /* Starts a device from the present contents of both sectors of the chip, and writes nothing. pn_make made the device before. It has no
  * relation yet and sends nothing by itself. On a chip that was never written both sectors are all ones. After PN_FOREIGN the chip is
  * unchanged, and the device may be booted from other sectors.
- * May return PN_NULL, PN_NOT_MADE, PN_IS_BOOTED, PN_LOST, PN_FOREIGN. */
+ * May return PN_NULL, PN_NOT_MADE, PN_IN_CALL, PN_IS_BOOTED, PN_LOST, PN_FOREIGN. After PN_IN_CALL one of the sectors may be there already: call
+ * it again. */
 static inline uint32_t pn_boot(pn_device *device, pn_op *op, const uint8_t first[PN_SECTOR_SIZE], const uint8_t second[PN_SECTOR_SIZE])
 {
     uint32_t answer;
@@ -491,8 +562,8 @@ static inline uint32_t pn_boot(pn_device *device, pn_op *op, const uint8_t first
 }
 
 /* --- Events. Each needs a booted device without remaining work, and sets `note`, `work` and `confirmed`. If `work` is not PN_NOTHING, call
- * pn_carry_out, or pn_next while work remains: neither changes `confirmed`. ---
- * They may return PN_NULL, PN_NOT_MADE, PN_NOT_BOOTED, PN_LOST, PN_HAS_WORK, and what each names. After such a number nothing was done:
+ * pn_carry_out, or pn_next while work remains: neither changes `confirmed`. One event sends at most six frames. ---
+ * They may return PN_NULL, PN_NOT_MADE, PN_IN_CALL, PN_NOT_BOOTED, PN_LOST, PN_HAS_WORK, and what each names. After such a number nothing was done:
  * `units` of pn_tick, for one, is still the number that was handed in. A loop must end on it. What the application says (pn_input, pn_alarm,
  * pn_status, pn_diagnosis, pn_ready, pn_pull, pn_pull_module, pn_plug, pn_ready_at, pn_answer, pn_written, pn_refuse) may be refused:
  * PN_REFUSED, with `reason`. Then nothing changed, and no work remains. */
@@ -530,7 +601,9 @@ static inline uint32_t pn_tick(pn_device *device, pn_op *op, uint32_t units)
 }
 
 /* The application sets the input of a submodule; the cyclic frames contain it from now on. `length` is the length of the submodule's input,
- * 1 to 1,439. After a new Connect inputs are zeros until they are set, and so is that of a submodule after a pull or a plug in its place. May
+ * 1 to 1,439. A Connect may expect another length of it: the device accepts it and exchanges data, but refuses each pn_input of the submodule with
+ * PN_WHY_NO_PLACE, and the controller gets zeros. So report this reason (the plan does not fit the station), and set `inputs_begin_bad`: without it
+ * the IOPS of these zeros is good. After a new Connect inputs are zeros until they are set, and so is that of a submodule after a pull or a plug in its place. May
  * return PN_REFUSED: PN_WHY_NOT_PLUGGED, PN_WHY_BAD_LENGTH, PN_WHY_NO_RELATION, PN_WHY_NO_PLACE. */
 static inline uint32_t pn_input(pn_device *device, pn_op *op, uint16_t slot, uint16_t subslot, const uint8_t *octets, size_t length)
 {
@@ -555,7 +628,8 @@ static inline uint32_t pn_alarm(pn_device *device, pn_op *op, uint16_t slot, uin
 
 /* The application says whether the inputs of a submodule are good (for a submodule without inputs: the submodule itself): its IOPS in the cyclic frames.
  * Good at first; kept until it is said again, also over relations, and forgotten at a start and as the submodule is pulled. A sensor that fails:
- * its inputs stay as they are, and their status is bad. May return PN_REFUSED: PN_WHY_NOT_PLUGGED. */
+ * its inputs stay as they are, and their status is bad. With `inputs_begin_bad` the IOPS is good if the status is good and an input was given in
+ * this relation. For a submodule with only an output the status is accepted, but no frame contains it. May return PN_REFUSED: PN_WHY_NOT_PLUGGED. */
 static inline uint32_t pn_status(pn_device *device, pn_op *op, uint16_t slot, uint16_t subslot, int is_good)
 {
     if (op == NULL)
@@ -585,7 +659,8 @@ static inline uint32_t pn_diagnosis(pn_device *device, pn_op *op, uint16_t slot,
 }
 
 /* The application of a station with `ready_by_application` has applied its parameters: ApplicationReady is sent. Once in each relation, after
- * PrmEnd (pn_parameters_end). May return PN_REFUSED: PN_WHY_NO_RELATION, PN_WHY_TOO_EARLY, PN_WHY_TOO_LATE. */
+ * PrmEnd (pn_parameters_end). If the relation ends while records are applied (PN_NEW_PHASE with PN_NONE), forget them and this call: otherwise it
+ * says of the next relation that it is ready. May return PN_REFUSED: PN_WHY_NO_RELATION, PN_WHY_TOO_EARLY, PN_WHY_TOO_LATE. */
 static inline uint32_t pn_ready(pn_device *device, pn_op *op)
 {
     return pn_ask(device, op, PN_OP_READY, NULL, 0);
@@ -635,8 +710,9 @@ static inline void pn_put_number(uint8_t *octets, uint32_t number, size_t count)
 }
 
 /* This submodule was plugged into this slot, 1 to 15. If the slot was empty, a module with this ident number, not 0, was plugged with it; if
- * not, it is that of the module. A submodule has at most 1,440 octets of input and of output, and the parameter records of a station. Its inputs
- * are zeros until pn_input, in a relation that expects it.
+ * not, it is that of the module. A submodule has at most 1,440 octets of input and of output, of which a cyclic frame
+ * can carry 1,439, the most that pn_make accepts; and the parameter records of a station. Its inputs are zeros until pn_input, in a relation that
+ * expects it.
  * May return PN_BAD_LENGTH (more than PN_PARAMETERS records); PN_REFUSED: PN_WHY_ACCESS_POINT, PN_WHY_OTHER_MODULE, PN_WHY_PLUGGED,
  * PN_WHY_NO_ROOM, PN_WHY_BAD_SUBMODULE, PN_WHY_CHANGES_WAIT. */
 static inline uint32_t pn_plug(pn_device *device, pn_op *op, uint16_t slot, uint32_t module_ident, const pn_submodule *submodule)
@@ -675,8 +751,9 @@ static inline uint32_t pn_ready_at(pn_device *device, pn_op *op, uint16_t slot, 
 /* --- Records that the application answers: `records` of the station. A call of a controller for one of them is asked of the application
  * (PN_NEW_ASKED of pn_news, pn_asked), one at a time. The answer makes the response to the call: it is the work of the event. Answer soon: a
  * controller waits some seconds, and a call without an answer after 64,000 units of time, two seconds, is refused by the device (busy,
- * ErrorCode1 0xA7). While one is asked, another call for such a record is refused (resource busy, 0xC2). What is asked is dropped without a
- * response when its relation ends, when its submodule is pulled, and at a start. At a start the numbers begin with 1 again. --- */
+ * ErrorCode1 0xA7). While one is asked, another call for such a record is refused (resource busy, 0xC2), and so is the entry for such a record in a
+ * list of Writes (index 0xE040; feature not supported, 0xA9). What is asked is dropped without a response when its relation ends, when its submodule
+ * is pulled, and at a start; pn_news reports none of these. At a start the numbers begin with 1 again. --- */
 
 /* The octets of the record are the answer to the Read with this number (pn_asked): at most its greatest length. Of more octets than
  * `read_length` only the first ones are sent.
@@ -726,7 +803,7 @@ typedef struct pn_link {
 /* What the host knows of the link: whether it is up, and which link it is; NULL if it does not know that, and then LLDP does not tell it.
  * While the link is down no LLDP is sent. Without this call, and after each pn_boot, the link is up and not known. It needs a booted device,
  * with or without remaining work, makes none, and changes neither `note` nor `work`. The same values again change nothing.
- * May return PN_NULL, PN_NOT_MADE, PN_NOT_BOOTED, PN_LOST. */
+ * May return PN_NULL, PN_NOT_MADE, PN_IN_CALL, PN_NOT_BOOTED, PN_LOST. */
 static inline uint32_t pn_tell_link(pn_device *device, pn_op *op, int is_up, const pn_link *link)
 {
     uint8_t octets[5];
@@ -751,16 +828,18 @@ static inline uint32_t pn_tell_link(pn_device *device, pn_op *op, int is_up, con
  * remains, and the next event is accepted without another pn_next. After an event and before pn_next use `work`: `more` is old.
  * The octets at `data` lie in the memory of the device and are not copied. Read them, do not write them, and copy what is needed longer:
  * they are valid until the next call of any function with this device. Do not use `data` if `length` is 0.
- * May return PN_NULL, PN_NOT_MADE, PN_NOT_BOOTED, PN_LOST. */
+ * May return PN_NULL, PN_NOT_MADE, PN_IN_CALL, PN_NOT_BOOTED, PN_LOST. */
 static inline uint32_t pn_next(pn_device *device, pn_op *op)
 {
     uint32_t answer;
     const uint8_t *octets;
     if (device == NULL || op == NULL)
         return PN_NULL;
-    if (device->made != PN_MADE)
-        return PN_NOT_MADE;
+    answer = pn_enter(&device->made);
+    if (answer != PN_OK)
+        return answer;
     pn_fetch(device->room, op, &answer, &octets);
+    pn_leave(&device->made, PN_MADE);
     if (answer == PN_OK)
         op->data = octets;
     return answer;
@@ -781,7 +860,7 @@ typedef struct pn_host {
 } pn_host;
 
 /* A flash call failed on the host's side. This counts as lost power: the remaining work is dropped, and every call except pn_make returns
- * PN_LOST from now on. pn_carry_out makes this call by itself. May return PN_NULL, PN_NOT_MADE, PN_NOT_BOOTED, PN_LOST. */
+ * PN_LOST from now on. pn_carry_out makes this call by itself. May return PN_NULL, PN_NOT_MADE, PN_IN_CALL, PN_NOT_BOOTED, PN_LOST. */
 static inline uint32_t pn_lose(pn_device *device, pn_op *op)
 {
     return pn_ask(device, op, PN_OP_LOSE, NULL, 0);
@@ -795,7 +874,7 @@ static inline uint32_t pn_failed(pn_device *device, pn_op *op)
 }
 
 /* Takes all work of an event and does it, with the operation of the event. It does nothing if `work` of the operation is PN_NOTHING, and
- * sets it to PN_NOTHING when all work is done. May return PN_NULL (also for a function of `host`), PN_NOT_MADE, PN_NOT_BOOTED,
+ * sets it to PN_NOTHING when all work is done. May return PN_NULL (also for a function of `host`), PN_NOT_MADE, PN_IN_CALL, PN_NOT_BOOTED,
  * PN_FLASH_FAULT (nothing more is done; make and boot the device again), PN_LOST, PN_NOT_SENT (a frame was lost, as it could be on the
  * wire; there is no other effect). */
 static inline uint32_t pn_carry_out(pn_device *device, pn_op *op, const pn_host *host)
@@ -828,11 +907,12 @@ static inline uint32_t pn_carry_out(pn_device *device, pn_op *op, const pn_host 
 }
 
 /* --- Reading a device. Each function needs a booted device, with or without remaining work, and changes nothing in it. They may return
- * PN_NULL, PN_NOT_MADE, PN_NOT_BOOTED, PN_LOST, and what each names. --- */
+ * PN_NULL, PN_NOT_MADE, PN_IN_CALL, PN_NOT_BOOTED, PN_LOST, and what each names. --- */
 
 /* The output of a submodule, in `length` and `octets`: its value in the last accepted cyclic frame. Zeros if no frame was accepted yet, if
- * its IOPS is not GOOD, after a pull or a plug in its place until this is PN_PLACE_GOOD again (pn_expected), or without a relation. May return
- * PN_NO_SLOT. */
+ * its IOPS is not GOOD, after a pull or a plug in its place until this is PN_PLACE_GOOD again (pn_expected), or without a relation. It has values
+ * as soon as the controller sends data, which is before ApplicationReady and so before pn_ready; and also while the controller is stopped, if their
+ * IOPS stays good. So look at the phase and at pn_provider before you use them. May return PN_NO_SLOT. */
 static inline uint32_t pn_output(const pn_device *device, pn_op *op, uint16_t slot, uint16_t subslot)
 {
     if (op == NULL)
@@ -843,8 +923,8 @@ static inline uint32_t pn_output(const pn_device *device, pn_op *op, uint16_t sl
 }
 
 /* What the controller says of the output of a submodule in its last accepted frame: its IOPS, and the frame's DataStatus. Bit 4 of DataStatus
- * (0x10) is clear while the controller is stopped. May return PN_NO_FRAME: there is no relation, the output has no place in it, or no frame
- * was accepted yet. */
+ * (0x10) is clear while the controller is stopped. Both come with an output, so a device without outputs does not learn whether its controller
+ * runs. May return PN_NO_FRAME: there is no relation, the output has no place in it, or no frame was accepted yet. */
 #define PN_IOPS_GOOD 0x80u
 #define PN_PROVIDER_RUNS 0x10u
 static inline uint32_t pn_provider(const pn_device *device, pn_op *op, uint16_t slot, uint16_t subslot, uint8_t *iops, uint8_t *data_status)
@@ -863,7 +943,8 @@ static inline uint32_t pn_provider(const pn_device *device, pn_op *op, uint16_t 
 }
 
 /* The output of a submodule in the last accepted cyclic frame, in `length` and `octets`, and what the controller says of it, as pn_provider: pn_output and
- * pn_provider in one call. May return PN_NO_FRAME. */
+ * pn_provider in one call. `length` is what the Connect expects, which may be another than the station has: compare it before you use the octets. Those
+ * after it are old ones of the operation. The same of pn_output. May return PN_NO_FRAME. */
 static inline uint32_t pn_received(const pn_device *device, pn_op *op, uint16_t slot, uint16_t subslot, uint8_t *iops, uint8_t *data_status)
 {
     uint32_t answer;
@@ -945,7 +1026,7 @@ static inline uint32_t pn_expected(const pn_device *device, pn_op *op, uint32_t 
 }
 
 /* What is asked of the application: the record that a call reads or writes (`slot`, `subslot`, `index`), what is wanted (`wanted`, enum
- * pn_wanted), and the `number` that its answer names. Of a Read `read_length` is how many octets are sent at most; of a Write the octets are
+ * pn_wanted), and the `number` that its answer names. Of a Read at most `read_length` octets are sent, and never more than PN_RECORD_SIZE; of a Write the octets are
  * in `length` and `octets`. May return PN_NOT_ASKED: nothing is asked, or no longer. */
 static inline uint32_t pn_asked(const pn_device *device, pn_op *op)
 {
@@ -1023,7 +1104,9 @@ static inline uint32_t pn_stored(const pn_device *device, pn_op *op, pn_settings
 }
 
 /* How many commits the flash still accepts once all work has been fetched and done (`commits` of the operation): that many further commands
- * that change settings are accepted. At 0 each is refused, and the device continues with its present settings. */
+ * that change settings are accepted. At 0 each is refused, and the device continues with its present settings. A Set is a commit also if the
+ * device has the value already, or if it is temporary. A host that limits the rate of commits counts the difference over a frame: a list of I&M
+ * records stores up to 16. The number is that of the format: each sector is erased once in 30 commits, and the chip may endure fewer erases. */
 static inline uint32_t pn_left(const pn_device *device, pn_op *op, uint32_t *left)
 {
     uint32_t answer;
@@ -1040,7 +1123,7 @@ static inline uint32_t pn_left(const pn_device *device, pn_op *op, uint32_t *lef
  * How a host learns of a parameter record, of PrmEnd, of a reset, of another name or address, of what a pull or a plug led to, and of what is
  * asked of its application. Only frames that are not cyclic change these, pulls and plugs, and units of time that end the relation. So keep one
  * pn_watch for each device, all zeros at first, show it each frame (pn_watch_frame) before pn_frame, and call pn_news when the work of each
- * such event is done. */
+ * such event is done. No field of pn_tick says that it ended the relation: compare `phase` of pn_state, each ten milliseconds for instance. */
 enum pn_change {
     PN_NEW_PHASE = 1,      /* the phase of the relation (`phase` of the watch) */
     PN_NEW_RELATION = 2,   /* a Connect was accepted: the records before it are no longer valid */
@@ -1195,8 +1278,11 @@ static inline uint32_t pn_settings_news(const pn_settings *now, uint32_t left, p
     return news;
 }
 
-/* What changed since the call before: the sum of PN_NEW_PHASE and the numbers after it (`*news`). The first call reports nothing. It needs a
- * booted device without remaining work. May return PN_NULL, PN_NOT_MADE, PN_NOT_BOOTED, PN_LOST; then `watch` is unchanged. */
+/* What changed since the call before: the sum of PN_NEW_PHASE and the numbers after it (`*news`). The first call reports nothing: make it after each
+ * pn_boot, with a watch of zeros. A watch that is kept over a start can report a reset that never was. If the power fails between the answer to a
+ * reset and this call, the application does not learn of the reset: if its own data must go with one, compare pn_are_factory at each start. It needs
+ * a booted device without remaining work. It is inline C over calls that are proved, and is tested. May return PN_NULL, PN_NOT_MADE, PN_IN_CALL,
+ * PN_NOT_BOOTED, PN_LOST; then `watch` is unchanged. */
 static inline uint32_t pn_news(const pn_device *device, pn_op *op, pn_watch *watch, uint32_t *news)
 {
     pn_settings now;

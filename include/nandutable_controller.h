@@ -3,7 +3,8 @@
  * The controller finds the station of its plan by its name, sets its address, makes the relation, writes the records of the plan, and
  * exchanges data. It answers ARP requests for its address and echo requests (ping) itself, announces the address, and counts who else uses
  * it. It announces itself by LLDP to the station at the other end of its cable, and hears that one. Like the device it uses only the memory of the room that it is given, allocates none, calls nothing back and keeps no time of its
- * own. Call it from one thread at a time.
+ * own. Call it from one thread at a time: a call while another one with the same controller runs returns PN_IN_CALL and changes nothing, as
+ * nandutable.h says of a device.
  *
  *     static pn_plan plan;
  *     static pn_controller controller;
@@ -168,7 +169,7 @@ typedef struct pn_controller {
 #else
     _Alignas(16) unsigned char room[PN_CONTROLLER_SIZE];
 #endif
-    uint32_t made; /* PN_MADE once pn_controller_start has returned PN_OK */
+    uint32_t made; /* PN_MADE once pn_controller_start has returned PN_OK, and PN_CALLED while a call runs */
 } pn_controller;
 
 #if defined(__cplusplus)
@@ -273,15 +274,16 @@ static inline uint32_t pn_controller_make(void *room, size_t size, uint32_t abi,
 
 /* Makes the controller of a plan, and copies the plan. `ar` names its relation, `activity` its calls: unique numbers of 16 octets (UUIDs).
  * Its first frame waits to be fetched. Returns PN_BAD_PLAN if pn_plan_fault finds a fault in the plan, or if `ar` is zeros.
- * May return PN_NULL, PN_BAD_ABI, PN_SMALL_ROOM, PN_BAD_PLAN. */
+ * May return PN_NULL, PN_BAD_ABI, PN_SMALL_ROOM, PN_BAD_PLAN, PN_IN_CALL. */
 static inline uint32_t pn_controller_start(pn_controller *controller, const pn_plan *plan, const uint8_t ar[16], const uint8_t activity[16])
 {
-    uint32_t answer;
+    uint32_t answer, was;
     if (controller == NULL)
         return PN_NULL;
+    if (pn_enter_new(&controller->made, &was) != PN_OK)
+        return PN_IN_CALL;
     answer = pn_controller_make(controller->room, sizeof controller->room, PN_ABI, PN_OP_LENGTH, plan, ar, activity);
-    if (answer == PN_OK)
-        controller->made = PN_MADE;
+    pn_leave(&controller->made, answer == PN_OK ? PN_MADE : was);
     return answer;
 }
 
@@ -289,12 +291,16 @@ static inline uint32_t pn_controller_start(pn_controller *controller, const pn_p
 static inline uint32_t pn_controller_ask(pn_controller *controller, pn_op *op, uint32_t what, const uint8_t *given, size_t length)
 {
     static const uint8_t none[1] = {0};
+    uint32_t answer;
     if (controller == NULL || op == NULL || (given == NULL && length != 0))
         return PN_NULL;
-    if (controller->made != PN_MADE)
-        return PN_NOT_MADE;
+    answer = pn_enter(&controller->made);
+    if (answer != PN_OK)
+        return answer;
     op->what = what;
-    return pn_controller_step(controller->room, op, given == NULL ? none : given, length);
+    answer = pn_controller_step(controller->room, op, given == NULL ? none : given, length);
+    pn_leave(&controller->made, PN_MADE);
+    return answer;
 }
 
 /* One operation that changes nothing in the controller. */
@@ -332,7 +338,7 @@ static inline uint32_t pn_controller_read(const pn_controller *controller, pn_op
  *   pn_tool_ask_record                               slot, subslot, index           length, octets
  *   pn_tool_record_in                                nothing                        status, length, octets */
 
-/* --- Events. Before each, all frames of the previous one must be fetched, otherwise PN_HAS_WORK. They may also return PN_NULL, PN_NOT_MADE,
+/* --- Events. Before each, all frames of the previous one must be fetched, otherwise PN_HAS_WORK. They may also return PN_NULL, PN_NOT_MADE, PN_IN_CALL,
  * and what each names. What a function does not name as set keeps its value in the operation. --- */
 
 /* Hands in a received frame: its octets from the destination address on, without the check sequence. The interface must accept the
@@ -415,7 +421,7 @@ static inline uint32_t pn_controller_next(pn_controller *controller, pn_op *op)
 }
 
 /* Takes all frames and sends them by the host's `send`, which may do what nandutable.h says of pn_host. The other functions of `host` are
- * not called, and may be null. May return PN_NULL, PN_NOT_MADE, PN_NOT_SENT (a frame was lost, as it could be on the wire). */
+ * not called, and may be null. May return PN_NULL, PN_NOT_MADE, PN_IN_CALL (call it again), PN_NOT_SENT (a frame was lost, as it could be on the wire). */
 static inline uint32_t pn_controller_send(pn_controller *controller, pn_op *op, const pn_host *host)
 {
     uint32_t answer, sent = PN_OK;
@@ -432,7 +438,7 @@ static inline uint32_t pn_controller_send(pn_controller *controller, pn_op *op, 
     }
 }
 
-/* --- Reading a controller. Each function changes nothing in it. They may return PN_NULL, PN_NOT_MADE, and what each names. --- */
+/* --- Reading a controller. Each function changes nothing in it. They may return PN_NULL, PN_NOT_MADE, PN_IN_CALL, and what each names. --- */
 
 /* The input of a submodule, in `length` and `octets`: its value in the last accepted cyclic frame. Zeros if no frame was accepted yet, if
  * its IOPS is not GOOD, and after the end of the controller. May return PN_NO_SLOT. */

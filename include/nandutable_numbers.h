@@ -31,6 +31,7 @@ enum {
     PN_NOT_SENT = 13,  /* a frame could not be sent; the other frames of the step were tried */
     PN_NO_FRAME = 24,  /* no cyclic frame with data of this submodule was accepted */
     PN_NOT_MADE = 17,  /* pn_make or pn_controller_start has not returned PN_OK for this memory */
+    PN_IN_CALL = 48,   /* another call with this device or this controller has not returned yet: of another thread, or of what was interrupted */
 
     /* Of a device. */
     PN_BAD_STATION = 4,    /* a count of the station is more than its list holds */
@@ -102,6 +103,7 @@ static inline const char *pn_strerror(uint32_t number)
     case PN_NO_RECORD: return "no accepted parameter record has this number";
     case PN_BAD_PLAN: return "the plan is not valid, or the ARUUID is zero";
     case PN_NOT_MADE: return "no device or controller was made in this memory";
+    case PN_IN_CALL: return "another call with this device or controller has not returned yet";
     case PN_BAD_MAC: return "the MAC address of the station is that of a group";
     case PN_BAD_SLOT: return "a module is in a slot after 15, or two are in one slot";
     case PN_BAD_SUBSLOT: return "a submodule is in a subslot outside 1 to 36,863, or two are in one subslot";

@@ -1,5 +1,5 @@
 /* How deep each function of the libraries for C goes into a painted stack, for bench/figures/chip: a device with its services, a
- * controller and a tool, which send each other their frames. It plays the lines on standard input; on the board of examples/cortex-m (BOARD) they are in the
+ * controller and a tool, which send each other their frames. It plays the lines on standard input; on the board of boards/mps2-an386/ram (BOARD) they are in the
  * file chip.txt.
  *
  *     power               the device loses power and starts again from its flash

@@ -7,7 +7,7 @@ the same.
 The frames are made here from IEC 61158-6-10, and not by what is measured.
 
     bench/figures/controller.py                     measures the program of crates/table_controller, which
-                                                    `bench/gate/prove-program table_controller` makes
+                                                    `ci/prove-program table_controller` makes
     bench/figures/controller.py --tried FILE        measures this program in its place
     bench/figures/controller.py --lines KIND COUNT  prints the lines of a measurement
 
@@ -22,7 +22,7 @@ import struct
 import subprocess
 import sys
 
-sys.path.insert(0, os.path.join(os.path.dirname(os.path.realpath(__file__)), "..", "gate"))
+sys.path.insert(0, os.path.join(os.path.dirname(os.path.realpath(__file__)), "..", "..", "ci"))
 import blocks
 import calls
 from exchange import numbered
@@ -271,7 +271,7 @@ def main(arguments):
     need("rustc", "valgrind", "objdump")
     bench("bench_device")
     if not os.path.exists(program):
-        print(f"controller.py: the program {program} does not exist: bench/gate/prove-program table_controller makes it", file=sys.stderr)
+        print(f"controller.py: the program {program} does not exist: ci/prove-program table_controller makes it", file=sys.stderr)
         return 1
     os.makedirs(PLAIN.parent, exist_ok=True)
     subprocess.run(["rustc", "-O", "-g", "-o", str(PLAIN), str(ROOT / "bench/figures/controller.rs")], check=True)

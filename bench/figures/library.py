@@ -6,7 +6,7 @@ where a turn takes more instructions than its bound, or where both do not send a
 millisecond of a controller more than its bound. bench/figures/chip measures the stack.
 
 Needs cc and valgrind. Use: bench/figures/library.py [ARCHIVE [CONTROLLER]]   (those of the plain Rust edition if left out, which
-bench/release/library-check builds)
+tools/release/library-check builds)
 """
 
 import os
@@ -15,7 +15,7 @@ import subprocess
 import sys
 import tempfile
 
-sys.path.insert(0, os.path.join(os.path.dirname(os.path.realpath(__file__)), "..", "gate"))
+sys.path.insert(0, os.path.join(os.path.dirname(os.path.realpath(__file__)), "..", "..", "ci"))
 import calls
 import exchange
 from program import TOP, answer_help, need, refuse
@@ -170,7 +170,7 @@ def main(words):
     need("cc", "cargo", "valgrind", "ld", "nm", "size")
     for needed in (archive, controller):
         if not os.path.exists(needed):
-            sys.exit(f"library: {needed} is not built: bench/release/library-check builds it")
+            sys.exit(f"library: {needed} is not built: tools/release/library-check builds it")
     with tempfile.TemporaryDirectory() as folder:
         whole, program = os.path.join(folder, "whole.o"), os.path.join(folder, "figures")
         run(["ld", "-r", "--gc-sections", *(word for call in CALLS for word in ("-u", call)), "-e", CALLS[2], "-o", whole, archive])

@@ -1,13 +1,15 @@
-//! Plays a script (docs/SCRIPTS.md) over the crates of the plain Rust edition, and prints what `pnscript run` prints: the demo
+//! Plays a script (docs/SCRIPTS.md) over the crate nandutable, and prints what `pnscript run` prints: the demo
 //! station over a chip in memory. It is also an example of a host in Rust: it boots the device, hands events in, sends the frames in
 //! the box, and reads outputs.
 
-use device_core::{Device, Event, Note, Octets};
-use flash_model::{MemoryFlash, Order};
-use frame_codec::Outbox;
-use pn_values::{Identity, IpSuite, Mac, Real, RealModule, RealSubmodule, Settings, StationName};
-use relations::Phase;
-use settings_journal::BootFault;
+use nandutable::device_core::{Device, Event, Note, Octets};
+use nandutable::flash_model::{MemoryFlash, Order};
+use nandutable::frame_codec::Outbox;
+use nandutable::pn_values::{
+    Identity, IpSuite, Mac, Real, RealModule, RealSubmodule, Settings, StationName,
+};
+use nandutable::relations::Phase;
+use nandutable::settings_journal::BootFault;
 use std::io::{self, BufRead, Write};
 use std::process::ExitCode;
 
@@ -269,7 +271,9 @@ impl Player {
                 }
                 _ => None,
             },
-            ["frame", _] => octets.as_deref().map(|octets| Event::Frame(Octets::of(octets))),
+            ["frame", _] => octets
+                .as_deref()
+                .map(|octets| Event::Frame(Octets::of(octets))),
             [word @ ("input" | "alarm"), slot, subslot, _] => {
                 match (number(slot), number(subslot), &octets) {
                     (Some(slot), Some(subslot), Some(octets)) if *word == "input" => {

@@ -1,10 +1,12 @@
 #!/usr/bin/env python3
 """Fills the tank of the demo up to 500 mm, over the socket of its controller."""
 
+import sys
+
 import nandutable
 
-with nandutable.plant(socket="host/build/demo.lines") as plant:
-    pump = plant["pump-1"]
+
+def fill(pump):
     print("level", pump.level, "mm")
     try:
         pump.speed = 1500                                     # an output, in revolutions per minute
@@ -16,3 +18,10 @@ with nandutable.plant(socket="host/build/demo.lines") as plant:
         print("not filled:", fault)
     finally:
         pump.speed = 0
+
+
+try:
+    with nandutable.plant(socket="host/build/demo.lines") as plant:
+        fill(plant["pump-1"])
+except nandutable.NotStarted as fault:                        # no demo runs, or this user may not use its socket
+    sys.exit(f"fill.py: {fault}")

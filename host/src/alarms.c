@@ -16,6 +16,7 @@ enum { ALL_DISAPPEAR = 0, APPEARS = 1, DISAPPEARS = 2, DISAPPEARS_OTHERS_REMAIN 
 #define WHOLE_SUBMODULE 0x8000u /* a ChannelNumber */
 #define CHANNELS_MOST 4u        /* how many channels of an alarm are described */
 #define DATA_MOST 1440u         /* octets of an alarm */
+#define CHANNEL_LONGEST (128u + 2u * TEXTS_LONGEST)
 
 const char *alarms_type(unsigned type)
 {
@@ -56,7 +57,7 @@ const char *alarms_structure(unsigned identifier)
     }
 }
 
-const char *alarms_error(unsigned error)
+static const char *error_of_standard(unsigned error)
 {
     static const char *const low[] = {
         "", "short circuit", "undervoltage", "overvoltage", "overload", "overtemperature", "wire break", "upper limit value exceeded",
@@ -71,6 +72,12 @@ const char *alarms_error(unsigned error)
     if (error == 0x1F)
         return "temporary fault";
     return error >= 0x8000 && error - 0x8000 < sizeof high / sizeof high[0] ? high[error - 0x8000] : "";
+}
+
+const char *alarms_error(const struct texts *texts, unsigned error)
+{
+    const char *name = error_of_standard(error);
+    return *name != '\0' ? name : texts_error(texts, error, -1);
 }
 
 static unsigned two(const uint8_t *octets)
@@ -100,52 +107,54 @@ static size_t channel_length(long structure)
     }
 }
 
-static void channel_words(const uint8_t *octets, size_t length, char *text, size_t size)
+static void channel_words(const uint8_t *octets, size_t length, const struct texts *texts, char *text, size_t size)
 {
     unsigned channel = two(octets), properties = two(octets + 2), error = two(octets + 4);
-    const char *name = alarms_error(error);
-    char number[24] = "", extended[32] = "";
+    const char *name = alarms_error(texts, error), *its;
+    char number[24] = "", extended[32 + TEXTS_LONGEST] = "";
     if (channel != WHOLE_SUBMODULE)
         snprintf(number, sizeof number, "channel %u ", channel);
-    if (length > 6)
-        snprintf(extended, sizeof extended, " extended error %u", two(octets + 6));
+    if (length > 6) {
+        its = texts_error(texts, error, (long)two(octets + 6));
+        snprintf(extended, sizeof extended, " extended error %u%s%s%s", two(octets + 6), *its == '\0' ? "" : " (", its, *its == '\0' ? "" : ")");
+    }
     snprintf(text, size, "%serror %u%s%s%s%s %s", number, error, *name == '\0' ? "" : " (", name, *name == '\0' ? "" : ")", extended,
              change_of(properties));
 }
 
 /* The channels of a diagnosis. An empty text if the structure has none. */
-static void channels_words(const struct alarm *alarm, char *text, size_t size)
+static void channels_words(const struct alarm *alarm, const struct texts *texts, char *text, size_t size)
 {
     size_t each = channel_length(alarm->structure), used = 0;
     text[0] = '\0';
     if (each == 0)
         return;
     for (unsigned i = 0; i < CHANNELS_MOST && (i + 1) * each <= alarm->length && used < size; i++) {
-        char channel[128];
-        channel_words(alarm->octets + i * each, each, channel, sizeof channel);
+        char channel[CHANNEL_LONGEST];
+        channel_words(alarm->octets + i * each, each, texts, channel, sizeof channel);
         used += (size_t)snprintf(text + used, size - used, "%s%s", i == 0 ? ": " : ", ", channel);
     }
 }
 
 /* The UserStructureIdentifier with its name, and the channels of a diagnosis. */
-static void structure_words(const struct alarm *alarm, char *text, size_t size)
+static void structure_words(const struct alarm *alarm, const struct texts *texts, char *text, size_t size)
 {
     const char *name = alarms_structure((unsigned)alarm->structure);
-    char channels[CHANNELS_MOST * 130];
-    channels_words(alarm, channels, sizeof channels);
+    char channels[CHANNELS_MOST * (CHANNEL_LONGEST + 2)];
+    channels_words(alarm, texts, channels, sizeof channels);
     if (alarm->structure < 0)
         snprintf(text, size, "no USI");
     else
         snprintf(text, size, "USI %04lX%s%s%s", (unsigned long)alarm->structure, *name == '\0' ? "" : " ", name, channels);
 }
 
-void alarms_line(const struct alarm *alarm, char *text, size_t size)
+void alarms_line(const struct alarm *alarm, const struct texts *texts, char *text, size_t size)
 {
     const char *type = alarms_type(alarm->type);
-    char octets[2 * DATA_MOST + 1] = "-", structure[600];
+    char octets[2 * DATA_MOST + 1] = "-", structure[800];
     if (alarm->length != 0 && alarm->length <= DATA_MOST)
         words_hex(octets, alarm->octets, alarm->length);
-    structure_words(alarm, structure, sizeof structure);
+    structure_words(alarm, texts, structure, sizeof structure);
     snprintf(text, size, "alarm %u %u %u %u %s (%s priority, %s, %s)", alarm->type, alarm->slot, alarm->subslot, alarm->specifier, octets,
              alarm->is_low ? "low" : "high", *type == '\0' ? "a type of its maker" : type, structure);
 }

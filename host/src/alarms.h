@@ -2,6 +2,7 @@
 #ifndef HOST_ALARMS_H
 #define HOST_ALARMS_H
 
+#include "texts.h"
 #include <stddef.h>
 #include <stdint.h>
 
@@ -11,8 +12,8 @@ const char *alarms_type(unsigned type);
 /* The name of a UserStructureIdentifier, or an empty text. */
 const char *alarms_structure(unsigned identifier);
 
-/* The name of a ChannelErrorType, or an empty text. */
-const char *alarms_error(unsigned error);
+/* The name of a ChannelErrorType: that of the standard, or its maker's, or an empty text. */
+const char *alarms_error(const struct texts *texts, unsigned error);
 
 /* An alarm that a device raised. */
 struct alarm {
@@ -34,7 +35,7 @@ int alarms_is_plug(unsigned type);
 int alarms_wants_parameters(unsigned type);
 
 /* Writes its line: `alarm TYPE SLOT SUBSLOT SPECIFIER HEX (TEXT)`, with `-` for no octets. */
-#define ALARMS_LONGEST 3600
-void alarms_line(const struct alarm *alarm, char *text, size_t size);
+#define ALARMS_LONGEST 3800
+void alarms_line(const struct alarm *alarm, const struct texts *texts, char *text, size_t size);
 
 #endif

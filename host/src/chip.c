@@ -112,6 +112,16 @@ static void judge_left(int fd, const char *made, const char *path)
              path, made);
 }
 
+/* Ends the program if the file of the other name is not this user's alone: who made it could write into it for ever, by the descriptor that he
+ * has. */
+static void judge_owner(int fd, const char *made, const char *path)
+{
+    struct stat found;
+    if (fstat(fd, &found) != 0 || found.st_uid != geteuid() || found.st_nlink > 1 || (found.st_mode & (S_IWGRP | S_IWOTH)) != 0)
+        fail(STATUS_CREATE, "the flash file '%s' cannot be made: it is made under the name '%s', which is a file that another user can write: remove it, and name a folder in which only this user may make files",
+             path, made);
+}
+
 /* Makes a file of erased sectors under another name, syncs it, renames it, and syncs the folder. So a file of this name never has fewer
  * octets. The file keeps the lock that it gets first. Returns -1 if another process was faster. */
 static int make(const char *path)
@@ -131,6 +141,7 @@ static int make(const char *path)
         close(fd);
         return -1;
     }
+    judge_owner(fd, made, path);
     judge_left(fd, made, path);
     if (lstat(path, &there) == 0) { /* also a link that leads nowhere: it is not replaced */
         unlink(made);
@@ -269,6 +280,29 @@ int chip_settle(struct chip *chip)
             return 1;
     }
     return !is_ours(chip);
+}
+
+/* Opens the file of this name in place of the one that was opened. */
+static int open_again(struct chip *chip)
+{
+    int fd = open(chip->path, O_RDWR | O_CLOEXEC);
+    if (fd < 0) {
+        chip->why = errno == ENOENT ? "its name is gone" : strerror(errno);
+        return 1;
+    }
+    if (flock(fd, LOCK_EX | LOCK_NB) != 0) {
+        chip->why = "another process uses it";
+        close(fd);
+        return 1;
+    }
+    close(chip->fd);
+    chip->fd = fd;
+    return 0;
+}
+
+int chip_return(struct chip *chip)
+{
+    return (!is_named(chip->fd, chip->path) && open_again(chip) != 0) || chip_settle(chip) != 0;
 }
 
 /* A call failed: the contents in memory may differ from the file. */

@@ -27,6 +27,10 @@ void chip_open(struct chip *chip, const char *path);
  * written, or is no longer the one that was opened. */
 int chip_settle(struct chip *chip);
 
+/* The same after a call that failed: opens the file of this name again if it is another one than the file that was opened. A file that does not
+ * exist is not made. Returns 0, or 1 as long as the file cannot be read and written. */
+int chip_return(struct chip *chip);
+
 /* chip_program turns ones to zeros from `place` on; chip_erase sets a sector to ones. They return 0, or 1 if the disk may not hold the
  * result: a write or a sync failed, or the file was removed, renamed, replaced, cut or written by somebody else since it was opened, so
  * the next start would not find it. A file that was changed in such a way is not written. */

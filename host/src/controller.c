@@ -40,6 +40,7 @@ struct options {
     int is_forced; /* the name is set even if another station has it or the plan's address */
     const char *place; /* the name by its place of the station that first gets the plan's name, or NULL */
     int is_list;
+    int is_json; /* the list is JSON */
     struct access access; /* the record to read */
     int is_read;
     const char *from; /* the station whose record is read: its name or its MAC address; NULL: that of the plan */
@@ -310,6 +311,13 @@ static int choose(void *context, const char *name)
     return controller->chosen != NULL;
 }
 
+static void try_names(void *context, struct near *near)
+{
+    const struct controller *controller = context;
+    for (unsigned i = 0; i < controller->count; i++)
+        near_try(near, controller->relations[i].station);
+}
+
 static void statistics(void *context, lines_writer tell)
 {
     struct controller *controller = context;
@@ -464,69 +472,115 @@ static const struct command commands_of_several[] = {
 
 static void usage(void)
 {
-    puts("Usage: nandutable-controller IFACE PLAN.json [PLAN.json ..] [--assign MAC [--force] | --replace PORT.STATION] [--retry SECONDS]\n"
-         "                             [--patience SECONDS]\n"
-         "                             [--signals[=only] [--deadband NAME=NUMBER ..] [--every MS] [--times]]\n"
-         "                             [--socket PATH [--socket-group GROUP] | --end-with-input] [--period US] [--realtime N]\n"
-         "       nandutable-controller IFACE [PLAN.json] --list\n"
-         "       nandutable-controller IFACE [PLAN.json] --read SLOT SUBSLOT INDEX [--from STATION]\n"
+    puts("Usage: nandutable-controller IFACE PLAN.json [PLAN.json ..] [OPTION ..]\n"
+         "       nandutable-controller IFACE [PLAN.json] --list [--json]\n"
+         "       nandutable-controller IFACE [PLAN.json] --read SLOT SUBSLOT INDEX\n"
+         "                             [--from STATION]\n"
          "\n"
-         "A PROFINET IO controller on the network interface IFACE. It finds the station of the plan by its name, sets its address, makes\n"
-         "the relation, writes its records, and exchanges data until it is stopped. With several plans it does so with each station; the\n"
-         "MAC address, the address and the name of the controller have to be the same in all of them.\n"
+         "A PROFINET IO controller on the network interface IFACE. It finds the station of\n"
+         "the plan by its name, sets its address, makes the relation, writes its records,\n"
+         "and exchanges data until it is stopped. With several plans it does so with each\n"
+         "station; the MAC address, the address and the name of the controller have to be\n"
+         "the same in all of them.\n"
          "\n"
-         "  PLAN.json             a catalogue in JSON with the keys of GSDML, such as host/demo/pump.json (installed:\n"
+         "  PLAN.json             a catalogue in JSON with the keys of GSDML, such as\n"
+         "                        host/demo/pump.json (installed:\n"
          "                        share/doc/nandutable/pump.json)\n"
-         "  --list                prints a line for each station that answers within a second, with its ports and their neighbours, and ends.\n"
-         "                        It reads the ports from the controller's address of the plan; without a plan from that of IFACE, if it has one\n"
-         "  --read SLOT SUBSLOT INDEX  prints a record of the station of the plan, which is read without a relation, and ends. INDEX is decimal, or\n"
-         "                        0x and hex digits: 0xAFF0 is I&M0, 0xF000 what is plugged. The call comes from the same address as with --list\n"
-         "  --from STATION        reads the record of the station with this name or this MAC address instead\n"
-         "  --assign MAC          first sets the name of the plan permanently at the station with this MAC address. Refused if another\n"
-         "                        station has this name or the plan's address. It takes one plan\n"
+         "\n"
+         "Tools, which end when they are done:\n"
+         "  --list                prints a line for each station that answers within a\n"
+         "                        second, with its ports and their neighbours. It reads\n"
+         "                        the ports from the controller's address of the plan;\n"
+         "                        without a plan from that of IFACE, if it has one\n"
+         "  --json                prints the list as JSON\n"
+         "  --read SLOT SUBSLOT INDEX\n"
+         "                        prints a record of the station of the plan, which is\n"
+         "                        read without a relation, in hex, and in words what is\n"
+         "                        known of it. INDEX is decimal, or 0x and hex digits:\n"
+         "                        0xAFF0 is I&M0, 0xF000 what is plugged. The call comes\n"
+         "                        from the same address as with --list\n"
+         "  --from STATION        reads the record of the station with this name or this\n"
+         "                        MAC address instead\n"
+         "\n"
+         "A name before the start; each takes one plan:\n"
+         "  --assign MAC          first sets the name of the plan permanently at the\n"
+         "                        station with this MAC address. Refused if another\n"
+         "                        station has this name or the plan's address\n"
          "  --force               sets the name anyway, with a warning\n"
-         "  --replace PORT.STATION  first sets the name of the plan permanently at the station whose cable leads to this port of this station,\n"
-         "                        as LLDP says it (AliasName). Refused if no station answers to that place, more than one, or one that has a\n"
-         "                        name, or if another station has the plan's name or address. It takes one plan\n"
-         "  --retry SECONDS       starts a controller again this long after its end, 1 to 3600, unless it was stopped. Otherwise the program\n"
-         "                        ends when all controllers have ended\n"
-         "  --signals[=only]      prints and accepts data by the names that the plan has (Signals of Project): NAME = VALUE good|bad on each\n"
-         "                        change, and the lines set NAME VALUE, get NAME, names. With =only the data is not printed in octets too\n"
-         "  --deadband NAME=NUMBER  prints this signal only if it differs by at least NUMBER from what was printed last\n"
+         "  --replace PORT.STATION\n"
+         "                        first sets the name of the plan permanently at the\n"
+         "                        station whose cable leads to this port of this station,\n"
+         "                        as LLDP says it (AliasName). Refused if no station\n"
+         "                        answers to that place, more than one, or one that has a\n"
+         "                        name, or if another station has the plan's name or\n"
+         "                        address\n"
+         "\n"
+         "The relation:\n"
+         "  --retry SECONDS       starts a controller again this long after its end, 1 to\n"
+         "                        3600, unless it was stopped. Otherwise the program ends\n"
+         "                        when all controllers have ended\n"
+         "  --patience SECONDS    ends a controller whose start-up makes no progress: a\n"
+         "                        state other than looking and exchanging lasts at most\n"
+         "                        this long, 0 to 3600 (0: without a limit; default: 10,\n"
+         "                        and 60 for the wait for ApplicationReady)\n");
+    puts("Signals:\n"
+         "  --signals[=only]      prints and accepts data by the names that the plan has\n"
+         "                        (Signals of Project): NAME = VALUE good|bad on each\n"
+         "                        change, and the lines set NAME VALUE, get NAME, names,\n"
+         "                        modules. With =only the data is not printed in\n"
+         "                        octets too\n"
+         "  --deadband NAME=NUMBER\n"
+         "                        prints this signal only if it differs by at least NUMBER\n"
+         "                        from what was printed last\n"
          "  --every MS            prints a signal at most once in 1 to 60000 milliseconds\n"
-         "  --times               the time of the change follows each signal: seconds since 1970\n"
-         "  --patience SECONDS    ends a controller whose start-up makes no progress: a state other than looking and exchanging lasts at most this\n"
-         "                        long, 0 to 3600 (0: without a limit; default: 10, and 60 for the wait for ApplicationReady)\n"
-         "  --socket PATH         lines go in and out over this unix socket, and not over the standard streams\n"
-         "  --socket-group GROUP  the members of this group may use the socket too, not only its owner\n"
-         "  --end-with-input      stops as at SIGTERM when its standard input ends, so also when the program that wrote to it ends\n"
-         "  --period US           hands in time in this period, 31 to 10000 microseconds, and not only when something is due; choose at most the\n"
-         "                        shortest interval of a plan (default: when something is due)\n"
-         "  --realtime N          runs with this priority, 1 to 99, of the first-in first-out scheduler\n"
-         "  --help, --version");
-    puts("\n"
-         "It needs the capability CAP_NET_RAW: run it as root, or run `setcap cap_net_raw+ep nandutable-controller` once.\n"
+         "  --times               the time of the change follows each signal: seconds\n"
+         "                        since 1970\n");
+    puts("How it runs:\n"
+         "  --socket PATH         lines go in and out over this unix socket, and not over\n"
+         "                        the standard streams; states, ends and warnings also go\n"
+         "                        to standard error\n"
+         "  --socket-group GROUP  the members of this group may use the socket too, not\n"
+         "                        only its owner\n"
+         "  --end-with-input      stops as at SIGTERM when its standard input ends, so\n"
+         "                        also when the program that wrote to it ends\n"
+         "  --period US           hands in time in this period, 31 to 10000 microseconds,\n"
+         "                        and not only when something is due; choose at most the\n"
+         "                        shortest interval of a plan\n"
+         "  --realtime N          runs with this priority, 1 to 99, of the first-in\n"
+         "                        first-out scheduler\n"
+         "  --help, --version\n");
+    puts("It needs the capability CAP_NET_RAW: run it as root, or run once\n"
+         "  setcap cap_net_raw+ep nandutable-controller\n"
          "\n"
          "Examples:\n"
          "  nandutable-controller eth1 --list\n"
-         "  nandutable-controller eth1 pump.json --list\n"
          "  nandutable-controller eth1 pump.json --read 0 1 0xAFF0\n"
          "  nandutable-controller eth1 --read 0 1 0xF000 --from 02:00:00:00:00:01\n"
          "  nandutable-controller eth1 pump.json --assign 02:00:00:00:00:01\n"
          "  nandutable-controller eth1 pump.json --replace port-002.switch-1\n"
-         "  nandutable-controller eth1 pump.json\n"
          "  nandutable-controller eth1 pump.json valve.json --retry 5\n"
          "  nandutable-controller eth1 pump.json --signals --deadband level=5 --every 100\n"
          "  echo 'give 2 1 00ff' | nandutable-controller eth1 pump.json\n"
          "\n"
-         "Lines that it accepts: `give SLOT SUBSLOT HEX`, `status SLOT SUBSLOT good|bad`, `read SLOT SUBSLOT INDEX`,\n"
-         "`write SLOT SUBSLOT INDEX HEX`, `diagnosis reported|relation|device`, `restart`, `show`, `statistics`, `stop`, `help`. With several\n"
-         "plans the name of a station and a blank are in front of each line that it prints about this station, and of the lines `give`,\n"
-         "`status`, `read`, `write`, `diagnosis`, `restart`, `show`, `statistics` and `stop` that are for one station. On SIGUSR1 it prints its statistics; SIGTERM stops it, and a second one\n"
-         "ends it at once. Its status is the cause of its end (with several plans the lowest): 1 another device, 2 refused, 3 other\n"
-         "modules, 4 data hold, 5 ended by the device, 6 an alarm without answer, 7 stopped, 8 no progress (--patience); 64 and more: it did not start (64: the plans do\n"
-         "not fit together; 66: no station answers; 69: the station does not answer a call, or has no address for it; 75: another station has the\n"
-         "name or the address, or the station at the place has a name).");
+         "Lines that it accepts; `help` says what each does:\n"
+         "  give SLOT SUBSLOT HEX              status SLOT SUBSLOT good|bad\n"
+         "  read SLOT SUBSLOT INDEX            write SLOT SUBSLOT INDEX HEX\n"
+         "  diagnosis reported|relation|device\n"
+         "  stations   show   statistics   restart   stop   help\n"
+         "With several plans the name of a station and a blank are in front of each line\n"
+         "that it prints about this station, and of each line that is for one station. On\n"
+         "SIGUSR1 it prints its statistics; SIGTERM stops it, and a second one ends it at\n"
+         "once.\n"
+         "\n"
+         "Its status is the cause of its end (with several plans the lowest):\n"
+         "   1 another device          5 ended by the device\n"
+         "   2 refused                 6 an alarm without answer\n"
+         "   3 other modules           7 stopped\n"
+         "   4 data hold               8 no progress (--patience)\n"
+         "  64 and more: it did not start. 64: words, or plans that do not fit together;\n"
+         "  66: no station answers; 69: the station does not answer a call, or has no\n"
+         "  address for it; 75: another station has the name or the address, or the\n"
+         "  station at the place has a name");
 }
 
 static void take_pause(struct options *options, const char *word)
@@ -588,6 +642,7 @@ static int take_option(void *context, int option, const char *word)
     struct options *options = context;
     switch (option) {
     case 'l': options->is_list = 1; return 1;
+    case 'j': options->is_json = 1; return 1;
     case 'd': take_record(options, optarg); return 1;
     case 'm': options->from = word; return 1;
     case 'f': options->is_forced = 1; return 1;
@@ -616,6 +671,8 @@ static void check_tool(const struct options *options, int plain)
         options_misused("--list and --read exclude each other", "");
     if (is_tool && (options->has_assigned || options->place != NULL))
         options_misused(options->is_list ? "--list takes neither --assign nor --replace" : "--read takes neither --assign nor --replace", "");
+    if (options->is_json && !options->is_list)
+        options_misused("--json takes --list", "");
     if (options->from != NULL && !options->is_read)
         options_misused("--from takes --read", "");
     if (options->from != NULL && (options->from[0] == '\0' || strlen(options->from) > 240))
@@ -631,6 +688,7 @@ static void check_tool(const struct options *options, int plain)
 static void read_words(struct options *options, int count, char *words[])
 {
     static const struct option known[] = {{"list", no_argument, NULL, 'l'},
+                                          {"json", no_argument, NULL, 'j'},
                                           {"read", required_argument, NULL, 'd'},
                                           {"from", required_argument, NULL, 'm'},
                                           {"assign", required_argument, NULL, 'a'},
@@ -703,6 +761,7 @@ static void check_others(struct controller *controller, const struct options *op
     const pn_plan *plan = &controller->relations[0].plan;
     uint8_t found[6];
     char value[sizeof plan->name + 16];
+    say("asking for some five seconds whether another station has the name '%.*s' or the plan's address ..", (int)plan->name_length, (const char *)plan->name);
     if (naming_find(&controller->loop.wire, plan->controller_mac, plan->name, plan->name_length, station, found)) {
         snprintf(value, sizeof value, "the name '%.*s'", (int)plan->name_length, (const char *)plan->name);
         refuse_or_warn(options, value, found);
@@ -728,6 +787,7 @@ static void assign(struct controller *controller, const struct options *options)
     char mac[WORDS_MAC];
     int answer;
     check_others(controller, options, options->assigned);
+    say("setting the name at %s: for up to three seconds ..", words_show_mac(mac, options->assigned));
     answer = naming_assign(&controller->loop.wire, plan->controller_mac, options->assigned, plan->name, plan->name_length);
     if (answer < 0)
         fail(STATUS_NO_INPUT, "no station answers at %s (--list lists the stations)", words_show_mac(mac, options->assigned));
@@ -776,6 +836,7 @@ static void replace(struct controller *controller, const struct options *options
     pn_search search;
     uint32_t why;
     int answer;
+    say("asking for the station at %s ..", place);
     place_find(wire, &tool, place, &search);
     /* Names in DCP have no capitals; the port or the name of a neighbour that is no PROFINET station may have some. */
     if (search.stations == 0 && is_lowered(place, lower)) {
@@ -883,7 +944,7 @@ static _Noreturn void list(struct controller *controller, const struct options *
 {
     struct caller caller;
     open_caller(controller, options, &caller);
-    if (listing_print(&caller, &controller->loop.wire) == 0)
+    if (listing_print(&caller, &controller->loop.wire, options->is_json) == 0)
         fail(STATUS_NO_INPUT, "no station answers on %s", options->shared.interface);
     if (!caller.has_address)
         say("the ports of the stations were not read: %s has no IP address, and no plan gives one (%s IFACE PLAN.json --list)", options->shared.interface,
@@ -945,12 +1006,14 @@ static const char *const signal_lines[] = {"set NAME VALUE          sets an outp
                                            "get NAME                prints a signal; get * prints all",
                                            "names                   lists the signals, with direction, type and place", NULL};
 
-#define SIGNALS .take_line = take_signal, .more_help = signal_lines, .write = write_signals, .write_due = signals_wait
+static const char *const signal_words[] = {"set", "get", "names", "modules", NULL};
+
+#define SIGNALS .take_line = take_signal, .more_help = signal_lines, .more_words = signal_words, .write = write_signals, .write_due = signals_wait
 
 static const struct events events = {EVENTS, .commands = commands};
-static const struct events events_of_several = {EVENTS, .commands = commands_of_several, .choose = choose};
+static const struct events events_of_several = {EVENTS, .commands = commands_of_several, .choose = choose, .try_names = try_names};
 static const struct events events_with_signals = {EVENTS, SIGNALS, .commands = commands};
-static const struct events events_of_several_with_signals = {EVENTS, SIGNALS, .commands = commands_of_several, .choose = choose};
+static const struct events events_of_several_with_signals = {EVENTS, SIGNALS, .commands = commands_of_several, .choose = choose, .try_names = try_names};
 
 static const struct events *events_of(const struct controller *controller)
 {
@@ -970,7 +1033,7 @@ static void begin(struct controller *controller)
     for (unsigned i = 0; i < controller->count; i++)
         relation_make(&controller->relations[i], &controller->loop);
     loop_start(&controller->loop, events_of(controller), controller);
-    tell_each(controller, lines_tell, relation_introduce);
+    tell_each(controller, lines_report, relation_introduce);
     look_at_kernel(controller);
     loop_tell_link(&controller->loop);
     for_each(controller, warn_of_plan);

@@ -8,6 +8,7 @@
 #include "modules.h"
 #include "options.h"
 #include "records.h"
+#include "refusal.h"
 #include "say.h"
 #include "sets.h"
 #include "station.h"
@@ -31,7 +32,9 @@ struct options {
     const char *identity;
     uint8_t mac[6];
     int has_mac;
-    uint32_t sets_a_second; /* 0: no limit */
+    uint64_t sets_an_hour;  /* 0: no limit */
+    uint32_t sets_at_once;
+    int has_limit;          /* it was named */
     uint32_t smallest_interval;
     int inputs_begin_bad;
     int is_ready_by_application;
@@ -67,8 +70,22 @@ struct diagnosis {
 #define DIAGNOSES 32
 #define REFUSED 7 /* among the notes: what the application said and the device refused */
 
+/* A flash that cannot be written is reported at once, and then this often. */
+#define AWAY_PAUSE (60 * SECOND)
+
+/* A flash that cannot be written since a call of it failed: settings are refused, and all else goes on, until the device has started again from
+ * the file, which it does when no relation exists and the file can be read and written. */
+struct away {
+    int is_away;
+    uint64_t since;
+    uint64_t told;
+    uint64_t refused; /* requests since the start of this program */
+};
+
 struct device {
     pn_device room;
+    pn_device before; /* the device before a frame that may store settings: what it is again if the flash fails */
+    struct away away;
     pn_op op;
     pn_host host;
     pn_station station;
@@ -142,23 +159,36 @@ static uint32_t first_number(struct device *device)
     return (uint32_t)((uint64_t)now.tv_sec * 100u + (uint64_t)now.tv_nsec / 10000000u) + 1000u * device->starts++;
 }
 
-/* Starts from the contents of the file. */
-static void start(struct device *device)
+/* Makes a device in this room from the contents of the chip. Returns PN_OK or PN_FOREIGN. */
+static uint32_t make_device(struct device *device, pn_device *room)
 {
     uint32_t answer;
+    device->station.first_number = first_number(device);
+    loop_must(pn_make(room, &device->station), "pn_make");
+    answer = pn_boot(room, &device->op, device->chip.sectors[0], device->chip.sectors[1]);
+    if (answer != PN_FOREIGN)
+        loop_must(answer, "pn_boot");
+    return answer;
+}
+
+/* What this program remembers of a device that was made before. */
+static void forget_device(struct device *device)
+{
     device->conflicts = 0;
     device->has_told_link = 0;
     device->watch.asked = 0; /* its questions are counted from 1 again */
-    device->station.first_number = first_number(device);
+}
+
+/* Starts from the contents of the file. */
+static void start(struct device *device)
+{
+    forget_device(device);
     if (chip_settle(&device->chip) != 0)
         fail(STATUS_INPUT, "the flash file '%s' cannot be read and written: %s. Nothing was sent of the step in which it failed; correct this and start again",
              device->chip.path, device->chip.why);
-    loop_must(pn_make(&device->room, &device->station), "pn_make");
-    answer = pn_boot(&device->room, &device->op, device->chip.sectors[0], device->chip.sectors[1]);
-    if (answer == PN_FOREIGN)
+    if (make_device(device, &device->room) == PN_FOREIGN)
         fail(STATUS_DATA, "no device of this kind wrote the contents of the flash file '%s'. It was not changed: name another file, or move it away to start with a new one",
              device->chip.path);
-    loop_must(answer, "pn_boot");
 }
 
 static void look(struct device *device, int is_first);
@@ -166,6 +196,7 @@ static void look_at_link(void *context);
 static int rate(struct device *device, const struct status *status);
 static void say_state(struct device *device);
 static int diagnose(struct device *device, const struct diagnosis *diagnosis, int appears);
+static void tell_dropped(struct device *device);
 
 /* Reports what became of the alarm that a line raised, once its event says so. */
 static void tell_confirmation(struct device *device)
@@ -181,18 +212,10 @@ static void tell_confirmation(struct device *device)
                    (unsigned)(s & 0xFF));
 }
 
-/* After each event: does the work of its step. It may change what is due, and may confirm an alarm. A flash call that fails counts as lost
- * power: nothing more is sent, and the device starts again from the file. */
-static void carry_out(struct device *device)
+/* After a start during a run: hands in again what the application said, and reports what changed. */
+static void go_on(struct device *device)
 {
-    uint32_t answer = pn_carry_out(&device->room, &device->op, &device->host);
-    device->due = 0;
-    tell_confirmation(device);
-    if (answer != PN_FLASH_FAULT)
-        return;
-    lines_tell(&device->loop.lines, "power lost: a call of the flash failed: %s", device->chip.why);
-    start(device);
-    lines_tell(&device->loop.lines, "boot ok");
+    lines_report(&device->loop.lines, "boot ok");
     look_at_link(device);
     if (device->is_application_stopped)
         say_state(device);
@@ -201,6 +224,103 @@ static void carry_out(struct device *device)
     for (unsigned i = 0; i < device->diagnosis_count; i++)
         diagnose(device, &device->diagnoses[i], 1);
     look(device, 0);
+}
+
+/* After each event: does the work of its step. It may change what is due, and may confirm an alarm. A flash call that fails counts as lost
+ * power: nothing more is sent, and the device starts again from the file. That does not happen to a frame that carry_out_frame knows. */
+static void carry_out(struct device *device)
+{
+    uint32_t answer = pn_carry_out(&device->room, &device->op, &device->host);
+    device->due = 0;
+    tell_confirmation(device);
+    if (answer != PN_FLASH_FAULT)
+        return;
+    lines_report(&device->loop.lines, "power lost: a call of the flash failed: %s", device->chip.why);
+    start(device);
+    go_on(device);
+}
+
+/* --- A flash that cannot be written --- */
+
+/* Reports it, at once and then each minute. */
+static void tell_away(struct device *device)
+{
+    struct away *away = &device->away;
+    uint64_t now = ticker_now();
+    if (!away->is_away || (away->told != 0 && now - away->told < AWAY_PAUSE))
+        return;
+    away->told = now;
+    lines_tell(&device->loop.lines, "warning: the flash file '%s' cannot be written since %" PRIu64 " s: %s. Settings are refused (error 5), and all else goes on; the device starts again from the file when it can be read and written and no relation exists",
+               device->chip.path, (now - away->since) / SECOND, device->chip.why);
+}
+
+/* Starts again from the file, if it can be read and written and a device of this kind wrote it. Only without a relation, which would end. */
+static void try_return(struct device *device)
+{
+    if (!device->away.is_away || device->phase != PN_NONE || chip_return(&device->chip) != 0)
+        return;
+    if (make_device(device, &device->before) == PN_FOREIGN) {
+        device->chip.why = "no device of this kind wrote its contents";
+        return;
+    }
+    memcpy(device->room.room, device->before.room, sizeof device->room.room);
+    device->away = (struct away){.refused = device->away.refused};
+    device->due = 0;
+    forget_device(device);
+    lines_report(&device->loop.lines, "power lost: the flash file can be read and written again, and the device starts from it");
+    go_on(device);
+}
+
+/* Sends the refusal of what a frame of the step answers, and no other frame. */
+static void refuse(struct device *device)
+{
+    uint8_t octets[PN_FRAME_SIZE];
+    size_t length;
+    memcpy(octets, device->op.data, device->op.length);
+    length = refusal_of(octets, device->op.length);
+    if (length != 0)
+        wire_send(&device->loop.wire, octets, (uint32_t)length);
+}
+
+/* Does a piece of work. Returns whether it is a flash call that failed. */
+static int is_failed(struct device *device)
+{
+    const pn_op *op = &device->op;
+    if (op->work != PN_PROGRAM && op->work != PN_ERASE)
+        return 0;
+    if (device->away.is_away)
+        return 1;
+    return op->work == PN_PROGRAM ? program(device, op->sector, op->place, op->data, op->length) != 0 : erase(device, op->sector) != 0;
+}
+
+/* The work of a frame that may store settings; `before` is the device as it was. If a flash call fails, all of the step is refused, and the device
+ * is as if the frame had not come: it changes its settings only when the flash has them, and a flash that failed once is not written again until
+ * the device has started from it. Returns whether the step stays. */
+static int carry_out_frame(struct device *device)
+{
+    pn_op *op = &device->op;
+    int is_refused = 0, was_away = device->away.is_away;
+    device->due = 0;
+    for (; op->work != PN_NOTHING; op->work = op->more) {
+        loop_must(pn_next(&device->room, op), "pn_next");
+        is_refused |= is_failed(device);
+        if (is_refused && !device->away.is_away)
+            device->away = (struct away){.is_away = 1, .since = ticker_now(), .refused = device->away.refused};
+        if (op->work == PN_SEND && is_refused)
+            refuse(device);
+        else if (op->work == PN_SEND)
+            transmit(device, op->data, op->length);
+    }
+    if (!is_refused) {
+        tell_confirmation(device);
+        return 1;
+    }
+    memcpy(device->room.room, device->before.room, sizeof device->room.room);
+    device->away.refused++;
+    tell_away(device);
+    if (!was_away)
+        try_return(device);
+    return 0;
 }
 
 /* --- Reports --- */
@@ -236,14 +356,14 @@ static void tell_settings(struct device *device, uint32_t news)
     const pn_settings *now = &device->watch.settings;
     char text[320];
     if ((news & PN_RESET) != 0)
-        lines_tell(&device->loop.lines, "reset");
+        lines_report(&device->loop.lines, "reset");
     if ((news & PN_NEW_NAME) != 0) {
         tell_name("name", now, text, sizeof text);
-        lines_tell(&device->loop.lines, "%s", text);
+        lines_report(&device->loop.lines, "%s", text);
     }
     if ((news & PN_NEW_ADDRESS) != 0) {
         tell_suite("ip", now, text, sizeof text);
-        lines_tell(&device->loop.lines, "%s", text);
+        lines_report(&device->loop.lines, "%s", text);
         look_at_kernel(device);
     }
 }
@@ -277,7 +397,7 @@ static void look_at_places(struct device *device, int is_new)
     const pn_op *op = &device->op;
     for (uint32_t number = 0; number < PN_PLACES && pn_expected(&device->room, &device->op, number) == PN_OK; number++) {
         if (!is_new && op->progress != device->progress[number])
-            lines_tell(&device->loop.lines, "submodule %u %u %s", (unsigned)op->slot, (unsigned)op->subslot, progresses[op->progress]);
+            lines_report(&device->loop.lines, "submodule %u %u %s", (unsigned)op->slot, (unsigned)op->subslot, progresses[op->progress]);
         device->progress[number] = op->progress;
     }
 }
@@ -322,7 +442,7 @@ static void look_at_controller(struct device *device)
             continue;
         is_stopped = (data_status & PN_PROVIDER_RUNS) == 0;
         if (is_stopped != device->is_stopped)
-            lines_tell(&device->loop.lines, "controller %s", is_stopped ? "stop" : "run");
+            lines_report(&device->loop.lines, "controller %s", is_stopped ? "stop" : "run");
         device->is_stopped = is_stopped;
         return;
     }
@@ -383,7 +503,7 @@ static void look_at_state(void *context)
     if (device->op.phase == device->phase)
         return;
     device->phase = device->op.phase;
-    lines_tell(&device->loop.lines, "phase %s", phases[device->phase]);
+    lines_report(&device->loop.lines, "phase %s", phases[device->phase]);
     device->last_cyclic = 0;
     if (device->phase <= PN_STARTED)
         device->is_stopped = -1;
@@ -439,6 +559,9 @@ static void look_around(void *context)
 {
     struct device *device = context;
     look_at_link(context);
+    tell_dropped(device);
+    tell_away(device);
+    try_return(device);
     if (device->has_news_of_kernel)
         look_at_kernel(device);
 }
@@ -479,7 +602,7 @@ static void tell_few(struct device *device, uint32_t left)
     if (left == 0)
         lines_tell(&device->loop.lines, "warning: the flash takes no more commits: each Set and each Write of an I&M record is refused from now on, and no controller can set the address again. Start with a new flash file, and set the name again");
     else
-        lines_tell(&device->loop.lines, "warning: the flash takes %" PRIu32 " more commits; then nothing more is stored. Who sends Sets or Writes of I&M records so often? (--sets-per-second)", left);
+        lines_tell(&device->loop.lines, "warning: the flash takes %" PRIu32 " more commits; then nothing more is stored. Who sends Sets or Writes of I&M records so often? (--sets-per-hour)", left);
 }
 
 /* How many commits the flash still takes. */
@@ -491,32 +614,51 @@ static uint32_t commits_left(struct device *device)
 }
 
 /* Counts what a frame stored, and reports a flash that takes few more commits. `before` is how many it took before the frame. */
-static void look_at_wear(struct device *device, uint32_t before, int is_set)
+static void look_at_wear(struct device *device, uint32_t before)
 {
     uint32_t left = commits_left(device);
     if (left >= before)
         return;
-    sets_stored(&device->sets, before - left, is_set);
+    sets_stored(&device->sets, before - left);
     if (how_few(before) != how_few(left))
         tell_few(device, left);
+}
+
+/* Reports Sets and Writes beyond the limit, at most once a minute. */
+static void tell_dropped(struct device *device)
+{
+    const struct sets *sets = &device->sets;
+    char mac[WORDS_MAC];
+    uint64_t count = sets_to_tell(&device->sets, ticker_now());
+    if (count != 0)
+        lines_tell(&device->loop.lines, "warning: %" PRIu64 " %s dropped, the last one a %s of %s: the flash stores %" PRIu32 " settings at once, and then %" PRIu64 " %s (--sets-per-hour). A start of this program gives room for %" PRIu32 " again",
+                   count, count == 1 ? "setting was" : "settings were", sets->is_write ? "Write" : "Set", words_show_mac(mac, sets->sender), sets->at_once,
+                   sets->limit % 3600 == 0 ? sets->limit / 3600 : sets->limit, sets->limit % 3600 == 0 ? "a second" : "an hour", sets->at_once);
 }
 
 static void take_frame(void *context, const uint8_t *octets, size_t length)
 {
     struct device *device = context;
-    int is_cyclic = wire_is_cyclic(octets, length);
+    int is_cyclic = wire_is_cyclic(octets, length), may_store = !is_cyclic && sets_may_store(octets, length, device->station.mac);
     uint32_t note, before;
-    if (!sets_let_in(&device->sets, octets, length, device->station.mac, ticker_now()))
+    if (!sets_let_in(&device->sets, octets, length, device->station.mac, ticker_now())) {
+        tell_dropped(device);
         return;
+    }
     before = is_cyclic ? 0 : commits_left(device);
+    if (may_store)
+        memcpy(device->before.room, device->room.room, sizeof device->room.room);
     pn_watch_frame(&device->watch, octets, length);
     loop_must(pn_frame(&device->room, &device->op, octets, length), "pn_frame");
     note = device->op.note;
     if (note < sizeof device->notes / sizeof device->notes[0])
         device->notes[note]++;
-    carry_out(device);
+    if (!may_store)
+        carry_out(device);
+    else if (!carry_out_frame(device))
+        return;
     if (!is_cyclic)
-        look_at_wear(device, before, sets_is_set(octets, length, device->station.mac));
+        look_at_wear(device, before);
     if (note != PN_DONE)
         return;
     if (!is_cyclic) {
@@ -576,6 +718,7 @@ static void statistics(void *context, lines_writer tell)
     tell(lines, "address conflicts %" PRIu32, conflicts);
     tell(lines, "flash programs %" PRIu64 " erases %" PRIu64 " faults %" PRIu64 " commits-left %" PRIu32, device->chip.programs, device->chip.erases,
          device->chip.faults, left);
+    tell(lines, "settings refused %" PRIu64, device->away.refused);
     loop_tell_time(&device->loop, tell);
     loop_tell_intervals(&device->loop, &device->intervals, tell);
     tell(lines, "lines lost %" PRIu64, lines_lost(lines));
@@ -933,53 +1076,91 @@ static const struct command commands[] = {
 
 static void usage(void)
 {
-    puts("Usage: nandutable-device IFACE --flash FILE [--station FILE] [--identity FILE] [--mac MAC] [--socket PATH]\n"
-         "                         [--socket-group GROUP] [--period US] [--realtime N] [--sets-per-second N] [--smallest-interval N]\n"
-         "                         [--inputs-begin-bad] [--ready-by-application] [--any-controller] [--keep-records] [--fixed-numbers]\n"
-         "                         [--no-services] [--record SLOT SUBSLOT INDEX LENGTH read|write|both]..\n"
+    puts("Usage: nandutable-device IFACE --flash FILE [OPTION ..]\n"
          "\n"
-         "A PROFINET IO device on the network interface IFACE. Its name, address and I&M texts are in the flash file, and survive a power\n"
-         "failure at any moment.\n"
+         "A PROFINET IO device on the network interface IFACE. Its name, address and I&M\n"
+         "texts are in the flash file, and survive a power failure at any moment.\n"
          "\n"
-         "  --flash FILE          the flash: 8,192 octets; made if it does not exist. Only one process may use a file\n"
-         "  --station FILE        a catalogue in JSON with the keys of GSDML: VendorID, DeviceID, type of station and modules. Default: the\n"
-         "                        demo station, with two octets of input in slot 1 and two of output in slot 2, as in\n"
-         "                        host/demo/pump.json (installed: share/doc/nandutable/pump.json)\n"
-         "  --identity FILE       lines `Key = value`: OrderID, serial number and revisions (I&M0), VendorID, DeviceID, type of station, MAC.\n"
-         "                        A key that is absent has the value of the catalogue, or of the demo station. Example:\n"
-         "                        host/demo/pump.identity (installed: share/doc/nandutable/pump.identity)\n"
-         "  --mac MAC             the device's MAC address (default: that of the identity file, else the interface's)\n"
-         "  --socket PATH         lines go in and out over this unix socket, and not over the standard streams\n"
-         "  --socket-group GROUP  the members of this group may use the socket too, not only its owner\n"
-         "  --period US           hands in time in this period during a relation, 31 to 10000 microseconds, and not only when something is\n"
-         "                        due; choose at most the controller's interval (default: when something is due)\n"
-         "  --realtime N          runs with this priority, 1 to 99, of the first-in first-out scheduler\n"
-         "  --sets-per-second N   stores at most N settings a second, 1 to 1000000: drops the DCP Sets and the Writes of I&M records beyond that\n"
-         "                        (default: no limit)\n"
-         "  --smallest-interval N  refuses a relation with a shorter interval, in units of 31.25 microseconds, 1 to 65536 (default: 32, 1 ms)\n"
-         "  --inputs-begin-bad    the IOPS of an input is bad until its first `input` in a relation\n"
-         "  --ready-by-application  the device is ready at the line `ready` after `parameters end`, and not by itself\n"
-         "  --any-controller      accepts a Connect for another controller than its sender, and calls of any station keep a relation that does not\n"
-         "                        exchange data yet: for controllers whose calls pass a router\n"
-         "  --keep-records        keeps the parameter records that are written while data is exchanged too: the 65th record of a relation is refused\n"
-         "  --fixed-numbers       the FrameID of outputs, if the controller leaves it to the device, and the endpoint of alarms are the same in\n"
-         "                        each relation: a late frame of an earlier relation may count in the next one\n"
-         "  --no-services         the device alone: no answer to ping, to lookups of the endpoint mapper and to calls to other interfaces, no\n"
+         "What the device is:\n"
+         "  --flash FILE          the flash: 8,192 octets; made if it does not exist. Only\n"
+         "                        one process may use a file\n"
+         "  --station FILE        a catalogue in JSON with the keys of GSDML: VendorID,\n"
+         "                        DeviceID, type of station and modules. Default: the demo\n"
+         "                        station, with two octets of input in slot 1 and two of\n"
+         "                        output in slot 2, as in host/demo/pump.json (installed:\n"
+         "                        share/doc/nandutable/pump.json)\n"
+         "  --identity FILE       lines `Key = value`: OrderID, serial number and\n"
+         "                        revisions (I&M0), VendorID, DeviceID, type of station,\n"
+         "                        MAC. A key that is absent has the value of the\n"
+         "                        catalogue, or of the demo station. Example:\n"
+         "                        host/demo/pump.identity (installed:\n"
+         "                        share/doc/nandutable/pump.identity)\n"
+         "  --mac MAC             the device's MAC address (default: that of the identity\n"
+         "                        file, else the interface's)\n"
+         "  --record SLOT SUBSLOT INDEX LENGTH read|write|both\n"
+         "                        a record that the application answers: up to LENGTH\n"
+         "                        octets, at most 1308. INDEX is decimal, or 0x and hex\n"
+         "                        digits, at most 32767. Up to 16 of them. Each Read or\n"
+         "                        Write of such a record is a line `asked`, which is\n"
+         "                        answered within two seconds by `answer` or `refuse`\n");
+    puts("What it accepts:\n"
+         "  --smallest-interval N refuses a relation with a shorter interval, in units of\n"
+         "                        31.25 microseconds, 1 to 65536 (default: 32, 1 ms)\n"
+         "  --inputs-begin-bad    the IOPS of an input is bad until its first `input` in a\n"
+         "                        relation\n"
+         "  --ready-by-application\n"
+         "                        the device is ready at the line `ready` after\n"
+         "                        `parameters end`, and not by itself\n"
+         "  --any-controller      accepts a Connect for another controller than its\n"
+         "                        sender, and calls of any station keep a relation that\n"
+         "                        does not exchange data yet: for controllers whose calls\n"
+         "                        pass a router\n"
+         "  --keep-records        keeps the parameter records that are written while data\n"
+         "                        is exchanged too: the 65th record of a relation is\n"
+         "                        refused\n"
+         "  --fixed-numbers       the FrameID of outputs, if the controller leaves it to\n"
+         "                        the device, and the endpoint of alarms are the same in\n"
+         "                        each relation: a late frame of an earlier relation may\n"
+         "                        count in the next one\n"
+         "  --no-services         the device alone: no answer to ping, to lookups of the\n"
+         "                        endpoint mapper and to calls to other interfaces, no\n"
          "                        announcement of the address, and no LLDP\n"
-         "  --record SLOT SUBSLOT INDEX LENGTH read|write|both  a record that the application answers: up to LENGTH octets, at most 1308. INDEX is\n"
-         "                        decimal, or 0x and hex digits, at most 32767. Up to 16 of them. Each Read or Write of such a record is a line `asked`,\n"
-         "                        which is answered within two seconds by a line `answer` or `refuse`\n"
+         "  --sets-per-hour N     stores 256 settings at once, and then N an hour, 1 to\n"
+         "                        1000000: drops the DCP Sets and the Writes of I&M\n"
+         "                        records beyond that, and says so; 0: no limit (default:\n"
+         "                        3, with which the flash lasts for years, whoever sends\n"
+         "                        Sets)\n"
+         "  --sets-per-second N   stores at most N settings a second, 1 to 1000000, in\n"
+         "                        place of that\n");
+    puts("How it runs:\n"
+         "  --socket PATH         lines go in and out over this unix socket, and not over\n"
+         "                        the standard streams; states, ends and warnings also go\n"
+         "                        to standard error\n"
+         "  --socket-group GROUP  the members of this group may use the socket too, not\n"
+         "                        only its owner\n"
+         "  --period US           hands in time in this period during a relation, 31 to\n"
+         "                        10000 microseconds, and not only when something is due;\n"
+         "                        choose at most the controller's interval\n"
+         "  --realtime N          runs with this priority, 1 to 99, of the first-in\n"
+         "                        first-out scheduler\n"
          "  --help, --version\n");
-    puts("It needs the capability CAP_NET_RAW: run it as root, or run `setcap cap_net_raw+ep nandutable-device` once.\n"
+    puts("It needs the capability CAP_NET_RAW: run it as root, or run once\n"
+         "  setcap cap_net_raw+ep nandutable-device\n"
          "\n"
          "Examples:\n"
          "  nandutable-device eth1 --flash /var/lib/nandutable/pump.flash\n"
-         "  nandutable-device eth1 --flash pump.flash --station pump.json --identity pump.identity --socket /run/pump --realtime 50\n"
+         "  nandutable-device eth1 --flash pump.flash --station pump.json \\\n"
+         "      --identity pump.identity --socket /run/pump --realtime 50\n"
          "\n"
-         "Lines that it accepts: `input SLOT SUBSLOT HEX`, `alarm SLOT SUBSLOT HEX`, `status SLOT SUBSLOT good|bad`,\n"
-         "`diagnosis SLOT SUBSLOT CHANNEL ERROR appears|disappears`, `application run|stop`, `pull SLOT [SUBSLOT]`,\n"
-         "`plug SLOT SUBSLOT MODULE SUBMODULE INPUT OUTPUT [INDEX LENGTH]..`, `ready [SLOT SUBSLOT]`, `expected`,\n"
-         "`asked`, `answer NUMBER [HEX]`, `refuse NUMBER ERRORCODE1 ERRORCODE2`, `show`, `statistics`, `help`, `quit`.\n"
+         "Lines that it accepts; `help` says what each does:\n"
+         "  input SLOT SUBSLOT HEX             status SLOT SUBSLOT good|bad\n"
+         "  alarm SLOT SUBSLOT HEX             application run|stop\n"
+         "  diagnosis SLOT SUBSLOT CHANNEL ERROR appears|disappears\n"
+         "  pull SLOT [SUBSLOT]                ready [SLOT SUBSLOT]\n"
+         "  plug SLOT SUBSLOT MODULE SUBMODULE INPUT OUTPUT [INDEX LENGTH] ..\n"
+         "  asked                              answer NUMBER [HEX]\n"
+         "  refuse NUMBER ERRORCODE1 ERRORCODE2\n"
+         "  expected   show   statistics   help   quit\n"
          "On SIGUSR1 it prints its statistics; SIGTERM ends it.");
 }
 
@@ -990,12 +1171,30 @@ static void take_mac(struct options *options, const char *word)
     options->has_mac = 1;
 }
 
+/* One of the two options says how many settings are stored. */
+static void limit(struct options *options, uint64_t an_hour, uint32_t at_once)
+{
+    if (options->has_limit)
+        options_misused("name one limit of settings, --sets-per-hour or --sets-per-second", "");
+    options->has_limit = 1;
+    options->sets_an_hour = an_hour;
+    options->sets_at_once = at_once;
+}
+
 static void take_limit(struct options *options, const char *word)
 {
     unsigned long number;
     if (!words_number(word, SETS_MOST, &number) || number < 1)
         options_misused("--sets-per-second takes 1 to 1000000: ", word);
-    options->sets_a_second = (uint32_t)number;
+    limit(options, (uint64_t)number * 3600, (uint32_t)number);
+}
+
+static void take_slow_limit(struct options *options, const char *word)
+{
+    unsigned long number;
+    if (!words_number(word, SETS_MOST, &number))
+        options_misused("--sets-per-hour takes 0 to 1000000, 0 for no limit: ", word);
+    limit(options, number, SETS_AT_ONCE);
 }
 
 static void take_interval(struct options *options, const char *word)
@@ -1040,6 +1239,7 @@ static int take_option(void *context, int option, const char *word)
     case 'i': options->identity = word; return 1;
     case 'm': take_mac(options, word); return 1;
     case 'l': take_limit(options, word); return 1;
+    case 'o': take_slow_limit(options, word); return 1;
     default: return 0;
     }
 }
@@ -1049,6 +1249,7 @@ static const struct option known[] = {{"flash", required_argument, NULL, 'f'},
                                       {"identity", required_argument, NULL, 'i'},
                                       {"mac", required_argument, NULL, 'm'},
                                       {"sets-per-second", required_argument, NULL, 'l'},
+                                      {"sets-per-hour", required_argument, NULL, 'o'},
                                       {"smallest-interval", required_argument, NULL, 'n'},
                                       {"inputs-begin-bad", no_argument, NULL, 'b'},
                                       {"ready-by-application", no_argument, NULL, 'a'},
@@ -1076,6 +1277,8 @@ static void read_words(struct options *options, int count, char *words[])
     int first;
     memset(options, 0, sizeof *options);
     options->smallest_interval = 32;
+    options->sets_an_hour = SETS_AN_HOUR;
+    options->sets_at_once = SETS_AT_ONCE;
     options->words = words;
     options->count = count;
     first = options_read(&line, &options->shared, options, count, words);
@@ -1123,7 +1326,7 @@ static void open_all(struct device *device, const struct options *options)
     int has_mac = read_station(device, options);
     device->host = (pn_host){device, program, erase, transmit};
     device->loop.period = options->shared.period;
-    sets_limit(&device->sets, options->sets_a_second, ticker_now());
+    sets_limit(&device->sets, options->sets_an_hour, options->sets_at_once, ticker_now());
     wire_open(&device->loop.wire, options->shared.interface);
     if (!has_mac)
         memcpy(device->station.mac, device->loop.wire.hardware, 6);
@@ -1157,8 +1360,8 @@ static void begin(struct device *device)
     device->is_stopped = -1;
     start(device);
     loop_start(&device->loop, &events, device);
-    lines_tell(&device->loop.lines, "boot ok");
-    lines_tell(&device->loop.lines, "device %02x:%02x:%02x:%02x:%02x:%02x on %s, %s '%s'", mac[0], mac[1], mac[2], mac[3], mac[4], mac[5], device->loop.wire.name,
+    lines_report(&device->loop.lines, "boot ok");
+    lines_report(&device->loop.lines, "device %02x:%02x:%02x:%02x:%02x:%02x on %s, %s '%s'", mac[0], mac[1], mac[2], mac[3], mac[4], mac[5], device->loop.wire.name,
                device->chip.is_new ? "a new flash file" : "the flash file", device->chip.path);
     loop_tell_link(&device->loop);
     look_at_link(device);
@@ -1178,7 +1381,7 @@ int main(int count, char *words[])
     open_all(&device, &options);
     begin(&device);
     loop_run(&device.loop);
-    lines_tell(&device.loop.lines, "ended");
+    lines_report(&device.loop.lines, "ended");
     lines_close(&device.loop.lines);
     return 0;
 }

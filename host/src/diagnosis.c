@@ -16,7 +16,6 @@
 #define HEADER 6u                 /* BlockType, BlockLength, BlockVersion */
 #define CHANNEL_DIAGNOSIS 0x8000u /* a UserStructureIdentifier */
 #define CHANNEL 6u                /* octets of a ChannelDiagnosis */
-#define WORDS 96
 
 static unsigned two(const uint8_t *octets)
 {
@@ -91,10 +90,10 @@ int diagnosis_read(struct diagnoses *diagnoses, const uint8_t *octets, size_t le
 /* --- The lines --- */
 
 /* `SLOT SUBSLOT CHANNEL ERROR (TEXT)`. */
-static const char *words_of(const struct diagnosis *one, char text[WORDS])
+const char *diagnosis_words(const struct texts *texts, const struct diagnosis *one, char text[DIAGNOSIS_WORDS])
 {
-    const char *name = alarms_error(one->error);
-    snprintf(text, WORDS, "%u %u %u %u (%s%s)", one->slot, one->subslot, one->channel, one->error, *name == '\0' ? "an error of its maker" : name,
+    const char *name = alarms_error(texts, one->error);
+    snprintf(text, DIAGNOSIS_WORDS, "%u %u %u %u (%s%s)", one->slot, one->subslot, one->channel, one->error, *name == '\0' ? "an error of its maker" : name,
              one->channel == 0x8000 ? ", the submodule" : "");
     return text;
 }
@@ -119,9 +118,9 @@ static void list(struct relation *relation)
     struct lines *lines = &relation->loop->lines;
     struct diagnoses diagnoses;
     uint32_t left_out = reported(relation, &diagnoses);
-    char text[WORDS];
+    char text[DIAGNOSIS_WORDS];
     for (unsigned i = 0; i < diagnoses.count; i++)
-        lines_answer(lines, "diagnosis %s", words_of(&diagnoses.list[i], text));
+        lines_answer(lines, "diagnosis %s", diagnosis_words(&relation->texts, &diagnoses.list[i], text));
     if (diagnoses.count == 0)
         lines_answer(lines, "diagnosis -");
     if (left_out != 0)
@@ -144,15 +143,16 @@ void diagnosis_take(struct relation *relation, char *words[])
 }
 
 /* Reports the ones of a list that another one does not have. Returns how many. */
-static unsigned tell_missing(struct lines *lines, const char *where, const struct diagnoses *list, const struct diagnoses *other)
+static unsigned tell_missing(struct relation *relation, const char *where, const struct diagnoses *list, const struct diagnoses *other)
 {
-    char text[WORDS];
+    struct lines *lines = &relation->loop->lines;
+    char text[DIAGNOSIS_WORDS];
     unsigned missing = 0;
     for (unsigned i = 0; i < list->count; i++) {
         if (diagnosis_has(other, &list->list[i]))
             continue;
         missing++;
-        lines_tell(lines, "diagnosis only in %s: %s", where, words_of(&list->list[i], text));
+        lines_tell(lines, "diagnosis only in %s: %s", where, diagnosis_words(&relation->texts, &list->list[i], text));
     }
     return missing;
 }
@@ -178,7 +178,7 @@ void diagnosis_compare(struct relation *relation, const struct access_answer *an
     }
     if (record.others != 0)
         snprintf(others, sizeof others, ", %u of another structure", record.others);
-    different = tell_missing(lines, "the alarms", &alarms, &record) + tell_missing(lines, "the record", &record, &alarms);
+    different = tell_missing(relation, "the alarms", &alarms, &record) + tell_missing(relation, "the record", &record, &alarms);
     lines_tell(lines, "diagnosis 0x%04X %s: %u by alarms, %u in the record%s", index, different == 0 ? "the same" : "different", alarms.count,
                record.count, others);
 }

@@ -3,6 +3,7 @@
 #define HOST_DIAGNOSIS_H
 
 #include "nandutable_controller.h"
+#include "texts.h"
 
 struct relation;
 struct access_answer;
@@ -23,6 +24,10 @@ struct diagnoses {
 
 /* Reads the blocks of DiagnosisData (IEC 61158-6-10, 5.2.6.1) of a record. Returns whether they are whole; if not, the list has those before. */
 int diagnosis_read(struct diagnoses *diagnoses, const uint8_t *octets, size_t length);
+
+/* `SLOT SUBSLOT CHANNEL ERROR (TEXT)` of a diagnosis. Returns the text. */
+#define DIAGNOSIS_WORDS (96 + TEXTS_LONGEST)
+const char *diagnosis_words(const struct texts *texts, const struct diagnosis *one, char text[DIAGNOSIS_WORDS]);
 
 /* Whether the list has this diagnosis. */
 int diagnosis_has(const struct diagnoses *diagnoses, const struct diagnosis *wanted);

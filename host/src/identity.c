@@ -1,4 +1,5 @@
 #include "identity.h"
+#include "near.h"
 #include "say.h"
 #include "words.h"
 #include <errno.h>
@@ -184,6 +185,16 @@ static char *trimmed(char *text)
     return text;
 }
 
+/* Ends the program because of a key that there is not, and names the nearest one. */
+static _Noreturn void refuse_key(const struct reading *reading, const char *name)
+{
+    struct near near = {.word = name};
+    for (size_t i = 0; i < KEYS; i++)
+        near_try(&near, keys[i].name);
+    fail(STATUS_DATA, "'%s' line %u: there is no key '%s'%s%s%s (%s(8) lists the keys)", reading->path, reading->line, is_printable(name) ? name : "?",
+         near.found == NULL ? "" : "; did you mean ", near.found == NULL ? "" : near.found, near.found == NULL ? "" : "?", say_name());
+}
+
 static void take_line(struct reading *reading, char *line, pn_station *station)
 {
     char *equals, *name;
@@ -198,7 +209,7 @@ static void take_line(struct reading *reading, char *line, pn_station *station)
     name = trimmed(line);
     key = key_of(name);
     if (key == NULL)
-        fail(STATUS_DATA, "'%s' line %u: there is no key '%s' (%s(8) lists the keys)", reading->path, reading->line, is_printable(name) ? name : "?", say_name());
+        refuse_key(reading, name);
     take_value(reading, key, trimmed(equals + 1), station);
 }
 

@@ -4,7 +4,7 @@
 
 char json_next(struct json *json)
 {
-    while (json->at < json->end && strchr(" \t\r\n", *json->at) != NULL)
+    while (json->at < json->end && *json->at != '\0' && strchr(" \t\r\n", *json->at) != NULL)
         json->at++;
     return json->at < json->end ? *json->at : '\0';
 }
@@ -12,7 +12,8 @@ char json_next(struct json *json)
 int json_take(struct json *json, char wanted)
 {
     int is_there = json_next(json) == wanted && wanted != '\0';
-    json->at += is_there;
+    if (is_there) /* of a value that is absent `at` is null, to which nothing may be added */
+        json->at++;
     return is_there;
 }
 
@@ -46,7 +47,8 @@ void json_pass(struct json *json)
             return; /* the end of a number or a word */
         depth += letter == '{' || letter == '[';
         depth -= letter == '}' || letter == ']';
-        json->at += json->at < json->end;
+        if (json->at < json->end)
+            json->at++;
     } while (json->at < json->end && (depth != 0 || strchr(",}]", json_next(json)) == NULL));
 }
 

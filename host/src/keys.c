@@ -1,12 +1,12 @@
 #include "keys.h"
 #include "json.h"
+#include "near.h"
 #include "say.h"
-#include <ctype.h>
 #include <stdio.h>
 #include <string.h>
 
-/* Each key, with the object that has it (the key at which it, or the list that it is in, is) and what its value must be. bench/gate/keys compares
- * this table with that of the launcher, planning/keys.py, and with the sources of the library. */
+/* Each key, with the object that has it (the key at which it, or the list that it is in, is) and what its value must be. ci/keys compares
+ * this table with that of the launcher, tools/planning/keys.py, and with the sources of the library. */
 struct key {
     const char *object;
     const char *name;
@@ -70,6 +70,7 @@ static const struct key keys[] = {
     {"ModuleItem", "Name", NULL},
     {"VirtualSubmoduleItem", "Name", NULL},
     {"Project", "Signals", NULL},
+    {"", "ChannelDiagList", NULL},
 };
 #define KEYS (sizeof keys / sizeof keys[0])
 
@@ -82,8 +83,6 @@ static const struct {
 #define LONGEST JSON_TEXT
 /* More keys than these are only counted. */
 #define MOST 16
-/* A key is near another one if one begins with the other, from this many letters on. */
-#define BEGINNING 4
 
 /* --- What a value must be --- */
 
@@ -121,61 +120,14 @@ const char *keys_wants(const char *place, char words[KEYS_WANTS])
 
 /* --- The nearest key --- */
 
-static char lower(char letter)
-{
-    return (char)tolower((unsigned char)letter);
-}
-
-static size_t least(size_t one, size_t other)
-{
-    return one < other ? one : other;
-}
-
-/* How many letters must be added, left out or replaced. Capitals do not count. */
-static size_t distance(const char *one, const char *other)
-{
-    size_t row[LONGEST + 1], count = strlen(other);
-    for (size_t i = 0; i <= count; i++)
-        row[i] = i;
-    for (size_t k = 1; *one != '\0'; k++, one++) {
-        size_t last = row[0];
-        row[0] = k;
-        for (size_t i = 1; i <= count; i++) {
-            size_t here = row[i];
-            row[i] = least(least(here, row[i - 1]) + 1, last + (lower(*one) != lower(other[i - 1])));
-            last = here;
-        }
-    }
-    return row[count];
-}
-
-static int is_beginning(const char *one, const char *other)
-{
-    size_t i = 0;
-    while (one[i] != '\0' && lower(one[i]) == lower(other[i]))
-        i++;
-    return one[i] == '\0' && i >= BEGINNING;
-}
-
-/* Whether at most each third letter differs, or one is the beginning of the other. */
-static int is_near(const char *one, const char *other)
-{
-    return 3 * distance(one, other) <= strlen(one) || is_beginning(one, other) || is_beginning(other, one);
-}
-
 /* The key of an object, or of any without one, that is meant, if one is near. */
 static const char *nearest(const char *object, const char *name)
 {
-    const char *found = NULL;
-    size_t best = 0;
-    for (size_t i = 0; i < KEYS; i++) {
-        size_t apart = distance(name, keys[i].name);
-        if ((object == NULL || strcmp(keys[i].object, object) == 0) && is_near(name, keys[i].name) && (found == NULL || apart < best)) {
-            found = keys[i].name;
-            best = apart;
-        }
-    }
-    return found;
+    struct near near = {.word = name};
+    for (size_t i = 0; i < KEYS; i++)
+        if (object == NULL || strcmp(keys[i].object, object) == 0)
+            near_try(&near, keys[i].name);
+    return near.found;
 }
 
 /* The object that has this key, or NULL. */

@@ -114,9 +114,10 @@ void lines_open(struct lines *lines, const char *path, const char *group)
     for (int i = 0; i < LINES_TALKERS; i++)
         lines->talkers[i].in = lines->talkers[i].out = NOBODY;
     lines->path = path;
-    lines->listener = NOBODY;
+    lines->listener = lines->log.in = lines->log.out = NOBODY;
     if (path != NULL) {
         lines->listener = listen_at(path, group);
+        lines->log.out = without_waiting(STDERR_FILENO);
         return;
     }
     lines->talkers[0].in = STDIN_FILENO;
@@ -202,15 +203,45 @@ static void write_line(const struct lines *lines, char line[LINE_ROOM], const ch
     vsnprintf(line + head, LINE_ROOM - head, format, values);
 }
 
+static void put_to_all(struct lines *lines, const char *line)
+{
+    for (int i = 0; i < LINES_TALKERS; i++)
+        put_line(lines, &lines->talkers[i], line);
+}
+
+/* Puts a line into the log, as the program's other messages are written. */
+static void put_log(struct lines *lines, const char *line)
+{
+    char text[LINE_ROOM + 64];
+    int length;
+    if (lines->log.out == NOBODY)
+        return;
+    length = snprintf(text, sizeof text, "%s: %s\n", say_name(), line);
+    put(&lines->log, text, (size_t)length < sizeof text ? (size_t)length : sizeof text - 1);
+}
+
 void lines_tell(struct lines *lines, const char *format, ...)
+{
+    static const char warning[] = "warning: ";
+    char line[LINE_ROOM];
+    va_list values;
+    va_start(values, format);
+    write_line(lines, line, format, values);
+    va_end(values);
+    put_to_all(lines, line);
+    if (strncmp(format, warning, sizeof warning - 1) == 0)
+        put_log(lines, line);
+}
+
+void lines_report(struct lines *lines, const char *format, ...)
 {
     char line[LINE_ROOM];
     va_list values;
     va_start(values, format);
     write_line(lines, line, format, values);
     va_end(values);
-    for (int i = 0; i < LINES_TALKERS; i++)
-        put_line(lines, &lines->talkers[i], line);
+    put_to_all(lines, line);
+    put_log(lines, line);
 }
 
 void lines_answer(struct lines *lines, const char *format, ...)
@@ -269,6 +300,7 @@ void lines_close(struct lines *lines)
         flush(&lines->talkers[i]);
         leave(&lines->talkers[i]);
     }
+    flush(&lines->log);
     if (lines->listener != NOBODY) {
         close(lines->listener);
         unlink(lines->path);
@@ -350,4 +382,5 @@ void lines_take(struct lines *lines, void (*take)(void *context, char *line), vo
     }
     for (int i = 0; i < LINES_TALKERS; i++)
         flush(&lines->talkers[i]);
+    flush(&lines->log);
 }

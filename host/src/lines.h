@@ -36,9 +36,10 @@ struct lines {
     struct talker *asking; /* the sender of the line that is being answered, or NULL */
     const char *name;      /* the station whose lines these are, or NULL */
     uint64_t turns;        /* programs that have opened the socket */
+    struct talker log;     /* standard error, if the lines go over a socket */
 };
 
-/* A function that sends a line: lines_tell or lines_answer. */
+/* A function that sends a line: lines_tell, lines_report or lines_answer. */
 typedef void (*lines_writer)(struct lines *lines, const char *format, ...) __attribute__((format(printf, 2, 3)));
 
 /* Opens the standard streams, or a socket with this path instead. Only its owner and the members of `group` may use the socket; NULL for
@@ -57,8 +58,12 @@ void lines_take(struct lines *lines, void (*take)(void *context, char *line), vo
 /* Sets the station whose lines follow: its name and a blank are in front of each. NULL: nothing is in front. */
 void lines_speak_for(struct lines *lines, const char *name);
 
-/* Sends a line to all readers. */
+/* Sends a line to all readers. A warning, whose format begins with `warning: `, is also logged as lines_report does it. */
 void lines_tell(struct lines *lines, const char *format, ...) __attribute__((format(printf, 2, 3)));
+
+/* Sends a line to all readers. If the lines go over a socket it is also written to standard error, after the program's name: what a journal
+ * has of the program, such as states and ends, and never data. */
+void lines_report(struct lines *lines, const char *format, ...) __attribute__((format(printf, 2, 3)));
 
 /* Sends a line to the sender of the line that is being answered. */
 void lines_answer(struct lines *lines, const char *format, ...) __attribute__((format(printf, 2, 3)));

@@ -5,6 +5,7 @@
 #include "say.h"
 #include "statuses.h"
 #include "ticker.h"
+#include "words.h"
 #include <stdio.h>
 #include <string.h>
 
@@ -18,15 +19,19 @@
 #define INDEX_PORT 0x802Au
 #define SUBSLOT_PORT 0x8001u
 
+/* Room for the line of a station, or for its members as an object of JSON. */
+#define LINE (2 * WORDS_JSON(240) + 200)
+
 struct station {
-    char line[NAMING_LINE];
-    char words[1024]; /* of its ports, or why there are none */
+    char line[LINE];
+    char words[4096]; /* of its ports, or why there are none */
     pn_target target;
     uint8_t activity[16]; /* of the read that waits for its answer */
     int is_waiting;
     int is_done; /* its ports are known */
 };
 
+static int is_json;
 static struct station stations[STATIONS];
 static uint8_t known[LISTED][6]; /* the MAC address of each station that answered */
 static uint8_t octets[WIRE_FRAME];
@@ -42,9 +47,32 @@ static int is_known(unsigned count, const uint8_t mac[6])
     return 0;
 }
 
+/* The members of the object of a station, up to its ports. */
+static void members(const struct naming_station *found, char line[LINE])
+{
+    char mac[WORDS_MAC], name[WORDS_JSON(240)], type[WORDS_JSON(240)];
+    const uint8_t *address = found->address;
+    words_json(name, found->name, found->name_length);
+    words_json(type, found->type, found->type_length);
+    snprintf(line, LINE, "{\"mac\": \"%s\", \"name\": %s, \"type\": %s, \"vendor_id\": %u, \"device_id\": %u, \"address\": \"%u.%u.%u.%u\"",
+             words_show_mac(mac, found->mac), name, type, found->vendor_id, found->device_id, address[0], address[1], address[2], address[3]);
+}
+
+/* Prints what is known of a station; of JSON the text up to its end, with what ends the object before. */
+static void print(const char *line, const char *words)
+{
+    static int has_printed;
+    if (!is_json)
+        printf("%s%s\n", line, words);
+    else
+        printf("%s%s, \"ports\": %s}", has_printed ? ",\n " : "[", line, words[0] == '\0' ? "null" : words);
+    has_printed = 1;
+}
+
 /* Each station once, by its MAC address: the first of its answers. */
 static unsigned find_all(struct wire *wire)
 {
+    static char line[LINE];
     struct naming_station found;
     uint64_t until = ticker_now() + SECOND;
     unsigned count = 0;
@@ -57,16 +85,20 @@ static unsigned find_all(struct wire *wire)
             return count;
         }
         memcpy(known[count], found.mac, sizeof known[count]);
+        if (is_json)
+            members(&found, line);
+        else
+            strcpy(line, found.line);
         if (count < STATIONS) {
             struct station *station = &stations[count];
             memset(station, 0, sizeof *station);
-            strcpy(station->line, found.line);
+            strcpy(station->line, line);
             memcpy(station->target.mac, found.mac, 6);
             memcpy(station->target.address, found.address, 4);
             station->target.vendor_id = found.vendor_id;
             station->target.device_id = found.device_id;
         } else {
-            puts(found.line);
+            print(line, "");
         }
         count++;
     }
@@ -89,19 +121,28 @@ static void ask(const struct caller *caller, struct wire *wire, struct station *
     caller_ask(caller, wire, &station->target, station->activity, access);
 }
 
+/* Why the ports are not known; in JSON they are null, and a member says it. */
+static void put_reason(struct station *station, const char *kind, const char *reason)
+{
+    snprintf(station->words, sizeof station->words, is_json ? "null, \"ports_unknown\": \"%s%s\"" : "  ports %s%s", kind, reason);
+}
+
 /* Notes an answer. */
 static void note(struct station *station, const struct access_answer *answer)
 {
+    static char ports[4000];
     char words[STATUSES_LONGEST + 32];
     station->is_waiting = 0;
     if (answer->is_refused) {
         reasons_status(answer->status, words, sizeof words);
-        snprintf(station->words, sizeof station->words, "  ports refused: %s", words);
+        put_reason(station, "refused: ", words);
         return;
     }
-    station->is_done = ports_words(answer->octets, answer->length, station->words, sizeof station->words) && station->words[0] != '\0';
+    station->is_done = (is_json ? ports_json : ports_words)(answer->octets, answer->length, ports, sizeof ports) && ports[0] != '\0';
     if (!station->is_done)
-        strcpy(station->words, "  ports unknown: the record is not whole, or has no port");
+        put_reason(station, "unknown: ", "the record is not whole, or has no port");
+    else
+        snprintf(station->words, sizeof station->words, is_json ? "[%s]" : "%s", ports);
 }
 
 static void hear(const struct caller *caller, unsigned count, size_t size)
@@ -140,18 +181,23 @@ static void read_all(const struct caller *caller, struct wire *wire, unsigned co
     }
     for (unsigned i = 0; i < count; i++)
         if (stations[i].is_waiting)
-            strcpy(stations[i].words, "  ports unknown: no answer to the read");
+            put_reason(&stations[i], "unknown: ", "no answer to the read");
 }
 
-unsigned listing_print(const struct caller *caller, struct wire *wire)
+unsigned listing_print(const struct caller *caller, struct wire *wire, int as_json)
 {
     static const struct access all = {.index = INDEX_ALL}, port = {.subslot = SUBSLOT_PORT, .index = INDEX_PORT};
-    unsigned found = find_all(wire), count = found < STATIONS ? found : STATIONS;
+    unsigned found, count;
+    is_json = as_json;
+    found = find_all(wire);
+    count = found < STATIONS ? found : STATIONS;
     if (caller->has_address) {
         read_all(caller, wire, count, &all);
         read_all(caller, wire, count, &port);
     }
     for (unsigned i = 0; i < count; i++)
-        printf("%s%s\n", stations[i].line, stations[i].words);
+        print(stations[i].line, stations[i].words);
+    if (is_json)
+        puts(found == 0 ? "[]" : "]");
     return found;
 }

@@ -5,7 +5,7 @@
 
 #include "caller.h"
 
-/* Prints a line for each station that answers. Returns their number. */
-unsigned listing_print(const struct caller *caller, struct wire *wire);
+/* Prints a line for each station that answers, or a list of JSON with an object for each. Returns their number. */
+unsigned listing_print(const struct caller *caller, struct wire *wire, int is_json);
 
 #endif

@@ -57,7 +57,7 @@ static void arm(struct loop *loop)
 static void tell_down(struct loop *loop)
 {
     char words[WIRE_WHY];
-    lines_tell(&loop->lines, "link down (%s)", wire_why_down(&loop->wire, words));
+    lines_report(&loop->lines, "link down (%s)", wire_why_down(&loop->wire, words));
 }
 
 void loop_tell_link(struct loop *loop)
@@ -142,6 +142,24 @@ static const struct command *find_command(const struct loop *loop, const char *w
     return found;
 }
 
+/* Says that no line begins with this word, and names the nearest word that does. */
+static void refuse_word(struct loop *loop, const char *word)
+{
+    const struct events *events = loop->events;
+    struct near near = {.word = word};
+    for (const struct command *command = events->commands; command->word != NULL; command++)
+        near_try(&near, command->word);
+    for (const char *const *more = events->more_words; more != NULL && *more != NULL; more++)
+        near_try(&near, *more);
+    near_try(&near, "help");
+    if (events->try_names != NULL)
+        events->try_names(loop->context, &near);
+    if (near.found == NULL)
+        lines_answer(&loop->lines, "wrong: no such line; `help` lists them");
+    else
+        lines_answer(&loop->lines, "wrong: no such line; did you mean `%s`? `help` lists them", near.found);
+}
+
 static void take_words(struct loop *loop, char *words[], int count)
 {
     const struct command *command = find_command(loop, words[0], count);
@@ -152,7 +170,7 @@ static void take_words(struct loop *loop, char *words[], int count)
     else if (count == 1 && strcmp(words[0], "help") == 0)
         help(loop);
     else
-        lines_answer(&loop->lines, "wrong: no such line; `help` lists them");
+        refuse_word(loop, words[0]);
 }
 
 static void take_line(void *context, char *line)
@@ -177,7 +195,7 @@ static void take_line(void *context, char *line)
 static void look_at_stalls(struct loop *loop)
 {
     if (ticker_tells(&loop->ticker))
-        lines_tell(&loop->lines, "stall: %" PRIu64 " units of time were forgotten since the start, in %" PRIu64 " stalls", loop->ticker.forgotten,
+        lines_report(&loop->lines, "stall: %" PRIu64 " units of time were forgotten since the start, in %" PRIu64 " stalls", loop->ticker.forgotten,
                    loop->ticker.stalls);
 }
 
@@ -190,7 +208,7 @@ static void look_around(struct loop *loop)
     loop->next_look = ticker_now() + loop->events->look_each;
     change = wire_look(&loop->wire);
     if (change > 0)
-        lines_tell(&loop->lines, "link up");
+        lines_report(&loop->lines, "link up");
     else if (change < 0)
         tell_down(loop);
     look_at_stalls(loop);

@@ -4,6 +4,7 @@
 
 #include "histogram.h"
 #include "lines.h"
+#include "near.h"
 #include "options.h"
 #include "station.h"
 #include "ticker.h"
@@ -37,6 +38,9 @@ struct events {
     /* Takes a whole line before its words are parted. Returns whether it is one of its lines. NULL if there are none. */
     int (*take_line)(void *context, char *line);
     const char *const *more_help; /* the forms and effects of these lines, and NULL; NULL if there are none */
+    const char *const *more_words; /* the first words of these lines, and NULL; NULL if there are none */
+    /* Compares a word that begins no line with the names of the stations. NULL if no line has a name. */
+    void (*try_names)(void *context, struct near *near);
     /* Writes what waits for readers, at the end of each turn, and the units after which it has more to write. NULL for nothing. */
     void (*write)(void *context);
     uint32_t (*write_due)(void *context);

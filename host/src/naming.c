@@ -101,6 +101,9 @@ static void read_station(const uint8_t *octets, size_t length, struct naming_sta
     station->name_length = name_size < sizeof station->name ? name_size : sizeof station->name;
     if (name_at != NULL)
         memcpy(station->name, name_at, station->name_length);
+    station->type_length = type_size < sizeof station->type ? type_size : sizeof station->type;
+    if (type_at != NULL)
+        memcpy(station->type, type_at, station->type_length);
     words_show_text(name, sizeof name, name_at, name_size);
     words_show_text(type, sizeof type, type_at, type_size);
     append(station->line, "%02x:%02x:%02x:%02x:%02x:%02x  name '%s'  type '%s'", mac[0], mac[1], mac[2], mac[3], mac[4], mac[5], name, type);

@@ -12,6 +12,8 @@ struct naming_station {
     uint8_t mac[6];
     uint8_t name[240]; /* NameOfStation */
     size_t name_length;
+    uint8_t type[240]; /* its type (DeviceVendorValue) */
+    size_t type_length;
     uint8_t address[4]; /* zeros if it has none */
     uint16_t vendor_id;
     uint16_t device_id;

@@ -1,5 +1,6 @@
 #define _GNU_SOURCE
 #include "options.h"
+#include "near.h"
 #include "say.h"
 #include "words.h"
 #include <stdio.h>
@@ -40,12 +41,29 @@ static void take_shared(struct shared_options *shared, int option, const char *w
     }
 }
 
+/* Ends the program because of an option that there is not, and names the nearest one. */
+static _Noreturn void no_option(const struct option *known, const char *word)
+{
+    char name[NEAR_LONGEST + 1];
+    struct near near = {.word = name};
+    snprintf(name, sizeof name, "%.*s", (int)strcspn(word + strspn(word, "-"), "="), word + strspn(word, "-"));
+    for (const struct option *option = known; option->name != NULL; option++)
+        near_try(&near, option->name);
+    /* The option that begins with the word is rather meant. */
+    for (; known->name != NULL && strlen(name) > 2; known++)
+        if (strncmp(known->name, name, strlen(name)) == 0)
+            near.found = known->name;
+    if (near.found == NULL)
+        options_misused("there is no such option: ", word);
+    fail(STATUS_USAGE, "there is no such option: %s; did you mean --%s? (%s --help)", word, near.found, say_name());
+}
+
 /* Refuses an abbreviation, which getopt_long would take for the one option that begins with it: `--real` is no `--realtime`. */
-static void check_whole(const struct option *option, const char *word)
+static void check_whole(const struct option *known, const struct option *option, const char *word)
 {
     size_t length = strlen(option->name);
     if (strncmp(word, "--", 2) != 0 || strncmp(word + 2, option->name, length) != 0 || (word[2 + length] != '\0' && word[2 + length] != '='))
-        options_misused("there is no such option: ", word);
+        no_option(known, word);
 }
 
 /* The word of the option that was read last: its argument is in the same word, or in the one after it. */
@@ -61,11 +79,13 @@ static _Noreturn void refuse(const struct option *known, int answer, char *words
     const char letter[] = {'-', (char)optopt, '\0'};
     for (const struct option *option = known; optopt != 0 && option->name != NULL; option++)
         if (option->val == optopt)
-            check_whole(option, word);
+            check_whole(known, option, word);
     if (answer == ':')
         options_misused("its argument is missing: ", word);
-    if (optopt == 0 || strncmp(word, "--", 2) == 0)
-        options_misused(optopt == 0 ? "there is no such option: " : "this option takes no argument: ", word);
+    if (optopt == 0)
+        no_option(known, word);
+    if (strncmp(word, "--", 2) == 0)
+        options_misused("this option takes no argument: ", word);
     options_misused("there is no such option: ", letter);
 }
 
@@ -77,7 +97,7 @@ int options_read(const struct command_line *line, struct shared_options *shared,
         if (option == '?' || option == ':')
             refuse(line->known, option, words);
         if (place >= 0)
-            check_whole(&line->known[place], option_word(words));
+            check_whole(line->known, &line->known[place], option_word(words));
         place = -1;
         if (option == 'h') {
             line->usage();

@@ -17,6 +17,7 @@
 struct words {
     char *text;
     size_t size;
+    int is_json; /* each port is an object, with a comma in front of all but the first */
 };
 
 /* A name in a record: its octets after their number. */
@@ -48,6 +49,19 @@ static const char *show(char shown[256], const struct name *name)
     return words_show_text(shown, 256, name->octets, name->length);
 }
 
+/* A port as an object, with its neighbour if it has one. */
+static void show_object(struct words *words, const struct name *port, const struct name *peer_port, const struct name *peer)
+{
+    char one[WORDS_JSON(255)], two[WORDS_JSON(255)] = "null", three[WORDS_JSON(255)] = "null", line[4 * WORDS_JSON(255)];
+    words_json(one, port->octets, port->length);
+    if (peer != NULL) {
+        words_json(two, peer_port->octets, peer_port->length);
+        words_json(three, peer->octets, peer->length);
+    }
+    snprintf(line, sizeof line, "%s{\"port\": %s, \"neighbour_port\": %s, \"neighbour\": %s}", words->text[0] == '\0' ? "" : ", ", one, two, three);
+    append(words, line);
+}
+
 /* Padding is counted from the begin of the block. */
 static size_t aligned(size_t at)
 {
@@ -57,6 +71,10 @@ static size_t aligned(size_t at)
 static void show_peer(struct words *words, const struct name *port, const struct name *peer_port, const struct name *peer)
 {
     char one[256], two[256], three[256], line[800];
+    if (words->is_json) {
+        show_object(words, port, peer_port, peer);
+        return;
+    }
     snprintf(line, sizeof line, "  port '%s' to '%s' of '%s'", show(one, port), show(two, peer_port), show(three, peer));
     append(words, line);
 }
@@ -85,6 +103,10 @@ static int read_port(const uint8_t *block, size_t size, struct words *words)
         return 0;
     if (block[at] != 0)
         return read_peers(block, size, aligned(at + 1), &port, block[at], words);
+    if (words->is_json) {
+        show_object(words, &port, NULL, NULL);
+        return 1;
+    }
     snprintf(line, sizeof line, "  port '%s' to nobody", show(shown, &port));
     append(words, line);
     return 1;
@@ -111,7 +133,14 @@ static int read_blocks(const uint8_t *octets, size_t length, unsigned depth, str
 
 int ports_words(const uint8_t *octets, size_t length, char *words, size_t size)
 {
-    struct words all = {words, size};
+    struct words all = {words, size, 0};
+    words[0] = '\0';
+    return read_blocks(octets, length, 0, &all);
+}
+
+int ports_json(const uint8_t *octets, size_t length, char *words, size_t size)
+{
+    struct words all = {words, size, 1};
     words[0] = '\0';
     return read_blocks(octets, length, 0, &all);
 }

@@ -10,4 +10,7 @@
  * blocks of the record are whole; if not, the words are those of what is before the fault. Words that find no room are left out. */
 int ports_words(const uint8_t *octets, size_t length, char *words, size_t size);
 
+/* The same as objects of JSON with commas between them: {"port": .., "neighbour_port": .., "neighbour": ..}, null for none. */
+int ports_json(const uint8_t *octets, size_t length, char *words, size_t size);
+
 #endif

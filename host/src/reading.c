@@ -1,4 +1,5 @@
 #include "reading.h"
+#include "decoded.h"
 #include "naming.h"
 #include "say.h"
 #include "ticker.h"
@@ -81,4 +82,5 @@ void reading_print(const struct caller *caller, struct wire *wire, const struct 
     if (answer.is_refused)
         fail(PN_WAS_REFUSED, "%s", text);
     puts(text);
+    decoded_print(answer.octets, answer.length);
 }

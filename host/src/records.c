@@ -45,8 +45,8 @@ void records_line(char text[RECORDS_LINE], const pn_op *op)
     int head = snprintf(text, RECORDS_LINE, "asked %u %u %u %u ", (unsigned)op->number, (unsigned)op->slot, (unsigned)op->subslot, (unsigned)op->index);
     char *rest = text + head;
     size_t room = RECORDS_LINE - (size_t)head;
-    if (op->wanted == PN_WANTS_READ)
-        snprintf(rest, room, "read %u", (unsigned)op->read_length);
+    if (op->wanted == PN_WANTS_READ) /* a call may name more than any response carries */
+        snprintf(rest, room, "read %u", (unsigned)(op->read_length < PN_RECORD_SIZE ? op->read_length : PN_RECORD_SIZE));
     else if (op->length == 0)
         snprintf(rest, room, "write -");
     else

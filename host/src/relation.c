@@ -94,6 +94,7 @@ void relation_open(struct relation *relation, const char *file)
     relation->file = file;
     station_plan(&relation->plan, file);
     station_warn(&relation->plan, file);
+    texts_read(&relation->texts, file);
     memcpy(relation->station, plan->name, plan->name_length);
     strcpy(relation->neighbour, "-");
     strcpy(relation->neighbour_seen, "-");
@@ -254,7 +255,7 @@ static void look_at_submodule(struct relation *relation, uint16_t slot, uint16_t
     if (pn_controller_place(&relation->room, &relation->op, slot, subslot, &now) != PN_OK || now == *reported)
         return;
     *reported = now;
-    lines_tell(&relation->loop->lines, "submodule %u %u %s", slot, subslot, submodules[now < SUBMODULES ? now : 0]);
+    lines_report(&relation->loop->lines, "submodule %u %u %s", slot, subslot, submodules[now < SUBMODULES ? now : 0]);
 }
 
 static void look_at_submodules(struct relation *relation)
@@ -288,8 +289,8 @@ static void look_at_alarm(struct relation *relation, int is_low)
     relation->alarms[is_low] = number;
     alarm = (struct alarm){.is_low = is_low, .type = op->alarm_type, .slot = op->slot, .subslot = op->subslot, .specifier = op->specifier,
                            .structure = op->structure > 65535 ? -1 : (long)op->structure, .octets = op->octets, .length = op->length};
-    alarms_line(&alarm, text, sizeof text);
-    lines_tell(&relation->loop->lines, "%s", text);
+    alarms_line(&alarm, &relation->texts, text, sizeof text);
+    (is_low ? lines_report : lines_tell)(&relation->loop->lines, "%s", text);
     if (is_left_alone(relation, alarm.type))
         lines_tell(&relation->loop->lines, "warning: slot %u subslot %u: it gets its parameters again when the relation is started again: line restart",
                    alarm.slot, alarm.subslot);
@@ -316,7 +317,7 @@ static void tell_end(struct relation *relation)
         snprintf(why, sizeof why, ": %s", relation->stuck);
     else
         reasons_words(&relation->reasons, &relation->plan, relation->cause, place, refused, why, sizeof why);
-    lines_tell(&relation->loop->lines, "ended %u: %s%s", (unsigned)relation->cause, causes[relation->cause < CAUSES ? relation->cause : 0], why);
+    lines_report(&relation->loop->lines, "ended %u: %s%s", (unsigned)relation->cause, causes[relation->cause < CAUSES ? relation->cause : 0], why);
 }
 
 void relation_status(const struct relation *relation, char *text, size_t size)
@@ -397,7 +398,7 @@ static void look_at_refused(struct relation *relation)
     access_spell(status, value);
     reasons_record(&relation->plan, place, call, sizeof call);
     reasons_status(status, words, sizeof words);
-    lines_tell(&relation->loop->lines, "refused record %u %u %u: %s, %s", record->slot, record->subslot, record->index, call, words);
+    lines_report(&relation->loop->lines, "refused record %u %u %u: %s, %s", record->slot, record->subslot, record->index, call, words);
 }
 
 /* --- Events --- */
@@ -469,7 +470,7 @@ void relation_look_at_neighbour(struct relation *relation)
     relation->neighbour_told = ticker_now();
     strcpy(relation->neighbour, text);
     strcpy(relation->neighbour_seen, text);
-    lines_tell(&relation->loop->lines, "neighbour %s", text);
+    lines_report(&relation->loop->lines, "neighbour %s", text);
 }
 
 void relation_hear_arp(struct relation *relation, const uint8_t *octets, size_t length)
@@ -542,7 +543,7 @@ static void tell_duplicate(struct relation *relation)
 {
     char text[448];
     if (duplicate_line(&relation->duplicate, text, sizeof text))
-        lines_tell(&relation->loop->lines, "%s", text);
+        lines_report(&relation->loop->lines, "%s", text);
 }
 
 void relation_tell_state(struct relation *relation)
@@ -550,7 +551,7 @@ void relation_tell_state(struct relation *relation)
     tell_duplicate(relation);
     if (relation->state != PN_ENDED) {
         look_at_refused(relation);
-        lines_tell(&relation->loop->lines, "state %s", states[relation->state]);
+        lines_report(&relation->loop->lines, "state %s", states[relation->state]);
         if (relation->state > PN_CONNECTING)
             tell_differences(relation);
         return;
@@ -573,7 +574,7 @@ void relation_tell_waiting(struct relation *relation)
     tell_duplicate(relation);
     waiting_ask(&relation->waiting, &relation->loop->wire);
     if (waiting_line(&relation->waiting, &relation->loop->wire, text, sizeof text))
-        lines_tell(&relation->loop->lines, "%s", text);
+        lines_report(&relation->loop->lines, "%s", text);
 }
 
 int relation_is_over(const struct relation *relation)

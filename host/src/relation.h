@@ -10,6 +10,7 @@
 #include "nandutable_controller.h"
 #include "reasons.h"
 #include "station.h"
+#include "texts.h"
 #include "waiting.h"
 
 /* In `providers`: the device runs. */
@@ -33,6 +34,7 @@ struct relation {
     pn_host host;
     pn_plan plan;
     const char *file;     /* of the plan */
+    struct texts texts;   /* what it calls modules and errors */
     char station[241];    /* the name of the station, with a 0 at its end */
     uint8_t ar[16];       /* ARUUID */
     uint8_t activity[16]; /* of the calls of the controller */

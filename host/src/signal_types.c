@@ -8,7 +8,7 @@
 #include <stdlib.h>
 #include <string.h>
 
-/* The lengths are those of docs/CATALOGUE.md, Signals. */
+/* The lengths are those of docs/PLANS.md, Signals. */
 static const struct signal_type types[] = {
     {"Boolean", 1, FORM_BOOLEAN},
     {"Integer8", 1, FORM_SIGNED},

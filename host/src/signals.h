@@ -1,4 +1,4 @@
-/* The signals of all stations: what is printed of them, and the lines `set`, `get` and `names`. What is printed goes to each reader as fast as
+/* The signals of all stations: what is printed of them, and the lines `set`, `get`, `names` and `modules`. What is printed goes to each reader as fast as
  * it reads; a signal that changes again before that is printed once. */
 #ifndef HOST_SIGNALS_H
 #define HOST_SIGNALS_H
@@ -37,7 +37,7 @@ struct signal_station {
     struct signal_group groups[2][STATION_PLACES];
 };
 
-enum signal_answer { ANSWER_NAMES, ANSWER_VALUES };
+enum signal_answer { ANSWER_NAMES, ANSWER_VALUES, ANSWER_MODULES, ANSWERS };
 
 /* What a reader still gets. */
 struct signal_reader {
@@ -45,8 +45,8 @@ struct signal_reader {
     uint64_t *changed; /* a bit for each signal */
     unsigned changed_count;
     unsigned next_changed;
-    unsigned wanted[2]; /* answers to `names` and `get *` */
-    unsigned next[2];   /* the signal that such an answer goes on with */
+    unsigned wanted[ANSWERS]; /* answers to `names`, `get *` and `modules` */
+    unsigned next[ANSWERS];   /* the signal or module that such an answer goes on with */
 };
 
 struct signals {
@@ -79,7 +79,7 @@ void signals_look(struct signals *signals, struct relation *relation);
 /* The exchange of a station has ended: all its signals are bad. */
 void signals_end(struct signals *signals, struct relation *relation);
 
-/* Takes a line, if it is `set`, `get` or `names`. Returns whether it is. */
+/* Takes a line, if it is `set`, `get`, `names` or `modules`. Returns whether it is. */
 int signals_take(struct signals *signals, struct lines *lines, char *line);
 
 /* Writes what readers have room for, up to a limit for each turn. */

@@ -1,4 +1,5 @@
 #include "station.h"
+#include "json_fault.h"
 #include "keys.h"
 #include "say.h"
 #include "slots.h"
@@ -87,14 +88,36 @@ static const char *value_words(uint32_t fault, const char *where)
     return words;
 }
 
+/* Ends the program because a text is no JSON, with the place of its first fault. */
+static _Noreturn void refuse_text(const char *path, const uint8_t *text, size_t length)
+{
+    struct json_fault found;
+    if (json_find_fault(text, length, &found))
+        fail(STATUS_DATA, "'%s' line %u column %u: fault %u: %s: %s", path, found.line, found.column, (unsigned)(PN_PLAN_JSON - PN_PLAN_FAULT),
+             fault_words(PN_PLAN_JSON), found.why);
+    fail(STATUS_DATA, "'%s': fault %u: %s", path, (unsigned)(PN_PLAN_JSON - PN_PLAN_FAULT), fault_words(PN_PLAN_JSON));
+}
+
+/* Ends the program because of the value at a key, with the line that it is on. */
+static _Noreturn void refuse_value(const char *path, const uint8_t *text, size_t length, uint32_t fault, const char *where)
+{
+    unsigned line = json_line(text, length, where);
+    char on[32] = "";
+    if (line != 0)
+        snprintf(on, sizeof on, " line %u", line);
+    fail(STATUS_DATA, "'%s'%s: fault %u at %s: %s", path, on, (unsigned)(fault - PN_PLAN_FAULT), where, value_words(fault, where));
+}
+
 void station_plan(pn_plan *plan, const char *path)
 {
     char where[256], why[SLOTS_WORDS];
     size_t length;
     uint8_t *text = read_whole(path, &length);
     uint32_t fault = pn_plan_read(plan, text, length);
+    if (fault == PN_PLAN_JSON)
+        refuse_text(path, text, length);
     if (fault != PN_OK && pn_plan_where(text, length, where, sizeof where) != 0)
-        fail(STATUS_DATA, "'%s': fault %u at %s: %s", path, (unsigned)(fault - PN_PLAN_FAULT), where, value_words(fault, where));
+        refuse_value(path, text, length, fault, where);
     if (fault == PN_PLAN_NOT_ALLOWED && slots_why(text, length, why) != NULL)
         fail(STATUS_DATA, "'%s': fault %u: a module is not allowed in its slot: %s", path, (unsigned)(fault - PN_PLAN_FAULT), why);
     if (fault != PN_OK)

@@ -5,7 +5,8 @@
 #include "lines.h"
 #include "nandutable_controller.h"
 
-/* Writes a line for each: the same name or the same address at both ends, a gateway outside the subnet of the station. */
+/* Writes a line for each: a data hold time below 10 ms, the same name or the same address at both ends, a gateway outside the subnet of the
+ * station. */
 void warnings_of_plan(const pn_plan *plan, struct lines *lines);
 
 #endif

@@ -135,6 +135,18 @@ int words_numbers(char *words[], uint16_t *numbers, unsigned count)
     return 1;
 }
 
+void words_json(char *text, const uint8_t *octets, size_t size)
+{
+    *text++ = '"';
+    for (size_t i = 0; i < size; i++) {
+        if (octets[i] >= ' ' && octets[i] <= '~' && octets[i] != '"' && octets[i] != '\\')
+            *text++ = (char)octets[i];
+        else
+            text += sprintf(text, "\\u%04x", octets[i]);
+    }
+    strcpy(text, "\"");
+}
+
 void words_hex(char *text, const uint8_t *octets, size_t length)
 {
     static const char digits[] = "0123456789abcdef";

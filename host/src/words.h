@@ -25,6 +25,11 @@ const char *words_show_mac(char text[WORDS_MAC], const uint8_t mac[6]);
  * the text. */
 const char *words_show_text(char *shown, size_t room, const uint8_t *octets, size_t size);
 
+/* Writes octets that came from a network as a string of JSON, with its quotes: printable ASCII as it is, and each other octet as \u00XX. `text`
+ * has room for WORDS_JSON(size). */
+#define WORDS_JSON(size) (6 * (size) + 3)
+void words_json(char *text, const uint8_t *octets, size_t size);
+
 /* Splits a line at its blanks, in place, into at most `most` parts. Returns their number, or -1 if there are more. */
 int words_part(char *line, char *words[], int most);
 

@@ -1,4 +1,4 @@
-"""Tests of the bridge to MQTT: `host/test/run topics bridge_words bridge_bounds bridge bridge_own bridge_stuck bridge_hostile bridge_tls`. They
+"""Tests of the bridge to MQTT: `host/test/run topics bridge_words bridge_bounds bridge_fuzz bridge bridge_own bridge_stuck bridge_hostile bridge_tls`. They
 take Debian's mosquitto, mosquitto-clients and python3-paho-mqtt."""
 
 import contextlib
@@ -13,7 +13,7 @@ import subprocess
 import sys
 import time
 
-from wire import TOP, Program, awaited, talk_to
+from wire import HERE, TOP, Program, awaited, talk_to
 
 BRIDGE = os.path.join(TOP, "host", "bridge", "nandutable-bridge")
 PYTHON = "/usr/bin/python3"  # the one that has Debian's modules
@@ -84,6 +84,18 @@ def lacking():
     return f"NOT TRIED: {', '.join(missing)} is not installed (Debian: mosquitto, mosquitto-clients, python3-paho-mqtt)" if missing else None
 
 
+def fuzz(*words):
+    """Runs bridge_fuzz.py. Returns what it found."""
+    ran = subprocess.run([PYTHON, os.path.join(HERE, "bridge_fuzz.py"), *map(str, words)], capture_output=True, text=True, timeout=3600)
+    same(f"bridge_fuzz.py {words}: {ran.stderr[-2000:]}", ran.returncode, 0)
+    return json.loads(ran.stdout)
+
+
+def publish(port, topic, *words):
+    """Publishes by a broker of this machine. Returns whether it did."""
+    return subprocess.run(["mosquitto_pub", "-p", str(port), "-t", topic, *words], capture_output=True).returncode == 0
+
+
 class Local(Program):
     """A program at the end of the controller."""
 
@@ -129,7 +141,8 @@ class BridgeTests:
             same(f"a set of {text}", topics.read_set(text.encode()), (value, told))
         for text, words in (("", "not JSON"), ("on", "not JSON"), ("{", "not JSON"), ("NaN", "in quotes"), ('{"value": NaN}', "in quotes"), ("{}", "key value"), ('{"val": 1}', "key value"),
                             ('{"value": 1, "more": 2}', "no other"), ('{"value": 1, "value": 2}', "twice"), ('{"value": 1, "id": [1]}', "id is"), ('{"value": 1, "id": 1.5}', "id is"),
-                            ('{"value": 1, "id": "%s"}' % ("x" * 129), "id is"), ("[" * 4000, "not JSON"), ("1" * 9000, "more than 8192")):
+                            ('{"value": 1, "id": "%s"}' % ("x" * 129), "id is"), ("[" * 4000, "not JSON"), ("1" * 9000, "more than 8192"),
+                            ('{"value": 7, "id": "\\ud800"}', "half of a surrogate")):
             self.refuses(topics.BadValue, words, topics.read_set, text.encode())
         self.refuses(topics.BadValue, "not JSON", topics.read_set, b"\xff")
         number = topics.Number
@@ -141,7 +154,8 @@ class BridgeTests:
             same(f"{value!r} for {kind}", topics.text_of(kind, value), text)
         for kind, value in (("Unsigned8", True), ("Unsigned8", None), ("Unsigned8", [1]), ("Unsigned8", "1 2"), ("Unsigned8", "1\nset x 1"), ("Unsigned8", ""), ("VisibleString", number("1")),
                             ("VisibleString", "a\nb"), ("VisibleString", "\ud800"), ("OctetString", number("12")), ("OctetString", "0a 0b"), ("Unsigned8", {"value": number("1"), "status": number("2")}),
-                            ("Float32+Unsigned8", {"value": {"value": 1, "status": 2}, "status": number("1")})):
+                            ("Float32+Unsigned8", {"value": {"value": 1, "status": 2}, "status": number("1")}), ("Float32+Unsigned8", {"x": number("1")}),
+                            ("Float32+Unsigned8", {"value": {"x": number("1")}, "status": number("1")})):
             self.refuses(topics.BadValue, "", topics.text_of, kind, value)
         for prefix in ("", "/", "a/", "/a", "a//b", "a+", "a/#", "$SYS", "a\n", "x" * 201):
             self.refuses(topics.BadPrefix, "", topics.Topics, prefix)
@@ -149,8 +163,10 @@ class BridgeTests:
         same("topics", (made.signal("pump.2.level"), made.signal("pump.2.level", "about"), made.station("pump.2", "state"), made.station(None, "controller")),
              ("plant/hall-1/pump.2/level", "plant/hall-1/pump.2/level/about", "plant/hall-1/pump.2/_state", "plant/hall-1/_controller"))
         for topic, name in (("plant/hall-1/pump.2/level/set", "pump.2.level"), ("plant/hall-1/pump.2/level", None), ("plant/hall-1/a/b/c/set", None), ("plant/hall-2/a/b/set", None),
-                            ("plant/hall-1//b/set", None), ("plant/hall-1/a/" + "b" * 500 + "/set", None)):
+                            ("plant/hall-1//b/set", None), ("plant/hall-1/a/" + "b" * 500 + "/set", None),
+                            ("plant/hall-1/pump/2.level/set", None), ("plant/hall-1/+/b/set", None), ("plant/hall-1/a/#/set", None), ("plant/hall-1/\u00e4/b/set", None), ("plant/hall-1/a/b\n/set", None)):
             same(topic, made.name_of_set(topic), name)
+        same("half of a surrogate pair", topics.payload({"id": "\ud800"}), b'{"id": "?"}')
         same("what is no number is text", topics.payload({"value": "nan"}), b'{"value": "nan"}')
 
     def refuses(self, kind, words, call, *given):
@@ -198,6 +214,36 @@ class BridgeTests:
         same(f"the memory grows by {grown} KiB", grown < 6000, True)
         same(f"it ends after {seconds} s", seconds < 10, True)
         return f"{waits} payloads wait, the memory grows by {grown} KiB"
+
+    def bridge_fuzz(self):
+        """What clients and brokers may send: no end, no connection lost by what a client sends, bounded memory; a retained message that is too long."""
+        if lacks := lacking():
+            return lacks
+        count = self.asked.fuzz or (1500 if self.asked.short else 10000)
+        with socket.socket() as free:
+            free.bind(("127.0.0.1", 0))
+            port = free.getsockname()[1]
+        path, store = self.path("fuzz.conf"), self.path("long")
+        with open(path, "w", encoding="ascii") as file:
+            file.write(f"listener {port} 127.0.0.1\nallow_anonymous true\npersistence false\nuser root\nset_tcp_nodelay true\n")
+        with subprocess.Popen([BROKER, "-c", path], stdout=subprocess.DEVNULL, stderr=subprocess.DEVNULL) as broker:
+            try:
+                awaited("the broker", lambda: publish(port, "plant/x", "-m", "7"))
+                for found in fuzz("messages", port, count, self.asked.seed or 1):
+                    same(f"{found}", (found["has_ended"], found["faults"], found["connections"], [one for one in found["said"] if "connected" not in one]), (False, 0, 1, []))
+                    same(f"its memory: {found}", found["grown"] < 8192, True)
+                megabytes = 200 if self.asked.fuzz else 20
+                with open(store, "wb") as file:
+                    file.truncate(megabytes << 20)
+                same("the long message is kept", publish(port, "plant/pump-1/output_0/set", "-r", "-f", store, "-V", "mqttv311"), True)
+                found = fuzz("long", port, megabytes)
+                same(f"{found}", (found["has_ended"], found["connections"], found["grown"] < 8192), (False, 1, True))
+            finally:
+                broker.terminate()
+        links = count // 20
+        for one in fuzz("connections", links, self.asked.seed or 1):
+            same(f"{one}", (one["has_ended"], one["faults"], one["grown"] < 8192), (False, 0, True))
+        return f"{count} messages, {links} connections; a message of {megabytes} MB takes {found['grown']} KiB"
 
     # ---- a broker, a bridge and a station
 
@@ -309,7 +355,8 @@ class BridgeTests:
         return f"{told} sets; {second[0] - first[0]} frames received and 0 lost while the broker and the bridge were killed"
 
     def bridge_own(self, wire):
-        """A bridge that starts the controller: it ends it in order, the controller does not outlive it, and its end is published."""
+        """A bridge that starts the controller. It ends it in order. If the bridge is killed, the exchange goes on and loses no frame, and the same command
+        uses the controller again; another plan is refused. If the controller ends, so does the bridge, and publishes it."""
         if lacks := lacking() or self.has_no_signals():
             return lacks
         broker = self.broker(wire)
@@ -325,21 +372,20 @@ class BridgeTests:
             everything.until("plant/_controller", running=True, link=True, interface="c0", mac="02:00:00:00:00:02")
             return bridge
         bridge = begins("--", "--assign", "02:00:00:00:00:01")
+        number, _ = controller_of(bridge)
         same("its end", bridge.end(), 0)
         device.expect("phase none", 20)
+        same("the controller has ended too", os.path.exists(f"/proc/{number}"), False)
         everything.until("plant/_bridge", state="offline")
         everything.until("plant/flow-7/_state", state="ended")
         everything.until("plant/flow-7/flow", quality="bad")
         bridge = begins("--view", "8893")
         same("the page", self.page_at(wire, 8893)[:15], b"HTTP/1.1 200 OK")
-        bridge.end(9)
-        device.expect("phase none", 20)
-        everything.until("plant/_bridge", state="offline")
+        told = self.goes_on(wire, everything, device, bridge, begins, path)
         bridge = begins()
-        for number in wire.within(wire.controller, "pgrep", "-P", str(bridge.process.pid)).split():
-            os.kill(int(number), 9)
+        os.kill(int(controller_of(bridge)[0]), 9)
         status = bridge.wait(20)
-        same(f"its status after the controller's: {bridge.text()}", status != 0, True)
+        same(f"its status after the controller's: {bridge.text()}", (status, bridge.has("nandutable-bridge: the controller was ended by signal 9")), (137, True))
         everything.until("plant/_controller", running=False)
         everything.until("plant/flow-7/flow", quality="bad")
         everything.until("plant/_bridge", state="offline")
@@ -347,7 +393,35 @@ class BridgeTests:
         same(f"its status without an interface: {bridge.text()}", (bridge.wait(20), "no-such-if" in bridge.text()), (66, True))
         device.end()
         broker.end()
-        return None
+        return told
+
+    def goes_on(self, wire, everything, device, bridge, begins, path):
+        """Kills a bridge that has started its controller, and starts it again."""
+        number, place = controller_of(bridge)
+        self.publish(wire, "plant/flow-7/lamp/set", "7")
+        device.expect("output 3 3 07")
+        ends = [line for _, line in device.lines].count("phase none")
+        first = self.exchanged(place)
+        bridge.end(9)
+        everything.until("plant/_bridge", state="offline")
+        time.sleep(1)
+        second = self.exchanged(place)
+        same(f"frames lost of {second[0] - first[0]} while nobody is there", (second[1] - first[1], second[0] > first[0] + 100), (0, True))
+        other = self.signal_plan("pump-1", [])
+        refused = self.bridge_program(wire, "c0", other)
+        same(f"another plan: {refused.text()}", (refused.wait(30), f"End it by `kill {number}`, or use it by --socket {place}" in refused.text()), (75, True))
+        bridge = begins()
+        same("the same controller", (controller_of(bridge), bridge.has("nandutable-bridge: uses the controller that runs already")), ((number, place), True))
+        everything.until("plant/flow-7/lamp", value=7, quality="good")
+        self.publish(wire, "plant/flow-7/lamp/set", "8")
+        device.expect("output 3 3 08")
+        third = self.exchanged(place)
+        same(f"frames lost of {third[0] - first[0]}, and relations that ended", (third[1] - first[1], [line for _, line in device.lines].count("phase none")), (0, ends))
+        same("its end in order", bridge.end(), 0)
+        device.expect("phase none", 20)
+        awaited("the end of the controller", lambda: not os.path.exists(f"/proc/{number}"))
+        everything.until("plant/_bridge", state="offline")
+        return f"{third[0] - first[0]} frames and 0 lost while the bridge was killed and started again"
 
     def page_at(self, wire, port):
         """What the page's server answers."""
@@ -596,6 +670,12 @@ class BridgeTests:
         same("an alarm is not retained", [retained for retained, _ in everything.messages("plant/flow-7/_alarm")], [False, False])
         everything.until("plant/flow-7/_ports")
         everything.until("plant/flow-7/_statistics", 30)
+
+
+def controller_of(bridge):
+    """The number of the process of the controller that a bridge has started or found, and the path of its socket."""
+    bridge.sees("nandutable-bridge: .* controller.*, process ([0-9]+), at ", 30)
+    return re.search(r"controller.*, process ([0-9]+), at (\S+)", bridge.text()).groups()
 
 
 def resident(program):

@@ -4,6 +4,7 @@ A line is [name, arguments]; the answer is [true, result] or [false, text of the
 of the system's Python, and the tests may run with another one.
 """
 
+import contextlib
 import json
 import os
 import shutil
@@ -104,6 +105,18 @@ class Driver:
             else:
                 actions.send_keys(octets)
         actions.perform()
+
+    def processor_seconds(self):
+        """What all processes of the browser have used."""
+        parents, used = {}, {}
+        for number in filter(str.isdecimal, os.listdir("/proc")):
+            with contextlib.suppress(OSError), open(f"/proc/{number}/stat", encoding="ascii", errors="replace") as file:
+                fields = file.read().rpartition(")")[2].split()
+                parents[int(number)], used[int(number)] = int(fields[1]), (int(fields[11]) + int(fields[12])) / os.sysconf("SC_CLK_TCK")
+        own = {self.driver.service.process.pid}
+        while more := {number for number, parent in parents.items() if parent in own} - own:
+            own |= more
+        return sum(used.get(number, 0) for number in own)
 
     def shot(self, path):
         self.driver.save_screenshot(path)

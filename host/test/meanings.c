@@ -2,6 +2,15 @@
 #include "../src/alarms.c"
 #include "../src/statuses.c"
 
+/* The names that a maker gives in a catalogue are left out. */
+const char *texts_error(const struct texts *texts, unsigned error, long extended)
+{
+    (void)texts;
+    (void)error;
+    (void)extended;
+    return "";
+}
+
 static void print(const char *kind, const struct meaning *list, size_t count)
 {
     for (size_t i = 0; i < count; i++)
@@ -24,7 +33,7 @@ int main(void)
         if (*alarms_structure(identifier) != '\0')
             printf("structure %u %s\n", identifier, alarms_structure(identifier));
     for (unsigned error = 0; error < 65536; error++)
-        if (*alarms_error(error) != '\0')
-            printf("error %u %s\n", error, alarms_error(error));
+        if (*alarms_error(NULL, error) != '\0')
+            printf("error %u %s\n", error, alarms_error(NULL, error));
     return 0;
 }

@@ -21,7 +21,7 @@ from wire import BUILD, HOST, TOP, Plant, Program, awaited, device_of, talk_to
 
 PYTHON = os.path.join(HOST, "python")
 sys.path.insert(0, PYTHON)
-sys.path.insert(0, TOP)
+sys.path.insert(0, os.path.join(TOP, "tools"))
 sys.path.insert(0, os.path.join(HOST, "demo"))
 import nandutable  # noqa: E402: the module's folder is not on the path before
 from nandutable import __main__ as program  # noqa: E402
@@ -43,7 +43,8 @@ LINES = (
     ("name a.b output Boolean 1 2 1 3 7 \"\" \"\"", lines.Name, "a", ("a.b", "output", "Boolean", 1, 2, 1, 3, 7, "", "")),
     ("name a.t input TimeOfDay_without_date_indication 4 1 1 0 - \"\" \"\"", lines.Name, "a", ("a.t", "input", "TimeOfDay without date indication", 4, 1, 1, 0, None, "", "")),
     ("name a.s input Unsigned8_S 1 1 1 0 - \"\" \"\"", lines.Name, "a", ("a.s", "input", "Unsigned8_S", 1, 1, 1, 0, None, "", "")),
-    ("names 2000", lines.Names, None, (2000,)), ("got 3", lines.Got, None, (3,)),
+    ('module pump-1 2 - "Flow \\"A\\" meter"', lines.Module, "pump-1", (2, None, 'Flow "A" meter')), ('module pump-1 3 1 "Display"', lines.Module, "pump-1", (3, 1, "Display")),
+    ("modules 12", lines.Modules, None, (12,)), ("names 2000", lines.Names, None, (2000,)), ("got 3", lines.Got, None, (3,)),
     ("pump-1 controller 02:00:00:00:00:02 on c0, for the station 'pump-1', interval 1000 us", lines.Introduced, "pump-1", ("02:00:00:00:00:02", "c0", 1000)),
     ("station pump-1 02:00:00:00:00:01 192.168.0.2 1000 exchanging", lines.Station, "pump-1", ("02:00:00:00:00:01", "192.168.0.2", 1000, "exchanging", None)),
     ("station pump.2 - 0.0.0.0 31 ended 4", lines.Station, "pump.2", (None, "0.0.0.0", 31, "ended", 4)),
@@ -625,6 +626,26 @@ class PythonTests:
             is_soon("its diagnosis", lambda: [one.channel for one in station.diagnosis] == [3])
         controller.end()
         same("no controller", "no controller listens at" in self.module_prints("--socket", path, status=2), True)
+        device.end()
+
+    def python_letters(self, wire):
+        """`watch` where the output lacks a letter of a unit: it is written by its number, and the program goes on."""
+        if lacks := self.has_no_signals():
+            return lacks
+        path, plan = self.path("letters-lines"), self.signal_plan("pump-1", [{**self.TANK[0], "Unit": "\u00b0C"}])
+        device = self.device(wire, "python-letters")
+        controller = self.controller(wire, plan, "--signals", "--socket", path)
+        with nandutable.plant(socket=path):
+            pass
+        for number, encoding, wanted in ((7, "ascii", "\\xb0C"), (8, "utf-8", "\u00b0C")):
+            with subprocess.Popen([sys.executable, "-m", "nandutable", "--socket", path, "watch", "level"], stdout=subprocess.PIPE, stderr=subprocess.PIPE, encoding="utf-8",
+                                  env={**os.environ, "PYTHONPATH": PYTHON, "PYTHONIOENCODING": encoding}) as watching:
+                same(encoding, watching.stdout.readline().split()[-1], wanted)
+                device.say(f"input 1 1 {number:04x}")
+                is_soon("a change", lambda: watching.stdout.readline().split()[-2:] == [str(number), wanted])
+                watching.send_signal(signal.SIGINT)
+                same("its end", watching.wait(10), 0)
+        controller.end()
         device.end()
 
     def counted(self, plant):

@@ -15,7 +15,7 @@ import dce
 import peer
 from wire import BUILD, HERE, TOP, Program, awaited, talk_to
 
-sys.path.insert(0, TOP)
+sys.path.insert(0, os.path.join(TOP, "tools"))
 from planning import signals as launcher, types  # noqa: E402: the top of the repository is not on the path before
 
 SCAPY_PYTHON = "/usr/bin/python3"
@@ -138,7 +138,7 @@ def compare_with_tshark(table, bits):
 
 def check_lengths():
     """The lengths of the page, of the converter and of the program are the same."""
-    with open(os.path.join(TOP, "docs", "CATALOGUE.md"), encoding="utf-8") as file:
+    with open(os.path.join(TOP, "docs", "PLANS.md"), encoding="utf-8") as file:
         page = file.read()
     table = page[page.index("| Type | octets |"):].split("\n\n")[0]
     told = {}
@@ -147,7 +147,7 @@ def check_lengths():
         for number, name in enumerate(names):
             told[name] = lengths[number if len(lengths) > 1 else 0]
     wanted = {**{name: str(length) for name, length in types.LENGTHS.items()}, **{name: "Length" for name in types.SIZED}}
-    same("the table of docs/CATALOGUE.md", told, wanted)
+    same("the table of docs/PLANS.md", told, wanted)
     came = asked([f"length\t{name}" for name in wanted])
     same("the lengths of the program", dict(zip(wanted, came)), {name: "0" if length == "Length" else length for name, length in wanted.items()})
     same("another type", asked(["length\tFloat16"]), ["no type"])

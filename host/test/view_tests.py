@@ -1,4 +1,5 @@
-"""Tests of the page: `host/test/run page_words page_rules page_bounds page_again page page_own browser browser_made_up`."""
+"""Tests of the page: `host/test/run page_words page_rules page_bounds page_slow page_names page_fuzz page_again page page_own browser
+browser_made_up`."""
 
 import contextlib
 import io
@@ -14,7 +15,7 @@ import threading
 import time
 
 import browser
-from made_up_plant import CONTROLLER, MadeUp, line_of_stations, mac_of
+from made_up_plant import CONTROLLER, MadeUp, happen, line_of_stations, mac_of, modules_of, plant_of_modules
 from signal_tests import same
 from wire import HOST, awaited, talk_to
 
@@ -37,7 +38,27 @@ const ground = (element) => { let found = [0, 0, 0, 0]; for (let at = element; a
 const behind = (element) => { const box = element.closest("g")?.querySelector("rect.box"); return box && element.closest("svg") ? rgb(getComputedStyle(box).fill) : ground(element); };
 """
 # The value of an output in its row.
-ROW = "return document.querySelector(`[aria-label='Set ${arguments[0]}']`)?.closest('tr').querySelector('td.value span').textContent"
+ROW = "return document.querySelector(`[aria-label='Set ${arguments[0]}']`)?.closest('tr, li').querySelector('.value span').textContent"
+# The modules of a station: their titles, the lists of bits with how many lines of them are side by side, and the rows of values.
+MODULES = """
+const lines = (list) => new Set([...list.children].map((item) => Math.round(item.getBoundingClientRect().top))).size;
+return [...document.getElementById(`station-${arguments[0]}`).closest('.card').querySelectorAll('.module')].map((module) => [
+  module.querySelector('h4').textContent, [...module.querySelectorAll('.part')].map((part) => part.textContent),
+  [...module.querySelectorAll('.bits')].map((list) => [list.getAttribute('aria-label'), list.children.length, lines(list)]),
+  [...module.querySelectorAll('tbody tr')].map((row) => row.querySelector('th').firstChild.textContent)]);
+"""
+# Names of signals that are parted other than after an underscore, and what is wider than its place.
+PARTED = """
+const wrong = [];
+for (const name of document.querySelectorAll('.bit .name, tbody th')) for (const node of name.childNodes) {
+  if (node.nodeType !== 3) continue;
+  const range = document.createRange();
+  range.selectNodeContents(node);
+  if (range.getClientRects().length > 1) wrong.push(`${node.textContent} has ${range.getClientRects().length} lines`);
+  if (range.getBoundingClientRect().right > name.getBoundingClientRect().right + 1) wrong.push(`${node.textContent} is cut`);
+}
+return wrong;
+"""
 # Two frames are drawn.
 FRAMES = "const done = arguments[0]; requestAnimationFrame(() => requestAnimationFrame(() => done()))"
 CONTRAST = RATIO + """
@@ -127,6 +148,9 @@ class View:
         with open(f"/proc/{self.process.pid}/stat", encoding="ascii") as file:
             fields = file.read().rpartition(")")[2].split()
         return (int(fields[11]) + int(fields[12])) / os.sysconf("SC_CLK_TCK")
+
+    def threads(self):
+        return len(os.listdir(f"/proc/{self.process.pid}/task"))
 
     def memory(self):
         """Pages of memory that it has."""
@@ -234,7 +258,7 @@ class ViewTests:
         for words, status, reason in (
                 (("pump-1.speed", "70000"), 409, "Unsigned16 takes 0 to 65535"), (("pump-1.level", "1"), 409, "it is an input"), (("pump-1.none", "1"), 409, "there is no such signal"),
                 (("pump-1.speed", ""), 400, "a set is"), (("pump-1.speed", "1\nstop"), 400, "without control characters"), (("pump-1.speed\nstop", "1"), 400, "without control"),
-                (("pump-1.speed 7", "1"), 409, "no blanks"), (("pump-1.speed", 7), 400, "a set is"),
+                (("pump-1.speed 7", "1"), 409, "there is no such signal"), (("pump-1.speed", 7), 400, "a set is"),
                 (("pump-1.speed", "1", None, ""), 403, "Origin"), (("pump-1.speed", "1", None, "http://evil.example"), 403, "Origin"), (("pump-1.speed", "1", None, "null"), 403, "Origin"),
                 (("pump-1.speed", "1", None, "http://localhost:1"), 403, "Origin"), (("pump-1.speed", "1", "evil.example", "http://evil.example"), 421, "Host"),
                 (("pump-1.speed", "1", None, None, "text/plain"), 415, "application/json"), (("pump-1.speed", "1", None, None, "application/x-www-form-urlencoded"), 415, "json"),
@@ -282,12 +306,112 @@ class ViewTests:
             same("connections beyond 64 are closed", bool(select.select(idle, [], [], 20)[0]), True)
             for link in idle:
                 link.close()
-            more = view.waits(lambda state: state["counts"]["no_place"] >= 1 and state["counts"], "they are counted")
+            more = view.waits(lambda state: state["counts"]["no_place"] + state["counts"]["displaced"] >= 1 and state["counts"], "they are counted")
             over.set()
             changes.join()
             for link in (*asleep, slow):
                 link.close()
-        return f"{counts['closed']} pages closed within {took:.0f} s, {more['no_place']} connections without a place"
+        return f"{counts['closed']} pages closed within {took:.0f} s, {more['no_place']} connections without a place, {more['displaced']} that left theirs"
+
+    def page_slow(self):
+        """64 connections that send an octet now and then: others are served meanwhile, and each of them ends when its time is over, however it sends."""
+        plant = MadeUp(self.path("slow.lines"))
+        two_signals(plant)
+        with View("--socket", plant.path) as view:
+            view.waits(lambda state: raw_of(state, "pump-1.level") == "812", "the first values")
+            slow = [socket.create_connection(("127.0.0.1", view.port)) for _ in range(64)]
+            begins, over = time.monotonic(), threading.Event()
+            ended = {}
+
+            def drip():
+                for octet in b"POST /set HTTP/1.1\r\nX: " + 1000 * b"x":
+                    for number, link in enumerate(slow):
+                        try:
+                            if number not in ended and select.select([link], [], [], 0)[0] and not link.recv(100):
+                                ended[number] = time.monotonic() - begins
+                            elif number not in ended:
+                                link.send(bytes((octet,)))
+                        except OSError:
+                            ended[number] = time.monotonic() - begins
+                    if over.wait(0.3):
+                        return
+            drops = threading.Thread(target=drip, daemon=True)
+            drops.start()
+            time.sleep(2)
+            longest = 0.0
+            while time.monotonic() - begins < 8:
+                asked = time.monotonic()
+                same(f"a request meanwhile, after {asked - begins:.1f} s", view.get("/state")[0], 200)
+                longest = max(longest, time.monotonic() - asked)
+                time.sleep(0.2)
+            awaited("each of them ends", lambda: len(ended) == 64, 20)
+            over.set()
+            drops.join()
+            for link in slow:
+                link.close()
+            counts = view.state()["counts"]
+        same(f"{counts}: their ends {sorted(ended.values())[-5:]}", (max(ended.values()) < 14, counts["displaced"] >= 1, longest < 3), (True, True, True))
+        return f"{counts['displaced']} connections left their places, the others were closed within {max(ended.values()):.1f} s; a request took {longest:.2f} s at most"
+
+    def page_names(self):
+        """Sets of names that no signal has, and that the controller would not show as they are, do not delay the operator's; a controller that does not answer
+        keeps nobody for long."""
+        plant = MadeUp(self.path("names.lines"))
+        two_signals(plant)
+        with View("--socket", plant.path, "--allow-set") as view:
+            view.waits(lambda state: raw_of(state, "pump-1.level") == "812", "the first values")
+            answers = []
+            odd = [threading.Thread(target=lambda name=name: answers.append(view.set(name, "1")[0]), daemon=True) for name in [f"pump-1.l\u00e4nge{number}" for number in range(20)]]
+            for thread in odd:
+                thread.start()
+            time.sleep(0.2)
+            begins = time.monotonic()
+            same("the operator's set", view.set("pump-1.speed", "1500"), (200, None))
+            took = time.monotonic() - begins
+            for thread in odd:
+                thread.join(20)
+            same("the others", answers, [409] * 20)
+            same(f"the operator waits {took:.1f} s", took < 3, True)
+            same("names of several kinds", [view.set(name, "1")[0] for name in ("pump-1.\u2028", "\ud83d\ude00", "speed", "pump-1." + "a" * 400, "pump-1.speed\u00a0", "*", "")], [409, 409, 200, 409, 409, 409, 409])
+            plant.is_silent = True
+            answers.clear()
+            begins = time.monotonic()
+            many = [threading.Thread(target=lambda: answers.append(view.set("pump-1.speed", "1")[0]), daemon=True) for _ in range(20)]
+            for thread in many:
+                thread.start()
+            for thread in many:
+                thread.join(30)
+            took = time.monotonic() - begins
+            same(f"a controller that does not answer: {answers}", (len(answers), set(answers) <= {503, 504}, took < 15), (20, True, True))
+            plant.is_silent = False
+            same("and then it does", view.set("pump-1.speed", "1501"), (200, None))
+        return f"20 sets that nobody answers are refused within {took:.1f} s"
+
+    def page_fuzz(self):
+        """Requests of lines that are bent: none ends in a fault of the program, no thread is left, the memory is bounded, and the page is served afterwards."""
+        plant = MadeUp(self.path("fuzz.lines"))
+        two_signals(plant)
+        lines = self.asked.fuzz or (10000 if self.asked.short else 100000)
+        with View("--socket", plant.path, "--allow-set", errors=subprocess.DEVNULL) as view:
+            view.waits(lambda state: raw_of(state, "pump-1.level") == "812", "the first values")
+            for length in ("1" * 5000, "0" * 5000 + "2", "9" * 9):
+                came = view.asked(f"POST /set HTTP/1.1\r\nHost: {view.host}\r\nContent-Length: {length}\r\n\r\n{{}}")
+                same(f"a length of {len(length)} digits: {came[2]}", came[0], 403 if length.endswith("2") else 413)
+            found = self.fuzzed(view, 2000, 1)
+            before = (view.threads(), view.memory())
+            found = self.fuzzed(view, lines, self.asked.seed or 2)
+            awaited("no thread is left", lambda: view.threads() <= before[0], 30)
+            grown = (view.memory() - before[1]) * os.sysconf("SC_PAGE_SIZE") // 1024
+            counts = view.state()["counts"]
+            same(f"{counts}, {found}", (counts["faults"], counts["pages"], found["statuses"].get("no answer", 0), grown < 8192), (0, 0, 0, True))
+            same("and it goes on", (view.get("/")[0], view.set("pump-1.speed", "1600")), (200, (200, None)))
+        return f"{found['lines']} lines in {found['requests']} requests, {counts['sets']} sets; the memory grows by {grown} KiB"
+
+    @staticmethod
+    def fuzzed(view, lines, seed):
+        ran = subprocess.run([sys.executable, os.path.join(HOST, "test", "page_fuzz.py"), str(view.port), str(lines), str(seed)], capture_output=True, text=True, timeout=7200)
+        same(f"page_fuzz.py: {ran.stderr[-2000:]}", ran.returncode, 0)
+        return json.loads(ran.stdout)
 
     def page_again(self):
         """The controller ends and another one comes; the program's own lines go to a full disk, or to a pipe that nobody reads."""
@@ -356,9 +480,11 @@ class ViewTests:
             return lacks
         path = self.path("page.lines")
         device = self.device(wire, "page")
-        controller = self.controller(wire, self.signal_plan("pump-1", SIGNALS), "--signals", "--times", "--socket", path, "--retry", "1")
+        controller = self.controller(wire, self.with_texts(self.signal_plan("pump-1", SIGNALS)), "--signals", "--times", "--socket", path, "--retry", "1")
         with View("--socket", path, "--allow-set") as view:
             view.waits(lambda state: (station_of(state) or {}).get("state") == "exchanging", "data is exchanged", 60)
+            modules = view.waits(lambda state: [(one["slot"], one["subslot"], one["text"]) for one in station_of(state)["modules"] if one["slot"] in (1, 2)], "the names of the modules")
+            same("the names of the modules", modules, [(1, None, 'Level "A" in mm'), (1, 1, "Level"), (2, None, "Pumpe f\u00fcr Halle 2" + 61 * "x")])
             device.ask("input 1 1 04d2", "note done")
             view.waits(lambda state: raw_of(state, "pump-1.level") == "1234", "the level")
             same("a set", view.set("pump-1.speed", "1500"), (200, None))
@@ -366,6 +492,10 @@ class ViewTests:
             device.ask("diagnosis 1 1 3 6 appears", "note done")
             device.ask("alarm 1 1 c0ffee", "note done")
             view.waits(lambda state: [fault["text"] for fault in station_of(state)["diagnosis"]] == ["wire break"], "the diagnosis")
+            device.ask("diagnosis 1 1 3 256 appears", "note done")
+            view.waits(lambda state: [fault["text"] for fault in station_of(state)["diagnosis"]] == ["wire break", "Cell is used up"], "the diagnosis by the maker's text")
+            view.waits(lambda state: any("error 256 (Cell is used up) appears" in alarm["text"] for alarm in state["alarms"]), "the alarm by the maker's text")
+            device.ask("diagnosis 1 1 3 256 disappears", "note done")
             view.waits(lambda state: {alarm["octets"] for alarm in state["alarms"]} >= {"c0ffee"}, "the alarm")
             peers = view.waits(lambda state: [port["peers"] for port in station_of(state)["ports"] if port["peers"]], "the neighbour", 40)
             same("the controller is its neighbour", peers[0][0], {"port": "port-001", "station": "plc", "mac": CONTROLLER})
@@ -401,6 +531,23 @@ class ViewTests:
             view.process.wait(30)
             status, text = view.end()
             same(f"the controller's status: {text}", (status, "ended" in text), (4, True))
+
+    @staticmethod
+    def with_texts(path):
+        """The catalogue of this file with names of its modules, and of an error of its maker."""
+        with open(path, encoding="utf-8") as file:
+            catalogue = json.load(file)
+        targets = {slot["Slot"]: slot["ModuleItemTarget"] for slot in catalogue["Project"]["Slots"]}
+        module = {item["ID"]: item for item in catalogue["ModuleItem"]}
+        module[targets[1]]["Name"] = 'Level "A"\nin mm'
+        module[targets[1]]["VirtualSubmoduleItem"][0]["Name"] = "Level"
+        module[targets[2]]["Name"] = "Pumpe f\u00fcr Halle 2" + 61 * "x" + "\u00fc"
+        for part in (*module[targets[2]]["VirtualSubmoduleItem"], *catalogue["DeviceAccessPointItem"]["VirtualSubmoduleItem"]):
+            part.pop("Name", None)
+        catalogue["ChannelDiagList"] = [{"ErrorType": 256, "Name": "Cell is used up"}, {"ErrorType": "x"}, 7]
+        with open(path, "w", encoding="utf-8") as file:
+            json.dump(catalogue, file)
+        return path
 
     @staticmethod
     def killed_and_started(path, port):
@@ -552,6 +699,7 @@ class ViewTests:
             return f"NOT TRIED: {lacks}"
         with browser.Browser() as page:
             told = self.in_all_sizes(page)
+            told += "; " + self.in_modules(page)
             self.dialogs(page)
             self.hostile_names(page)
             told += "; " + self.many_stations(page)
@@ -582,6 +730,67 @@ class ViewTests:
             self.shows(page, "#live", "no data", 8)
             count += self.has_contrast(page, "no data")
         return f"{count} elements have their contrast"
+
+    def in_modules(self, page):
+        """64 stations with 30 signals each, by module: bits side by side, names that are not parted within a word, the maker's own texts, a stall once and in
+        milliseconds, at three widths. One station with 61 signals is short."""
+        plant = MadeUp(self.path("modules.lines"))
+        plant_of_modules(plant, 64)
+        heights, longest = [], 0.0
+        with View("--socket", plant.path, "--allow-set") as view:
+            for width in (390, 1280, 1920):
+                page.size(width, 900)
+                page.scheme("dark" if width == 390 else "light", "reduce")
+                page.open(view.url)
+                self.shows(page, "#found", "64 stations, 1,920 signals", 60)
+                same("all stations are closed", page.run("return document.querySelectorAll('.card details[open]').length"), 0)
+                heights.append(page.run("return document.documentElement.scrollHeight"))
+                self.shows(page, ".faults li", "Measuring tube is coated: slot 4 subslot 1 (Flow meter), channel 3", 15)
+                self.shows(page, "#diagnosis strong", "Supply of the sensors is overloaded", 15)
+                longest = max(longest, self.shows_out_of_sight(page, plant, "drive-60", f"wire break at {width} pixels"))
+                page.run("const line = document.getElementById('station-drive-3').closest('summary'); line.scrollIntoView(); line.click()")
+                self.says(page, "it is open", True, "return document.querySelector('.module h4') !== null")
+                came = page.run(MODULES, "drive-3")
+                same(f"modules at {width}", [(title, parts, [(words, count) for words, count, _ in bits], rows[:1]) for title, parts, bits, rows in came], [
+                    ("Slot 18 digital inputs", [], [("Inputs", 8)], []), ("Slot 28 digital outputs", [], [("Outputs", 8)], []),
+                    ("Slot 34 analog inputs, 4 to 20 mA", [], [], ["temperature_"]), ("Slot 4Flow meter", [], [("Inputs", 3)], ["flow"]),
+                    ("Slot 5Carrier for submodules", ["Subslot 1Display", "Subslot 2", "Subslot 3Lamp"], [], ["display"])])
+                same(f"bits side by side at {width}", [lines < count for _, _, bits, _ in came for _, count, lines in bits], [True] * 3)
+                same(f"names at {width}", page.run(PARTED), [])
+                same(f"nothing is wider than {width} pixels", page.run("return document.documentElement.scrollWidth"), width)
+                self.has_contrast(page, f"modules {width}")
+                happen(plant)
+                self.says(page, "the stalls", ["The machine stood still: 6,000 ms were lost since the start, 3 times"],
+                          "return [...document.querySelectorAll('#events li')].map((item) => item.lastChild.lastChild.textContent).filter((text) => text.includes('stood still'))")
+                self.says(page, "the alarm", True, "return [...document.querySelectorAll('#events li')].some((item) => item.textContent.includes('Measuring tube is coated appearsslot 4 subslot 1 (Flow meter), channel 3'))")
+            page.keys("/")
+            page.keys("valve_7")
+            self.shows(page, "#found", "64 stations, 64 signals found", 10)
+            same("a search that finds many opens none but the one that was", page.run("return document.querySelectorAll('.card details[open]').length") <= 1, True)
+            page.keys("ESCAPE", "ESCAPE")
+            page.run("location.hash = '#station-drive-40'")
+            self.says(page, "a link opens a station", True, "return document.getElementById('station-drive-40').closest('details').open")
+        one = MadeUp(self.path("single.lines"))
+        some = modules_of(1)[1]
+        one.add("flow-7", [*some, *((f"{name}_b", *rest, slot + 5, subslot, octet, bit) for name, *rest, slot, subslot, octet, bit in some), ("last", "input", "Unsigned8", "1", "", "", 12, 1, 0, "-")])
+        with View("--socket", one.path) as view:
+            page.size(1280, 900)
+            page.open(view.url)
+            self.shows(page, "#found", "1 station, 61 signals", 30)
+            self.says(page, "its modules", 11, "return document.querySelectorAll('.module').length")
+            height = page.run("return document.documentElement.scrollHeight")
+            same(f"61 signals take {height} pixels", height < 2000, True)
+        return f"64 stations are {heights} pixels high, 61 signals {height}; a diagnosis out of sight is there after at most {longest:.2f} s"
+
+    def shows_out_of_sight(self, page, plant, name, fault):
+        """A diagnosis that comes while the station is far below what is seen is in its card at once. Returns the seconds."""
+        top = page.run("return document.getElementById(`station-${arguments[0]}`).getBoundingClientRect().top - innerHeight", name)
+        same(f"{name} is {top} pixels below what is seen", top > 400, True)
+        plant.stations[name]["diagnosis"] = [f"3 1 2 6 ({fault})"]
+        plant.tell(f"{name} alarm 1 3 1 43008 800008000100 (low priority, diagnosis, USI 8000 channel diagnosis: channel 2 error 6 ({fault}) appears)")
+        took = self.shows(page, ".is-warn .faults li", f"{fault}: slot 3 subslot 1 (4 analog inputs, 4 to 20 mA), channel 2", 1)
+        same(f"{name} is not scrolled to", page.run("return scrollY"), 0)
+        return took
 
     def dialogs(self, page):
         """A text and a Boolean by the dialog: quotes and backslashes arrive as they were typed."""
@@ -664,4 +873,20 @@ class ViewTests:
             plant.change("drive-17.value_5", "4711")
             took = self.shows(page, "tr:not([hidden]) td.value", "4711rpm", 5)
             same("the picture has each of them", page.run("return document.querySelectorAll('.picture a').length"), 64)
-        return f"one of 1,984 signals changes on the page within {took * 1000:.0f} ms; its server takes {share:.0f} % of a processor"
+            # All of them open: what a browser does while a hundred signals a second change.
+            page.keys("ESCAPE")
+            page.run("document.getElementById('find').value = ''; document.querySelectorAll('.card details').forEach((one) => (one.open = true))")
+            page.waits(FRAMES)
+            over.clear()
+            changes = threading.Thread(target=self.change_all, args=(plant, over), daemon=True)
+            changes.start()
+            time.sleep(2)
+            before, begins = page.processor_seconds(), time.monotonic()
+            time.sleep(5)
+            used = 100 * (page.processor_seconds() - before) / (time.monotonic() - begins)
+            over.set()
+            changes.join()
+            plant.change("drive-1.value_1", "4712")
+            self.shows(page, "tr:not([hidden]) td.value", "4712rpm", 10)
+        return (f"one of 1,984 signals changes on the page within {took * 1000:.0f} ms; its server takes {share:.0f} % of a processor; "
+                f"with all open, the browser takes {used:.0f} %")

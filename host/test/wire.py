@@ -1,5 +1,6 @@
 """A wire between two network namespaces, programs on it whose lines are read as they arrive, and frames without any library."""
 
+import contextlib
 import ctypes
 import os
 import re
@@ -96,6 +97,10 @@ class Wire:
                 program.process.kill()
                 program.process.wait()
         for name in self.made:
+            # And those that outlive the program that started them.
+            for number in subprocess.run(["ip", "netns", "pids", name], capture_output=True, text=True).stdout.split():
+                with contextlib.suppress(ProcessLookupError):
+                    os.kill(int(number), 9)
             subprocess.run(["ip", "netns", "del", name], capture_output=True)
         self.made = []
 

@@ -88,8 +88,45 @@ export function clock(seconds) {
   return make("time", { datetime: time.toISOString() }, isToday ? text : `${day} ${text}`);
 }
 
+/** The name of a module, or of one of its submodules, by the catalogue; empty if it has none. */
+export function moduleOf(station, slot, subslot) {
+  return station?.modules?.find((one) => one.slot === slot && one.subslot === subslot)?.text ?? "";
+}
+
+/** Where a submodule is, with the name of its module. */
+export function submoduleOf(station, slot, subslot) {
+  const name = moduleOf(station, slot, subslot) || moduleOf(station, slot, null);
+  return `slot ${slot} subslot ${subslot}${name ? ` (${name})` : ""}`;
+}
+
 /** Where a diagnosis is: the submodule and its channel. */
-export function placeOf(fault) {
-  const channel = fault.channel === 32768 ? "the submodule" : `channel ${fault.channel}`;
-  return `slot ${fault.slot} subslot ${fault.subslot}, ${channel}`;
+export function placeOf(station, fault) {
+  const channel = fault.channel === 32768 ? "" : `, channel ${fault.channel}`;
+  return submoduleOf(station, fault.slot, fault.subslot) + channel;
+}
+
+/** A diagnosis in words. What it is about says its place. */
+export function faultOf(fault) {
+  const text = fault.text.replace(/, the submodule$/, "");
+  return text === "an error of its maker" ? `error ${fault.error} of its maker` : text;
+}
+
+/** An alarm in words: what appears or disappears, and the rest of it. */
+export function alarmOf(station, alarm) {
+  const found = alarm.text.match(/(?:^|[ :])error \d+ \((.+?)\)(?: extended error \d+(?: \((.+?)\))?)? (appears|disappears[a-z, ]*)$/);
+  const channel = alarm.text.match(/ channel (\d+) error /);
+  const place = submoduleOf(station, alarm.slot, alarm.subslot) + (found && channel ? `, channel ${channel[1]}` : "");
+  const text = found ? `${found[1]}${found[2] ? `, ${found[2]}` : ""} ${found[3]}` : `Alarm: ${alarm.text}`;
+  const octets = alarm.octets && alarm.octets !== "-" ? `, octets ${alarm.octets}` : "";
+  return { text, more: `${place}; ${alarm.priority} priority${octets}` };
+}
+
+const UNIT = 0.03125; // milliseconds
+
+/** A stall in words: the line counts all since the start, in units of time. */
+export function stallOf(text) {
+  const found = text.match(/^(\d+) units of time .* (\d+) stalls?$/);
+  if (!found) return text;
+  const lost = Number(found[1]) * UNIT;
+  return `The machine stood still: ${count(Math.round(lost * (lost < 10 ? 10 : 1)) / (lost < 10 ? 10 : 1))} ms were lost since the start, ${several(Number(found[2]), "time")}`;
 }

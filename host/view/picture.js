@@ -4,8 +4,8 @@ import { draw, shape, stateOf } from "./parts.js";
 
 const BOX = { width: 130, height: 46 };
 const ACROSS = { column: BOX.width + 124, row: 66 };
-const DOWN = { step: 22, row: BOX.height + 36 };
-const MARGIN = 14;
+const DOWN = { step: 22, row: BOX.height + 36, least: 6, column: BOX.width + 150 }; // with more rows a further column begins
+const MARGIN = 16;
 const CONTROLLER = "Controller"; // a name of DCP has no capitals
 
 /** What the stations call the controller: its name and its MAC address. It is the one at the port that the controller hears, or has its MAC address. */
@@ -119,6 +119,26 @@ function placedDown(roots) {
   return MARGIN + row * DOWN.row;
 }
 
+/** Parts places from top to bottom into as many columns as there is room for. Returns where they end. */
+function folded(nodes, bottom, room) {
+  const width = Math.max(...nodes.map((node) => node.x)) - MARGIN + DOWN.column;
+  const rows = Math.round((bottom - MARGIN) / DOWN.row);
+  const columns = Math.max(1, Math.min(Math.floor((room - MARGIN) / width), Math.floor(rows / DOWN.least)));
+  const each = Math.ceil(rows / columns);
+  for (const node of nodes) {
+    const row = Math.round((node.y - MARGIN) / DOWN.row);
+    node.column = Math.floor(row / each);
+    node.x += node.column * width;
+    node.y = MARGIN + (row % each) * DOWN.row;
+  }
+  return MARGIN + Math.min(rows, each) * DOWN.row;
+}
+
+/** A node and all below it. */
+function below(node) {
+  return [node, ...node.children.flatMap(below)];
+}
+
 /** Places of those that have no cable: in rows. */
 function placedAlone(nodes, top, room) {
   const width = BOX.width + 16;
@@ -197,6 +217,10 @@ function cableDown(nodes, parent, node) {
   const x1 = parent.x + 12, y1 = parent.y + BOX.height;
   const x2 = node.x + 12, y2 = node.y;
   const ports = [ownEnd(node.up, parent.name).port, ownEnd(node.up, node.name).port];
+  if (parent.column !== node.column) {
+    const gap = x2 - 24; // between the columns
+    return [draw("path", { class: lineOf(nodes, node.up), d: `M${x1} ${y1}V${y1 + 14}H${gap}V${y2 - 10}H${x2}V${y2}` }, draw("title", {}, `${ports[0]} to ${ports[1]}`)), knob(x1, y1), knob(x2, y2)];
+  }
   return [
     draw("path", { class: lineOf(nodes, node.up), d: x1 === x2 ? `M${x1} ${y1}V${y2}` : `M${x1} ${y1}V${y2 - 18}H${x2}V${y2}` }),
     knob(x1, y1), knob(x2, y2),
@@ -225,7 +249,8 @@ export function pictureOf(plant, room) {
   const all = trees(whole);
   const roots = all.filter((node) => node.children.length > 0);
   const isAcross = MARGIN * 2 + deepest(roots) * ACROSS.column + BOX.width <= room;
-  placedAlone(all.filter((node) => node.children.length === 0), (isAcross ? placedAcross : placedDown)(roots), room);
+  const bottom = isAcross ? placedAcross(roots) : folded(roots.flatMap(below), placedDown(roots), room);
+  placedAlone(all.filter((node) => node.children.length === 0), bottom, room);
   const drawn = [...nodes.values()];
   const inTree = new Set(drawn.map((node) => node.up));
   const rings = cables.filter((cable) => !inTree.has(cable));

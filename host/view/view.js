@@ -1,12 +1,12 @@
 // The page: takes what the server says over Server-Sent Events, and shows it. It asks no other server for anything.
 
 import { cablesInWords, controllerOf, pictureOf } from "./picture.js";
-import { clock, count, make, milliseconds, placeOf, several, shape, show, stateOf, write } from "./parts.js";
+import { alarmOf, clock, count, faultOf, make, milliseconds, placeOf, several, shape, show, stallOf, stateOf, write } from "./parts.js";
 import { openSet } from "./set.js";
-import { SignalTable } from "./signals.js";
+import { Signals } from "./signals.js";
 
 const MOST_EVENTS = 100;
-const MOST_OPEN = 8; // stations whose signals are shown at once; with more, each is opened by a click or by a search
+const MOST_OPEN = 8; // stations that are open at once; with more, each is opened by a click, or by a search that finds few
 const SILENCE = 4000; // milliseconds without anything of the server until the page says so: it sends a beat each second
 
 const at = (id) => document.getElementById(id);
@@ -27,13 +27,15 @@ function take(whole) {
   build();
 }
 
-/** Makes the card of each station. */
+/** Makes the card of each station. One that was open or closed stays so. */
 function build() {
+  const open = new Map([...cards].map(([name, card]) => [name, card.chosen]));
   cards.forEach((card) => card.close());
   cards.clear();
-  for (const station of plant.stations.values()) cards.set(station.name, new Card(station));
+  for (const station of plant.stations.values()) cards.set(station.name, new Card(station, open.get(station.name)));
   at("cards").replaceChildren(...[...cards.values()].map((card) => card.element));
-  at("cards").classList.toggle("single", cards.size === 1);
+  at("cards").classList.toggle("many", cards.size > MOST_OPEN);
+  searched = null;
   due();
 }
 
@@ -50,7 +52,7 @@ function change(parts) {
   due();
 }
 
-/** Returns whether there is one more station. */
+/** Returns whether there is one more station, or one whose modules have names now. */
 function changeStation(name, data) {
   const station = plant.stations.get(name);
   if (!station) {
@@ -58,8 +60,9 @@ function changeStation(name, data) {
     return true;
   }
   if (data.state !== station.state) say(`${name}: ${stateOf(data).words}`);
+  const isNamed = data.modules?.length !== station.modules?.length;
   Object.assign(station, data);
-  return false;
+  return isNamed;
 }
 
 /** Returns whether there is one more signal, or one about which more is known. */
@@ -67,7 +70,7 @@ function changeSignal(name, data) {
   const station = plant.stations.get(data.station);
   const signal = station?.signals.find((one) => one.name === name);
   if (signal && signal.type === data.type && signal.direction === data.direction) {
-    cards.get(data.station)?.table.take(name, data);
+    cards.get(data.station)?.signals.take(name, data);
     return false;
   }
   if (signal) Object.assign(signal, data);
@@ -76,19 +79,22 @@ function changeSignal(name, data) {
 }
 
 function alarmEvent(alarm) {
-  const octets = alarm.octets && alarm.octets !== "-" ? `, octets ${alarm.octets}` : "";
-  const place = `slot ${alarm.slot} subslot ${alarm.subslot}`;
-  return { ...alarm, kind: "alarm", text: `Alarm of ${alarm.priority} priority from ${place}: ${alarm.text}${octets}` };
+  return { ...alarm, kind: "alarm", ...alarmOf(plant.stations.get(alarm.station), alarm) };
 }
 
+/** Keeps what happened. A stall counts all before it, so the newest is enough. */
 function keep(event) {
+  if (event.kind === "stall") {
+    plant.events = plant.events.filter(({ kind }) => kind !== "stall");
+    event = { ...event, text: stallOf(event.text) };
+  }
   plant.events.unshift(event);
   plant.events.length = Math.min(plant.events.length, MOST_EVENTS);
 }
 
 function tell(event) {
   keep(event);
-  say(`${event.station ?? ""} ${event.text}`);
+  say(`${event.station ?? ""} ${plant.events[0].text}`);
 }
 
 function listen() {
@@ -212,18 +218,22 @@ function drawPicture() {
 
 function drawDiagnosis() {
   const faults = [...plant.stations.values()].flatMap((station) => station.diagnosis.map((fault) => ({ ...fault, station: station.name })));
-  const head = (fault) => make("div", { class: "head" }, shape("warn"), make("strong", {}, fault.text), make("span", {}, fault.station));
-  const item = (fault) => make("li", {}, head(fault), make("div", { class: "muted" }, placeOf(fault)));
-  show(at("diagnosis"), JSON.stringify(faults), () => itemsOr("No station reports one.", faults.map(item)));
+  const link = (fault) => make("a", { class: "who", href: `#station-${fault.station}` }, fault.station);
+  const more = (fault) => make("div", { class: "muted" }, link(fault), " ", placeOf(plant.stations.get(fault.station), fault));
+  const item = (fault) => make("li", {}, shape("warn"), make("div", {}, make("strong", {}, faultOf(fault)), more(fault)));
+  const names = [...plant.stations.values()].map((station) => station.modules?.length);
+  show(at("diagnosis"), JSON.stringify([faults, names]), () => itemsOr("No station reports one.", faults.map(item)));
 }
 
 const KINDS = { alarm: "warn", ended: "bad", warning: "warn", refused: "warn", stall: "warn", link: "busy" };
 
 function drawEvents() {
-  const who = (event) => make("span", { class: "who" }, event.station ?? "");
-  const head = (event) => make("div", { class: "head" }, shape(KINDS[event.kind] ?? "idle"), clock(event.time), who(event));
+  const who = (event) => (event.station ? make("a", { class: "who", href: `#station-${event.station}` }, event.station) : null);
+  const head = (event) => make("div", { class: "muted" }, clock(event.time), " ", who(event));
+  const more = (event) => (event.more ? make("div", { class: "muted" }, event.more) : null);
+  const item = (event) => make("li", {}, shape(KINDS[event.kind] ?? "idle"), make("div", {}, head(event), event.text, more(event)));
   const key = plant.events.map((event) => event.kind + event.number).join();
-  show(at("events"), key, () => itemsOr("Nothing yet.", plant.events.map((event) => make("li", {}, head(event), event.text))));
+  show(at("events"), key, () => itemsOr("Nothing yet.", plant.events.map(item)));
 }
 
 /** The items of a list, or one that says that there are none. */
@@ -234,20 +244,24 @@ function itemsOr(text, items) {
 // ---- a station
 
 class Card {
-  constructor(station) {
+  /** `isOpen` is what was chosen before, if anything was. */
+  constructor(station, isOpen) {
     this.station = station;
+    this.chosen = isOpen;
     this.isSeen = true;
     this.state = make("span", { class: "state" });
+    this.brief = make("span", { class: "brief muted" });
     this.why = make("p", { class: "why", hidden: true });
     this.faults = make("ul", { class: "faults", hidden: true, "aria-label": `Diagnosis of ${station.name}` });
     this.facts = make("dl", { class: "facts" });
-    this.table = new SignalTable(station, plant.isSetAllowed ? openSet : null);
-    this.count = make("summary", {});
-    this.more = make("details", { open: plant.stations.size <= MOST_OPEN }, this.count, this.table.element);
-    this.more.addEventListener("toggle", due);
+    this.signals = new Signals(station, plant.isSetAllowed ? openSet : null);
     const title = make("h3", { id: `station-${station.name}`, tabindex: "-1" }, station.name);
-    this.element = make("section", { class: "card", "aria-labelledby": title.id },
-      make("header", {}, title, this.state), this.why, this.faults, this.facts, this.more);
+    this.line = make("summary", {}, title, this.state, this.brief);
+    this.more = make("details", { open: isOpen ?? plant.stations.size <= MOST_OPEN }, this.line, this.facts, this.signals.element);
+    this.more.addEventListener("toggle", () => this.placeTrouble());
+    this.line.addEventListener("click", () => (this.chosen = !this.more.open));
+    this.element = make("section", { class: "card", "aria-labelledby": title.id }, this.more);
+    this.placeTrouble();
     this.watcher = new IntersectionObserver(([seen]) => {
       this.isSeen = seen.isIntersecting;
       due();
@@ -255,31 +269,54 @@ class Card {
     this.watcher.observe(this.element);
   }
 
+  /** What is wrong is below the line of the station, also while it is closed. */
+  placeTrouble() {
+    (this.more.open ? this.line : this.more).after(this.why, this.faults);
+    due();
+  }
+
   close() {
     this.watcher.disconnect();
   }
 
   hasTrouble() {
-    return this.station.state !== "exchanging" || this.station.diagnosis.length > 0 || this.table.countBad() > 0;
+    return this.station.state !== "exchanging" || this.station.diagnosis.length > 0 || this.signals.countBad() > 0;
   }
 
   draw() {
+    this.drawTrouble();
     if (!this.isSeen) return;
+    this.drawBrief();
+    if (!this.more.open) return;
+    this.drawFacts();
+    this.signals.draw();
+  }
+
+  /** The state of a station and what is wrong, also where nobody looks: a search in the page and a screen reader find it there. */
+  drawTrouble() {
     const { station } = this;
     const { kind, words } = stateOf(station);
-    this.element.className = `card is-${kind}`;
-    this.state.className = `state ${kind}`;
-    show(this.state, kind + words, () => [shape(kind), words]);
+    const look = kind === "good" && station.diagnosis.length > 0 ? "warn" : kind;
     const why = station.state === "exchanging" ? "" : station.waiting ?? station.cause?.text ?? "";
+    const key = JSON.stringify([kind, words, why, station.diagnosis, station.modules?.length]);
+    if (this.trouble === key) return;
+    this.trouble = key;
+    this.element.className = `card is-${look}`;
+    this.state.className = `state ${kind}`;
+    this.state.replaceChildren(shape(kind), words);
     this.why.hidden = why === "";
-    write(this.why, why);
+    this.why.textContent = why;
     this.faults.hidden = station.diagnosis.length === 0;
-    const item = (fault) => make("li", {}, shape("warn"), ` ${fault.text}: ${placeOf(fault)}`);
-    show(this.faults, JSON.stringify(station.diagnosis), () => station.diagnosis.map(item));
-    this.drawFacts();
-    const bad = this.table.countBad();
-    write(this.count, `${several(this.table.rows.size, "signal")}${bad ? `, ${bad} bad` : ""}`);
-    if (this.more.open) this.table.draw();
+    this.faults.replaceChildren(...station.diagnosis.map((fault) => make("li", {}, shape("warn"), ` ${faultOf(fault)}: ${placeOf(station, fault)}`)));
+  }
+
+  /** What the line of a station says, also while it is closed. */
+  drawBrief() {
+    const { station } = this;
+    const bad = this.signals.countBad();
+    const parts = [station.address, station.interval && `p99 ${milliseconds(station.interval.p99)}`, station.lost ? `${count(station.lost)} lost` : null,
+      `${several(this.signals.rows.size, "signal")}${bad ? `, ${bad} bad` : ""}`];
+    write(this.brief, parts.filter(Boolean).join(" · "));
   }
 
   drawFacts() {
@@ -299,26 +336,35 @@ class Card {
 
 // ---- searching
 
-let searched = "";
+let searched = null;
 
 function select() {
   const wanted = at("find").value.trim().toLowerCase();
   const isTroubleOnly = at("trouble").checked;
   let stations = 0, signals = 0;
+  const found = [];
   for (const card of cards.values()) {
     const isNamed = card.station.name.toLowerCase().includes(wanted);
-    const shown = card.table.select(isNamed ? "" : wanted);
+    const shown = card.signals.select(isNamed ? "" : wanted);
     const isShown = (isNamed || shown > 0) && (!isTroubleOnly || card.hasTrouble());
     card.element.hidden = !isShown;
-    if (wanted !== searched) card.more.open = (wanted !== "" && shown > 0) || cards.size <= MOST_OPEN;
+    if (isShown) found.push([card, shown]);
     stations += isShown;
     signals += isShown ? shown : 0;
   }
+  if (wanted !== searched) found.forEach(([card, shown]) => (card.more.open = wanted === "" ? card.chosen ?? cards.size <= MOST_OPEN : shown > 0 && found.length <= MOST_OPEN));
   searched = wanted;
-  const found = `${several(stations, "station")}, ${several(signals, "signal")}${wanted || isTroubleOnly ? " found" : ""}`;
-  write(at("found"), cards.size === 0 ? "" : found);
+  const text = `${several(stations, "station")}, ${several(signals, "signal")}${wanted || isTroubleOnly ? " found" : ""}`;
+  write(at("found"), cards.size === 0 ? "" : text);
 }
 
+/** A link to a station opens it. */
+function openLinked() {
+  const card = cards.get(decodeURIComponent(location.hash).replace("#station-", ""));
+  if (card) card.chosen = card.more.open = true;
+}
+
+addEventListener("hashchange", openLinked);
 at("find").addEventListener("input", due);
 at("trouble").addEventListener("change", due);
 at("filter").addEventListener("submit", (event) => event.preventDefault());

@@ -16,7 +16,7 @@
 //! HEX`, or `value none` if there is no such input. `alarm` prints `alarm TYPE SLOT SUBSLOT SPECIFIER HEX`, or `alarm
 //! none`. `ar` prints `ar HEX`. Empty octets are printed as `-`.
 //!
-//! `stdin` is what a station of Scapy's layers says (`bench/interoperation/scapy_station.py`), and `stdout` is what a
+//! `stdin` is what a station of Scapy's layers says (`tests/interoperation/scapy_station.py`), and `stdout` is what a
 //! controller must do by the rules alone, with each frame as Scapy builds it. Neither shares a line with this
 //! repository's crates.
 #![tactic(auto)]

@@ -17,7 +17,7 @@ import time
 from typing import Any, Callable, Dict, NamedTuple, Optional, Protocol, Union
 
 from nandutable.commands import Commands, Raw
-from nandutable.errors import Busy, Error, Gone, NotExchanging, TimedOut
+from nandutable.errors import Busy, Error, Gone, NotExchanging, Refused, TimedOut
 from nandutable.state import PlantState
 
 from . import topics as form
@@ -27,6 +27,7 @@ from .topics import BadValue, Plain, Topics
 BEAT = 10.0  # seconds from one payload of the bridge's own state and of the statistics to the next
 MOST_SETS = 100  # sets that wait for the controller
 LATE = 2.0  # seconds after which a set that waits is refused: what it was meant for may be over
+FAULTS = 10  # of this program that are logged
 KNOWN_WITHIN = 10.0  # seconds after which the bridge is online, also if not each signal has a value yet
 
 
@@ -86,7 +87,7 @@ class Bridge:
         self.state, self.commands, self.topics, self._on_state = state, commands, topics, on_state
         self.broker = Broker(address, (topics.bridge, form.payload({"state": "offline"})), None if is_read_only else topics.sets, self._on_message, on_state)
         self.changes = state.subscribe(notify=self.broker.wake)
-        self.sets = self.refused = 0
+        self.sets = self.refused = self.faults = 0
         self._rate = Rate(sets_a_second)
         self._asked: "queue.Queue[Asked]" = queue.Queue(MOST_SETS)
         self._answers: "queue.SimpleQueue[tuple[Asked, Optional[Error]]]" = queue.SimpleQueue()
@@ -178,7 +179,7 @@ class Bridge:
         # Until the plant is known, the broker may have values of an earlier bridge.
         self._beats_at = time.monotonic() + (BEAT if is_known else 0.1)
         counts = {"published": self.broker.published, "replaced": self.changes.merged + self.broker.replaced, "dropped": self.changes.dropped + self.broker.dropped,
-                  "connections": self.broker.connections, "sets": self.sets, "sets_refused": self.refused}
+                  "connections": self.broker.connections, "sets": self.sets, "sets_refused": self.refused, "faults": self.faults}
         self.broker.put(self.topics.bridge, form.payload({"state": "online", "time": time.time(), **counts} if is_known else {"state": "starting"}))
 
     def _knows_all(self) -> bool:
@@ -195,9 +196,20 @@ class Bridge:
     # -- from the broker to the plant
 
     def _on_message(self, topic: str, payload: bytes, is_retained: bool) -> None:
-        name = self.topics.name_of_set(topic)
-        if name is None or not payload:
-            return  # an empty payload is how a retained message is removed
+        try:
+            name = self.topics.name_of_set(topic)
+            if name is not None and payload:  # an empty payload is how a retained message is removed
+                self._take_set(name, payload, is_retained)
+        except Exception as fault:
+            self._dropped(f"a message for {topic!r:.200}", fault)
+
+    def _dropped(self, what: str, fault: Exception) -> None:
+        """A fault of this program may cost a message, and never the connection or the bridge."""
+        self.faults += 1
+        if self.faults <= FAULTS:
+            self._on_state(f"a fault of this program: {what} was dropped: {type(fault).__name__}: {fault}")
+
+    def _take_set(self, name: str, payload: bytes, is_retained: bool) -> None:
         self.sets += 1
         identifier = None
         try:
@@ -242,6 +254,9 @@ class Bridge:
             commands.set(asked.name, Raw(asked.text))
         except Error as fault:
             return fault
+        except Exception as fault:
+            self._dropped(f"a set of {asked.name}", fault)
+            return Refused(f"a fault of the bridge: {type(fault).__name__}")
         return None
 
     def _take_answers(self) -> None:
@@ -259,7 +274,7 @@ class Bridge:
             told.update(code=code, reason=reason)
         if identifier is not None:
             told["id"] = identifier
-        self.broker.say(self.topics.signal(name, form.ANSWER), form.payload(told))
+        self.broker.answer(self.topics.signal(name, form.ANSWER), form.payload(told))
 
 
 class _No(Exception):

@@ -11,8 +11,9 @@ import sys
 import threading
 from typing import Any, List, NoReturn, Optional, Sequence
 
-from nandutable.errors import Error
-from nandutable.plants import start
+from nandutable.commands import ASKING, SETTING
+from nandutable.errors import Error, Gone
+from nandutable.kept import begin
 from nandutable.source import Log, Source
 from nandutable.view import Rules, Server
 
@@ -25,9 +26,17 @@ VERSION = "0.1.0"
 WRONG_OPTION, NO_FILE, FAILED, IS_TAKEN, NOT_ALLOWED = 64, 66, 70, 75, 77
 
 EPILOG = """\
-With --socket it uses a controller that runs already (its options --socket PATH and --signals), which goes on when the bridge ends. Otherwise it
-starts nandutable-controller on INTERFACE with the plans, with --signals=only, --times and the words after `--`, such as `-- --retry 5`, and ends
-with it. Topics and payloads are in docs/BRIDGE.md and nandutable-bridge(1)."""
+With --socket it uses a controller that runs already (its options --socket
+PATH and --signals), which goes on when the bridge ends. Otherwise it starts
+nandutable-controller on INTERFACE with the plans, with --signals=only, --times
+and the words after `--`, such as `-- --retry 5`. It ends this one when it is
+ended itself (SIGTERM, SIGINT, SIGHUP). If the bridge dies, the controller goes
+on, and the same command uses it again.
+
+The bridge sends no line to the controller but set, and those that ask: no
+client of the broker can stop or restart a station.
+
+Topics and payloads are in docs/BRIDGE.md and nandutable-bridge(1)."""
 
 
 class Parser(argparse.ArgumentParser):
@@ -47,8 +56,8 @@ def number(least: int, most: int) -> Any:
 
 
 def parser() -> Parser:
-    made = Parser(NAME, description="Publishes the signals, states, alarms and diagnosis of PROFINET stations over MQTT, and sets outputs.", epilog=EPILOG,
-                  formatter_class=argparse.RawDescriptionHelpFormatter, allow_abbrev=False)
+    made = Parser(NAME, description="Publishes the signals, states, alarms and diagnosis of PROFINET stations\nover MQTT, and sets outputs.", epilog=EPILOG,
+                  formatter_class=lambda prog: argparse.RawDescriptionHelpFormatter(prog, width=80), allow_abbrev=False)
     made.add_argument("interface", nargs="?", metavar="INTERFACE")
     made.add_argument("plans", nargs="*", metavar="PLAN.json")
     made.add_argument("--socket", metavar="PATH", help="the socket of a controller that runs; tried again each second")
@@ -158,7 +167,7 @@ def main(words: Sequence[str]) -> int:
     log = Log(NAME)
     try:
         options, more, address, topics = checked(words)
-        source = Source(options.socket, lambda: start(options.plans, options.interface, ["--signals=only", *more]), log)
+        source = Source(options.socket, lambda: begin(options.plans, options.interface, more, log.pass_on), log, ASKING if options.read_only else SETTING)
         page = page_of(options, source, log)
     except Refusal as no:
         print(f"{NAME}: {no}", file=sys.stderr)
@@ -178,14 +187,14 @@ def run(source: Source, bridge: Bridge, log: Log) -> int:
     """Runs both until one of them ends."""
     def watch() -> None:
         bridge.ended.wait()
-        source.end()
+        source.leave()
     bridge.start()
     threading.Thread(target=watch, daemon=True).start()
     try:
         status = source.run()
     except Error as fault:
         log(str(fault))
-        status = NO_FILE
+        status = fault.status if isinstance(fault, Gone) and fault.status is not None else NO_FILE
     bridge.stop()
     if bridge.fault is not None:
         log(f"it fails: {type(bridge.fault).__name__}: {bridge.fault}")

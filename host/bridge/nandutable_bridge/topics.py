@@ -13,7 +13,8 @@ from typing import Any, Dict, List, Optional, Tuple
 Plain = Dict[str, Any]
 
 LONGEST_PREFIX = 200
-LONGEST_NAME = 400  # a station's name and a signal's name are shorter
+LONGEST_NAME = 400  # octets of a station's name and a signal's name are fewer
+SETTABLE = re.compile(r"""([!"$-*,\-.0-~]+)/([!"$-*,\-0-~]+)/set""")  # no blank, no +, # or /, and only ASCII, as all names are
 SET, ANSWER, ABOUT = "set", "answer", "about"
 STATISTICS = "statistics"
 
@@ -22,9 +23,12 @@ class BadPrefix(ValueError):
     """The text cannot be the begin of a topic."""
 
 
+HALF = re.compile("[\ud800-\udfff]")  # of a surrogate pair, which JSON can have and UTF-8 cannot
+
+
 def payload(data: Any) -> bytes:
     """The octets of a payload: JSON in one line, in UTF-8."""
-    return json.dumps(data, ensure_ascii=False, allow_nan=False, separators=(", ", ": ")).encode()
+    return json.dumps(data, ensure_ascii=False, allow_nan=False, separators=(", ", ": ")).encode("utf-8", "replace")
 
 
 def some_of(data: Plain, *keys: str) -> Plain:
@@ -35,7 +39,7 @@ class Topics:
     """The topics below a prefix."""
 
     def __init__(self, prefix: str) -> None:
-        if not prefix or len(prefix.encode()) > LONGEST_PREFIX or prefix.startswith("$") or re.search(r"[+#\x00-\x1f\x7f]", prefix) or "" in prefix.split("/"):
+        if not prefix or HALF.search(prefix) or len(prefix.encode()) > LONGEST_PREFIX or prefix.startswith("$") or re.search(r"[+#\x00-\x1f\x7f]", prefix) or "" in prefix.split("/"):
             raise BadPrefix(f"a prefix is 1 to {LONGEST_PREFIX} octets without + and #, does not begin with $, and has no empty level: {prefix!r}")
         self.prefix = prefix
         self.bridge = f"{prefix}/_bridge"
@@ -52,13 +56,12 @@ class Topics:
         return "/".join((self.prefix, station, signal, *part))
 
     def name_of_set(self, topic: str) -> Optional[str]:
-        """The full name of the signal of a topic `PREFIX/STATION/SIGNAL/set`. None for another topic."""
+        """The full name of the signal of a topic `PREFIX/STATION/SIGNAL/set`. None for another topic. The name of a signal has no dot, so that no
+        topic names a signal of another station."""
         if not topic.startswith(self.prefix + "/"):
             return None
-        levels = topic[len(self.prefix) + 1:].split("/")
-        if len(levels) != 3 or levels[2] != SET or not levels[0] or not levels[1] or len(topic.encode()) > len(self.prefix.encode()) + LONGEST_NAME:
-            return None
-        return f"{levels[0]}.{levels[1]}"
+        found = SETTABLE.fullmatch(topic[len(self.prefix) + 1:])
+        return f"{found[1]}.{found[2]}" if found is not None and len(found[0]) < LONGEST_NAME else None
 
 
 # ---- What is published
@@ -145,6 +148,8 @@ def read_set(octets: bytes) -> Tuple[Any, Any]:
 
 
 def _id(given: Any) -> Any:
+    if isinstance(given, str) and HALF.search(given):
+        raise BadValue("id has half of a surrogate pair")
     if given is None or isinstance(given, str) and not isinstance(given, Number) and len(given) <= LONGEST_ID:
         return given
     if isinstance(given, Number) and re.fullmatch(r"-?[0-9]{1,18}", given):
@@ -158,6 +163,8 @@ def text_of(kind: str, value: Any) -> str:
     if isinstance(value, dict):
         if "+" not in kind:
             raise BadValue(f"{kind} has no status")
+        if set(value) != {"value", "status"}:
+            raise BadValue(f'{kind} takes {{"value": .., "status": ..}}')
         first, _, last = kind.partition("+")
         return f"{text_of(first, value['value'])}+{text_of(last, value['status'])}"
     if isinstance(value, bool):
@@ -179,7 +186,7 @@ def _number(kind: str, value: Number) -> str:
 
 
 def _text(kind: str, value: str) -> str:
-    if re.search("[\ud800-\udfff]", value):
+    if HALF.search(value):
         raise BadValue("a text has no half of a surrogate pair")
     if kind in TEXTS:
         if re.search(r"[\x00-\x1f\x7f]", value):

@@ -3,37 +3,45 @@
 from __future__ import annotations
 
 import argparse
+import difflib
+import io
 import json
 import signal
 import sys
 import time
-from typing import List, Optional, Sequence, Tuple
+from typing import Dict, List, Optional, Sequence, Tuple
 
 from .commands import Raw
 from .errors import Error, Gone, NoSuchName, NotStarted, Refused, TimedOut
-from .plants import Plant, Reading, plant
+from .plants import Plant, Reading, Station, plant
 from .values import plain
 
 EPILOG = """commands:
   values [NAME ..]        prints signals with their quality (the default)
   names                   prints the signals with direction, type, unit and text
-  watch [NAME ..]         prints each change until it is ended (Ctrl-C), or for --seconds
-  set NAME VALUE          sets an output; VALUE is as in the line `set`: 12.5, true, "a text", 00ff
+  watch [NAME ..]         prints each change until it is ended (Ctrl-C), or for
+                          --seconds
+  set NAME VALUE          sets an output; VALUE is as in the line `set`: 12.5,
+                          true, "a text", 00ff
   read STATION SLOT SUBSLOT INDEX        prints a record in hex
   write STATION SLOT SUBSLOT INDEX HEX   writes a record
-  stations                prints each station: state, address, neighbours, diagnosis
+  stations                prints each station: state, address, neighbours,
+                          diagnosis
   snapshot                prints all that is known, as JSON
 
-NAME is STATION.SIGNAL, or with one station SIGNAL alone. With plans a controller is started on the interface, and ended at the end; that takes the
-capability CAP_NET_RAW. With --socket a controller that runs already is used, and goes on. Options are in front of the command. If a plan has the
-name of a command, write -- in front of the command.
+NAME is STATION.SIGNAL, or with one station SIGNAL alone. With plans a
+controller is started on the interface, and ended at the end; that takes the
+capability CAP_NET_RAW. With --socket a controller that runs already is used,
+and goes on. Options are in front of the command. If a plan has the name of a
+command, write -- in front of the command.
 
-status: 0; 1 refused; 2 it does not run, or does not exchange data in time; 64 wrong words; 66 no such name
+status: 0; 1 refused; 2 it does not run, or does not exchange data in time;
+64 wrong words; 66 no such name
 
 examples:
   nandutable --interface eth2 flow.json watch flow-7.flow
   nandutable --socket /run/nandutable-controller/eth2/lines
-  nandutable --socket /run/nandutable-controller/eth2/lines set flow-7.valves 165"""
+  nandutable --socket /run/nandutable-controller/eth2/lines set flow-7.valve 1"""
 
 WITH_VALUE = ("-i", "--interface", "-s", "--socket", "--ready", "--seconds", "--retry", "--assign")
 COMMANDS = {"values": (0, None), "names": (0, 0), "watch": (0, None), "set": (2, 2), "read": (4, 4), "write": (5, 5), "stations": (0, 0), "snapshot": (0, 0)}
@@ -52,7 +60,7 @@ class Parser(argparse.ArgumentParser):
 
 def parser() -> Parser:
     made = Parser(prog="nandutable", usage="%(prog)s --interface IFACE [options] PLAN.json .. [COMMAND ..]\n       %(prog)s --socket PATH [options] [COMMAND ..]", epilog=EPILOG,
-                  description="Names, values and changes of a PROFINET plant.", formatter_class=argparse.RawDescriptionHelpFormatter, allow_abbrev=False)
+                  description="Names, values and changes of a PROFINET plant.", formatter_class=lambda prog: argparse.RawDescriptionHelpFormatter(prog, width=80), allow_abbrev=False)
     made.add_argument("plans", nargs="*", metavar="PLAN.json", help="the plan of a station")
     made.add_argument("-i", "--interface", metavar="IFACE", help="starts a controller for the plans on this network interface")
     made.add_argument("-s", "--socket", metavar="PATH", help="uses the controller that has this socket")
@@ -60,7 +68,7 @@ def parser() -> Parser:
     made.add_argument("--seconds", metavar="SECONDS", type=float, help="ends `watch` after this time")
     made.add_argument("--retry", metavar="SECONDS", type=int, help="starts a relation that has ended again after this time")
     made.add_argument("--assign", metavar="MAC", help="first gives the station with this MAC address the name of the plan")
-    made.add_argument("--json", action="store_true", help="`values` and `watch` print a JSON object for each signal")
+    made.add_argument("--json", action="store_true", help="`values`, `names` and `watch` print a JSON object for each signal, `stations` a list of stations")
     made.add_argument("--version", action="version", version="nandutable 0.1.0")
     return made
 
@@ -100,15 +108,27 @@ def watch(plant: Plant, names: Sequence[str], as_json: bool, seconds: Optional[f
             raise Gone(plant.connection.reason(), plant.connection.status)
 
 
-def names(plant: Plant) -> None:
+def names(plant: Plant, as_json: bool) -> None:
     for reading in chosen(plant, ()):
+        if as_json:
+            print(json.dumps({"name": reading.name, "direction": reading.direction, "type": reading.type, "unit": reading.unit, "text": reading.text}))
+            continue
         print(f"{reading.name:40} {reading.direction:6} {reading.type:20} {reading.unit:8} {reading.text}".rstrip())
 
 
-def stations(plant: Plant) -> None:
+def of_station(station: Station) -> Dict[str, object]:
+    """A station as JSON has it."""
+    info = station.info
+    return {"name": station.name, "state": station.state, **{key: info[key] for key in ("mac", "address", "received", "lost", "ports", "diagnosis")}}
+
+
+def stations(plant: Plant, as_json: bool) -> None:
     ends = time.monotonic() + PORTS
     while time.monotonic() < ends and any(station.state == "exchanging" and not station.info["ports"] for station in plant):
         time.sleep(0.05)
+    if as_json:
+        print(json.dumps([of_station(station) for station in plant], indent=1))
+        return
     for station in plant:
         info = station.info
         print(f"{station.name}  {station.state}  {info['mac'] or '-'}  {info['address']}  {info['received']} frames, {info['lost']} lost")
@@ -131,7 +151,7 @@ def act(plant: Plant, command: str, words: List[str], options: argparse.Namespac
         for reading in chosen(plant, words):
             print(shown(reading, options.json))
     elif command == "names":
-        names(plant)
+        names(plant, options.json)
     elif command == "watch":
         watch(plant, words, options.json, options.seconds)
     elif command == "set":
@@ -142,7 +162,7 @@ def act(plant: Plant, command: str, words: List[str], options: argparse.Namespac
         slot, subslot, index = numbers(words[1:4])
         plant[words[0]].write(slot, subslot, index, bytes.fromhex(words[4].replace("-", "")))
     elif command == "stations":
-        stations(plant)
+        stations(plant, options.json)
     else:
         print(json.dumps(plant.state.snapshot(), indent=1))
 
@@ -160,6 +180,9 @@ def parted(words: List[str]) -> Tuple[List[str], List[str]]:
 
 
 def main(words: Optional[Sequence[str]] = None) -> int:
+    for stream in (sys.stdout, sys.stderr):
+        if isinstance(stream, io.TextIOWrapper):
+            stream.reconfigure(errors="backslashreplace")  # a letter that the output lacks ends no `watch`
     words = list(sys.argv[1:] if words is None else words)
     front, command = parted(words)
     made = parser()
@@ -169,7 +192,8 @@ def main(words: Optional[Sequence[str]] = None) -> int:
     if options.assign is not None and (options.interface is None or len(options.plans) > 1):
         made.error("--assign takes --interface and one plan")
     if command[0] not in COMMANDS:
-        made.error(f"no command '{command[0]}'")
+        near = difflib.get_close_matches(command[0], COMMANDS, 1)
+        made.error(f"no command '{command[0]}'" + (f"; did you mean {near[0]}?" if near else ""))
     least, most = COMMANDS[command[0]]
     if len(command) - 1 < least or (most is not None and len(command) - 1 > most):
         made.error(f"'{command[0]}' takes other words")

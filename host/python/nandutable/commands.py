@@ -7,18 +7,26 @@ answer, which the controller sends at once (a record: as soon as the device answ
 from __future__ import annotations
 
 import contextlib
+import re
 import threading
 import time
-from typing import Callable, Dict, Iterator, List, Optional, Union
+from typing import Callable, Dict, FrozenSet, Iterator, List, Optional, Union
 
 from . import lines, values
-from .errors import Gone, Lost, NoSuchName, NotExchanging, Refused, TimedOut
+from .errors import Busy, Gone, Lost, NoSuchName, NotExchanging, Refused, TimedOut
 from .lines import Line
 from .process import Connection
 from .state import Plain, PlantState
 
 ANSWER = 5.0  # seconds within which the controller answers
 DEVICE = 30.0  # seconds within which a device answers to a read or a write of a record
+
+# The lines that only ask, and those by which an output is set too. Others release a relation, write records, or set octets.
+ASKING = frozenset(("stations", "names", "modules", "get", "statistics", "read", "diagnosis"))
+SETTING = ASKING | {"set"}
+
+# What a name can be: STATION.SIGNAL. The controller answers to another one, but not by this name.
+_NAME = re.compile(r"[A-Za-z0-9_.-]{1,305}")
 
 _NO_DATA = "no data is exchanged"
 _HAS_NO_PLACE = "waits for its answer"
@@ -61,10 +69,11 @@ def _nothing(_: Line) -> bool:
 
 
 class Commands:
-    """What the controller can be asked for. `several` says whether it has several stations: then a line for one has its name in front."""
+    """What the controller can be asked for. `several` says whether it has several stations: then a line for one has its name in front. `may` are
+    the first words of the lines that may be sent, such as `SETTING`; None: all."""
 
-    def __init__(self, connection: Connection, state: PlantState, several: Callable[[], bool] = lambda: False) -> None:
-        self.connection, self.state, self.several = connection, state, several
+    def __init__(self, connection: Connection, state: PlantState, several: Callable[[], bool] = lambda: False, may: Optional[FrozenSet[str]] = None) -> None:
+        self.connection, self.state, self.several, self.may = connection, state, several, may
         self._turn = threading.Lock()  # one command waits for its first answer at a time
         self._lock = threading.Lock()
         self._waiters: List[_Waiter] = []
@@ -110,10 +119,28 @@ class Commands:
             raise Gone(self.connection.reason(), self.connection.status)
         raise TimedOut(f"no answer to '{what}' within {timeout:g} s")
 
+    def _send(self, text: str) -> None:
+        """Sends a line, if this program may."""
+        words = text.split(" ", 2)
+        verb = words[1] if self.several() and len(words) > 1 and words[0] in self.state.station_names() else words[0]
+        if self.may is not None and verb not in self.may:
+            raise Refused(f"this program does not send '{verb}'")
+        self.connection.send(text)
+
+    @contextlib.contextmanager
+    def _in_turn(self, what: str, timeout: float) -> Iterator[None]:
+        """Waits until the commands before have their answers."""
+        if not self._turn.acquire(timeout=max(timeout, 0)):
+            raise Busy(f"the controller did not answer to other lines within {timeout:g} s, so '{what}' was not sent")
+        try:
+            yield
+        finally:
+            self._turn.release()
+
     def _ask(self, text: str, wants: Callable[[Line], bool], timeout: float = ANSWER, keeps: Callable[[Line], bool] = _nothing) -> _Waiter:
         """Sends a line and waits for its answer."""
-        with self._turn, self._waiting(lambda line: isinstance(line, lines.Wrong) or wants(line), keeps) as waiter:
-            self.connection.send(text)
+        with self._in_turn(text, timeout), self._waiting(lambda line: isinstance(line, lines.Wrong) or wants(line), keeps) as waiter:
+            self._send(text)
             found = self._wait(waiter, text, timeout)
             if isinstance(found, lines.Wrong):
                 raise _refusal(found.reason)
@@ -128,11 +155,11 @@ class Commands:
     def fenced(self, text: str, timeout: float = ANSWER, after: Callable[[], None] = lambda: None) -> None:
         """Sends a line whose answer has no end of its own, waits for the answer, and calls `after` before any other line is sent. The controller
         answers each line in its turn, so the answer is complete when a question for a name that no signal has is refused."""
-        with self._turn:
+        with self._in_turn(text, timeout):
             self._fences += 1
             fence = f"-{self._fences}"
             with self._waiting(lambda line: _is_fence(line, fence), lambda line: isinstance(line, lines.Wrong) and not _is_no_line(line)) as waiter:
-                self.connection.send(text)
+                self._send(text)
                 self.connection.send(f"get {fence}")
                 self._wait(waiter, text, timeout)
             for line in waiter.kept:
@@ -149,20 +176,25 @@ class Commands:
         text = value.text if isinstance(value, Raw) else values.encode(value)
         if not text or any(letter in name for letter in " \t\r\n") or not name:
             raise Refused("a name has no blanks, and a value is not empty")
+        if not _NAME.fullmatch(name):
+            raise Refused("there is no such signal; names lists them")
 
         def is_answer(line: Line) -> bool:
-            return (isinstance(line, lines.SetDone) and line.name in (name, self._full(name))) or (isinstance(line, lines.SetRefused) and line.name == name)
+            return (isinstance(line, lines.SetDone) and line.name in (name, self.full_name(name))) or (isinstance(line, lines.SetRefused) and line.name == name)
         found = self._ask(f"set {name} {text}", is_answer, timeout).found
         if isinstance(found, lines.SetRefused):
             raise _refusal(found.reason)
 
-    def _full(self, name: str) -> str:
+    def full_name(self, name: str) -> str:
+        """STATION.SIGNAL. With one station a name may be SIGNAL alone."""
         names = self.state.station_names()
         return f"{names[0]}.{name}" if "." not in name and len(names) == 1 else name
 
     def get(self, name: str, timeout: float = ANSWER) -> lines.Signal:
         """The line of a signal as the controller has it now. The state has it too, without asking."""
-        full = self._full(name)
+        full = self.full_name(name)
+        if not _NAME.fullmatch(name):
+            raise NoSuchName(f"{name}: there is no such signal; names lists them")
 
         def is_answer(line: Line) -> bool:
             return (isinstance(line, lines.Signal) and line.name == full) or (isinstance(line, lines.GetRefused) and line.name == name)
@@ -176,12 +208,21 @@ class Commands:
         """Asks for everything: stations, names, values, statistics. The state has all of it then."""
         self.stations(timeout)
         self._ask("names", lambda line: isinstance(line, lines.Names), timeout)
+        self.modules(timeout)
         self._ask("get *", lambda line: isinstance(line, lines.Got), timeout)
         self.statistics(timeout)
 
     def stations(self, timeout: float = ANSWER) -> None:
         """Asks for the link, the neighbour and the stations. The state has them then."""
         self._ask("stations", lambda line: isinstance(line, lines.Stations), timeout)
+
+    def modules(self, timeout: float = ANSWER) -> None:
+        """Asks for the names of modules and submodules. The state has them then. A controller of an older build has no such line."""
+        try:
+            self._ask("modules", lambda line: isinstance(line, lines.Modules), timeout)
+        except Refused as fault:
+            if not str(fault).startswith("no such line"):
+                raise
 
     def statistics(self, timeout: float = ANSWER) -> None:
         """Asks for the counts: frames received and lost, interval and jitter of each station. The state has them then."""
@@ -265,7 +306,7 @@ class Commands:
         if self.several():
             self.fenced(text)
         else:
-            self.connection.send(text)
+            self._send(text)
 
 
 class Raw:

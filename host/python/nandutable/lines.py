@@ -1,7 +1,7 @@
 """The lines that nandutable-controller prints, as values.
 
 `Reader.read` makes a `Line` of each line. Which line it is, is said by its class; a line that is not known here is an `Unknown`, and never an
-error. The grammar is in docs/WIRE.md, "Signals by name" and "The application in charge".
+error. The grammar is in docs/LINES.md.
 
     >>> Reader().read("pump-1.level = 12 good")
     Signal(text='pump-1.level = 12 good', station='pump-1', name='pump-1.level', raw='12', good=True, time=None)
@@ -104,6 +104,22 @@ class Names(Line):
 @dataclass(frozen=True)
 class Got(Line):
     """`got N`: the end of the answer to `get *`."""
+
+    count: int
+
+
+@dataclass(frozen=True)
+class Module(Line):
+    """`module STATION SLOT SUBSLOT|- "TEXT"`: the name of a module by its catalogue, or of one of its submodules. Without `subslot` it is the name of the module."""
+
+    slot: int
+    subslot: Optional[int]
+    label: str
+
+
+@dataclass(frozen=True)
+class Modules(Line):
+    """`modules N`: the end of the answer to `modules`."""
 
     count: int
 
@@ -484,6 +500,9 @@ _FORMS: Tuple[Tuple[str, str, Maker], ...] = (
     ("refused", rf"refused record {_PLACE}: (.*)", _words(RecordRefused, 3)),
     ("name", rf"name (\S+) (input|output) (\S+) (\d+) (\d+) (\d+) (\d+) (\d|-) {_QUOTED} {_QUOTED}", _name),
     ("names", r"names (\d+)", _numbers(Names)),
+    ("module", rf"module (\S+) (\d+) (\d+|-) {_QUOTED}",
+     lambda found, text, _: Module(text, found[1], int(found[2]), None if found[3] == "-" else int(found[3]), _unquoted(found[4]))),
+    ("modules", r"modules (\d+)", _numbers(Modules)),
     ("got", r"got (\d+)", _numbers(Got)),
     ("controller", rf"controller {_MAC} on (\S+), for the station '(\S+)', interval (\d+) us",
      lambda found, text, _: Introduced(text, found[3], found[1], found[2], int(found[4]))),
@@ -536,7 +555,7 @@ for _word, _form, _maker in _FORMS:
     _BY_WORD.setdefault(_word, []).append((re.compile(_form, re.DOTALL), _maker))
 
 # Lines of the interface: they are never about a station, also if it is the only one.
-_OF_ALL = (Names, Got, Stations, Link, Neighbour, Stalled, Wrong, Seconds, Frames, Times, Count)
+_OF_ALL = (Names, Got, Modules, Stations, Link, Neighbour, Stalled, Wrong, Seconds, Frames, Times, Count)
 
 
 def signal_name(text: str) -> Optional[str]:

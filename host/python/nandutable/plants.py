@@ -9,14 +9,14 @@ import shutil
 import threading
 import time
 from dataclasses import dataclass
-from typing import Any, Callable, Deque, Dict, Iterator, List, Optional, Sequence, Tuple, TypeVar, Union
+from typing import Any, Callable, Deque, Dict, FrozenSet, Iterator, List, Optional, Sequence, Tuple, TypeVar, Union
 
 from . import lines
 from .commands import Commands, Raw
 from .errors import BadQuality, Error, Gone, Lost, NoSuchName, NotStarted, Refused, TimedOut
 from .lines import Line, Reader
 from .ports import PORT_DATA, PORT_SUBSLOT, REAL_DATA
-from .process import Connection, Process, Socket, wait_for_socket
+from .process import Connection, Process, Socket, not_listening, wait_for_socket
 from .state import Plain, PlantState
 from .values import Value, decode, encode
 
@@ -36,14 +36,15 @@ Found = TypeVar("Found")
 class Follower:
     """Takes the lines of a connection into a `PlantState`, and keeps it up to date: it asks for the statistics each second, for the ports of each
     station that exchanges data each 10 seconds (`neighbours`; None: never), and for the diagnoses after an alarm. `state` and `commands` are for
-    the user; `on_line` is called with each line, by the thread that takes them, and must return at once."""
+    the user; `on_line` is called with each line, by the thread that takes them, and must return at once. `may` are the lines that it may send, as
+    `Commands` has them."""
 
     def __init__(self, connection: Connection, state: Optional[PlantState] = None, on_line: Optional[Callable[[Line], None]] = None,
-                 neighbours: Optional[float] = NEIGHBOURS) -> None:
+                 neighbours: Optional[float] = NEIGHBOURS, may: Optional[FrozenSet[str]] = None) -> None:
         self.connection, self.neighbours = connection, neighbours
         self.state = state if state is not None else PlantState()
         self.reader = Reader()
-        self.commands = Commands(connection, self.state, lambda: self.reader.only is None)
+        self.commands = Commands(connection, self.state, lambda: self.reader.only is None, may)
         self.ended = threading.Event()
         self.asked = threading.Event()  # the first questions were answered, or the controller has ended
         self.news = threading.Condition()  # notified after each line
@@ -483,7 +484,7 @@ def _listening(path: str) -> Socket:
     try:
         return wait_for_socket(path, LISTENING)
     except OSError as fault:
-        raise NotStarted(f"no controller listens at {path}: {fault.strerror}") from None
+        raise NotStarted(not_listening(path, fault)) from None
 
 
 def start(plans: Sequence[str], interface: str, options: Sequence[str] = (), controller: Optional[str] = None,

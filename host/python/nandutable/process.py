@@ -337,7 +337,7 @@ class Process(Connection):
 
     @property
     def status(self) -> Optional[int]:
-        """The exit status, None while it runs. The statuses are in docs/WIRE.md."""
+        """The exit status, None while it runs. The statuses are in docs/CONTROLLER.md."""
         return None if self._process is None else self._process.poll()
 
     def reason(self) -> str:
@@ -402,14 +402,21 @@ class Socket(Connection):
         self._thread.join(timeout)
 
 
+def not_listening(path: str, fault: OSError) -> str:
+    """Why a socket cannot be opened: a controller may listen at one that this user may not use."""
+    if isinstance(fault, PermissionError):
+        return f"this user may not use the socket {path}: run this as the user who started the controller, or start that with --socket-group"
+    return f"no controller listens at {path}: {fault.strerror or fault}"
+
+
 def wait_for_socket(path: str, timeout: float = 10, most: int = MOST) -> Socket:
     """Opens a socket as soon as somebody listens there. Raises OSError after `timeout` seconds."""
     ends = time.monotonic() + timeout
     while True:
         try:
             return Socket(path, most)
-        except OSError:
-            if time.monotonic() >= ends:
+        except OSError as fault:
+            if time.monotonic() >= ends or isinstance(fault, PermissionError):
                 raise
             time.sleep(0.05)
 

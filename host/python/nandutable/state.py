@@ -10,7 +10,7 @@ The snapshot (times are seconds since 1970; what is not known yet is null):
                     "chassis"} or null, "ended": null or the reason in words, "frames": {"received", "sent", "not_sent", "missed"} or null,
                     "stalls": 0, "lines_lost": 0, "seconds": ..},
      "stations": {NAME: {"name", "state", "since", "mac", "address", "interval_us", "cause": null or {"number", "text", "time"},
-                    "waiting": null or words, "ports": [{"name", "slot", "subslot", "peers": [{"port", "station", "mac"}]}], "received", "lost",
+                    "waiting": null or words, "modules": [{"slot", "subslot" (null: the module), "text"}], "ports": [{"name", "slot", "subslot", "peers": [{"port", "station", "mac"}]}], "received", "lost",
                     "interval": {"p50", "p99", "max"} or null, "jitter": the same,
                     "diagnosis": [{"slot", "subslot", "channel", "error", "text"}], "diagnosis_left_out": 0}},
      "signals": {STATION.SIGNAL: {"name", "station", "signal", "value", "raw", "good", "time", "type", "unit", "text", "direction", "slot",
@@ -36,6 +36,7 @@ from .ports import PORT_DATA, REAL_DATA, read_ports
 Plain = Dict[str, Any]
 
 MOST = 200  # alarms, and messages, that are kept
+MODULES = 10000  # names of modules and submodules of a station
 DIAGNOSES = 1000  # of a station; the controller lists at most 256
 WAITING = 1000  # alarms and messages that wait for a subscriber
 
@@ -91,7 +92,7 @@ class Changes:
 
 
 def _station(name: str) -> Plain:
-    return {"name": name, "state": None, "since": None, "mac": None, "address": None, "interval_us": None, "cause": None, "waiting": None, "ports": [],
+    return {"name": name, "state": None, "since": None, "mac": None, "address": None, "interval_us": None, "cause": None, "waiting": None, "modules": [], "ports": [],
             "received": 0, "lost": 0, "interval": None, "jitter": None, "diagnosis": [], "diagnosis_left_out": 0}
 
 
@@ -118,7 +119,7 @@ class PlantState:
         self._listed: Dict[str, List[Plain]] = {}  # a list of diagnoses that is being read
         self._subscribers: List[Changes] = []
         self._takers: Dict[Type[lines.Line], Callable[[Any, float], None]] = {
-            lines.Signal: self._take_signal, lines.Name: self._take_name, lines.Introduced: self._take_introduced, lines.Station: self._take_station,
+            lines.Signal: self._take_signal, lines.Name: self._take_name, lines.Module: self._take_module, lines.Introduced: self._take_introduced, lines.Station: self._take_station,
             lines.State: self._take_state, lines.Ended: self._take_ended, lines.Alarm: self._take_alarm, lines.Diagnosis: self._take_diagnosis,
             lines.NoDiagnosis: self._take_no_diagnosis, lines.DiagnosisLeftOut: self._take_left_out, lines.Record: self._take_record,
             lines.RecordRefused: self._take_refused, lines.Link: self._take_link, lines.Neighbour: self._take_neighbour,
@@ -256,6 +257,14 @@ class PlantState:
             if signal["raw"] is not None:
                 signal["value"] = _value(line.type, signal["raw"])
             self._changed("signal", line.name, signal)
+
+    def _take_module(self, line: lines.Module, _: float) -> None:
+        station = self._of(line)
+        assert station is not None
+        told = {"slot": line.slot, "subslot": line.subslot, "text": line.label}
+        others = [one for one in station["modules"] if (one["slot"], one["subslot"]) != (line.slot, line.subslot)]
+        if told not in station["modules"] and len(others) < MODULES:
+            self._update(line, modules=[*others, told])
 
     def _take_introduced(self, line: lines.Introduced, _: float) -> None:
         self._update_controller(interface=line.interface, mac=line.mac)

@@ -8,14 +8,17 @@ may, it also sets outputs. Whom it answers:
   rebinding) gets nothing;
 - it refuses a request that another site's page makes, by Sec-Fetch-Site and, for a set, by Origin.
 
-What is bounded: connections (`CONNECTIONS`), open pages (`PAGES`), the time in which a request arrives and an answer is read (`PATIENCE`), and
-what waits for a page (of each station and signal the newest, and `WAITING` alarms and messages). A page that does not read is closed and counted.
+What is bounded: connections (`CONNECTIONS`), open pages (`PAGES`), sets that wait for the controller (`SETS`), the time in which a whole request
+arrives and in which an answer is read (`PATIENCE`), and what waits for a page (of each station and signal the newest, and `WAITING` alarms and
+messages). A page that does not read is closed and counted. If all places are in use, the oldest connection that is no page and sets nothing
+gives its place to a new one; another machine has a part of the places only (`EACH`).
 """
 
 from __future__ import annotations
 
 import argparse
 import http.server
+import io
 import ipaddress
 import json
 import os
@@ -26,8 +29,8 @@ import threading
 import time
 from typing import Any, Callable, Dict, List, NamedTuple, NoReturn, Optional, Sequence, Tuple
 
-from .commands import Commands, Raw
-from .errors import Error, Gone, NotStarted, Refused, TimedOut
+from .commands import ASKING, SETTING, Commands, Raw
+from .errors import Busy, Error, Gone, NotStarted, Refused, TimedOut
 from .plants import start
 from .source import Log, Source
 from .state import Change, Plain, PlantState
@@ -36,7 +39,13 @@ NAME = "nandutable-view"
 PORT = 8892
 CONNECTIONS = 64
 PAGES = 16
+SETS = 8  # that wait for the controller
+EACH = 16  # connections of another machine
+PAGES_EACH = 4  # of them pages
 PATIENCE = 10.0  # seconds
+SHORTEST = 0.5  # seconds that a connection has in any case
+GIVEN_UP = 0.5  # seconds within which one that has to go leaves its place
+FAULTS = 10  # of this program that are logged
 WAITING = 200
 BEAT = 1.0  # seconds from one beat to the next
 TURN = 0.1  # seconds from one message to a page to the next
@@ -96,7 +105,7 @@ class Counts:
 
     def __init__(self) -> None:
         self._lock = threading.Lock()
-        self._counts = {"pages": 0, "closed": 0, "no_place": 0, "refused": 0, "sets": 0, "sets_refused": 0}
+        self._counts = {"pages": 0, "closed": 0, "no_place": 0, "displaced": 0, "refused": 0, "sets": 0, "sets_refused": 0, "faults": 0}
 
     def add(self, key: str, number: int = 1) -> int:
         with self._lock:
@@ -106,6 +115,70 @@ class Counts:
     def all(self) -> Dict[str, int]:
         with self._lock:
             return dict(self._counts)
+
+
+class Visit:
+    """A connection: whose it is, since when, and whether it may have to leave its place to another one: a page and a set may not."""
+
+    def __init__(self, link: socket.socket, client: str) -> None:
+        self.link, self.client, self.since = link, client, time.monotonic()
+        self.may_go, self.is_page = True, False
+
+
+class Visits:
+    """The connections that are open, at most `CONNECTIONS`."""
+
+    def __init__(self, counts: Counts) -> None:
+        self.counts = counts
+        self._lock = threading.Lock()
+        self._visits: Dict[Any, Visit] = {}
+        self._places = threading.BoundedSemaphore(CONNECTIONS)
+
+    def admit(self, link: socket.socket, client: str) -> bool:
+        """Whether there is a place, which `leave` gives back. One that has waited for longest may have to leave it."""
+        with self._lock:
+            if is_far(client) and sum(visit.client == client for visit in self._visits.values()) >= EACH:
+                return False
+        if not self._places.acquire(blocking=False) and not (self._displace() and self._places.acquire(timeout=GIVEN_UP)):
+            return False
+        with self._lock:
+            self._visits[link] = Visit(link, client)
+        return True
+
+    def _displace(self) -> bool:
+        """Ends the oldest connection that may go. Returns whether there is one."""
+        with self._lock:
+            old = [visit for visit in self._visits.values() if visit.may_go and time.monotonic() - visit.since > SHORTEST]
+            if not old:
+                return False
+            first = min(old, key=lambda visit: visit.since)
+            first.may_go = False
+            self.counts.add("displaced")
+            try:
+                first.link.shutdown(socket.SHUT_RDWR)
+            except OSError:
+                pass  # it is closed already
+        return True
+
+    def leave(self, link: socket.socket) -> None:
+        with self._lock:
+            self._visits.pop(link, None)
+        self._places.release()
+
+    def keep(self, link: socket.socket, is_page: bool) -> bool:
+        """From now on it is a page, or a set, and needs not leave its place. Returns whether its client may have that page."""
+        with self._lock:
+            visit = self._visits[link]
+            pages = [one for one in self._visits.values() if one.is_page]
+            if is_page and (len(pages) >= PAGES or is_far(visit.client) and sum(one.client == visit.client for one in pages) >= PAGES_EACH):
+                return False
+            visit.may_go, visit.is_page = False, is_page
+            return True
+
+
+def is_far(client: str) -> bool:
+    """Whether this is the address of another machine. All users of this machine have one address, so no limit can part them."""
+    return not ipaddress.ip_address(client.partition("%")[0]).is_loopback
 
 
 class Server(http.server.ThreadingHTTPServer):
@@ -119,8 +192,9 @@ class Server(http.server.ThreadingHTTPServer):
         self.state, self.commands, self.rules = state, commands, rules
         self.files = read_page(folder_of_page())
         self.counts = Counts()
+        self.visits = Visits(self.counts)
+        self.sets = threading.BoundedSemaphore(SETS)
         self.is_closing = False
-        self._places = threading.BoundedSemaphore(CONNECTIONS)
         super().__init__((address, port), Handler)
 
     def server_bind(self) -> None:
@@ -137,27 +211,28 @@ class Server(http.server.ThreadingHTTPServer):
         return f"http://[{address}]:{self.server_port}/" if ":" in address else f"http://{address}:{self.server_port}/"
 
     def process_request(self, request: Any, client_address: Any) -> None:
-        """One thread for each connection, and at most `CONNECTIONS` of them."""
-        if not self._places.acquire(blocking=False):
+        """One thread for each connection that has a place."""
+        if not self.visits.admit(request, str(client_address[0])):
             self.counts.add("no_place")
             self.shutdown_request(request)
             return
         try:
             super().process_request(request, client_address)
         except RuntimeError:  # the system has no further thread
-            self._places.release()
+            self.visits.leave(request)
             self.shutdown_request(request)
 
     def process_request_thread(self, request: Any, client_address: Any) -> None:
         try:
             super().process_request_thread(request, client_address)
         finally:
-            self._places.release()
+            self.visits.leave(request)
 
     def handle_error(self, request: Any, client_address: Any) -> None:
         """A connection that broke off is no fault of the server's."""
-        if not isinstance(sys.exc_info()[1], OSError):
-            super().handle_error(request, client_address)
+        fault = sys.exc_info()[1]
+        if not isinstance(fault, OSError) and self.counts.add("faults") <= FAULTS:
+            self.rules.tell(f"a fault of this program ended a request: {type(fault).__name__}: {fault}")
 
     def start(self) -> threading.Thread:
         """Serves in a thread of its own."""
@@ -195,6 +270,24 @@ class Answer(Exception):
         self.status, self.reason = status, reason
 
 
+class Timely(io.RawIOBase):
+    """What a connection sends until a time: the limit is one of the request, not of each octet."""
+
+    def __init__(self, link: socket.socket, ends: float) -> None:
+        super().__init__()
+        self.link, self.ends = link, ends
+
+    def readable(self) -> bool:
+        return True
+
+    def readinto(self, buffer: Any) -> int:
+        left = self.ends - time.monotonic()
+        if left <= 0:
+            raise TimeoutError("the request is not whole in time")
+        self.link.settimeout(left)
+        return self.link.recv_into(buffer)
+
+
 class Handler(http.server.BaseHTTPRequestHandler):
     """One request."""
 
@@ -206,6 +299,7 @@ class Handler(http.server.BaseHTTPRequestHandler):
     def setup(self) -> None:
         self.request.setsockopt(socket.SOL_SOCKET, socket.SO_SNDBUF, SENT)
         super().setup()
+        self.rfile = io.BufferedReader(Timely(self.connection, time.monotonic() + PATIENCE))
 
     def log_message(self, *_: object) -> None:
         """Requests are not logged: counts say what happened."""
@@ -225,6 +319,7 @@ class Handler(http.server.BaseHTTPRequestHandler):
         self._hand_out(status, "application/json", json.dumps(data).encode() + b"\n")
 
     def _hand_out(self, status: int, kind: str, octets: bytes) -> None:
+        self.connection.settimeout(PATIENCE)
         self.send_response(status)
         self.send_header("Content-Type", kind)
         self.send_header("Content-Length", str(len(octets)))
@@ -285,11 +380,12 @@ class Handler(http.server.BaseHTTPRequestHandler):
         server = self.server
         if self.command == "HEAD":
             raise Answer(NOT_ALLOWED, "events are read by GET")
-        if server.counts.add("pages") > PAGES:
-            server.counts.add("pages", -1)
-            raise Answer(NO_PLACE, f"{PAGES} pages are open; close one")
+        if not server.visits.keep(self.request, is_page=True):
+            raise Answer(NO_PLACE, f"{PAGES} pages are open, or {PAGES_EACH} of your machine; close one")
+        server.counts.add("pages")
         changes = server.state.subscribe(WAITING)
         try:
+            self.connection.settimeout(PATIENCE)
             self.send_response(OK)
             self.send_header("Content-Type", "text/event-stream")
             self.end_headers()
@@ -338,12 +434,16 @@ class Handler(http.server.BaseHTTPRequestHandler):
 
     def _body(self) -> bytes:
         """Reads the octets of a request before it is judged, so that its sender reads the answer."""
-        length = self.headers.get("Content-Length") or ""
-        if self.headers.get("Transfer-Encoding") or not (length.isascii() and length.isdecimal()):
-            raise Answer(NO_LENGTH, "Content-Length is missing")
-        if int(length) > LONGEST:
+        lengths = [str(length).strip() for length in self.headers.get_all("Content-Length") or []]
+        length = lengths[0].lstrip("0") if len(lengths) == 1 else ""
+        if self.headers.get("Transfer-Encoding") or not lengths or not (lengths[0].isascii() and lengths[0].isdecimal()) or len(lengths) > 1:
+            raise Answer(NO_LENGTH, "one Content-Length is needed")
+        if len(length) > len(str(LONGEST)) or int(length or "0") > LONGEST:
             raise Answer(TOO_LONG, f"a set has at most {LONGEST} octets")
-        return self.rfile.read(int(length))
+        octets = self.rfile.read(int(length or "0"))
+        if len(octets) < int(length or "0"):
+            raise Answer(BAD, "the request is not whole")
+        return octets
 
     @staticmethod
     def _wanted(octets: bytes) -> Tuple[str, str]:
@@ -359,11 +459,9 @@ class Handler(http.server.BaseHTTPRequestHandler):
 
     def _set(self, name: str, value: str) -> None:
         counts = self.server.counts
-        commands = self.server.commands()
+        self.server.visits.keep(self.request, is_page=False)
         try:
-            if commands is None:
-                raise Gone("the controller does not run")
-            commands.set(name, Raw(value))
+            self._ask_for_set(name, value)
         except (Error, ValueError, UnicodeError) as fault:
             counts.add("sets_refused")
             status = TAKEN if isinstance(fault, Refused) else NO_ANSWER if isinstance(fault, TimedOut) else BAD if isinstance(fault, ValueError) else NO_PLACE
@@ -371,6 +469,20 @@ class Handler(http.server.BaseHTTPRequestHandler):
         counts.add("sets")
         self.server.rules.tell(f"set {name} {value} by {self.client_address[0]}")
         self._reply(OK, {"reason": None})
+
+    def _ask_for_set(self, name: str, value: str) -> None:
+        """Asks the controller, for a signal that exists: it is not asked for other names."""
+        commands = self.server.commands()
+        if commands is None:
+            raise Gone("the controller does not run")
+        if self.server.state.signal(commands.full_name(name)) is None:
+            raise Refused("there is no such signal")
+        if not self.server.sets.acquire(blocking=False):
+            raise Busy(f"{SETS} other sets wait for the controller")
+        try:
+            commands.set(name, Raw(value))
+        finally:
+            self.server.sets.release()
 
 
 # ---- the program
@@ -384,9 +496,10 @@ class Parser(argparse.ArgumentParser):
 
 
 def parser() -> Parser:
-    made = Parser(prog=NAME, allow_abbrev=False, usage="nandutable-view --socket PATH [OPTION ..]\n       nandutable-view IFACE PLAN.json .. [OPTION ..] [-- OPTION OF THE CONTROLLER ..]",
+    made = Parser(prog=NAME, allow_abbrev=False, usage="nandutable-view --socket PATH [OPTION ..]\n       nandutable-view IFACE PLAN.json .. [OPTION ..] [-- CONTROLLER OPTION ..]",
                   description="Shows a plant on a page of this machine: stations, who is at which port, signals, alarms, diagnosis. The lines are those of a "
-                  "nandutable-controller that runs with --signals and --socket, or of one that this program starts.", epilog="It ends on SIGTERM and SIGINT.")
+                  "nandutable-controller that runs with --signals and --socket, or of one that this program starts.", epilog="It ends on SIGTERM and SIGINT.",
+                  formatter_class=lambda prog: argparse.HelpFormatter(prog, width=80))
     made.add_argument("places", nargs="*", metavar="IFACE PLAN.json", help="starts nandutable-controller on this interface with these plans")
     made.add_argument("--socket", metavar="PATH", help="the socket of a controller that runs already; it is opened again when it was lost")
     made.add_argument("--port", type=int, default=PORT, metavar="N", help=f"the TCP port of the page ({PORT}); 0 takes a free one")
@@ -419,7 +532,8 @@ def check(asked: argparse.Namespace, more: Sequence[str]) -> None:
 
 
 def source_of(asked: argparse.Namespace, more: List[str], log: Log) -> Source:
-    return Source(asked.socket, lambda: start(asked.places[1:], asked.places[0], more or ["--retry", "5"], asked.controller), log)
+    may = SETTING if asked.allow_set else ASKING
+    return Source(asked.socket, lambda: start(asked.places[1:], asked.places[0], more or ["--retry", "5"], asked.controller), log, may)
 
 
 def main(words: Optional[List[str]] = None) -> int:

@@ -1,5 +1,5 @@
 //! Intervals at which the CycleCounter of a frame, the units modulo 65,536, is not newer than that of the frame before: from 1 to 61,440
-//! ahead of it. `bench/gate/launcher-test` has the warnings of the same plans.
+//! ahead of it. `ci/launcher-test` has the warnings of the same plans.
 
 use super::{PUMP, SET_PUMP_1, START, output};
 use rattle_std::alloc::Global;

@@ -1,5 +1,5 @@
 //! A controller among stations of other makers. The frames that come and those that are wanted were built by Scapy's own layers
-//! (`bench/interoperation/scapy_makers.py`, whose output is `makers.txt`): no encoder of this repository takes part. Beside it
+//! (`tests/interoperation/scapy_makers.py`, whose output is `makers.txt`): no encoder of this repository takes part. Beside it
 //! the library for C plays the same scenario.
 
 use super::PUMP;

@@ -21,7 +21,7 @@ fn header() -> Vec<(&'static str, u32)> {
 #[test]
 fn each_number_of_the_header_has_one_meaning() {
     let numbers = header();
-    assert_eq!(numbers.len(), 47);
+    assert_eq!(numbers.len(), 48);
     for (place, (name, number)) in numbers.iter().enumerate() {
         for (other, same) in &numbers[place + 1..] {
             assert!(name != other && number != same, "{name} and {other} are {number} and {same}");

@@ -1,4 +1,4 @@
-//! The example of the README, as it is printed there: `bench/gate/documents` compares them.
+//! The example of the README, as it is printed there: `ci/documents` compares them.
 
 use super::stations::{PING, PINGED, SET_ADDRESS};
 use super::octets;

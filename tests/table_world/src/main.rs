@@ -28,8 +28,8 @@
 //! allocations goes to standard error.
 //!
 //! No text in `stdout` was taken from this program unchecked: the rows are those of the standard's start-up, the ladders
-//! and the counts of `moves` are those of a reference model (`bench/gate/world_model.py`), and the numbers of schedules
-//! are computed by `bench/gate/worlds.py` from the rules of a start-up alone.
+//! and the counts of `moves` are those of a reference model (`ci/world_model.py`), and the numbers of schedules
+//! are computed by `ci/worlds.py` from the rules of a start-up alone.
 #![forbid(unsafe_code)]
 
 use rattle_std::{HostRuntime, String, eprintln};

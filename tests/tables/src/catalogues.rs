@@ -12,9 +12,9 @@
 //!
 //! Layouts and faults of the first 160 lines come from a reference model that was written from the rules of the catalogue alone
 //! and shares no line with this repository; the two after them are those of `examples/catalogue`, and the next 42 are the demo
-//! station with one thing changed. The Connects and the records are computed by `bench/gate/catalogues.py`. The last lines are at
+//! station with one thing changed. The Connects and the records are computed by `ci/catalogues.py`. The last lines are at
 //! each bound of the rules and one past it; they, their faults and the keys of `places`, a line for each of them, are written by
-//! `bench/gate/catalogue_bounds.py` from the rules alone.
+//! `ci/catalogue_bounds.py` from the rules alone.
 
 use crate::{hex, is_same};
 use configurator::plan_from_json;

@@ -4,7 +4,7 @@
 //! with another relation. Each word is `ok`, or a PNIOStatus in hex.
 //!
 //! The lines set each field of each block to 0, 1, its greatest value and past what is accepted; they leave out each block, put
-//! it twice and elsewhere, and cut it at each length. `stdout` is computed by `bench/gate/connect_table.py` from the rules alone,
+//! it twice and elsewhere, and cut it at each length. `stdout` is computed by `ci/connect_table.py` from the rules alone,
 //! by offsets; it shares no line with the crates.
 
 use crate::{hex, is_same, octets};

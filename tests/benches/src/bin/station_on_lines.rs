@@ -1,5 +1,5 @@
 //! `station_on_lines` is the demo station, with the services beside it, over a flash in memory, driven by lines. Each is answered at once,
-//! so a program that has a packet socket can put the station on a wire (`bench/interoperation/lldpd.py`):
+//! so a program that has a packet socket can put the station on a wire (`tests/interoperation/lldpd.py`):
 //!
 //! ```text
 //! frame OCTETS       a frame comes
