@@ -37,6 +37,8 @@ READ_AT_ONCE = 200  # times that paho reads in one turn
 ANSWERS_WITHIN = 10.0  # seconds within which the broker answers to a connection
 LEAST_PAUSE, MOST_PAUSE = 0.5, 10.0  # seconds from one attempt to connect to the next
 LONGEST_WAIT = 0.5
+# What a broker that closes a connection, which was made, makes of the next octets sent. One that wants a certificate does so after the handshake.
+ENDED = (ssl.SSLEOFError, ssl.SSLZeroReturnError, ConnectionResetError, BrokenPipeError)
 LONGEST_PACKET = 32768  # octets that the broker may send at once, by MQTT 5
 
 
@@ -251,6 +253,9 @@ class Broker:
                 client.connect(address.host, address.port, address.keepalive)
             link: Any = client.socket()
             link.setsockopt(socket.IPPROTO_TCP, socket.TCP_NODELAY, 1)
+        except ENDED as fault:
+            self._over(f"the connection is lost: {fault}")
+            return
         except (OSError, ValueError) as fault:
             self._over(str(fault) or type(fault).__name__)
             return
