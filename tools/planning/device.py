@@ -173,10 +173,10 @@ class Reference:
         """Whether a place is open to it. Where nothing is said of places, each one is."""
         return self.is_free or any(place in places for places in (self.allowed, self.used, self.fixed))
 
-    def first_two(self, places, taken=()):
-        """The first two of some places that are open to it, without those that are taken; or the only one, or none."""
+    def first_two(self, places, own=()):
+        """The first two of some places that are open to it, without the access point's own; or the only one, or none."""
         mine = Numbers([*self.allowed.pairs, *self.used.pairs, *self.fixed.pairs])
-        found = (place for place in (places if self.is_free else mine.both(places)) if place not in taken)
+        found = (place for place in (places if self.is_free else mine.both(places)) if place not in own)
         return list(itertools.islice(found, 2))
 
 

@@ -238,7 +238,7 @@ def place_of(entry):
 
 
 def keep_names(signals, entries):
-    """Gives each signal the name that it has among these entries. One that has none there, and whose name is taken, gets a longer one."""
+    """Gives each signal the name that it has among these entries. One that has none there gets a longer name if its own is among them."""
     kept, names, new = {}, set(), []
     for entry in entries:
         kept.setdefault(place_of(entry), entry["Name"])
