@@ -190,16 +190,14 @@ class Places:
                         yield subslots[0], self.file.submodule(reference.target, reference.line)
 
     def words_of(self, item):
-        """The words that are in several subslots of a module, and those that need no place in front within it."""
+        """The words that are in several subslots of a module, and all of its words."""
         if item.element not in self.words:
             parts = []
             for subslot, part in self.lasting(item):
                 with contextlib.suppress(Refused):
                     parts.append((subslot, signals_of_part(part, 0, subslot, module_name(self.point, item))))
-            twice = repeated((signal.names[0], subslot) for subslot, signals in parts for signal in signals)
-            for _, signals in parts:
-                lengthen(signals, SUBSLOT, twice)
-            self.words[item.element] = twice, {signal.names[0] for _, signals in parts for signal in signals if signal.level == ALONE}
+            pairs = [(signal.names[0], subslot) for subslot, signals in parts for signal in signals]
+            self.words[item.element] = repeated(pairs), {word for word, _ in pairs}
         return self.words[item.element]
 
     @functools.cached_property
