@@ -358,7 +358,7 @@ judged_goes station live given answers (Ok question) asks =
         keeps = refl;
         calls = later_called (is_zero address) is_stored station.identity question reply live.rest.calls;
         one = later_one (is_zero address) is_due reply;
-        sends = later_each (is_zero address) is_due reply (refl, refl);
+        sends = later_each (IsReplyTo question) (is_zero address) is_due reply (refl, refl);
       },
     )
 judged_goes station live given answers (Err fault) asks = inl (refl, refl)

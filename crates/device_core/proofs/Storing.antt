@@ -44,7 +44,7 @@ later_one true is_due reply = omega arith
 later_one false true reply = omega arith
 later_one false false reply = omega arith
 
-pub later_each : {P : Sent → Type 0} (is_gone is_due : Bool) (reply : Sent) → P reply → AllByRecursion P (cond is_gone [] (where_due is_due (reply ∷ [])))
-later_each true is_due reply holds = tt
-later_each false true reply holds = (holds, tt)
-later_each false false reply holds = tt
+pub later_each : (P : Sent → Type 0) (is_gone is_due : Bool) (reply : Sent) → P reply → AllByRecursion P (cond is_gone [] (where_due is_due (reply ∷ [])))
+later_each P true is_due reply holds = tt
+later_each P false true reply holds = (holds, tt)
+later_each P false false reply holds = tt
