@@ -7,25 +7,19 @@ use Rattle.device_core.proofs.Counting.{was_asked, was_not_asked}
 use Rattle.device_core.proofs.device.Device.ask.Goals as goal
 
 pub returns-then-is_some-clause-state : goal.returns-then-is_some-clause-state
-returns-then-is_some-clause-state g c =
-    let old = c.args.self.now in
-    let question = c.args.question.now in
-    let displaced = displaced_by c.self.options.asks_own_first question c.self.inside.asked in
-    let inside = asks question c.args.octets.now (behind_displaced displaced c.self.inside.asked) in
-    ?
+returns-then-is_some-clause-state g c = ?
 
 pub returns-then-is_some-clause-frames : goal.returns-then-is_some-clause-frames
-returns-then-is_some-clause-frames g c =
-    let old = c.args.self.now in
-    let question = c.args.question.now in
-    let displaced = displaced_by c.self.options.asks_own_first question c.self.inside.asked in
-    let inside = asks question c.args.octets.now (behind_displaced displaced c.self.inside.asked) in
-    ?
+returns-then-is_some-clause-frames g c = ?
 
 pub returns-then-is_some-clause-sendable : goal.returns-then-is_some-clause-sendable
-returns-then-is_some-clause-sendable g c =
-    let old = c.args.self.now in
-    let question = c.args.question.now in
-    let displaced = displaced_by c.self.options.asks_own_first question c.self.inside.asked in
-    let inside = asks question c.args.octets.now (behind_displaced displaced c.self.inside.asked) in
-    ?
+returns-then-is_some-clause-sendable g c = ?
+
+pub returns-clause-state : goal.returns-clause-state
+returns-clause-state g c = ?
+
+pub returns-clause-frames : goal.returns-clause-frames
+returns-clause-frames g c = ?
+
+pub returns-clause-sendable : goal.returns-clause-sendable
+returns-clause-sendable g c = ?
