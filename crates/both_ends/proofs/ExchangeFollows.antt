@@ -303,7 +303,7 @@ module _ (priority : Priority) (setup : Setup) (station : Station) (live : Live)
     later_asked question is zero_is fresh =
         let reported : reported_by 0 (kept_of setup.activity live.rest.calls) ≡ new =
         ap (λ (n : ℕ). reported_by n (kept_of setup.activity live.rest.calls)) (sym zero_is)
-        ∙ (ap (λ (a : List ℕ). reported_by question.header.sequence (kept_of a live.rest.calls)) (sym (follows.own question is)) ∙ fresh) in
+        ∙ (ap (λ (a : List ℕ). reported_by question.header.sequence (kept_of a live.rest.calls)) (sym (follows.own question is).0) ∙ fresh) in
         let none : kept_at setup live ≡ None = ap (λ (k : Option Answer). option_map kept_in k) (new_none (kept_of setup.activity live.rest.calls) reported) in
         none_some question.header.sequence (small_of setup.activity live).asked (follows.unasked none)
         (ap (λ (o : Option Question). option_map (λ q. q.header.sequence) o) is)

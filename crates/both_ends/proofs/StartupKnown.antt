@@ -104,7 +104,20 @@ kept_known rules P small.Idle before after frames (inr replies) was all answer i
 pub known_own : (setup : Setup) (asked : AskedState) → IsKnownAsked setup asked → IsAskedOwn setup.activity asked
 known_own setup asked known question is =
     let own = known question is in
-    ap (λ (h : CallHeader). h.activity) own.header ∙ known_activity setup question.caller own.call own.known
+    (ap (λ (h : CallHeader). h.activity) own.header ∙ known_activity setup question.caller own.call own.known, own.plain)
+
+-- no call that is planned is a Read Implicit
+planned_plain : (rules : Rules TakenRecord Request) (activity : List ℕ) (named : List RecordName) (real : Real) (heard : Heard) (question : Question)
+    → IsPlanned rules activity named real heard → IsAsking heard question → is_implicit question.request ≡ false
+planned_plain rules activity named real heard question planned asks =
+    let plan : IsPlannedCall rules activity named real asks.call = subst (λ (h : Heard). IsPlanned rules activity named real h) asks.is planned in
+    by_request question.request (subst (λ (o : Option Operation). IsPlannedAs rules named real asks.call.header.sequence plan.blocks o) asks.asks plan.asks)
+  where
+    by_request : {sequence : ℕ} {blocks : List ℕ} (request : Wanted) → IsPlannedAs rules named real sequence blocks (Some (operation_asked request))
+        → is_implicit request ≡ false
+    by_request (wanted.Read request) plan = refl
+    by_request (wanted.ReadImplicit request) plan = absurd plan
+    by_request (wanted.Write request) plan = refl
 
 module _ (so : HeardSo) (goes : GoesSo) where
   -- ---- one move
@@ -144,6 +157,8 @@ module _ (so : HeardSo) (goes : GoesSo) where
         call = asks.call;
         known = subst (λ (h : Heard). IsKnownHeard setup h) asks.is known;
         header = asks.header;
+        plain = planned_plain rules setup.activity station.named before.device.live.rest.real heard question
+            (heard_planned so.block_read so.block_long setup station before.device.live.rest.real can.good can.unnamed heard known) asks;
       }
 
       -- the frame of a repeated response was known
