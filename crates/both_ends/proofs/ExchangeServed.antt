@@ -19,6 +19,7 @@ use Rattle.relations.specs.Connect.{connect_blocks, connect_of, differing_of}
 use Rattle.relations.specs.Numbers.{IsNumber}
 use Rattle.device_frames.specs.Heard.{Heard, Reported, Calls}
 use Rattle.asked_records.specs.Asked.{question_in}
+use Rattle.asked_records.specs.Questions.{is_implicit}
 use Rattle.asked_records.specs.declared.question.Question.{Question}
 use Rattle.device_frames.specs.Sent.{Sent, Exchanges, CallAnswer, Again}
 use Rattle.device_core.specs.State.{Station, Live, Rest}

@@ -29,6 +29,7 @@ use Rattle.rpc_core.specs.Sendable.{CanBeAnswered, CanBeCalled, IsUuid}
 use Rattle.connect_blocks.specs.declared.control.ControlBlock.{ControlBlock}
 use Rattle.connects.specs.requests.Request.{Request as Asked_for}
 use Rattle.asked_records.specs.Asked.{AskedState, question_in}
+use Rattle.asked_records.specs.Questions.{is_implicit}
 use Rattle.asked_records.specs.declared.question.Question.{Question}
 use Rattle.records.specs.status.Operation.{operation_of}
 use Rattle.pn_alarms.specs.declared.fault.AlarmFault.{AlarmFault}

@@ -1,16 +1,22 @@
 -- The invariant of a world at each point of a run from its start: each frame that was ever sent is known, and so is
 -- each message that is sent next.
-use Rattle.std.proofs.Common.{◌≡◌, ◌⊎◌, inl, inr, ℕ, List, [], ◌∷◌, ◌++◌, map, Option, Some, None, option_map, Ok, refl, sym, ap, subst, ◌∙◌, append-nil, append_assoc}
+use Rattle.std.proofs.Common.{◌≡◌, ◌⊎◌, inl, inr, ℕ, false, List, [], ◌∷◌, ◌++◌, map, Option, Some, None, option_map, Ok, refl, sym, ap, subst, ◌∙◌, append-nil, append_assoc}
 use Rattle.std.specs.Prelude.{slice_get}
 use Rattle.std.specs.List.{AllByRecursion}
 use Rattle.lldp.specs.Views.{peer_as}
 use Rattle.flash_model.specs.declared.flash.Flash.{Ghosts as Flash}
 use Rattle.settings_journal.specs.settings_store.Machine.{Outcome}
 use Rattle.pn_values.specs.declared.identity.Identity.{Identity}
+use Rattle.pn_values.specs.declared.real.Real.{Real}
 use Rattle.rpc_core.specs.declared.header.CallHeader.{CallHeader}
 use Rattle.rpc_core.specs.Cache.{Kept as Answer, kept_of}
 use Rattle.asked_records.specs.Asked.{AskedState, question_in}
+use Rattle.asked_records.specs.Questions.{is_implicit, operation_of as operation_asked}
+use Rattle.asked_records.specs.declared.names.RecordName.{RecordName}
 use Rattle.asked_records.specs.declared.question.Question.{Question}
+use Rattle.asked_records.specs.declared.question.Request.{Request as Wanted}
+use Rattle.asked_records.specs.declared.question.Request.TheVariants as wanted
+use Rattle.records.specs.declared.status.operation.Operation.{Operation}
 use Rattle.connects.specs.requests.Request.{Request}
 use Rattle.connects.specs.requests.Handled.{request_of}
 use Rattle.plans.specs.Connect.{connect_of}
@@ -42,7 +48,7 @@ use Rattle.end_laws.specs.both.Steps.{DeviceSteps, IsDull, Steps}
 use Rattle.end_laws.specs.controller.Small.{IsSteady, small_of}
 use Rattle.end_laws.specs.device.Orderly.{IsOrderlyIn}
 use Rattle.end_laws.specs.device.Owed.{IsAsking, IsOfKept, IsOwed}
-use Rattle.end_laws.specs.device.Small.{IsAskedOwn, heard_as, kept_in, link_of}
+use Rattle.end_laws.specs.device.Small.{IsAskedOwn, IsPlanned, IsPlannedAs, IsPlannedCall, heard_as, kept_in, link_of}
 use Rattle.end_laws.specs.device.Small as device
 use Rattle.both_ends.specs.startup.View.{IsMeant, IsMeantAtController, IsMeantAtDevice, move_of, rules_of, says_to_device, view_of}
 use Rattle.both_ends.specs.startup.Played.{AreMeant, ArePlaced, AreUnnamed, Begins, CanMeet, viewed}

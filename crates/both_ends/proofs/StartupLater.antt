@@ -1,6 +1,7 @@
 -- What a run leaves at the device for the next controller: its fixed properties, and of other activities no response that it did
 -- not have before.
 use Rattle.std.proofs.Common.{◌≡◌, inl, inr, ℕ, List, [], ◌∷◌, Option, Some, None, refl, sym, ap, subst, ◌∙◌}
+use Rattle.std.proofs.lemmas.Bool.{false≢true}
 use Rattle.std.specs.Prelude.{slice_get}
 use Rattle.std.specs.Cmp.Lexicographic.{same_text}
 use Rattle.lldp.specs.Views.{peer_as}
