@@ -117,13 +117,13 @@ planned_plain : (rules : Rules TakenRecord Request) (activity : List ℕ) (named
     → IsPlanned rules activity named real heard → IsAsking heard question → is_implicit question.request ≡ false
 planned_plain rules activity named real heard question planned asks =
     let plan : IsPlannedCall rules activity named real asks.call = subst (λ (h : Heard). IsPlanned rules activity named real h) asks.is planned in
-    by_request question.request (subst (λ (o : Option Operation). IsPlannedAs rules named real asks.call.header.sequence plan.blocks o) asks.asks plan.asks)
+    by_request asks.call.header.sequence plan.blocks question.request (subst (λ (o : Option Operation). IsPlannedAs rules named real asks.call.header.sequence plan.blocks o) asks.asks plan.asks)
   where
-    by_request : {sequence : ℕ} {blocks : List ℕ} (request : Wanted) → IsPlannedAs rules named real sequence blocks (Some (operation_asked request))
+    by_request : (sequence : ℕ) (blocks : List ℕ) (request : Wanted) → IsPlannedAs rules named real sequence blocks (Some (operation_asked request))
         → is_implicit request ≡ false
-    by_request (wanted.Read request) plan = refl
-    by_request (wanted.ReadImplicit request) plan = absurd plan
-    by_request (wanted.Write request) plan = refl
+    by_request sequence blocks (wanted.Read request) plan = refl
+    by_request sequence blocks (wanted.ReadImplicit request) plan = absurd plan
+    by_request sequence blocks (wanted.Write request) plan = refl
 
 module _ (so : HeardSo) (goes : GoesSo) where
   -- ---- one move
