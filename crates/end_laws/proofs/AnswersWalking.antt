@@ -380,8 +380,14 @@ module _ (datagrams : DatagramsAreRead) (reads : ResponsesAreRead) (local_is : A
       cond_both (is_repeat call.header.activity call.header.sequence live.rest.asked) _ _ IsGood (λ _. silent)
       (λ _. asking_good caller call blocks operation (asking_of live.rest.real station.named (uuid_of live.rest.link) caller call blocks operation))
   looked_good caller call blocks operation (again frame) is =
-      λ can stored. ((each_again IsOneDatagram call.header.activity call.header.sequence live.rest.calls frame stored
-      (again_if (is_kept station.options operation) call frame is), tt), stored)
+      λ can stored. (
+        (
+          each_again IsOneDatagram call.header.activity call.header.sequence live.rest.calls frame stored
+              (again_if (is_kept station.options operation) call frame is),
+          tt,
+        ),
+        stored,
+      )
   looked_good caller call blocks operation old is = silent
 
   blocks_good : (caller : Caller) (call : Called) (operation : Operation) (blocks : Option (List ℕ)) → IsGood (handled_blocks station live caller call operation blocks)

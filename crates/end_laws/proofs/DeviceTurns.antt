@@ -675,7 +675,6 @@ own_later rules activity station live heard after planned later own = λ questio
         (λ (o : Option Operation). IsPlannedAs rules station.named live.rest.real asks.call.header.sequence plan.blocks o) asks.asks plan.asks in
         (ap (λ (h : CallHeader). h.activity) asks.header ∙ plan.own, planned_plain asks.call.header.sequence plan.blocks question.request asks_is)
 
-
 pub step_own : (rules : Rules TakenRecord Request) (activity : List ℕ) (outcomes : List Outcome) (station : Station) (live : Live) (heard : Heard)
     → IsPlanned rules activity station.named live.rest.real heard → IsAskedLater heard live.rest.asked (heard_step outcomes station live heard).live.rest.asked
     → IsAskedOwn activity live.rest.asked → IsAskedOwn activity (heard_step outcomes station live heard).live.rest.asked
