@@ -19,7 +19,7 @@ use Rattle.octets_law.specs.Turns.{AreSent, IsSmall}
 use Rattle.octets_law.proofs.Asked.{IsSuch, step_such}
 use Rattle.octets_law.proofs.EventSteps.{IsNamed, any_step}
 use Rattle.octets_law.proofs.FrameSteps.{is_to}
-use Rattle.octets_law.proofs.Kinds.{IsOfKind, asking_kind}
+use Rattle.octets_law.proofs.Operations.{IsOfKind, asking_kind}
 use Rattle.octets_law.proofs.SetSteps.{set_owed}
 use Rattle.octets_law.proofs.WholeSet.{whole_heard}
 use Rattle.octets_law.proofs.Marks.{not_empty}

@@ -36,7 +36,7 @@ use Rattle.octets_law.proofs.Bare.{IsBare}
 use Rattle.octets_law.proofs.CallReads.{tested}
 use Rattle.octets_law.proofs.Datagrams.{IsArp, IsInternet, IsRealTime, Kind, kind_under}
 use Rattle.octets_law.proofs.Items.{IsOther, IsStill, identify_still, other_still}
-use Rattle.octets_law.proofs.Kinds.{IsOfKind}
+use Rattle.octets_law.proofs.Operations.{IsOfKind}
 use Rattle.octets_law.proofs.Later.{NoCall}
 use Rattle.octets_law.proofs.Quiet.{moved_bridged, refused_bridged}
 use Rattle.octets_law.proofs.SetFrames.{take_front}

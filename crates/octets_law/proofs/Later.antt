@@ -30,7 +30,7 @@ use Rattle.rpc_core.specs.Cache.{Kept, Reported as Looked, again, behind_reporte
 use Rattle.rpc_core.specs.Call.{Asked as Called, call, call_bytes}
 use Rattle.rpc_core.specs.Header.{head, opening}
 use Rattle.rpc_core.specs.Pdu.{cut_off, pdu}
-use Rattle.rpc_core.specs.Response.{Answered}
+use Rattle.rpc_core.specs.Response.{Answered, answer_to}
 use Rattle.pn_alarms.specs.declared.device.PduFate.{PduFate}
 use Rattle.pn_alarms.specs.declared.device.PduFate.TheVariants as fate
 use Rattle.pn_alarms.specs.declared.pdu.Header.{Header}
@@ -45,8 +45,6 @@ use Rattle.asked_records.specs.Questions.{operation_of as operation_asked}
 use Rattle.asked_records.specs.declared.question.Question.{Question}
 use Rattle.asked_records.specs.declared.status.Unanswered.{Unanswered}
 use Rattle.asked_records.specs.declared.status.Unanswered.TheVariants.{Busy, Late}
-use Rattle.connect_blocks.specs.declared.control.ControlBlock.{ControlBlock}
-use Rattle.connect_blocks.specs.declared.plug_control.PlugControlBlock.{PlugControlBlock}
 use Rattle.record_blocks.specs.declared.write_record.IodWriteReq.{IodWriteReq}
 use Rattle.records.specs.declared.status.call_fault.CallFault.{CallFault}
 use Rattle.records.specs.declared.status.operation.Operation.{Operation}
@@ -82,17 +80,16 @@ use Rattle.device_frames.specs.Relation.{alarms_of, due_frames, farewells_in, fr
 use Rattle.device_frames.specs.Sendable.{AreSendable, IsSendable}
 use Rattle.device_frames.specs.Sent.{Sent, IdentifyAnswer, GetAnswer, SetAnswer, ArpReply, CallAnswer, Again, ReadyCall, PlugReadyCall, Ends, Exchanges, bytes_of}
 use Rattle.device_core.specs.Asking.{Asking, asking_of, calls_after, ended_by, is_full, is_kept, is_new, kept_if, kept_reply, late_in, later_calls, later_replies, question_replies, refused_calls, refused_sent, reply_to}
-use Rattle.device_core.specs.Handled.{Handled, counted_sent, handled, handled_alarm, handled_answer, handled_asking, handled_effect, handled_judged, handled_local, handled_low, handled_low_pdu, handled_own, handled_pdu, handled_plug_answer, handled_question, handled_received, handled_request, handled_response, handled_unanswered, handled_write, is_request, is_running, ready_behind, served, ticked, unit_rest, unit_sent}
+use Rattle.device_core.specs.Handled.{Handled, counted_sent, handled, handled_alarm, handled_answer, handled_asking, handled_effect, handled_judged, handled_local, handled_low, handled_low_pdu, handled_own, handled_pdu, handled_plug_answer, handled_question, handled_received, handled_request, handled_response, handled_unanswered, handled_write, is_request, is_running, kept_for, ready_behind, ticked, unit_rest, unit_sent}
 use Rattle.device_core.specs.Local.{IsOfRelation}
 use Rattle.device_core.specs.Machine.{farewell_at, finished, handled_step, heard_step, items_in, resets}
-use Rattle.device_core.specs.Log.{but_rest}
 use Rattle.device_core.specs.Modules.{call_after, next_call_sent}
 use Rattle.device_core.specs.State.{Live, Rest, Station, alias_in, counter_of, units_after}
 use Rattle.octets_law.proofs.Locals.{by_local}
 use Rattle.octets_law.specs.Headline.{Stored, is_stored, stored_later, with_answer, without}
 use Rattle.octets_law.specs.Octets.{activity_of, is_response, number}
 use Rattle.octets_law.proofs.Asked.{IsSuch, judged_goes, left_such}
-use Rattle.octets_law.proofs.Kinds.{IsOfKind, asking_kind, displaced_is, kept_is}
+use Rattle.octets_law.proofs.Operations.{IsOfKind, asking_kind, displaced_is, kept_is}
 use Rattle.octets_law.proofs.AnswerPlaces.{answer_found, datagram_read}
 use Rattle.octets_law.proofs.Repeats.{kept_if_view, view}
 use Rattle.octets_law.proofs.SetFrames.{plain_octets, six}
@@ -363,6 +360,10 @@ all_relation_none (message ∷ sent) all = (relation_none message all.0, all_rel
 
 -- ---- outcomes
 
+by_result : {A B : Type 0} (P : Result A B → Type 0) → ((a : A) → P (Ok a)) → ((b : B) → P (Err b)) → (r : Result A B) → P r
+by_result P ok err (Ok a) = ok a
+by_result P ok err (Err b) = err b
+
 -- What is heard is no call.
 abbrev pub NoCall : Heard → Type 0
 NoCall (Reported caller address (Calls call)) = ⊥
@@ -384,49 +385,54 @@ module _ (station : Station) (live : Live) (kinds : IsSuch IsOfKind live.rest.as
 
   -- The device's own answer to a call, and what is sent after it.
   module _ (caller : Caller) (call : Called) where
-    served_later : (which : Operation) (outcome : Result (List ℕ) CallFault) (rest : Rest) (link : Option RelationState) (behind : List Sent)
-        → operation_of call.header.operation ≡ Some which → rest.calls ≡ live.rest.calls → AreNone behind
-        → IsLater (served station (but_rest live rest) caller call which outcome link behind)
-    served_later which outcome rest link behind is same none answers can =
-        answer_later station.options station.identity caller live.values.running.suite.address _ behind live.rest.calls which is can none
-        ∙ ap (λ calls. view (kept_if (is_kept station.options which) _ calls)) (sym same)
+    told_later : (which : Operation) (status : Status) (blocks : List ℕ) (behind : List Sent) → operation_of call.header.operation ≡ Some which
+        → AreNone behind → (answers : List BlockError)
+        → AreSendable station.identity (CallAnswer caller live.values.running.suite.address (answer_to call status blocks) ∷ behind)
+        → stored_later station.options
+        (map (bytes_of station.identity) (CallAnswer caller live.values.running.suite.address (answer_to call status blocks) ∷ behind)) (view live.rest.calls)
+        ≡ view (kept_if (is_kept station.options which)
+        (kept_for station.identity call (CallAnswer caller live.values.running.suite.address (answer_to call status blocks))) live.rest.calls)
+    told_later which status blocks behind is none answers can =
+        answer_later station.options station.identity caller live.values.running.suite.address (answer_to call status blocks) behind live.rest.calls which is can
+        none
 
     effect_later : (header : IodWriteReq) (effect : Effect) → operation_of call.header.operation ≡ Some Write
         → IsLater (handled_effect station live caller call header effect)
-    effect_later header (Stores value) is answers can =
+    effect_later header (Stores value) is = λ answers can.
         answer_later station.options station.identity caller live.values.running.suite.address _ [] live.rest.calls Write is can tt
-    effect_later header (Keeps parameter) is = served_later Write _ live.rest _ [] is refl tt
+    effect_later header (Keeps parameter) is = told_later Write _ _ [] is tt
 
     write_later : (writing : Result Writing CallFault) → operation_of call.header.operation ≡ Some Write
         → IsLater (handled_write station live caller call writing)
     write_later (Ok (One write)) is = effect_later write.request write.effect is
-    write_later (Ok (Each header entries)) is answers can =
+    write_later (Ok (Each header entries)) is = λ answers can.
         answer_later station.options station.identity caller live.values.running.suite.address _ [] live.rest.calls Write is can tt
-    write_later (Err why) is = served_later Write (Err why) live.rest live.rest.link [] is refl tt
+    write_later (Err why) is = told_later Write _ _ [] is tt
 
-    ready_behind_none : (by_application : Bool) (link : Option RelationState) (ended : Result ControlBlock CallFault)
-        → AreNone (ready_behind by_application live.values.running.suite.address link ended)
-    ready_behind_none true link (Ok block) = tt
-    ready_behind_none false link (Ok block) = ready_none live.values.running.suite.address link
-    ready_behind_none by_application link (Err why) = tt
+    ready_behind_none : (by_application : Bool) (link : Option RelationState) (blocks : List ℕ)
+        → AreNone (ready_behind by_application live.values.running.suite.address link (prm_end_of live.rest.link blocks))
+    ready_behind_none by_application link blocks =
+        by_result (λ ended. AreNone (ready_behind by_application live.values.running.suite.address link ended))
+        (λ block. cond_both by_application _ _ AreNone (λ _. tt) (λ _. ready_none live.values.running.suite.address link)) (λ why. tt)
+        (prm_end_of live.rest.link blocks)
 
-    call_after_none : (ended : Result PlugControlBlock CallFault) (link : Option RelationState)
-        → AreNone (call_after ended live.values.running.suite.address link)
-    call_after_none (Ok block) link = next_none live.values.running.suite.address link
-    call_after_none (Err why) link = tt
+    call_after_none : (blocks : List ℕ) (link : Option RelationState)
+        → AreNone (call_after (plug_end_in blocks live.rest.link) live.values.running.suite.address link)
+    call_after_none blocks link =
+        by_result (λ ended. AreNone (call_after ended live.values.running.suite.address link)) (λ block. next_none live.values.running.suite.address link)
+        (λ why. tt) (plug_end_in blocks live.rest.link)
 
     own_later : (blocks : List ℕ) (which : Operation) → operation_of call.header.operation ≡ Some which
         → IsLater (handled_own station live caller call blocks which)
-    own_later blocks Connect is = served_later Connect _ _ _ [] is refl tt
-    own_later blocks Release is = served_later Release _ _ _ [] is refl tt
-    own_later blocks Read is = served_later Read _ live.rest _ [] is refl tt
+    own_later blocks Connect is = told_later Connect _ _ [] is tt
+    own_later blocks Release is = told_later Release _ _ [] is tt
+    own_later blocks Read is = told_later Read _ _ [] is tt
     own_later blocks Write is = write_later (writing_of (uuid_of live.rest.link) live.rest.real blocks) is
     own_later blocks Control is =
         cond_both (is_plug_control blocks live.rest.link) _ _ IsLater
-        (λ _. served_later Control _ live.rest _ _ is refl (call_after_none (plug_end_in blocks live.rest.link) _))
-        (λ _. served_later Control _ live.rest _ _ is refl
-        (ready_behind_none station.options.ready_by_application _ (prm_end_of live.rest.link blocks)))
-    own_later blocks ReadImplicit is = served_later ReadImplicit _ live.rest _ [] is refl tt
+        (λ _. told_later Control _ _ _ is (call_after_none blocks _))
+        (λ _. told_later Control _ _ _ is (ready_behind_none station.options.ready_by_application _ blocks))
+    own_later blocks ReadImplicit is = told_later ReadImplicit _ _ [] is tt
 
     -- A call for a record of the application: it is asked, and refuses the one that it displaces, or it is refused.
     question_later : (question : Question) (displaced : Option Question) (asked : Option AskedState) → IsOfKind question
@@ -445,8 +451,8 @@ module _ (station : Station) (live : Live) (kinds : IsSuch IsOfKind live.rest.as
         let displaced = displaced_by own_first asking.0 live.rest.asked in
         question_later asking.0 displaced (asks_now asking.0 asking.1 (behind_displaced displaced live.rest.asked))
         (asking_kind live.rest.real station.named (uuid_of live.rest.link) caller call blocks which asking is asks)
-        (λ other gives. kinds other (displaced_is own_first asking.0 other live.rest.asked gives))
-    asking_later blocks which (Err why) is asks = served_later which (Err why) live.rest live.rest.link [] is refl tt
+        (λ other gives. kinds other (displaced_is own_first asking.0 other live.rest.asked gives).was)
+    asking_later blocks which (Err why) is asks = told_later which _ _ [] is tt
 
     -- A call that is handled as new.
     pub unanswered_later : (blocks : List ℕ) (which : Operation) → operation_of call.header.operation ≡ Some which
@@ -529,7 +535,7 @@ module _ (station : Station) (live : Live) (kinds : IsSuch IsOfKind live.rest.as
   -- An answer of the application, and all else that it says.
   judged_later : (given : Gives) (judged : Result Question AnswerFault) → ((question : Question) → judged ≡ Ok question → IsOfKind question)
       → IsLater (handled_judged station live given judged)
-  judged_later given (Ok question) kind answers can =
+  judged_later given (Ok question) kind = λ answers can.
       later_later station.options station.identity live.values.running.suite.address question (answer_status question.request given)
       (answer_blocks question.request given) live.rest.calls (kind question refl) can
   judged_later given (Err why) kind = λ answers can. refl

@@ -23,7 +23,7 @@ use Rattle.octets_law.specs.Turns.{AreSent, HasLived, IsReady, Lives, TurnsAll, 
 use Rattle.octets_law.proofs.Asked.{unasked_such}
 use Rattle.octets_law.proofs.Exact.{all_exact}
 use Rattle.octets_law.proofs.Identified.{first_identified}
-use Rattle.octets_law.proofs.Kinds.{IsOfKind}
+use Rattle.octets_law.proofs.Operations.{IsOfKind}
 use Rattle.octets_law.proofs.Turned.{cycle_more}
 use Rattle.octets_law.proofs.Split.{AreExact, all_answered, made_by_octets, settled, told_events}
 

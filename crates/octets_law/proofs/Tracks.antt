@@ -20,7 +20,7 @@ use Rattle.octets_law.specs.Octets.{Asking, Call, Nothing, Set, asking_of, in_or
 use Rattle.octets_law.specs.Headline.{Stored, again_for, is_again, is_stored, stored_after, stored_later}
 use Rattle.octets_law.proofs.Asked.{IsSuch}
 use Rattle.octets_law.proofs.CallCounts.{IsCallCounted}
-use Rattle.octets_law.proofs.Kinds.{IsOfKind, kept_is}
+use Rattle.octets_law.proofs.Operations.{IsOfKind, kept_is}
 use Rattle.octets_law.proofs.Later.{NoCall, call_later, step_later}
 use Rattle.octets_law.proofs.Repeats.{again_is, frames_by, stored_new, stored_none, stored_same, view}
 

@@ -1,6 +1,6 @@
 -- Which answers are stored, by the number of an operation; and a call that is asked has the operation of its request.
 use Rattle.std.proofs.Common.{◌≡◌, ◌==◌, ◌&&◌, ℕ, Bool, true, false, not, nat_eq, List, [], ◌∷◌, flat_map, map, take, Option, Some, None, Result, Ok, Err, refl, sym, ap, subst, ◌∙◌, if◌then◌else◌}
-use Rattle.std.proofs.lemmas.Bool.{cond_both}
+use Rattle.std.proofs.lemmas.Bool.{and_parts, cond_both}
 use Rattle.std.proofs.lemmas.List.{append-nil}
 use Rattle.std.specs.Cmp.Lexicographic.{pointwise}
 use Rattle.std.specs.Option.{option_map}
@@ -21,9 +21,9 @@ use Rattle.records.specs.reads.Handled.{request_of}
 use Rattle.records.specs.reads.Within.{request_within}
 use Rattle.records.specs.status.Operation.{operation_of}
 use Rattle.relations.specs.declared.options.DeviceOptions.{DeviceOptions}
-use Rattle.asked_records.specs.Asked.{AskedState, Standing, displaced_by, gives_way, goes_before, is_repeat, repeats}
+use Rattle.asked_records.specs.Asked.{AskedState, Standing, displaced_by, gives_way, goes_before, is_repeat, question_in, repeats}
 use Rattle.asked_records.specs.Judging.{asked_read, asked_write}
-use Rattle.asked_records.specs.Questions.{operation_of as operation_asked}
+use Rattle.asked_records.specs.Questions.{is_implicit, operation_of as operation_asked}
 use Rattle.asked_records.specs.declared.names.RecordName.{RecordName}
 use Rattle.asked_records.specs.declared.question.Question.{Question}
 use Rattle.asked_records.specs.declared.question.Request.{Request}
@@ -91,33 +91,34 @@ abbrev pub IsOfKind : Question → Type 0
 IsOfKind question = operation_of question.header.operation ≡ Some (operation_asked question.request)
 
 module _ (real : Real) (named : List RecordName) (standing : Option (List ℕ)) (caller : Caller) (call : Called) where
-  abbrev Has : Operation → Result (Option Asking) CallFault → Type 0
-  Has which (Ok (Some asking)) = operation_asked asking.0.request ≡ which
-  Has which (Ok None) = Unit {0}
-  Has which (Err why) = Unit {0}
+  -- What is asked has this operation.
+  abbrev pub IsOfOperation : Operation → Result (Option Asking) CallFault → Type 0
+  IsOfOperation which (Ok (Some asking)) = operation_asked asking.0.request ≡ which
+  IsOfOperation which (Ok None) = Unit {0}
+  IsOfOperation which (Err why) = Unit {0}
 
   read_has : (which : Operation) (wanted : IodReadReq → Request) → ((read : IodReadReq) → operation_asked (wanted read) ≡ which)
-      → (read : Result IodReadReq CallFault) → Has which (asking_read real named wanted caller call read)
+      → (read : Result IodReadReq CallFault) → IsOfOperation which (asking_read real named wanted caller call read)
   read_has which wanted is (Err why) = tt
   read_has which wanted is (Ok read) = by_found (asked_read real named read)
     where
       by_found : (found : Result (Option RecordName) CallFault)
-          → Has which (found >>= λ found. Ok (option_map (λ name. (question_of caller call (wanted read) name, [])) found))
+          → IsOfOperation which (found >>= λ found. Ok (option_map (λ name. (question_of caller call (wanted read) name, [])) found))
       by_found (Ok (Some name)) = is read
       by_found (Ok None) = tt
       by_found (Err why) = tt
 
-  write_has : (read : Result (IodWriteReq × List ℕ) CallFault) → Has operation.Write (asking_write real named caller call read)
+  write_has : (read : Result (IodWriteReq × List ℕ) CallFault) → IsOfOperation operation.Write (asking_write real named caller call read)
   write_has (Err why) = tt
   write_has (Ok x) = by_found (asked_write real named x.0 x.1)
     where
-      by_found : (found : Result (Option RecordName) CallFault) → Has operation.Write (found >>= λ found. Ok (option_map
+      by_found : (found : Result (Option RecordName) CallFault) → IsOfOperation operation.Write (found >>= λ found. Ok (option_map
           (λ name. (question_of caller call (request.Write x.0) name, take x.0.header.record_data_length x.1)) found))
       by_found (Ok (Some name)) = refl
       by_found (Ok None) = tt
       by_found (Err why) = tt
 
-  asking_has : (blocks : List ℕ) (which : Operation) → Has which (asking_of real named standing caller call blocks which)
+  pub asking_has : (blocks : List ℕ) (which : Operation) → IsOfOperation which (asking_of real named standing caller call blocks which)
   asking_has blocks operation.Connect = tt
   asking_has blocks operation.Release = tt
   asking_has blocks operation.Read = read_has operation.Read request.Read (λ read. refl) (request_within standing blocks)
@@ -130,26 +131,40 @@ module _ (real : Real) (named : List RecordName) (standing : Option (List ℕ)) 
       → asking_of real named standing caller call blocks which ≡ Ok (Some asking) → IsOfKind asking.0
   asking_kind blocks which asking is asks =
       let own : asking.0.header ≡ call.header = subst (IsOwn real named standing caller call) asks (asking_own real named standing caller call blocks which) in
-      let kind : operation_asked asking.0.request ≡ which = subst (Has which) asks (asking_has blocks which) in
+      let kind : operation_asked asking.0.request ≡ which = subst (IsOfOperation which) asks (asking_has blocks which) in
       ap (λ (h : CallHeader). operation_of h.operation) own ∙ is ∙ ap Some (sym kind)
 
 -- ---- a call that gives way
 
--- The call that is displaced is the one that is asked.
+-- The call that is displaced is the one that is asked, and a Read Implicit.
+pub record GivesWay (own_first : Bool) (state : AskedState) (other : Question) : Type 0 where
+  pub option : own_first ≡ true
+  pub was : question_in state ≡ Some other
+  pub implicit : is_implicit other.request ≡ true
+
 pub displaced_is : (own_first : Bool) (question other : Question) (state : AskedState) → displaced_by own_first question state ≡ Some other
-    → option_map (λ (s : Standing). s.question) state.standing ≡ Some other
-displaced_is true question other state is = by_standing state.standing is
+    → GivesWay own_first state other
+displaced_is true question other state is = by_standing state.standing refl is
   where
-    by_standing : (standing : Option Standing) → gives_way question standing ≡ Some other → option_map (λ (s : Standing). s.question) standing ≡ Some other
-    by_standing None is = absurd cc
-    by_standing (Some standing) =
-        cond_both (goes_before question standing.question) _ _ (λ (r : Option Question). r ≡ Some other → Some standing.question ≡ Some other) (λ _ is. is)
+    same : (one two : Question) → Some one ≡ Some two → one ≡ two
+    same one two e = cc
+
+    by_standing : (standing : Option Standing) → state.standing ≡ standing → gives_way question standing ≡ Some other → GivesWay true state other
+    by_standing None there = λ is. absurd cc
+    by_standing (Some standing) there =
+        cond_both (goes_before question standing.question) _ _ (λ (r : Option Question). r ≡ Some other → GivesWay true state other)
+        (λ before is.
+        record {
+          option = refl;
+          was = ap (λ (s : Option Standing). option_map (λ (one : Standing). one.question) s) there ∙ is;
+          implicit = subst (λ (q : Question). is_implicit q.request ≡ true) (same standing.question other is) (and_parts _ _ before).1;
+        })
         (λ _ is. absurd cc)
 displaced_is false question other state is = absurd cc
 
 -- A call that is not repeated has another name than the one that is asked.
 pub other_name : (activity : List ℕ) (sequence : ℕ) (other : Question) (state : AskedState)
-    → option_map (λ (s : Standing). s.question) state.standing ≡ Some other → is_repeat activity sequence state ≡ false
+    → question_in state ≡ Some other → is_repeat activity sequence state ≡ false
     → pointwise nat_eq (other.header.sequence ∷ other.header.activity) (sequence ∷ activity) ≡ false
 other_name activity sequence other state is once = by_standing state.standing is once
   where
