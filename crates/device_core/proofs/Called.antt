@@ -2,6 +2,7 @@
 use Rattle.std.proofs.lemmas.Bool.{cond_both}
 use Rattle.std.proofs.Common.{◌≡◌, ◌&&◌, ℕ, List, [], ◌∷◌, ◌++◌, length, Option, Some, None, Result, Ok, Err, refl, sym, ap, ◌∙◌}
 use Rattle.pn_values.specs.declared.mac.Mac.{Mac}
+use Rattle.pn_values.specs.IpSuite.{is_zero}
 use Rattle.pn_values.specs.declared.set_item.BlockError.{BlockError}
 use Rattle.settings_journal.specs.settings_store.Machine.{Outcome, carried}
 use Rattle.dcp_core.specs.declared.request.Service.{Service}
@@ -9,7 +10,7 @@ use Rattle.dcp_core.specs.declared.request.Service.TheVariants as service
 use Rattle.dcp_core.specs.Request.{Asked}
 use Rattle.dcp_core.specs.Identify.{matches}
 use Rattle.rpc_core.specs.Call.{Asked as Called}
-use Rattle.rpc_core.specs.Cache.{Kept, Reported as Looked, new, again, old, looked, kept_more, behind_reported, behind_calls}
+use Rattle.rpc_core.specs.Cache.{Kept, Reported as Looked, new, again, old, looked, kept_more, behind_calls}
 use Rattle.records.specs.declared.status.operation.Operation.{Operation}
 use Rattle.records.specs.declared.status.operation.Operation.TheVariants.{Connect, Release, Read, Write, Control, ReadImplicit}
 use Rattle.records.specs.declared.status.call_fault.CallFault.{CallFault}
@@ -48,18 +49,19 @@ use Rattle.device_frames.specs.Heard.{Heard, Ticks, Unreadable, Elsewhere, Asks,
 use Rattle.device_core.specs.Handled.{Handled, is_running, is_request, answer_from, kept_for, kept_answer, handled_request, handled_effect, handled_write, handled_own, handled_asking, handled_judged, handled_local, handled_question, handled_unanswered, unit_rest, unit_sent, handled_looked, handled_blocks, handled_call, handled_answer, handled_said, handled_pdu, handled_received, handled, known_of, number_now, handled_alarm, handled_low, handled_low_pdu, handled_plug_answer, handled_response}
 use Rattle.arrayvec.specs.ArrayVec.{ArrayVec}
 use Rattle.asked_records.specs.Answers.{Gives, gives_octets, gives_done, gives_refusal, answer_blocks, answer_status, judged, unanswered_status}
-use Rattle.asked_records.specs.Asked.{AskedState, asks, is_repeat}
+use Rattle.asked_records.specs.Asked.{AskedState, asks, behind_displaced, displaced_by, is_repeat}
 use Rattle.asked_records.specs.Questions.{operation_of as operation_asked}
 use Rattle.asked_records.specs.declared.answering.AnswerFault.{AnswerFault}
 use Rattle.asked_records.specs.declared.question.Question.{Question}
-use Rattle.asked_records.specs.declared.status.Unanswered.TheVariants.{Busy}
+use Rattle.asked_records.specs.declared.status.Unanswered.TheVariants.{Busy, Late}
 use Rattle.device_frames.specs.declared.local.Local.{Local}
 use Rattle.device_frames.specs.declared.local.Local.TheVariants as local
-use Rattle.device_core.specs.Asking.{Asking, asking_of, calls_after, kept_reply, late_calls, late_in, late_reply, reply_to}
+use Rattle.device_core.specs.Asking.{Asking, asking_of, is_kept, kept_if, late_calls, late_in, looked_if, reply_to}
 use Rattle.device_core.specs.Several.{judged_each}
 use Rattle.device_core.specs.Machine.{items_in, first_answer, several_answer, written_as, finished, heard_step, handled_step, step_of, first_step, later_steps, run_of}
 use Rattle.device_core.specs.Steps.{IsBehindCalls}
 use Rattle.device_core.proofs.Applied.{local_is}
+use Rattle.device_core.proofs.Storing.{later_called, refused_called, replied_called, stored_called}
 
 calls_then : (first later : List Kept) (cache : List Kept) → behind_calls 4 (first ++ later) cache ≡ behind_calls 4 later (behind_calls 4 first cache)
 calls_then [] later cache = refl
@@ -81,13 +83,16 @@ request_called station live answers asker service.Set request = ([], refl)
 
 -- A new call with this answer stores it.
 kept_called : (station : Station) (live : Live) (call : Called) (answer : Sent) → looked call.header.activity call.header.sequence live.rest.calls ≡ new
-    → IsBehindCalls live.rest.calls (behind_reported 4 (kept_for station.identity call answer) live.rest.calls new)
-kept_called station live call answer is_new =
-    let kept = kept_for station.identity call answer in (kept ∷ [], sym (ap (behind_reported 4 kept live.rest.calls) is_new))
+    → IsBehindCalls live.rest.calls (kept_more 4 (kept_for station.identity call answer) live.rest.calls)
+kept_called station live call answer is_new = stored_called true live.rest.calls (kept_for station.identity call answer) is_new
 
-served_called : (station : Station) (live : Live) (caller : Caller) (call : Called) (operation : Operation) (outcome : Result (List ℕ) CallFault) → looked call.header.activity call.header.sequence live.rest.calls ≡ new
-    → IsBehindCalls live.rest.calls (kept_more 4 (kept_for station.identity call (answer_from live.values.running.suite.address caller call operation outcome)) live.rest.calls)
-served_called station live caller call operation outcome is_new = kept_called station live call (answer_from live.values.running.suite.address caller call operation outcome) is_new
+served_called : (station : Station) (live : Live) (caller : Caller) (call : Called) (operation : Operation) (outcome : Result (List ℕ) CallFault)
+    → looked_if (is_kept station.options operation) call.header.activity call.header.sequence live.rest.calls ≡ new
+    → IsBehindCalls live.rest.calls
+    (kept_if (is_kept station.options operation) (kept_for station.identity call (answer_from live.values.running.suite.address caller call operation outcome)) live.rest.calls)
+served_called station live caller call operation outcome is_new =
+    stored_called (is_kept station.options operation) live.rest.calls
+    (kept_for station.identity call (answer_from live.values.running.suite.address caller call operation outcome)) is_new
 
 effect_called : (station : Station) (live : Live) (answers : List BlockError) (caller : Caller) (call : Called) (header : IodWriteReq) (effect : Effect)
     → looked call.header.activity call.header.sequence live.rest.calls ≡ new → IsKept station live answers (handled_effect station live caller call header effect)
@@ -104,7 +109,7 @@ write_called station live answers caller call (Ok (Each header entries)) is_new 
 write_called station live answers caller call (Err fault) is_new = served_called station live caller call Write (Err fault) is_new
 
 own_called : (station : Station) (live : Live) (answers : List BlockError) (caller : Caller) (call : Called) (blocks : List ℕ) (operation : Operation)
-    → looked call.header.activity call.header.sequence live.rest.calls ≡ new → IsKept station live answers (handled_own station live caller call blocks operation)
+    → looked_if (is_kept station.options operation) call.header.activity call.header.sequence live.rest.calls ≡ new → IsKept station live answers (handled_own station live caller call blocks operation)
 own_called station live answers caller call blocks Connect is_new =
     served_called station live caller call Connect (connect_answer station.identity live.rest.real station.options (number_now station live) caller.mac live.rest.link blocks) is_new
 own_called station live answers caller call blocks Release is_new =
@@ -120,32 +125,32 @@ own_called station live answers caller call blocks Control is_new =
 own_called station live answers caller call blocks ReadImplicit is_new =
     served_called station live caller call ReadImplicit (implicit_read (known_of station live) station.identity live.rest.real live.values.running blocks) is_new
 
--- The response to a call that was asked is stored, unless a later call of its activity was answered.
-replied_called : (station : Station) (rest : Rest) (question : Question) (answer : Sent) → IsBehindCalls rest.calls (calls_after station.identity question answer rest.calls)
-replied_called station rest question answer = (kept_reply station.identity question answer ∷ [], refl)
-
-question_called : (station : Station) (live : Live) (answers : List BlockError) (question : Question) (asked : Option AskedState)
-    → IsKept station live answers (handled_question station live question asked)
-question_called station live answers question (Some asked) = ([], refl)
-question_called station live answers question None =
-    replied_called station live.rest question (reply_to live.values.running.suite.address question (unanswered_status (operation_asked question.request) Busy) [])
+-- A call for a record of the application: what it displaces is refused, or it is refused itself.
+question_called : (station : Station) (live : Live) (answers : List BlockError) (question : Question) (displaced : Option Question) (asked : Option AskedState)
+    → IsKept station live answers (handled_question station live question displaced asked)
+question_called station live answers question displaced (Some asked) =
+    refused_called station.options station.identity live.values.running.suite.address Busy displaced live.rest.calls
+question_called station live answers question displaced None =
+    replied_called (is_kept station.options (operation_asked question.request)) station.identity question
+    (reply_to live.values.running.suite.address question (unanswered_status (operation_asked question.request) Busy) []) live.rest.calls
 
 asking_called : (station : Station) (live : Live) (answers : List BlockError) (caller : Caller) (call : Called) (blocks : List ℕ) (operation : Operation)
-    (asking : Result (Option Asking) CallFault) → looked call.header.activity call.header.sequence live.rest.calls ≡ new
+    (asking : Result (Option Asking) CallFault) → looked_if (is_kept station.options operation) call.header.activity call.header.sequence live.rest.calls ≡ new
     → IsKept station live answers (handled_asking station live caller call blocks operation asking)
 asking_called station live answers caller call blocks operation (Ok None) is_new = own_called station live answers caller call blocks operation is_new
 asking_called station live answers caller call blocks operation (Ok (Some asking)) is_new =
-    question_called station live answers asking.0 (asks asking.0 asking.1 live.rest.asked)
+    let displaced = displaced_by station.options.asks_own_first asking.0 live.rest.asked in
+    question_called station live answers asking.0 displaced (asks asking.0 asking.1 (behind_displaced displaced live.rest.asked))
 asking_called station live answers caller call blocks operation (Err fault) is_new = served_called station live caller call operation (Err fault) is_new
 
 unanswered_called : (station : Station) (live : Live) (answers : List BlockError) (caller : Caller) (call : Called) (blocks : List ℕ) (operation : Operation)
-    → looked call.header.activity call.header.sequence live.rest.calls ≡ new → IsKept station live answers (handled_unanswered station live caller call blocks operation)
+    → looked_if (is_kept station.options operation) call.header.activity call.header.sequence live.rest.calls ≡ new → IsKept station live answers (handled_unanswered station live caller call blocks operation)
 unanswered_called station live answers caller call blocks operation is_new =
     cond_both (is_repeat call.header.activity call.header.sequence live.rest.asked) _ _ (IsKept station live answers) (λ _. ([], refl))
     (λ _. asking_called station live answers caller call blocks operation (asking_of live.rest.real station.named (uuid_of live.rest.link) caller call blocks operation) is_new)
 
 looked_called : (station : Station) (live : Live) (answers : List BlockError) (caller : Caller) (call : Called) (blocks : List ℕ) (operation : Operation) (reported : Looked)
-    → looked call.header.activity call.header.sequence live.rest.calls ≡ reported → IsKept station live answers (handled_looked station live caller call blocks operation reported)
+    → looked_if (is_kept station.options operation) call.header.activity call.header.sequence live.rest.calls ≡ reported → IsKept station live answers (handled_looked station live caller call blocks operation reported)
 looked_called station live answers caller call blocks operation new reported = unanswered_called station live answers caller call blocks operation reported
 looked_called station live answers caller call blocks operation (again frame) reported = ([], refl)
 looked_called station live answers caller call blocks operation old reported = ([], refl)
@@ -212,15 +217,17 @@ received_called station live answers received.Stale link = ([], refl)
 received_called station live answers received.Taken link = ([], refl)
 
 -- A call that has no answer in time.
-late_called : (station : Station) (rest : Rest) (late : Option Question) (address : List ℕ) → IsBehindCalls rest.calls (late_calls station.identity address late rest.calls)
-late_called station rest None address = ([], refl)
-late_called station rest (Some question) address = replied_called station rest question (late_reply address question)
+late_called : (station : Station) (rest : Rest) (late : Option Question) (address : List ℕ)
+    → IsBehindCalls rest.calls (late_calls station.options station.identity address late rest.calls)
+late_called station rest late address = refused_called station.options station.identity address Late late rest.calls
 
 -- An answer of the application, and all else that it says.
 judged_called : (station : Station) (live : Live) (answers : List BlockError) (given : Gives) (judged : Result Question AnswerFault)
     → IsKept station live answers (handled_judged station live given judged)
 judged_called station live answers given (Ok question) =
-    replied_called station live.rest question (reply_to live.values.running.suite.address question (answer_status question.request given) (answer_blocks question.request given))
+    let address = live.values.running.suite.address in
+    later_called (is_zero address) (is_kept station.options (operation_asked question.request)) station.identity question
+    (reply_to address question (answer_status question.request given) (answer_blocks question.request given)) live.rest.calls
 judged_called station live answers given (Err fault) = ([], refl)
 
 local_called : (station : Station) (live : Live) (answers : List BlockError) (said : Local (ArrayVec ℕ)) → IsKept station live answers (handled_local station live said)

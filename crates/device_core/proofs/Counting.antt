@@ -19,11 +19,11 @@ kept_unless kept calls (again frame) is none = ap (behind_reported 4 kept calls)
 kept_unless kept calls old is none = ap (behind_reported 4 kept calls) is
 
 -- Any other is.
-pub kept_if : (kept : Kept) (calls : List Kept) (reported : Looked) → looked kept.activity kept.sequence calls ≡ reported → is_new reported ≡ true
+pub kept_when : (kept : Kept) (calls : List Kept) (reported : Looked) → looked kept.activity kept.sequence calls ≡ reported → is_new reported ≡ true
     → behind_call 4 kept calls ≡ kept_more 4 kept calls
-kept_if kept calls new is some = ap (behind_reported 4 kept calls) is
-kept_if kept calls (again frame) is some = absurd (false≢true some)
-kept_if kept calls old is some = absurd (false≢true some)
+kept_when kept calls new is some = ap (behind_reported 4 kept calls) is
+kept_when kept calls (again frame) is some = absurd (false≢true some)
+kept_when kept calls old is some = absurd (false≢true some)
 
 -- As many frames are in the outbox as messages are sent.
 pub count_sent : (f : Sent → List ℕ) (frames : List (ArrayVec ℕ)) (sent : List Sent) → map (λ (frame : ArrayVec ℕ). frame.items) frames ≡ map f sent → length frames ≡ length sent

@@ -8,6 +8,7 @@ pub mod Served
 pub mod Lists
 pub mod Placed
 pub mod Steps
+mod Storing
 pub mod Called
 mod RealKept
 pub mod Runs
