@@ -202,5 +202,5 @@ is_plan written = fault_of written == 0
 -- plan, or an ARUUID that is zero.
 abbrev pub why_not_made : ℕ → ℕ → ℕ → WrittenPlan → List ℕ → ℕ
 why_not_made size abi op_size written ar =
-    if not (abi == 9 && op_size == 1680) then 2 else
+    if not (abi == 10 && op_size == 1680) then 2 else
     (if nat_lt size 40960 then 3 else (if not (is_plan written) then 16 else (if is_nil_bytes ar then 16 else 0)))

@@ -30,7 +30,7 @@ use station_names::check;
 use uuid::Uuid;
 
 /// The version of the header.
-const ABI: u32 = 9;
+const ABI: u32 = 10;
 
 /// The number of octets of the memory for a port.
 const ROOM: usize = 40960;
