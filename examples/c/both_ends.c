@@ -220,7 +220,7 @@ static void exchange(void)
     pass(100);
     must(pn_controller_value(&controller, &other, 1, 1), "pn_controller_value");
     printf("the controller has the count %u\n", other.octets[3]);
-    must(pn_received(&device, &op, 1, 1, &iops, &status), "pn_received");
+    must(pn_received_exactly(&device, &op, 1, 1, 1, &iops, &status), "pn_received_exactly");
     printf("the device has the output %u, IOPS %02X, DataStatus %02X\n", op.octets[0], iops, status);
 }
 
