@@ -950,7 +950,7 @@ static inline uint32_t pn_provider(const pn_device *device, pn_op *op, uint16_t 
 
 /* The output of a submodule in the last accepted cyclic frame, in `length` and `octets`, and what the controller says of it, as pn_provider: pn_output and
  * pn_provider in one call. `length` is what the Connect expects, which may be another than the station has: compare it before you use the octets. Those
- * after it are old ones of the operation. The same of pn_output. May return PN_NO_FRAME. */
+ * after it are old ones of the operation. The same of pn_output. pn_received_exactly compares it. May return PN_NO_FRAME. */
 static inline uint32_t pn_received(const pn_device *device, pn_op *op, uint16_t slot, uint16_t subslot, uint8_t *iops, uint8_t *data_status)
 {
     uint32_t answer;
@@ -963,6 +963,17 @@ static inline uint32_t pn_received(const pn_device *device, pn_op *op, uint16_t 
         *iops = (uint8_t)op->iops;
         *data_status = (uint8_t)op->data_status;
     }
+    return answer;
+}
+
+/* pn_received of an output that has `length` octets at the station. If the Connect expects another length this returns PN_BAD_LENGTH, with that length
+ * in the operation: the plan does not fit the station. So no old octets are used as the output's. */
+static inline uint32_t pn_received_exactly(const pn_device *device, pn_op *op, uint16_t slot, uint16_t subslot, uint32_t length, uint8_t *iops,
+                                           uint8_t *data_status)
+{
+    uint32_t answer = pn_received(device, op, slot, subslot, iops, data_status);
+    if (answer == PN_OK && op->length != length)
+        return PN_BAD_LENGTH;
     return answer;
 }
 

@@ -70,6 +70,41 @@ bridge.stop()
 print(json.dumps([*found, time.monotonic() - begins]))
 """
 
+# Brokers that end a connection after its TLS handshake, before CONNECT is written: so does one that wants a certificate. What is logged of each.
+ENDED = """
+import json, socket, ssl, struct, sys, threading, time
+certificate, key, *places = sys.argv[1:]
+sys.path[:0] = places
+from nandutable_bridge.broker import Address, Broker
+
+
+class Late(ssl.SSLSocket):
+    def do_handshake(self, *words):
+        super().do_handshake(*words)
+        time.sleep(0.5)
+
+
+def end(door, is_reset):
+    made = theirs.wrap_socket(door.accept()[0], server_side=True)
+    if is_reset:
+        made.setsockopt(socket.SOL_SOCKET, socket.SO_LINGER, struct.pack("ii", 1, 0))
+    made.close()
+
+
+said = []
+theirs, ours = ssl.SSLContext(ssl.PROTOCOL_TLS_SERVER), ssl.create_default_context(cafile=certificate)
+theirs.load_cert_chain(certificate, key)
+ours.sslsocket_class = Late
+for is_reset in (True, False):
+    door = socket.create_server(("127.0.0.1", 0))
+    threading.Thread(target=end, args=(door, is_reset), daemon=True).start()
+    address = Address("localhost", door.getsockname()[1], context=ours)
+    broker, before = Broker(address, ("plant/_bridge", b"{}"), None, lambda *_: None, said.append), len(said)
+    while len(said) == before:
+        broker.turn(0.1)
+print(json.dumps(said))
+"""
+
 
 def same(what, came, wanted):
     if came != wanted:
@@ -577,7 +612,16 @@ class BridgeTests:
             bridge.end()
         same("what was refused has published nothing", everything.messages("refused/_bridge"), [])
         broker.end()
+        self.ended_after_handshake()
         return None
+
+    def ended_after_handshake(self):
+        """Whenever a broker ends a connection that was made, the log says that it is lost."""
+        self.openssl("req", "-x509", "-newkey", "ec", "-pkeyopt", "ec_paramgen_curve:P-256", "-nodes", "-days", "2", "-subj", "/CN=localhost", "-addext", "subjectAltName=DNS:localhost",
+                     "-keyout", "alone.key", "-out", "alone.crt")
+        ran = subprocess.run([PYTHON, "-c", ENDED, self.path("alone.crt"), self.path("alone.key"), *PLACES], capture_output=True, text=True, timeout=120)
+        same(f"its status: {ran.stderr}", ran.returncode, 0)
+        same(f"what is logged: {ran.stdout}", [": the connection is lost" in text for text in json.loads(ran.stdout)], [True, True])
 
     def openssl(self, *words):
         subprocess.run(["openssl", *words], cwd=self.folder, check=True, capture_output=True)

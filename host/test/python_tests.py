@@ -585,6 +585,7 @@ class PythonTests:
         environment = {**os.environ, "PYTHONPATH": PYTHON, "NANDUTABLE_CONTROLLER": os.path.join(BUILD, self.kind, "nandutable-controller")}
         ran = subprocess.run([*within, sys.executable, "-m", "nandutable", "--interface", "c0", plan], capture_output=True, text=True, timeout=60, env=environment)
         same(f"its own controller: {ran.stderr}", (ran.returncode, ran.stdout), (0, "pump-1.level = 0 mm\npump-1.speed = 0\n"))
+        self.sets_alone(device, [*within, sys.executable, "-m", "nandutable", "--interface", "c0"], environment)
         controller = self.controller(wire, plan, "--signals", "--times", "--socket", path)
         device.say("input 1 1 0102")
         same("names", [line.split()[:4] for line in self.module_prints("--socket", path, "names").splitlines()],
@@ -597,6 +598,12 @@ class PythonTests:
         same("refused", "Integer16 takes -32768 to 32767" in self.module_prints("--socket", path, "set", "pump-1.speed", "40000", status=1), True)
         same("no such name", "has no signal 'depth'" in self.module_prints("--socket", path, "values", "depth", status=66), True)
         same("the nearest name", "has no signal 'spead'; the nearest: speed" in self.module_prints("--socket", path, "values", "spead", status=66), True)
+        same("of a set", "has no signal 'spead'; the nearest: speed" in self.module_prints("--socket", path, "set", "spead", "1", status=66), True)
+        same("of a get", "has no signal 'spead'; the nearest: speed" in self.module_prints("--socket", path, "get", "spead", status=66), True)
+        same("of another station", "there is no signal 'pump-2.speed'; the nearest: pump-1.speed" in self.module_prints("--socket", path, "get", "pump-2.speed", status=66), True)
+        same("a get", self.module_prints("--socket", path, "get", "speed"), "pump-1.speed = -5\n")
+        same("no such command", "no command 'gett'; did you mean get?" in self.module_prints("--socket", path, "gett", "speed", status=64), True)
+        same("nor a plan", "no command 'valuse'; did you mean values? There is no plan of this name either" in self.module_prints("--interface", "c0", plan, "valuse", status=64), True)
         same("after --", self.module_prints("--socket", path, "--", "values", "speed"), "pump-1.speed = -5\n")
         same("a record", self.module_prints("--socket", path, "read", "pump-1", "0", "1", "0xAFF0")[:8], "00200038")
         same("a refused one", "invalid index" in self.module_prints("--socket", path, "read", "pump-1", "0", "1", "40", status=1), True)
@@ -627,6 +634,22 @@ class PythonTests:
         controller.end()
         same("no controller", "no controller listens at" in self.module_prints("--socket", path, status=2), True)
         device.end()
+
+    def sets_alone(self, device, words, environment):
+        """`set` with a controller that ends with it: each value is at the device before, also if the next frame is far away."""
+        slow = self.signal_plan("pump-1", self.TANK)
+        with open(slow, encoding="utf-8") as file:
+            catalogue = json.load(file)
+        catalogue["Project"].update(SendClockFactor=32, ReductionRatio=128, DataHoldFactor=60)
+        with open(slow, "w", encoding="utf-8") as file:
+            json.dump(catalogue, file)
+        for number in (7, 8, 9):
+            ran = subprocess.run([*words, slow, "set", "speed", str(number)], capture_output=True, text=True, timeout=90, env=environment)
+            same(f"set alone: {ran.stderr}", (ran.returncode, ran.stdout), (0, "pump-1.speed was sent. The relation ends with this command, and the output is 0 again; a controller with --socket keeps it\n"))
+            device.expect(f"output 2 1 {number:04x}$")
+            device.expect("phase none")
+        ran = subprocess.run([*words, slow, "get", "spead"], capture_output=True, text=True, timeout=90, env=environment)
+        same(f"no such name: {ran.stderr}", (ran.returncode, "pump-1 has no signal 'spead'; the nearest: speed" in ran.stderr), (66, True))
 
     def python_letters(self, wire):
         """`watch` where the output lacks a letter of a unit: it is written by its number, and the program goes on."""

@@ -411,7 +411,7 @@ class SignalTests:
         controller = self.controller(wire, *plans, "--signals=only", "--times", "--every", "400")
         controller.expect("pump-1 state exchanging", 60)
         found = controller.expect(r"pump-1\.level = 0 good ([0-9]+\.[0-9]{6})$")
-        same("the time is now", abs(float(found[1]) - time.time()) < 5, True)
+        same("the time is now", abs(float(found[1]) - time.time()) < 30, True)
         controller.ask("names", "names 5$")
         names = [line for _, line in controller.lines if line.startswith("name ")]
         same("the second station has none of its own", names[3:], ['name pump.2.slot1_sub1_in input OctetString 2 1 1 0 - "" ""', 'name pump.2.slot2_sub1_out output OctetString 2 2 1 0 - "" ""'])
@@ -434,7 +434,7 @@ class SignalTests:
         same(f"few lines in {took:.2f} s: {lines}", len(lines) <= took / 0.4 + 1, True)
         same(f"times rise: {gaps}", all(gap > 0 for gap in gaps), True)
         device.ask("input 1 1 8000", "note done")
-        controller.expect(r"pump-1\.full = true good", 5)
+        controller.expect(r"pump-1\.full = true good")
         # Nothing in octets.
         same("the lines input and provider", controller.has("pump-1 (input|provider) "), False)
         # The cable is gone: the signals are bad.

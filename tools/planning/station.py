@@ -2,10 +2,9 @@
 
 from . import names as naming
 from .elements import Refused
-from .offer import MOST_OCTETS, milliseconds
+from .offer import MOST_OCTETS, MOST_SLOT, milliseconds
 from .values import number, shown
 
-MOST_SLOT = 15
 MOST_PARTS = 4
 MOST_RECORDS = 2
 MOST_ALL_RECORDS = 32
@@ -96,7 +95,8 @@ class Station:
         if not reference.takes(slot):
             raise Refused(reference.line, f"{shown(reference.target)} is not allowed in slot {slot}")
         if slot > MOST_SLOT:
-            raise Refused(reference.line, f"slot {slot} is above {MOST_SLOT}, the last that a catalogue has")
+            way_out = f"; --slot {slot}= leaves it empty" if slot in reference.used and slot not in self.choice.slots else ""
+            raise Refused(reference.line, f"slot {slot} is above {MOST_SLOT}, the last that a catalogue has{way_out}")
 
     def parts_of(self, slot, item):
         """The submodules of a slot: those built in, and those that are fixed, used or chosen."""

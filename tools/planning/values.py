@@ -46,6 +46,10 @@ class Numbers:
             else:
                 self.pairs.append([first, last])
 
+    def up_to(self, most):
+        """Those of them up to a number."""
+        return Numbers((first, min(last, most)) for first, last in self.pairs if first <= most)
+
     def __contains__(self, wanted):
         return any(first <= wanted <= last for first, last in self.pairs)
 
