@@ -20,7 +20,7 @@ use Rattle.relations.specs.Timers.{due_by, due_of, ending_of}
 use Rattle.asked_records.specs.declared.question.Question.{Question}
 use Rattle.device_core.specs.Asking.{asked_later, ended_by, is_full, late_in, late_sent, left_asked}
 use Rattle.device_core.specs.Handled.{unit_sent}
-use Rattle.device_core.specs.State.{Live}
+use Rattle.device_core.specs.State.{Live, Station}
 use Rattle.controller_messages.specs.declared.setup.Setup.{Setup}
 use Rattle.rounds_law.specs.Anywhere.{IsQuestionOf}
 use Rattle.rounds_law.proofs.AskedUnits.{late_at}
@@ -123,17 +123,17 @@ module _ (setup next : Setup) where
   late_none count state none = ap (λ (s : Option Standing). late_in count (record { standing = s; last = state.last })) none
 
   -- What is asked is dropped, and not refused.
-  pub ends_quiet : (live : Live) (link : RelationState) (reason : Abort) → live.rest.link ≡ Some link → ending_of link ≡ Some reason
-      → Asks (uuid_of live.rest.link) live.rest.asked.standing → late_at live ≡ []
-  ends_quiet live link reason has ends asks =
+  pub ends_quiet : (station : Station) (live : Live) (link : RelationState) (reason : Abort) → live.rest.link ≡ Some link → ending_of link ≡ Some reason
+      → Asks (uuid_of live.rest.link) live.rest.asked.standing → late_at station live ≡ []
+  ends_quiet station live link reason has ends asks =
       let address = live.values.running.suite.address in
       let count = length (unit_sent live) in
       let asked = live.rest.asked in
       let left = left_asked (Some link.request.ar.uuid) asked in
       let of_link = subst (λ (l : Option RelationState). Asks (uuid_of l) asked.standing) has asks in
-      ap (λ (l : Option RelationState). late_sent address (late_in count (left_asked (ended_by (due_of l).farewell) asked)) live.rest.calls) has
-      ∙ (ap (λ (e : Option Abort). late_sent address (late_in count (left_asked (ended_by (due_by link e).farewell) asked)) live.rest.calls) ends
-      ∙ ap (λ (question : Option Question). late_sent address question live.rest.calls)
+      ap (λ (l : Option RelationState). late_sent station.options address (late_in count (left_asked (ended_by (due_of l).farewell) asked)) live.rest.calls) has
+      ∙ (ap (λ (e : Option Abort). late_sent station.options address (late_in count (left_asked (ended_by (due_by link e).farewell) asked)) live.rest.calls) ends
+      ∙ ap (λ (question : Option Question). late_sent station.options address question live.rest.calls)
       (late_none count left (left_none (Some link.request.ar.uuid) asked.standing asked.last of_link)))
 
 -- It is not of this start, nor of a later one.
