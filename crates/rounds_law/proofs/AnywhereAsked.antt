@@ -6,10 +6,11 @@ use Rattle.std.specs.Cmp.Lexicographic.{pointwise, same_text}
 use Rattle.std.specs.Option.{option_map}
 use Rattle.std.proofs.lemmas.Option.{same_Some}
 use Rattle.rpc_core.specs.Cache.{Kept, is_of, kept_more, kept_of, without}
+use Rattle.std.proofs.lemmas.Bool.{false≢true}
 use Rattle.rpc_core.specs.Response.{is_done}
 use Rattle.asked_records.specs.Answers.{unanswered_status}
 use Rattle.asked_records.specs.Asked.{AskedState, Standing, limit, question_in, repeats, settled, waits}
-use Rattle.asked_records.specs.Questions.{operation_of}
+use Rattle.asked_records.specs.Questions.{is_implicit, is_of_relation, operation_of}
 use Rattle.asked_records.specs.declared.question.Request.{Request}
 use Rattle.asked_records.specs.declared.question.Request.TheVariants as request
 use Rattle.asked_records.specs.declared.status.Unanswered.TheVariants.{Late}
@@ -77,6 +78,23 @@ module _ (setup next : Setup) where
       by_standing (Some one) asks same =
           subst (λ (q : Question). q.header.activity ≡ setup.activity → (q.header.sequence == 0) ≡ false) (same_Some one.question question same)
           (others_one uuid one asks).1
+
+  -- It is no Read Implicit, which is of no relation.
+  plain_of : (own : List ℕ) (asked : Request) → is_of_relation own asked ≡ true → is_implicit asked ≡ true → ⊥
+  plain_of own (request.Read read) of implicit = false≢true implicit
+  plain_of own (request.ReadImplicit read) of implicit = false≢true of
+  plain_of own (request.Write write) of implicit = false≢true implicit
+
+  pub plain_asked : (uuid : Option (List ℕ)) (state : AskedState) (question : Question) → Asks uuid state.standing → question_in state ≡ Some question
+      → is_implicit question.request ≡ true → ⊥
+  plain_asked uuid state question asked is = by_standing uuid state.standing asked is
+    where
+      by_standing : (named : Option (List ℕ)) (standing : Option Standing) → Asks named standing → option_map (λ one. one.question) standing ≡ Some question
+          → is_implicit question.request ≡ true → ⊥
+      by_standing named None asks none = absurd cc
+      by_standing None (Some one) asks same = absurd asks
+      by_standing (Some own) (Some one) asks same =
+          plain_of own question.request (subst (λ (q : Question). is_of_relation own q.request ≡ true) (same_Some one.question question same) asks.0)
 
   -- No call of the next start is a repeat of the one that is asked.
   pub none_repeats : (uuid : Option (List ℕ)) (standing : Option Standing) (sequence : ℕ) → Asks uuid standing → repeats next.activity sequence standing ≡ false

@@ -4,7 +4,6 @@ use Rattle.std.proofs.Common.{◌≡◌, ◌⊎◌, inl, inr, ◌++◌, ◌-◌,
 use Rattle.std.proofs.Common.{Option, Some, None, refl, sym, ap, subst, ◌∙◌}
 use Rattle.std.specs.Prelude.{if◌then◌else◌, option_map}
 use Rattle.std.proofs.lemmas.List.{append-nil}
-use Rattle.pn_values.specs.IpSuite.{is_zero}
 use Rattle.pn_values.specs.declared.identity.Identity.{Identity}
 use Rattle.frame_codec.specs.declared.udp.Caller.{Caller}
 use Rattle.rpc_core.specs.Cache.{Kept, Reported as Looked, again, behind_reported, kept_more, looked, new, old}
@@ -16,6 +15,7 @@ use Rattle.asked_records.specs.Questions.{operation_of}
 use Rattle.asked_records.specs.declared.question.Question.{Question}
 use Rattle.asked_records.specs.declared.status.Unanswered.TheVariants.{Late}
 use Rattle.relations.specs.declared.options.DeviceOptions.{DeviceOptions}
+use Rattle.pn_values.specs.IpSuite.{is_zero}
 use Rattle.pn_alarms.specs.declared.abort.Abort.{Abort}
 use Rattle.relations.specs.Phases.{passing, passing_by, updated}
 use Rattle.relations.specs.RelationState.{RelationState}
@@ -154,22 +154,22 @@ module _ (options : DeviceOptions) (identity : Identity) (address : List ℕ) (c
   by_cache one (again frame) = inl (refl, refl)
   by_cache one old = inl (refl, refl)
 
-  by_kept : (one : Standing) (kept : Bool)
+  by_stored : (one : Standing) (kept : Bool)
       → IsLate identity address (Some one) calls (question_replies kept one.question (refused_reply address Late one.question) calls)
       (calls_after kept identity one.question (refused_reply address Late one.question) calls)
-  by_kept one true = by_cache one (looked one.question.header.activity one.question.header.sequence calls)
-  by_kept one false = inr (one, refl, refl, inr refl)
+  by_stored one true = by_cache one (looked one.question.header.activity one.question.header.sequence calls)
+  by_stored one false = inr (one, refl, refl, inr refl)
 
-  by_address : (one : Standing) (kept none : Bool)
-      → IsLate identity address (Some one) calls
-      (if none then [] else question_replies kept one.question (refused_reply address Late one.question) calls)
-      (if none then calls else calls_after kept identity one.question (refused_reply address Late one.question) calls)
+  -- it is dropped if the device has no IP address any more
+  by_address : (one : Standing) (kept zero : Bool)
+      → IsLate identity address (Some one) calls (if zero then [] else question_replies kept one.question (refused_reply address Late one.question) calls)
+      (if zero then calls else calls_after kept identity one.question (refused_reply address Late one.question) calls)
   by_address one kept true = inl (refl, refl)
-  by_address one kept false = by_kept one kept
+  by_address one kept false = by_stored one kept
 
   by_test : (one : Standing) (is : Bool)
-      → IsLate identity address (Some one) calls (late_sent options address (if is then Some one.question else None) calls)
-      (late_calls options identity address (if is then Some one.question else None) calls)
+      → IsLate identity address (Some one) calls
+      (late_sent options address (if is then Some one.question else None) calls) (late_calls options identity address (if is then Some one.question else None) calls)
   by_test one true = by_address one (is_kept options (operation_of one.question.request)) (is_zero address)
   by_test one false = inl (refl, refl)
 

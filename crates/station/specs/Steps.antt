@@ -29,7 +29,7 @@ pub record DeviceSteps {F : Type 0} {S : ℕ} (as_flash : Flash F S) (old : devi
   pub refused : said ≢ Done → (new ≡ old) × (sent ≡ [])
   pub identify : (asker : Mac) (request : Asked) → heard_of old.station.identity event ≡ Asks asker request → request.service ≡ Identify
       → Identifies old asker request sent said new
-  pub repeated : (call : Called) (frame : List ℕ) → IsServed old.live (heard_of old.station.identity event) call
+  pub repeated : (call : Called) (frame : List ℕ) → IsServed old.station old.live (heard_of old.station.identity event) call
       → looked call.header.activity call.header.sequence old.live.rest.calls ≡ again frame → IsAgain old frame sent said new
 
 -- A station with these parts.
