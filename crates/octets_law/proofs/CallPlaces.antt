@@ -28,11 +28,15 @@ four_octets P (a ∷ b ∷ []) is for = absurd (omega arith)
 four_octets P (a ∷ []) is for = absurd (omega arith)
 four_octets P [] is for = absurd (omega arith)
 
+-- The name of a call, by its activity and its sequence number.
+abbrev pub name_for : List ℕ → ℕ → List ℕ
+name_for activity sequence = sequence ∷ activity
+
 -- What is read of a call at fixed places.
 pub record IsCallRead (bytes : List ℕ) (meaning : Call) : Type 0 where
   pub kind : number 0 2 bytes ≡ 0x0400
   pub operation : in_order 68 2 bytes ≡ meaning.header.operation
-  pub name : called bytes ≡ meaning.header.sequence ∷ meaning.header.activity
+  pub name : called bytes ≡ name_for meaning.header.activity meaning.header.sequence
   pub blocks : (some : List ℕ) → meaning.blocks ≡ Some some → args_of bytes ≡ some
 
 -- A number of two octets, and one of four, before other octets.

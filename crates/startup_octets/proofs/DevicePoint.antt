@@ -29,7 +29,7 @@ use Rattle.both_ends.proofs.StartupHeard.{IsKnownHeard, known_activity}
 use Rattle.frame_codec.specs.Sendable.{IsMac}
 use Rattle.block_codec.specs.declared.block.Block.{Block}
 use Rattle.block_codec.specs.Block.{block_bytes, block_size}
-use Rattle.octets_law.specs.Octets.{name_of}
+use Rattle.octets_law.specs.Octets.{called as name_of}
 use Rattle.octets_law.proofs.CallPlaces.{name_for}
 use Rattle.startup_octets.specs.StartUp.{IsIn, Turn, asking_at, is_of, names_at, names_in, sent_by}
 use Rattle.startup_octets.proofs.CallsIn.{IsCallIn}

@@ -43,7 +43,7 @@ use Rattle.end_laws.specs.device.Orderly.{IsOrderlyIn}
 use Rattle.end_laws.specs.device.Small.{IsPlanned, IsPlannedAs, IsPlannedWrite, IsWritingOf, asked_by, heard_as, link_of, phase_in, written_by}
 use Rattle.both_ends.specs.startup.View.{is_planned, rules_of, taken_for}
 use Rattle.both_ends.proofs.StartupHeard.{IsKnownHeard, known_activity}
-use Rattle.octets_law.specs.Octets.{Asking, Call, Nothing, Set, args_of, in_order, name_of, number, part, statuses, statuses_in}
+use Rattle.octets_law.specs.Octets.{Asking, Call, Nothing, Set, args_of, called, in_order, number, part, statuses, statuses_in}
 use Rattle.octets_law.proofs.AnswerPlaces.{answer_statuses}
 use Rattle.octets_law.proofs.CallPlaces.{name_for}
 use Rattle.startup_octets.specs.StartUp.{Grants, IsIn, Turn, Written, asking_at, confirmed_by, is_granted, is_granted_of, is_of, names_at, parameters_by, repeats, sent_by}
@@ -442,14 +442,14 @@ module _ (undone : AreNotDone) (blocks_read : AreBlocksRead) (long : (block : Bl
   device_turn early orderly known planned flat came no_access no_end unasked named (inr (inr (inr (inl it)))) =
       let call = flat it.caller it.address it.call it.is in
       let activity : it.call.header.activity ≡ setup.activity = known_activity setup it.caller it.call (subst (λ (h : Heard). IsKnownHeard setup h) it.is known) in
-      let name : name_of call.octets ≡ name_for setup.activity it.kept.sequence =
+      let name : called call.octets ≡ name_for setup.activity it.kept.sequence =
       call.read.name ∙ ap (λ a. name_for a it.call.header.sequence) activity ∙ ap (name_for setup.activity) (sym it.number) in
       let there = named it.kept (ap (λ a. kept_of a live.rest.calls) (sym activity) ∙ it.there) in
       inl (subst (λ (r : Rest). IsEarly mac relation (turns ++ turn ∷ []) r.link) (sym it.same)
       (early_same mac relation turns turn live.rest.link early
       (inr (
         ap (λ a. repeats a (names_at mac turns)) call.asks
-            ∙ or_first (list_any (pointwise nat_eq (name_of call.octets)) (names_at mac turns)) false (ap (λ n. list_any (pointwise nat_eq n) (names_at mac turns)) name ∙ there),
+            ∙ or_first (list_any (pointwise nat_eq (called call.octets)) (names_at mac turns)) false (ap (λ n. list_any (pointwise nat_eq n) (names_at mac turns)) name ∙ there),
         refl,
       ))))
   device_turn early orderly known planned flat came no_access no_end unasked named (inr (inr (inr (inr (inl it))))) =

@@ -24,7 +24,7 @@ use Rattle.rpc_core.proofs.Sound.{call_takes}
 use Rattle.cyclic_data.specs.exchange.Frames.{plain_frame, tagged_frame}
 use Rattle.device_frames.specs.Sent.{Sent, IdentifyAnswer, GetAnswer, SetAnswer, ArpReply, CallAnswer, Again, ReadyCall, PlugReadyCall, Ends, Exchanges, bytes_of}
 use Rattle.device_frames.specs.Sendable.{AreSendable, IsSendable}
-use Rattle.octets_law.specs.Octets.{name_of, number, statuses}
+use Rattle.octets_law.specs.Octets.{called, number, statuses}
 use Rattle.octets_law.proofs.CallPlaces.{IsCallRead, call_placed, skip}
 use Rattle.octets_law.proofs.SetFrames.{six}
 
@@ -33,7 +33,10 @@ use Rattle.octets_law.proofs.SetFrames.{six}
 and_first : (a b : Bool) → a ≡ false → a && b ≡ false
 and_first a b is = ap (λ x. x && b) is
 
-and_second : (a b c : Bool) → b ≡ false → a && (b && c) ≡ false
+and_both : (a b c : Bool) → a ≡ false → (a && b) && c ≡ false
+and_both a b c is = and_first (a && b) c (and_first a b is)
+
+and_second : (a b c : Bool) → b ≡ false → (a && b) && c ≡ false
 and_second true b c is = and_first b c is
 and_second false b c is = refl
 
@@ -41,11 +44,13 @@ fails : (n m k : ℕ) → n ≡ m → (m == k) ≡ false → (n == k) ≡ false
 fails n m k is other = subst (λ x. (x == k) ≡ false) (sym is) other
 
 pub other_type : (asked frame : List ℕ) (n : ℕ) → number 12 2 frame ≡ n → (n == 0x0800) ≡ false → statuses asked frame ≡ []
-other_type asked frame n is other = cond-false _ _ _ (and_first (number 12 2 frame == 0x0800) _ (fails _ n 0x0800 is other))
+other_type asked frame n is other =
+    cond-false _ _ _ (and_both (number 12 2 frame == 0x0800) (number 0 2 (drop 42 frame) == 0x0402) (pointwise nat_eq (called (drop 42 frame)) (called asked))
+    (fails _ n 0x0800 is other))
 
 pub other_kind : (asked frame : List ℕ) (n : ℕ) → number 0 2 (drop 42 frame) ≡ n → (n == 0x0402) ≡ false → statuses asked frame ≡ []
 other_kind asked frame n is other =
-    cond-false _ _ _ (and_second (number 12 2 frame == 0x0800) (number 0 2 (drop 42 frame) == 0x0402) (pointwise nat_eq (name_of (drop 42 frame)) (name_of asked))
+    cond-false _ _ _ (and_second (number 12 2 frame == 0x0800) (number 0 2 (drop 42 frame) == 0x0402) (pointwise nat_eq (called (drop 42 frame)) (called asked))
     (fails _ n 0x0402 is other))
 
 -- ---- EtherTypes

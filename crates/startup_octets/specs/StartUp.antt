@@ -3,7 +3,7 @@ use Rattle.std.specs.Prelude.{◌≡◌, ◌⊎◌, ◌+◌, ◌*◌, ◌/◌, �
 use Rattle.std.specs.Cmp.Lexicographic.{pointwise}
 use Rattle.pn_values.specs.declared.mac.Mac.{Mac}
 use Rattle.std.specs.List.{list_any}
-use Rattle.octets_law.specs.Octets.{Asking, Set, Call, Nothing, args_of, asking_in, in_order, name_of, number, part, statuses, untagged}
+use Rattle.octets_law.specs.Octets.{Asking, Set, Call, Nothing, args_of, asking_in, called, in_order, number, part, statuses, untagged}
 
 -- A turn of an end: the frame that came to it, or no octets, and the frames that it then sent.
 pub record Turn : Type 0 where
@@ -88,7 +88,7 @@ confirmed_by relation Nothing sent = []
 
 -- The name of a call: its activity and its sequence number. The names of all calls that came to the device.
 abbrev pub names_in : Asking → List (List ℕ)
-names_in (Call call) = name_of call ∷ []
+names_in (Call call) = called call ∷ []
 names_in (Set frame) = []
 names_in Nothing = []
 

@@ -1,7 +1,7 @@
 //! Whether a transcript explains the settings after it: the definitions of crates/octets_law/specs/Headline.antt.
 use crate::octets::{
     Asking, Command, activity_of, asking_in, called, calling, dcp_blocks, is_counted, is_dcp,
-    is_for_all, is_whole, untagged,
+    is_for_all, is_read_implicit, is_response, is_whole, untagged,
 };
 
 /// The settings, as octets.
@@ -76,25 +76,39 @@ pub(crate) fn asking_of(mac: &[u8], given: &Given) -> Asking {
     }
 }
 
+/// Whether the answer to a call is stored: by the octets of the call, or of the answer.
+fn is_stored(reads_not_kept: bool, call: &[u8]) -> bool {
+    !(reads_not_kept && is_read_implicit(call))
+}
+
 /// The frame that is sent again for a call.
-fn again_for<'a>(asking: &Asking, stored: &'a [Stored]) -> Option<&'a Vec<u8>> {
+fn again_for<'a>(
+    reads_not_kept: bool,
+    asking: &Asking,
+    stored: &'a [Stored],
+) -> Option<&'a Vec<u8>> {
     let Asking::Call(call) = asking else {
         return None;
     };
     let one = stored.iter().find(|one| one.0.1 == activity_of(call))?;
-    (one.0 == called(call)).then_some(&one.1)
+    (is_stored(reads_not_kept, call) && one.0 == called(call)).then_some(&one.1)
 }
 
-fn store(asking: &Asking, sent: &[Vec<u8>], stored: &mut Vec<Stored>) {
-    if let (Asking::Call(call), [frame, ..]) = (asking, sent)
-        && is_counted(call)
-        && again_for(asking, stored).is_none()
+fn store(reads_not_kept: bool, asking: &Asking, sent: &[Vec<u8>], stored: &mut Vec<Stored>) {
+    if let Asking::Call(call) = asking
+        && (!is_counted(call) || again_for(reads_not_kept, asking, stored).is_some())
     {
-        if let Some(place) = stored.iter().position(|one| one.0.1 == activity_of(call)) {
-            stored.remove(place);
+        return;
+    }
+    for frame in sent.iter().filter(|frame| is_response(frame)) {
+        let answer = &frame[42..];
+        if is_stored(reads_not_kept, answer) {
+            if let Some(place) = stored.iter().position(|one| one.0.1 == activity_of(answer)) {
+                stored.remove(place);
+            }
+            stored.truncate(3);
+            stored.insert(0, (called(answer), frame.clone()));
         }
-        stored.truncate(3);
-        stored.insert(0, (called(call), frame.clone()));
     }
 }
 
@@ -141,8 +155,19 @@ pub(crate) enum Verdict {
     Misidentified,
 }
 
-/// Whether the transcript is a cycle from the first settings to these.
+/// Whether the transcript is a cycle from the first settings to these, of a device that stores all answers.
 pub(crate) fn judge(
+    mac: &[u8],
+    first: &Settings,
+    transcript: &[Told],
+    settings: &Settings,
+) -> Verdict {
+    judge_with(false, mac, first, transcript, settings)
+}
+
+/// The same of a device that stores the answers to Read Implicit or does not.
+pub(crate) fn judge_with(
+    reads_not_kept: bool,
     mac: &[u8],
     first: &Settings,
     transcript: &[Told],
@@ -155,7 +180,7 @@ pub(crate) fn judge(
         .map_or(0, |place| place + 1);
     for (place, told) in transcript.iter().enumerate() {
         let asking = asking_of(mac, &told.given);
-        let again = again_for(&asking, &stored).cloned();
+        let again = again_for(reads_not_kept, &asking, &stored).cloned();
         if place < silent && !is_answered(&asking, again.as_ref(), &told.sent) {
             return Verdict::Unanswered;
         }
@@ -163,7 +188,7 @@ pub(crate) fn judge(
             carried.extend(asking.confirmed(&told.sent));
             stopped.extend(asking.faulted(&told.sent));
         }
-        store(&asking, &told.sent, &mut stored);
+        store(reads_not_kept, &asking, &told.sent, &mut stored);
     }
     if let Some(Told {
         given: Given::Frame(frame),

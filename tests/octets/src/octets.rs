@@ -138,6 +138,11 @@ pub(crate) fn called(call: &[u8]) -> (u64, Vec<u8>) {
     (in_order(64, 4, call), activity_of(call))
 }
 
+/// Whether a call, or the answer to one, is of a Read Implicit (operation 5).
+pub(crate) fn is_read_implicit(call: &[u8]) -> bool {
+    in_order(68, 2, call) == 5
+}
+
 /// Whether the counts of a call's blocks are right.
 pub(crate) fn is_counted(call: &[u8]) -> bool {
     in_order(92, 4, call) == 0
@@ -170,12 +175,14 @@ fn written_by(blocks: &[u8]) -> Vec<Option<Command>> {
     commands
 }
 
+/// Whether a frame is a response to a call.
+pub(crate) fn is_response(frame: &[u8]) -> bool {
+    number(12, 2, frame) == 0x0800 && number(0, 2, frame.get(42..).unwrap_or(&[])) == 0x0402
+}
+
 fn statuses(call: &[u8], frame: &[u8]) -> Vec<u64> {
     let answer = frame.get(42..).unwrap_or(&[]);
-    if number(12, 2, frame) != 0x0800
-        || number(0, 2, answer) != 0x0402
-        || called(answer) != called(call)
-    {
+    if !is_response(frame) || called(answer) != called(call) {
         return Vec::new();
     }
     let args = args_of(answer);

@@ -1,10 +1,11 @@
 //! Random scripts, given to the device over a flash in memory.
-use crate::judge::{Given, Settings, Told, Verdict, judge};
+use crate::judge::{Given, Settings, Told, Verdict, judge, judge_with};
 use arrayvec::ArrayVec;
 use device_core::{Caller, Device, Event, Octets};
 use flash_model::{MemoryFlash, Order};
 use frame_codec::{Endpoint, Outbox};
 use pn_values::{Mac, demo_identity};
+use relations::DeviceOptions;
 use test_stations::{
     BLOCKS, CONNECT, END, IDENTIFY, PRM_END, READ, RELEASE, Station, WRITE, call, frame, mend,
     plugged,
@@ -12,6 +13,9 @@ use test_stations::{
 
 /// How many events a cycle has.
 const EVENTS: usize = 16;
+
+/// The operation of a Read Implicit.
+const READ_IMPLICIT: u8 = 5;
 
 /// The MAC address of the device of these tests.
 pub(crate) const OWN: [u8; 6] = [2, 0, 0, 0, 0, 1];
@@ -219,6 +223,14 @@ fn any_call(random: &mut Random, next: &mut u16) -> Vec<u8> {
     bytes.as_slice().to_vec()
 }
 
+/// A Read Implicit of one of these activities, with a number that is the next one or that of a call before it.
+fn read_implicit(random: &mut Random, next: &mut u16) -> Vec<u8> {
+    let activity = random.one_of(&[7_u8, 8, 9, 10, 11, 12]);
+    *next += u16::try_from(random.below(2)).expect("is small");
+    let blocks = write(0, [0, 0, 0, 1], 0xAFF0, &[]);
+    call(READ_IMPLICIT, activity, *next, &blocks).as_slice().to_vec()
+}
+
 /// An event of a script, as octets. Mostly a script begins with the address of the calls and a Connect.
 fn given(random: &mut Random, place: usize, before: &[Told], next: &mut u16) -> Given {
     match (place, random.below(16)) {
@@ -305,20 +317,35 @@ pub(crate) struct Cycle {
 
 /// A life of so many cycles from a blank chip on. In some of them a call of the flash fails or loses power.
 pub(crate) fn life(random: &mut Random, cycles: usize) -> Vec<Cycle> {
-    life_over(random, cycles, 3)
+    life_over(random, cycles, 3, None)
 }
 
 /// A life in which no call of the flash fails.
 pub(crate) fn unbroken_life(random: &mut Random, cycles: usize) -> Vec<Cycle> {
-    life_over(random, cycles, 1)
+    life_over(random, cycles, 1, None)
 }
 
-/// A life over a flash of one of the first kinds: none of its calls fails, one loses power, or one fails.
-fn life_over(random: &mut Random, cycles: usize, kinds: u64) -> Vec<Cycle> {
+/// A life in which every other event is a Read Implicit, of a device that stores the answers to these or does not.
+fn life_of_reads(random: &mut Random, cycles: usize, reads_not_kept: bool) -> Vec<Cycle> {
+    life_over(random, cycles, 1, Some(reads_not_kept))
+}
+
+/// A life over a flash of one of the first kinds: none of its calls fails, one loses power, or one fails. With Read Implicit, if it is said
+/// whether the device stores the answers to them.
+fn life_over(
+    random: &mut Random,
+    cycles: usize,
+    kinds: u64,
+    reads_not_kept: Option<bool>,
+) -> Vec<Cycle> {
+    let options = DeviceOptions {
+        reads_not_kept: reads_not_kept.unwrap_or(false),
+        ..DeviceOptions::default()
+    };
     let mut flash = MemoryFlash::<768>::blank();
     let mut lived = Vec::new();
     for _ in 0..cycles {
-        let mut device = Device::boot(demo_identity(), plugged(), flash)
+        let mut device = Device::boot_with(demo_identity(), plugged(), options, flash)
             .ok()
             .expect("starts");
         let first = stored(&device);
@@ -335,12 +362,16 @@ fn life_over(random: &mut Random, cycles: usize, kinds: u64) -> Vec<Cycle> {
                     Order::Fault { after, mask }
                 });
             }
-            let given = given(random, place, &transcript, &mut next);
+            let given = if reads_not_kept.is_some() && place > 2 && random.below(2) == 0 {
+                Given::Frame(read_implicit(random, &mut next))
+            } else {
+                given(random, place, &transcript, &mut next)
+            };
             transcript.push(told(&mut device, given));
         }
         flash = device.into_flash();
         flash.power_up();
-        let again = Device::boot(demo_identity(), plugged(), flash)
+        let again = Device::boot_with(demo_identity(), plugged(), options, flash)
             .ok()
             .expect("starts again");
         lived.push(Cycle {
@@ -376,4 +407,33 @@ fn the_device_is_explained_by_its_octets() {
     for verdict in [Verdict::Confirmed, Verdict::Stopped, Verdict::CutOff] {
         assert!(found.contains(&verdict), "{verdict:?} does not come");
     }
+}
+
+#[test]
+fn reads_that_are_not_stored_take_no_place() {
+    let mut mistaken = 0;
+    for seed in 0..200 {
+        for cycle in life_of_reads(&mut Random::new(seed), 3, true) {
+            let verdict = |reads_not_kept| {
+                judge_with(
+                    reads_not_kept,
+                    &OWN,
+                    &cycle.first,
+                    &cycle.transcript,
+                    &cycle.settings,
+                )
+            };
+            assert_eq!(verdict(true), Verdict::Confirmed, "seed {seed}");
+            mistaken += usize::from(verdict(false) != Verdict::Confirmed);
+        }
+        for cycle in life_of_reads(&mut Random::new(seed), 3, false) {
+            assert_eq!(
+                judge(&OWN, &cycle.first, &cycle.transcript, &cycle.settings),
+                Verdict::Confirmed,
+                "seed {seed}"
+            );
+        }
+    }
+    // A reader of the other rule finds another stored answer, or an answer that is owed.
+    assert!(mistaken > 100, "{mistaken}");
 }
