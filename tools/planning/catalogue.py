@@ -42,6 +42,10 @@ submodules. With more words it prints the catalogue of a station:
     --after-plug WHAT             what the controller does after a submodule was
                                   plugged: 'parameters' (it writes the records
                                   again) or 'nothing' (without it)
+    --start WHAT                  what the controller does if the device holds
+                                  its relation already: 'persistent' (it
+                                  releases the relation, so that the next start
+                                  succeeds) or 'plain' (without it)
     --record SLOT:SUBSLOT:INDEX=HEX
                                   the octets of a parameter record, in place of
                                   those by default
@@ -55,7 +59,7 @@ WRONG_WORDS, WRONG_FILE, NO_FILE = 64, 65, 1
 TEXTS = {"--access-point": "access_point", "--name": "name", "--address": "address", "--mask": "mask", "--gateway": "gateway",
          "--controller-name": "controller_name", "--controller-mac": "controller_mac", "--controller-address": "controller_address",
          "--interval-ms": "interval", "--send-clock": "send_clock", "--reduction": "reduction", "--data-hold": "data_hold",
-         "--on-refused-record": "refused", "--after-plug": "after_plug"}
+         "--on-refused-record": "refused", "--after-plug": "after_plug", "--start": "start"}
 LISTS = {"--slot": "slots", "--submodule": "submodules", "--record": "records", "--without": "without"}
 NEEDED = ("--name", "--address", "--controller-name", "--controller-mac", "--controller-address")
 
@@ -71,7 +75,7 @@ class Choice:
         self.access_point = self.name = self.address = self.controller_name = self.controller_mac = self.controller_address = None
         self.mask, self.gateway, self.data_hold = "255.255.255.0", "0.0.0.0", None
         self.interval = self.send_clock = self.reduction = None
-        self.refused, self.after_plug = "end", "nothing"
+        self.refused, self.after_plug, self.start = "end", "nothing", "plain"
         self.slots, self.submodules, self.records, self.without = {}, {}, {}, set()
         self.named = set()
         if len(words) % 2:
@@ -110,6 +114,10 @@ class Choice:
         if word == "--after-plug":
             if value not in ("parameters", "nothing"):
                 raise WrongWords(f"{word} is 'parameters' or 'nothing', and '{shown(value)}' is not")
+            return value
+        if word == "--start":
+            if value not in ("persistent", "plain"):
+                raise WrongWords(f"{word} is 'persistent' or 'plain', and '{shown(value)}' is not")
             return value
         return number(word, value, 1, {"--send-clock": 128, "--reduction": 512, "--data-hold": 7_680}[word])
 

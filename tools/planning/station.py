@@ -328,4 +328,5 @@ class Station:
             "SendClockFactor": self.send_clock, "ReductionRatio": self.ratio, "DataHoldFactor": self.data_hold(), "Slots": slots}
         key = {"continue": "ContinueOnRefusedRecord", "release": "ReleaseOnRefusedRecord"}.get(choice.refused)
         after_plug = {"ParametersAfterPlug": True} if choice.after_plug == "parameters" else {}
-        return {**said, **({key: True} if key else {}), **after_plug, "Signals": signals.of_station(self.parts, self.modules)}
+        start = {"PersistentStart": True} if choice.start == "persistent" else {}
+        return {**said, **({key: True} if key else {}), **after_plug, **start, "Signals": signals.of_station(self.parts, self.modules)}

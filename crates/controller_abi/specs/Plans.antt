@@ -149,6 +149,7 @@ parts_of written = record {
   release_on_refused_record = not (written.release_on_refused_record == 0);
   multiple_write = not (written.multiple_write == 0);
   parameters_after_plug = not (written.parameters_after_plug == 0);
+  persistent_start = not (written.persistent_start == 0);
 }
 
 -- ---- the same, in the form in which it is used
