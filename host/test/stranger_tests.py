@@ -9,7 +9,7 @@ import time
 
 from peer import BLOCKS_AT, CONNECT, PRM_END, RPC_AT, WRITE, Opener, arguments, block_of
 from returns_tests import HOLD, RATIO, Middle
-from wire import drain
+from wire import awaited, drain
 
 # The plan's controller and station are those with the number 2: the station has the address that strangers call.
 CONTROLLER, STRANGER = bytes.fromhex("020000000202"), bytes.fromhex("020000000077")
@@ -114,8 +114,10 @@ class StrangerTests:
     def begun(self, wire, path, flash, reads, *words):
         """Starts a device whose application answers the two records of the plan, and a controller. Returns why this is no start, or None."""
         records = [word for index, length in ((3, 4), (4, 1)) for word in ("--record", "1", "1", str(index), str(length), "both")]
-        device = self.device(wire, flash + self.kind, *records, *words, name="pump-2")
+        device = self.addressed(wire, flash + self.kind, *records, *words, name="pump-2")
+        wire.answers = 0
         with Application(device, reads) as application:
+            awaited("answers to the stranger", lambda: wire.answers > 10)
             why = self.starts(wire, path, application)
         device.end()
         return why
