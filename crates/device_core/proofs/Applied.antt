@@ -327,7 +327,7 @@ ok_of (Ok question) = Some question
 ok_of (Err it) = None
 
 -- The call that an answer goes to is the one that is asked.
-goes_to : (number last : ℕ) (given : Gives) (standing : Option Standing) (question : Question)
+pub goes_to : (number last : ℕ) (given : Gives) (standing : Option Standing) (question : Question)
     → judged_with last number given standing ≡ Ok question → option_map (λ s. s.question) standing ≡ Some question
 goes_to number last given None question is = cc
 goes_to number last given (Some standing) question is = by_number (number == last) is
@@ -356,7 +356,7 @@ judged_goes station live given answers (Ok question) asks =
         asked = asks question refl;
         settles = refl;
         keeps = refl;
-        calls = later_called (is_zero address) is_stored station.identity question reply live.rest.calls;
+        calls = let it = later_called (λ _ _. Unit {0}) (is_zero address) is_stored station.identity question reply live.rest.calls (λ _. tt) in (it.0, it.1);
         one = later_one (is_zero address) is_due reply;
         sends = later_each (IsReplyTo question) (is_zero address) is_due reply (refl, refl);
       },
