@@ -296,7 +296,7 @@ module _ (P : List ℕ → ℕ → Type 0) where
       received_called station live answers (received_by source frame_id body live.rest.link) (updated (receiving source frame_id body live.rest.link) live.rest.link)
   handled_called station live answers (Met peer) allowed = ([], refl, tt)
   handled_called station live answers (Applied said) allowed = local_called station live answers said allowed
-  handled_called station live answers Ticks allowed = 
+  handled_called station live answers Ticks allowed =
       late_called station (unit_rest live) (late_in (length (unit_sent live)) (unit_rest live).asked) live.values.running.suite.address
       (λ question late. allowed question (left_was_asked (ended_by (due_of live.rest.link).farewell) live.rest.asked question
       (late_asked (length (unit_sent live)) (unit_rest live).asked question late)))

@@ -11,6 +11,8 @@ pub mod Steps
 mod Storing
 pub mod Called
 mod RealKept
+mod AskedKept
+mod Repeats
 pub mod Runs
 pub mod Restarts
 pub mod Exchanged

@@ -324,6 +324,14 @@ updated_again : (outcomes : List Outcome) (station : Station) (live : Live) (fra
 unfolding handled_step
 updated_again outcomes station live frame = record { live_is = refl; none_accepted = refl; sent = refl; done = refl }
 
+pub again_heard : (outcomes : List Outcome) (station : Station) (live : Live) (heard : Heard) (call : Called) (frame : List ℕ) → IsServed station live heard call
+    → looked call.header.activity call.header.sequence live.rest.calls ≡ again frame
+    → ((heard_step outcomes station live heard).frames ≡ frame ∷ []) × ((heard_step outcomes station live heard).live ≡ live)
+again_heard outcomes station live heard call frame served reported =
+    let is = handled_as outcomes station live heard (Moves live.rest (Again frame ∷ [])) (again_handled station live heard call frame served reported) in
+    let one = subst (IsSame live frame) (sym is) (updated_again outcomes station live frame) in
+    (one.sent, one.live_is)
+
 pub again_step : {F : Type 0} {S : ℕ} (as_flash : Flash F S) (old new : State F) (heard : Heard) (frames : List (List ℕ)) (said : Note)
     → Steps as_flash old heard frames said new → (call : Called) (frame : List ℕ) → IsServed old.station old.live heard call
     → looked call.header.activity call.header.sequence old.live.rest.calls ≡ again frame → IsAgain old frame frames said new
