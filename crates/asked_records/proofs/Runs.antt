@@ -7,10 +7,10 @@ use Rattle.asked_records.specs.declared.answering.AnswerFault.{AnswerFault}
 use Rattle.asked_records.specs.declared.answering.AnswerFault.TheVariants as fault
 use Rattle.asked_records.specs.declared.question.Question.{Question}
 use Rattle.asked_records.specs.Answers.{Gives, fault_of, judged, question_unless}
-use Rattle.asked_records.specs.Asked.{AskedState, Standing, limit, next_number, waits as waiting}
+use Rattle.asked_records.specs.Asked.{AskedState, Standing, behind_displaced, goes_before, limit, next_number, waits as waiting}
 use Rattle.asked_records.specs.Questions.{header_of, is_of_relation}
 use Rattle.asked_records.specs.Runs.{Ascends, Event, after_answer, answered_in, number_if, numbers_after, open_with, questions_in}
-use Rattle.asked_records.specs.Runs.Event.{calls, answers, waits, ends, pulls}
+use Rattle.asked_records.specs.Runs.Event.{calls, answers, waits, ends, pulls, displaces}
 
 -- ---- numbers
 
@@ -90,6 +90,20 @@ if_over : (events : List Event) (last : ℕ) (standing : Standing) (test : Bool)
 if_over events last standing true none some = lower last (last + 1) _ (omega arith) none
 if_over events last standing false none some = some
 
+-- The rest of a run, if the call that is asked gives way, or not.
+if_displaced : (events : List Event) (last : ℕ) (standing : Standing) (own_first test : Bool) →
+    Ascends (last + 1) (answered_in events (made last None)) → Ascends last (answered_in events (made last (Some standing))) →
+    Ascends last (answered_in events (behind_displaced (cond own_first (cond test (Some standing.question) None) None) (made last (Some standing))))
+if_displaced events last standing true true none some = lower last (last + 1) _ (omega arith) none
+if_displaced events last standing true false none some = some
+if_displaced events last standing false test none some = some
+
+-- The rest of a run, if nothing is asked that could give way.
+if_none : (events : List Event) (last : ℕ) (own_first : Bool) → Ascends (last + 1) (answered_in events (made last None)) →
+    Ascends (last + 1) (answered_in events (behind_displaced (cond own_first None None) (made last None)))
+if_none events last true none = none
+if_none events last false none = none
+
 ascends : (events : List Event) (last : ℕ) (standing : Option Standing) → last + questions_in events ≤ 4294967295 →
     Ascends (open_with last standing) (answered_in events (made last standing))
 ascends [] last standing few = tt
@@ -115,6 +129,10 @@ ascends (pulls affected ∷ events) last None few = ascends events last None (om
 ascends (pulls affected ∷ events) last (Some standing) few =
     if_dropped events last standing
     (covers affected (header_of standing.question.request).slot_number (header_of standing.question.request).subslot_number)
+    (ascends events last None (omega (arith, few))) (ascends events last (Some standing) (omega (arith, few)))
+ascends (displaces own_first question ∷ events) last None few = if_none events last own_first (ascends events last None (omega (arith, few)))
+ascends (displaces own_first question ∷ events) last (Some standing) few =
+    if_displaced events last standing own_first (goes_before question standing.question)
     (ascends events last None (omega (arith, few))) (ascends events last (Some standing) (omega (arith, few)))
 
 pub answers_ascend : (events : List Event) (state : AskedState) → state.last + questions_in events ≤ 4294967295 →

@@ -1,5 +1,5 @@
 -- The call that is asked of the application: one at a time, until it is answered or dropped, or until 64,000 units have passed.
-use Rattle.std.specs.Prelude.{◌≡◌, ◌+◌, ◌-◌, ◌<◌, ◌==◌, ◌&&◌, ℕ, Bool, false, List, nat_eq, Option, Some, None, if◌then◌else◌}
+use Rattle.std.specs.Prelude.{◌≡◌, ◌+◌, ◌-◌, ◌<◌, ◌==◌, ◌&&◌, ℕ, Bool, false, not, List, nat_eq, Option, Some, None, if◌then◌else◌}
 use Rattle.std.specs.Cmp.Lexicographic.{pointwise}
 use Rattle.std.specs.Option.{option_map}
 use Rattle.module_diff.specs.declared.changes.Affected.{Affected}
@@ -9,7 +9,7 @@ use Rattle.asked_records.specs.declared.asked.AskedRecord.{AskedRecord}
 use Rattle.asked_records.specs.declared.asked.Wanted.{Wanted}
 use Rattle.asked_records.specs.declared.asked.Wanted.TheVariants as wanted
 use Rattle.asked_records.specs.declared.question.Question.{Question}
-use Rattle.asked_records.specs.Questions.{header_of, is_of_relation, is_write}
+use Rattle.asked_records.specs.Questions.{header_of, is_implicit, is_of_relation, is_write}
 
 -- The call that is asked, the octets that it writes, and the units since it was asked.
 pub record Standing : Type 0 where
@@ -57,6 +57,28 @@ asks_beside question octets state (Some standing) = None
 -- A call is asked, if no other one is.
 abbrev pub asks : Question → List ℕ → AskedState → Option AskedState
 asks question octets state = asks_beside question octets state state.standing
+
+-- ---- a question that gives way
+
+-- Whether a call takes the place of one that is asked: it is of the relation, and the other is a Read Implicit.
+abbrev pub goes_before : Question → Question → Bool
+goes_before question other = not (is_implicit question.request) && is_implicit other.request
+
+-- The call that gives way to another one, if one is asked that does.
+abbrev pub gives_way : Question → Option Standing → Option Question
+gives_way question None = None
+gives_way question (Some standing) = if goes_before question standing.question then Some standing.question else None
+
+-- The call that is displaced by another one. None without the option that calls of the relation are asked first.
+abbrev pub displaced_by : Bool → Question → AskedState → Option Question
+displaced_by own_first question state = if own_first then gives_way question state.standing else None
+
+-- It is asked no longer.
+abbrev pub behind_displaced : Option Question → AskedState → AskedState
+behind_displaced None state = state
+behind_displaced (Some question) state = settled state
+
+-- ---- a repeat
 
 -- Whether a call is a repeat of this one: it has the same activity and the same sequence.
 abbrev pub repeats : List ℕ → ℕ → Option Standing → Bool

@@ -26,6 +26,12 @@ abbrev pub is_write : Request → Bool
 is_write (Write request) = true
 is_write other = false
 
+-- Whether it is a Read Implicit.
+abbrev pub is_implicit : Request → Bool
+is_implicit (Read request) = false
+is_implicit (ReadImplicit request) = true
+is_implicit (Write request) = false
+
 -- Whether it is of the relation with this ARUUID. A Read Implicit is of none.
 abbrev pub is_of_relation : List ℕ → Request → Bool
 is_of_relation ar_uuid (Read request) = pointwise nat_eq request.header.ar_uuid ar_uuid

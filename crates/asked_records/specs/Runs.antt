@@ -1,19 +1,20 @@
 -- What is asked, over any events.
-use Rattle.std.specs.Prelude.{◌+◌, ◌≤◌, ℕ, zero, suc, List, [], ◌∷◌, ◌++◌, Option, Some, None, Result, Ok, Err, unwrap_or}
+use Rattle.std.specs.Prelude.{◌+◌, ◌≤◌, ℕ, Bool, zero, suc, List, [], ◌∷◌, ◌++◌, Option, Some, None, Result, Ok, Err, unwrap_or}
 use Rattle.module_diff.specs.declared.changes.Affected.{Affected}
 use Rattle.asked_records.specs.declared.answering.AnswerFault.{AnswerFault}
 use Rattle.asked_records.specs.declared.question.Question.{Question}
 use Rattle.asked_records.specs.Answers.{Gives, judged}
-use Rattle.asked_records.specs.Asked.{AskedState, Standing, asks, dropped_at, next_number, settled, ticked, without_relation}
+use Rattle.asked_records.specs.Asked.{AskedState, Standing, asks, behind_displaced, displaced_by, dropped_at, next_number, settled, ticked, without_relation}
 
 -- A call for a record of the application with the octets that it writes, an answer of the application to the question with a
--- number, a unit of time, the end of the relation with an ARUUID, and a pull.
+-- number, a unit of time, the end of the relation with an ARUUID, a pull, and a call that another one gives way to.
 pub data Event : Type 0 where
   calls : Question → List ℕ → Event
   answers : ℕ → Gives → Event
   waits : Event
   ends : List ℕ → Event
   pulls : Affected → Event
+  displaces : Bool → Question → Event
 
 -- The state after an answer that is accepted, or not.
 abbrev pub after_answer : AskedState → Result Question AnswerFault → AskedState
@@ -27,6 +28,7 @@ after_event (answers number given) state = after_answer state (judged number giv
 after_event waits state = ticked state
 after_event (ends ar_uuid) state = without_relation ar_uuid state
 after_event (pulls affected) state = dropped_at affected state
+after_event (displaces own_first question) state = behind_displaced (displaced_by own_first question state) state
 
 -- The number of an answer that is accepted.
 abbrev pub number_if : ℕ → Result Question AnswerFault → List ℕ
@@ -40,6 +42,7 @@ answered_by (answers number given) state = number_if number (judged number given
 answered_by waits state = []
 answered_by (ends ar_uuid) state = []
 answered_by (pulls affected) state = []
+answered_by (displaces own_first question) state = []
 
 -- The numbers under which answers are accepted, in their order.
 abbrev pub answered_in : List Event → AskedState → List ℕ
@@ -53,6 +56,7 @@ question_in (answers number given) = 0
 question_in waits = 0
 question_in (ends ar_uuid) = 0
 question_in (pulls affected) = 0
+question_in (displaces own_first question) = 0
 
 -- How many of some events are calls.
 abbrev pub questions_in : List Event → ℕ

@@ -2,7 +2,7 @@
 ghost use Rattle.std.specs.Prelude.{◌≡◌, ◌+◌, ◌<◌, ◌≤◌, IfSome, false, length, unwrap_or};
 ghost use Rattle.std.specs.Option.{option_map};
 ghost use Rattle.pn_alarms.specs.Leaps.{after};
-ghost use Rattle.asked_records.specs.Asked.{NeverOver, asks, dropped_at, due_in, is_affected, is_of, is_over, is_repeat, last_number};
+ghost use Rattle.asked_records.specs.Asked.{NeverOver, asks, behind_displaced, displaced_by, dropped_at, due_in, is_affected, is_of, is_over, is_repeat, last_number};
 ghost use Rattle.asked_records.specs.Asked.{next_number, not_asked, question_in, seen, seen_in, seen_as, settled, ticked, without_relation};
 
 use crate::question::{Question, is_same};
@@ -125,6 +125,26 @@ impl AskedRecords {
         self.last = next_number(self.last);
         self.question = Some(*question);
         Some(self.last)
+    }
+
+    /// A call is to be asked. With `own_first`, if it is of the relation, it takes the place of a Read Implicit: that one is asked
+    /// no longer, and is returned.
+    pub fn displace(&mut self, own_first: bool, question: &Question) -> Option<Question>
+        ensures question { result ≡ displaced_by own_first question.now self.old }
+        ensures state { self.new ≡ behind_displaced (displaced_by own_first question.now self.old) self.old }
+    {
+        if !own_first || question.request.is_implicit() {
+            return None;
+        }
+        let Some(other) = &self.question else {
+            return None;
+        };
+        if !other.request.is_implicit() {
+            return None;
+        }
+        let other = *other;
+        self.question = None;
+        Some(other)
     }
 
     /// The call that is asked, if there is one.

@@ -2,7 +2,7 @@
 ghost use Rattle.std.specs.Prelude.{◌≡◌, nat_eq};
 ghost use Rattle.std.specs.Cmp.Lexicographic.{pointwise};
 ghost use Rattle.rpc_core.specs.Response.{answer_to, answered};
-ghost use Rattle.asked_records.specs.Questions.{call_of, header_of, is_of_relation, is_write, operation_of};
+ghost use Rattle.asked_records.specs.Questions.{call_of, header_of, is_implicit, is_of_relation, is_write, operation_of};
 
 use block_codec::{IodReadReq, IodWriteReq, RecordHeader};
 use frame_codec::Caller;
@@ -50,6 +50,16 @@ impl Request {
         match self {
             Request::Read(_) | Request::ReadImplicit(_) => false,
             Request::Write(_) => true,
+        }
+    }
+
+    /// Whether it is a Read Implicit.
+    pub fn is_implicit(&self) -> bool
+        ensures { result ≡ is_implicit self.now }
+    {
+        match self {
+            Request::ReadImplicit(_) => true,
+            Request::Read(_) | Request::Write(_) => false,
         }
     }
 

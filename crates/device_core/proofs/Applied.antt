@@ -4,6 +4,7 @@ use Rattle.std.specs.List.{AllByRecursion}
 use Rattle.std.proofs.lemmas.Bool.{cond_both, false≢true, true≢false}
 use Rattle.arrayvec.specs.ArrayVec.{ArrayVec}
 use Rattle.pn_values.specs.declared.real.RealModule.{RealModule}
+use Rattle.pn_values.specs.IpSuite.{is_zero}
 use Rattle.module_diff.specs.Plugged.{module_ident, submodule_ident}
 use Rattle.module_diff.specs.declared.changes.Affected.{Affected}
 use Rattle.module_diff.specs.declared.changes.RealChange.{RealChange}
@@ -40,14 +41,15 @@ use Rattle.device_frames.specs.declared.note.Note.TheVariants as note
 use Rattle.device_frames.specs.Relation.{alarms_of, frames_in, low_alarms_of, plug_call_in, plug_calls, ready_calls, where_due}
 use Rattle.device_frames.specs.Sent.{Sent}
 use Rattle.pn_values.specs.declared.set_item.BlockError.{BlockError}
-use Rattle.rpc_core.specs.Cache.{looked}
 use Rattle.asked_records.specs.Answers.{Gives, gives_octets, gives_done, gives_refusal, answer_blocks, answer_status, fault_of, judged, judged_with, question_unless}
 use Rattle.asked_records.specs.Asked.{Standing, question_in}
+use Rattle.asked_records.specs.Questions.{operation_of}
 use Rattle.asked_records.specs.declared.answering.AnswerFault.{AnswerFault}
 use Rattle.asked_records.specs.declared.answering.AnswerFault.TheVariants as fault
 use Rattle.asked_records.specs.declared.question.Question.{Question}
-use Rattle.device_core.specs.Asking.{is_new, kept_reply, reply_to}
+use Rattle.device_core.specs.Asking.{is_kept, is_new, looked_if, reply_to}
 use Rattle.device_core.specs.Machine.{finished}
+use Rattle.device_core.proofs.Storing.{later_called, later_each, later_one}
 use Rattle.device_core.specs.State.{Station, Live}
 use Rattle.device_core.specs.Handled.{Refuses, Moves, change_of, handled_change, handled_diagnosed, handled_input, handled_judged, handled_local, handled_modules, handled_notice, handled_ready, handled_ready_at, handled_turned, kept_status, may_be_diagnosed}
 use Rattle.device_core.specs.Modules.{changed_rest, next_call_sent, outside, plug_of, pull_of, sent_after, slot_pull_of}
@@ -319,22 +321,13 @@ local_is station live (local.Refuse number code1 code2) no_answer = absurd (true
 
 -- ---- answers
 
--- At most one response is sent.
-reply_one : (is_due : Bool) (answer : Sent) → length (where_due is_due (answer ∷ [])) ≤ 1
-reply_one true answer = omega arith
-reply_one false answer = omega arith
-
-reply_sends : (is_due : Bool) (question : Question) (answer : Sent) → IsReplyTo question answer → AllByRecursion (IsReplyTo question) (where_due is_due (answer ∷ []))
-reply_sends true question answer is = (is, tt)
-reply_sends false question answer is = tt
-
 -- The call of an answer that is accepted.
 abbrev ok_of : Result Question AnswerFault → Option Question
 ok_of (Ok question) = Some question
 ok_of (Err it) = None
 
 -- The call that an answer goes to is the one that is asked.
-goes_to : (number last : ℕ) (given : Gives) (standing : Option Standing) (question : Question)
+pub goes_to : (number last : ℕ) (given : Gives) (standing : Option Standing) (question : Question)
     → judged_with last number given standing ≡ Ok question → option_map (λ s. s.question) standing ≡ Some question
 goes_to number last given None question is = cc
 goes_to number last given (Some standing) question is = by_number (number == last) is
@@ -355,16 +348,17 @@ judged_goes : (station : Station) (live : Live) (given : Gives) (answers : List 
 judged_goes station live given answers (Ok question) asks =
     let address = live.values.running.suite.address in
     let reply = reply_to address question (answer_status question.request given) (answer_blocks question.request given) in
-    let is_due = is_new (looked question.header.activity question.header.sequence live.rest.calls) in
+    let is_stored = is_kept station.options (operation_of question.request) in
+    let is_due = is_new (looked_if is_stored question.header.activity question.header.sequence live.rest.calls) in
     inr (
       question,
       record {
         asked = asks question refl;
         settles = refl;
         keeps = refl;
-        calls = (kept_reply station.identity question reply ∷ [], refl);
-        one = reply_one is_due reply;
-        sends = reply_sends is_due question reply (refl, refl);
+        calls = let it = later_called (λ _ _. Unit {0}) (is_zero address) is_stored station.identity question reply live.rest.calls (λ _. tt) in (it.0, it.1);
+        one = later_one (is_zero address) is_due reply;
+        sends = later_each (IsReplyTo question) (is_zero address) is_due reply (refl, refl);
       },
     )
 judged_goes station live given answers (Err fault) asks = inl (refl, refl)

@@ -6,7 +6,8 @@ use Rattle.std.proofs.Math.ListN.{get_or-map}
 use Rattle.std.proofs.lemmas.List.{length-map}
 use Rattle.arrayvec.specs.ArrayVec.{ArrayVec}
 use Rattle.wire.specs.Codec.{Gives}
-use Rattle.asked_records.specs.Asked.{AskedState, Standing, due_in, due_with, is_over, last_number, limit, over_with, question_in, ticked as asked_ticked}
+use Rattle.asked_records.specs.declared.question.Question.{Question}
+use Rattle.asked_records.specs.Asked.{AskedState, Standing, asks, behind_displaced, due_in, due_with, is_over, last_number, limit, over_with, question_in, ticked as asked_ticked}
 use Rattle.rpc_core.specs.Cache.{Kept, Reported as Looked, new, again, old, behind_call, behind_reported, kept_more, looked}
 use Rattle.device_frames.specs.Sent.{Sent}
 use Rattle.device_core.specs.Asking.{asked_later, is_full, is_new, late_in}
@@ -19,11 +20,11 @@ kept_unless kept calls (again frame) is none = ap (behind_reported 4 kept calls)
 kept_unless kept calls old is none = ap (behind_reported 4 kept calls) is
 
 -- Any other is.
-pub kept_if : (kept : Kept) (calls : List Kept) (reported : Looked) → looked kept.activity kept.sequence calls ≡ reported → is_new reported ≡ true
+pub kept_when : (kept : Kept) (calls : List Kept) (reported : Looked) → looked kept.activity kept.sequence calls ≡ reported → is_new reported ≡ true
     → behind_call 4 kept calls ≡ kept_more 4 kept calls
-kept_if kept calls new is some = ap (behind_reported 4 kept calls) is
-kept_if kept calls (again frame) is some = absurd (false≢true some)
-kept_if kept calls old is some = absurd (false≢true some)
+kept_when kept calls new is some = ap (behind_reported 4 kept calls) is
+kept_when kept calls (again frame) is some = absurd (false≢true some)
+kept_when kept calls old is some = absurd (false≢true some)
 
 -- As many frames are in the outbox as messages are sent.
 pub count_sent : (f : Sent → List ℕ) (frames : List (ArrayVec ℕ)) (sent : List Sent) → map (λ (frame : ArrayVec ℕ). frame.items) frames ≡ map f sent → length frames ≡ length sent
@@ -53,6 +54,12 @@ was_asked number None before is some = absurd (false≢true (sym (ap is_some is)
 pub was_not_asked : (number : Option ℕ) (made : Option AskedState) → number ≡ option_map last_number made → is_some number ≡ false → made ≡ None
 was_not_asked number None is none = refl
 was_not_asked number (Some state) is none = absurd (true≢false (sym (ap is_some is) ∙ none))
+
+-- A call that is refused beside another one displaced none.
+pub none_displaced : (question : Question) (octets : List ℕ) (displaced : Option Question) (state : AskedState) → asks question octets (behind_displaced displaced state) ≡ None
+    → behind_displaced displaced state ≡ state
+none_displaced question octets None state none = refl
+none_displaced question octets (Some other) state none = cc
 
 -- A call is refused with the next unit exactly if that is due then.
 over_with_at : (standing : Option Standing) → due_with standing ≡ 1 → over_with standing ≡ true

@@ -185,13 +185,15 @@ judged_asks_nothing station live given (Ok question) = refl
 judged_asks_nothing station live given (Err fault) = refl
 
 -- A call for a record of the application.
-pub question_asks_nothing : (station : Station) (live : Live) (question : Question) (asked : Option AskedState) → is_asking (handled_question station live question asked) ≡ false
-question_asks_nothing station live question (Some asked) = refl
-question_asks_nothing station live question None = refl
+pub question_asks_nothing : (station : Station) (live : Live) (question : Question) (displaced : Option Question) (asked : Option AskedState)
+    → is_asking (handled_question station live question displaced asked) ≡ false
+question_asks_nothing station live question displaced (Some asked) = refl
+question_asks_nothing station live question displaced None = refl
 
-pub question_done : (station : Station) (live : Live) (question : Question) (asked : Option AskedState) → (end_of station live (handled_question station live question asked)).note ≡ Done
-question_done station live question (Some asked) = refl
-question_done station live question None = refl
+pub question_done : (station : Station) (live : Live) (question : Question) (displaced : Option Question) (asked : Option AskedState)
+    → (end_of station live (handled_question station live question displaced asked)).note ≡ Done
+question_done station live question displaced (Some asked) = refl
+question_done station live question displaced None = refl
 
 -- Whatever the application says.
 pub local_asks_nothing : (station : Station) (live : Live) (said : Local (ArrayVec ℕ)) → is_asking (handled_local station live said) ≡ false

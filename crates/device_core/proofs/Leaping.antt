@@ -85,9 +85,9 @@ none_sent station live none going =
     let calls = live.rest.calls in
     let f = map (bytes_of station.identity) in
     tick_frames station live
-    ∙ (ap (λ (s : List Sent). f (s ++ late_sent address (late_in (length s) (unit_rest live).asked) calls)) (unit_nothing live none)
-    ∙ (ap (λ (a : AskedState). f (late_sent address (late_in 0 a) calls)) (asked_still live none)
-    ∙ ap (λ (q : Option Question). f (late_sent address q calls)) (none_late 0 live.rest.asked going)))
+    ∙ (ap (λ (s : List Sent). f (s ++ late_sent station.options address (late_in (length s) (unit_rest live).asked) calls)) (unit_nothing live none)
+    ∙ (ap (λ (a : AskedState). f (late_sent station.options address (late_in 0 a) calls)) (asked_still live none)
+    ∙ ap (λ (q : Option Question). f (late_sent station.options address q calls)) (none_late 0 live.rest.asked going)))
 
 -- ---- units with which nothing is due
 
@@ -117,7 +117,7 @@ tick_next station live none going =
     let link = updated (passing live.rest.link) live.rest.link in
     let one = units_after 1 live.rest.units in
     let made : List LogEntry → AskedState → List Kept → Live = λ log asked calls. record { values = live.values; rest = record (with_counts live.rest (live.rest.lamp - 1) link one asked) { log = log; calls = calls } } in
-    let kept = late_calls station.identity address in
+    let kept = late_calls station.options station.identity address in
     tick_live station live
     ∙ (ap (λ (d : Due). made (err_log d.farewell one live.rest.log) (asked_later (length (unit_sent live)) (left_asked (ended_by d.farewell) live.rest.asked))
     (kept (late_in (length (unit_sent live)) (left_asked (ended_by d.farewell) live.rest.asked)) live.rest.calls)) none

@@ -8,8 +8,11 @@ pub mod Served
 pub mod Lists
 pub mod Placed
 pub mod Steps
+mod Storing
 pub mod Called
 mod RealKept
+mod AskedKept
+mod Repeats
 pub mod Runs
 pub mod Restarts
 pub mod Exchanged

@@ -8,7 +8,7 @@ use Rattle.dcp_core.specs.declared.request.Service.TheVariants as service
 use Rattle.dcp_core.specs.Request.{Asked}
 use Rattle.dcp_core.specs.Identify.{matches}
 use Rattle.rpc_core.specs.Call.{Asked as Called}
-use Rattle.rpc_core.specs.Cache.{Reported as Looked, new, again, old, looked}
+use Rattle.rpc_core.specs.Cache.{Reported as Looked, new, again, old}
 use Rattle.records.specs.declared.status.operation.Operation.{Operation}
 use Rattle.records.specs.declared.status.operation.Operation.TheVariants.{Connect, Release, Read, Write, Control, ReadImplicit}
 use Rattle.records.specs.declared.status.call_fault.CallFault.{CallFault}
@@ -44,12 +44,12 @@ use Rattle.device_core.specs.Machine.{finished}
 use Rattle.device_core.specs.Local.{IsRealBehind, IsRealOf, modules_by}
 use Rattle.arrayvec.specs.ArrayVec.{ArrayVec}
 use Rattle.asked_records.specs.Answers.{Gives, gives_octets, gives_done, gives_refusal, judged}
-use Rattle.asked_records.specs.Asked.{AskedState, asks, is_repeat}
+use Rattle.asked_records.specs.Asked.{AskedState, asks, behind_displaced, displaced_by, is_repeat}
 use Rattle.asked_records.specs.declared.answering.AnswerFault.{AnswerFault}
 use Rattle.asked_records.specs.declared.question.Question.{Question}
 use Rattle.device_frames.specs.declared.local.Local.{Local}
 use Rattle.device_frames.specs.declared.local.Local.TheVariants as local
-use Rattle.device_core.specs.Asking.{Asking, asking_of}
+use Rattle.device_core.specs.Asking.{Asking, asking_of, is_kept, looked_if}
 use Rattle.device_core.proofs.Applied.{local_is}
 
 -- What is real after an outcome is what was real before.
@@ -83,16 +83,17 @@ own_stays station live answers caller call blocks Control =
     cond_both (is_plug_control blocks live.rest.link) _ _ (IsRealKept station live answers) (λ _. refl) (λ _. refl)
 own_stays station live answers caller call blocks ReadImplicit = refl
 
-question_stays : (station : Station) (live : Live) (answers : List BlockError) (question : Question) (asked : Option AskedState)
-    → IsRealKept station live answers (handled_question station live question asked)
-question_stays station live answers question (Some asked) = refl
-question_stays station live answers question None = refl
+question_stays : (station : Station) (live : Live) (answers : List BlockError) (question : Question) (displaced : Option Question) (asked : Option AskedState)
+    → IsRealKept station live answers (handled_question station live question displaced asked)
+question_stays station live answers question displaced (Some asked) = refl
+question_stays station live answers question displaced None = refl
 
 asking_stays : (station : Station) (live : Live) (answers : List BlockError) (caller : Caller) (call : Called) (blocks : List ℕ) (operation : Operation)
     (asking : Result (Option Asking) CallFault) → IsRealKept station live answers (handled_asking station live caller call blocks operation asking)
 asking_stays station live answers caller call blocks operation (Ok None) = own_stays station live answers caller call blocks operation
 asking_stays station live answers caller call blocks operation (Ok (Some asking)) =
-    question_stays station live answers asking.0 (asks asking.0 asking.1 live.rest.asked)
+    let displaced = displaced_by station.options.asks_own_first asking.0 live.rest.asked in
+    question_stays station live answers asking.0 displaced (asks asking.0 asking.1 (behind_displaced displaced live.rest.asked))
 asking_stays station live answers caller call blocks operation (Err fault) = refl
 
 unanswered_stays : (station : Station) (live : Live) (answers : List BlockError) (caller : Caller) (call : Called) (blocks : List ℕ) (operation : Operation)
@@ -111,7 +112,7 @@ blocks_stays : (station : Station) (live : Live) (answers : List BlockError) (ca
     → IsRealKept station live answers (handled_blocks station live caller call operation blocks)
 blocks_stays station live answers caller call operation None = refl
 blocks_stays station live answers caller call operation (Some blocks) =
-    looked_stays station live answers caller call blocks operation (looked call.header.activity call.header.sequence live.rest.calls)
+    looked_stays station live answers caller call blocks operation (looked_if (is_kept station.options operation) call.header.activity call.header.sequence live.rest.calls)
 
 call_stays : (station : Station) (live : Live) (answers : List BlockError) (caller : Caller) (call : Called) (operation : Option Operation) → IsRealKept station live answers (handled_call station live caller call operation)
 call_stays station live answers caller call None = refl

@@ -1,6 +1,6 @@
 -- What a step does, from what its parts do.
 use Rattle.std.proofs.lemmas.Bool.{cond_both, cond-true}
-use Rattle.std.proofs.Common.{◌≡◌, ◌≢◌, ◌≤◌, ℕ, false, List, [], ◌∷◌, ◌++◌, length, map, is_some, refl, sym, ap, subst, ◌∙◌, inl, arith}
+use Rattle.std.proofs.Common.{◌≡◌, ◌≢◌, ◌≤◌, ℕ, Bool, false, List, [], ◌∷◌, ◌++◌, length, map, is_some, refl, sym, ap, subst, ◌∙◌, inl, arith}
 use Rattle.std.proofs.lemmas.List.{append-nil, map-append}
 use Rattle.flash_model.specs.declared.flash.Flash.{Ghosts as Flash}
 use Rattle.pn_values.specs.declared.mac.Mac.{Mac}
@@ -26,6 +26,7 @@ use Rattle.device_frames.specs.declared.event.Event.{Event}
 use Rattle.device_frames.specs.Heard.{Heard, Asks, heard_of}
 use Rattle.device_frames.specs.Sendable.{AreSendable, IsSendable}
 use Rattle.device_frames.specs.Sent.{Sent, GetAnswer, SetAnswer, Again, bytes_of}
+use Rattle.device_core.specs.Asking.{looked_if}
 use Rattle.device_core.specs.Handled.{Handled, Refuses, Sets, Writes, WritesEach, Moves, identified, handled_request, handled_looked, handled_blocks, handled_call, handled}
 use Rattle.device_core.specs.Machine.{Finished, Stepped, items_in, items_of, farewells_at, resets, finished, end_of, handled_step, heard_step}
 use Rattle.device_core.specs.Steps.{Steps, Identifies, IsIdentified, IsQuietStep, IsServed, IsAgain}
@@ -304,11 +305,13 @@ identify_step as_flash old new heard frames said steps asker request is identify
     }
 
 -- A call that was answered before.
-again_handled : (station : Station) (live : Live) (heard : Heard) (call : Called) (frame : List ℕ) → IsServed live heard call → looked call.header.activity call.header.sequence live.rest.calls ≡ again frame
+again_handled : (station : Station) (live : Live) (heard : Heard) (call : Called) (frame : List ℕ) → IsServed station live heard call → looked call.header.activity call.header.sequence live.rest.calls ≡ again frame
     → handled station live heard ≡ Moves live.rest (Again frame ∷ [])
 again_handled station live heard call frame it reported =
     ap (handled station live) it.is ∙ cond-true _ _ _ it.runs ∙ ap (handled_call station live it.caller call) it.served
-    ∙ ap (handled_blocks station live it.caller call it.operation) it.counted ∙ ap (handled_looked station live it.caller call it.blocks it.operation) reported
+    ∙ ap (handled_blocks station live it.caller call it.operation) it.counted
+    ∙ ap (λ (b : Bool). handled_looked station live it.caller call it.blocks it.operation (looked_if b call.header.activity call.header.sequence live.rest.calls)) it.stored
+    ∙ ap (handled_looked station live it.caller call it.blocks it.operation) reported
 
 -- Its step.
 record IsSame (live : Live) (frame : List ℕ) (step : Stepped) : Type 0 where
@@ -321,8 +324,16 @@ updated_again : (outcomes : List Outcome) (station : Station) (live : Live) (fra
 unfolding handled_step
 updated_again outcomes station live frame = record { live_is = refl; none_accepted = refl; sent = refl; done = refl }
 
+pub again_heard : (outcomes : List Outcome) (station : Station) (live : Live) (heard : Heard) (call : Called) (frame : List ℕ) → IsServed station live heard call
+    → looked call.header.activity call.header.sequence live.rest.calls ≡ again frame
+    → ((heard_step outcomes station live heard).frames ≡ frame ∷ []) × ((heard_step outcomes station live heard).live ≡ live)
+again_heard outcomes station live heard call frame served reported =
+    let is = handled_as outcomes station live heard (Moves live.rest (Again frame ∷ [])) (again_handled station live heard call frame served reported) in
+    let one = subst (IsSame live frame) (sym is) (updated_again outcomes station live frame) in
+    (one.sent, one.live_is)
+
 pub again_step : {F : Type 0} {S : ℕ} (as_flash : Flash F S) (old new : State F) (heard : Heard) (frames : List (List ℕ)) (said : Note)
-    → Steps as_flash old heard frames said new → (call : Called) (frame : List ℕ) → IsServed old.live heard call
+    → Steps as_flash old heard frames said new → (call : Called) (frame : List ℕ) → IsServed old.station old.live heard call
     → looked call.header.activity call.header.sequence old.live.rest.calls ≡ again frame → IsAgain old frame frames said new
 again_step as_flash old new heard frames said steps call frame served reported =
     let is = handled_as steps.outcomes old.station old.live heard (Moves old.live.rest (Again frame ∷ [])) (again_handled old.station old.live heard call frame served reported) in

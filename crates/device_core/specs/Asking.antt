@@ -1,6 +1,7 @@
 -- Records that the application answers: what a call asks of it, and the response to a call that was asked (IEC 61158-6-10, 5.2.3).
 use Rattle.std.specs.Prelude.{◌==◌, ◌&&◌, ℕ, Bool, true, false, not, List, [], ◌∷◌, take, Option, Some, None, Result, Ok, Err, if◌then◌else◌}
 use Rattle.std.specs.Option.{option_map}
+use Rattle.pn_values.specs.IpSuite.{is_zero}
 use Rattle.pn_values.specs.declared.identity.Identity.{Identity}
 use Rattle.pn_values.specs.declared.real.Real.{Real}
 use Rattle.wire.specs.Checks.{or_fault}
@@ -13,7 +14,7 @@ use Rattle.record_blocks.specs.declared.write_record.IodWriteReq.{IodWriteReq}
 use Rattle.rpc_core.specs.declared.response.Status.{Status}
 use Rattle.rpc_core.specs.Call.{Asked as Call}
 use Rattle.rpc_core.specs.Response.{answer_to}
-use Rattle.rpc_core.specs.Cache.{Kept, Reported as Looked, new, again, old, looked, behind_call}
+use Rattle.rpc_core.specs.Cache.{Kept, Reported as Looked, new, again, old, looked, kept_more, behind_call}
 use Rattle.records.specs.calls.Naming.{in_relation, is_relation}
 use Rattle.records.specs.calls.Single.{single_of}
 use Rattle.records.specs.declared.status.call_fault.CallFault.{CallFault}
@@ -30,13 +31,37 @@ use Rattle.asked_records.specs.declared.names.RecordName.{RecordName}
 use Rattle.asked_records.specs.declared.question.Question.{Question}
 use Rattle.asked_records.specs.declared.question.Request.{Request}
 use Rattle.asked_records.specs.declared.question.Request.TheVariants as request
+use Rattle.asked_records.specs.declared.status.Unanswered.{Unanswered}
 use Rattle.asked_records.specs.declared.status.Unanswered.TheVariants.{Late}
+use Rattle.relations.specs.declared.options.DeviceOptions.{DeviceOptions}
 use Rattle.relations.specs.declared.farewell.Farewell.{Farewell}
 use Rattle.relations.specs.declared.phase.Partner.{Partner}
 use Rattle.relations.specs.Phases.{Named, Unmoved, updated}
 use Rattle.relations.specs.RelationState.{RelationState, uuid_of}
 use Rattle.device_frames.specs.Relation.{where_due}
 use Rattle.device_frames.specs.Sent.{Sent, CallAnswer, bytes_of}
+
+-- ---- which answers are stored
+
+-- Whether the answer to a call of this operation is stored. With the option `reads_not_kept` that of a Read Implicit is not.
+abbrev pub is_kept : DeviceOptions → Operation → Bool
+is_kept options operation.ReadImplicit = not options.reads_not_kept
+is_kept options other = true
+
+-- What the stored answers say of a call. A call whose answer is not stored is always new.
+abbrev pub looked_if : Bool → List ℕ → ℕ → List Kept → Looked
+looked_if true activity sequence calls = looked activity sequence calls
+looked_if false activity sequence calls = new
+
+-- The stored answers after the answer to a new call, if it is stored. The last answer of each of the last four activities is kept.
+abbrev pub kept_if : Bool → Kept → List Kept → List Kept
+kept_if true answer calls = kept_more 4 answer calls
+kept_if false answer calls = calls
+
+-- The stored answers after the answer to any call, if it is stored.
+abbrev pub behind_if : Bool → Kept → List Kept → List Kept
+behind_if true answer calls = behind_call 4 answer calls
+behind_if false answer calls = calls
 
 -- ---- what a call asks
 
@@ -90,18 +115,46 @@ abbrev pub is_new : Looked → Bool
 is_new new = true
 is_new other = false
 
--- The response is sent, unless a later call of its activity was answered meanwhile.
-abbrev pub question_replies : Question → Sent → List Kept → List Sent
-question_replies question answer calls = where_due (is_new (looked question.header.activity question.header.sequence calls)) (answer ∷ [])
+-- The response is sent, unless a later call of its activity was answered meanwhile. One that is not stored is always sent.
+abbrev pub question_replies : Bool → Question → Sent → List Kept → List Sent
+question_replies is_kept question answer calls =
+    where_due (is_new (looked_if is_kept question.header.activity question.header.sequence calls)) (answer ∷ [])
 
 -- What is stored of the response to a call that was asked: its frame.
 abbrev pub kept_reply : Identity → Question → Sent → Kept
 kept_reply identity question answer =
     record { activity = question.header.activity; sequence = question.header.sequence; frame = bytes_of identity answer }
 
--- It is kept if it is sent.
-abbrev pub calls_after : Identity → Question → Sent → List Kept → List Kept
-calls_after identity question answer calls = behind_call 4 (kept_reply identity question answer) calls
+-- It is stored if it is sent, or not.
+abbrev pub calls_after : Bool → Identity → Question → Sent → List Kept → List Kept
+calls_after is_kept identity question answer calls = behind_if is_kept (kept_reply identity question answer) calls
+
+-- The response to a call that was asked before. It is dropped if the device has no IP address any more.
+abbrev pub later_replies : Bool → List ℕ → Question → Sent → List Kept → List Sent
+later_replies is_kept address question answer calls = if is_zero address then [] else question_replies is_kept question answer calls
+
+-- The stored answers after it.
+abbrev pub later_calls : Bool → Identity → List ℕ → Question → Sent → List Kept → List Kept
+later_calls is_kept identity address question answer calls =
+    if is_zero address then calls else calls_after is_kept identity question answer calls
+
+-- ---- a call that was asked and is refused
+
+-- Its response, for this reason.
+abbrev pub refused_reply : List ℕ → Unanswered → Question → Sent
+refused_reply address reason question = reply_to address question (unanswered_status (operation_of question.request) reason) []
+
+-- It is sent as any other, if a call is refused.
+abbrev pub refused_sent : DeviceOptions → List ℕ → Unanswered → Option Question → List Kept → List Sent
+refused_sent options address reason (Some question) calls =
+    later_replies (is_kept options (operation_of question.request)) address question (refused_reply address reason question) calls
+refused_sent options address reason None calls = []
+
+-- The stored answers after it.
+abbrev pub refused_calls : DeviceOptions → Identity → List ℕ → Unanswered → Option Question → List Kept → List Kept
+refused_calls options identity address reason (Some question) calls =
+    later_calls (is_kept options (operation_of question.request)) identity address question (refused_reply address reason question) calls
+refused_calls options identity address reason None calls = calls
 
 -- The station that sent a call.
 abbrev pub source_of : Question → Partner
@@ -143,16 +196,10 @@ asked_later count state = if is_over state && is_full count then state else aske
 abbrev pub late_in : ℕ → AskedState → Option Question
 late_in count state = if is_over state && not (is_full count) then question_in state else None
 
--- Its response: busy.
-abbrev pub late_reply : List ℕ → Question → Sent
-late_reply address question = reply_to address question (unanswered_status (operation_of question.request) Late) []
+-- Its response: busy. It is sent and stored as any other.
+abbrev pub late_sent : DeviceOptions → List ℕ → Option Question → List Kept → List Sent
+late_sent options address late calls = refused_sent options address Late late calls
 
--- It is sent and kept as any other.
-abbrev pub late_sent : List ℕ → Option Question → List Kept → List Sent
-late_sent address (Some question) calls = question_replies question (late_reply address question) calls
-late_sent address None calls = []
-
--- The stored responses after it.
-abbrev pub late_calls : Identity → List ℕ → Option Question → List Kept → List Kept
-late_calls identity address (Some question) calls = calls_after identity question (late_reply address question) calls
-late_calls identity address None calls = calls
+-- The stored answers after it.
+abbrev pub late_calls : DeviceOptions → Identity → List ℕ → Option Question → List Kept → List Kept
+late_calls options identity address late calls = refused_calls options identity address Late late calls

@@ -9,7 +9,7 @@ use Rattle.record_blocks.specs.declared.write_record.IodWriteReq.{IodWriteReq}
 use Rattle.records.specs.declared.writes.taken.TakenRecord.{TakenRecord}
 use Rattle.records.specs.declared.writes.write.Effect.TheVariants.{Keeps}
 use Rattle.records.specs.declared.writes.writing.Writing.{Writing}
-use Rattle.asked_records.specs.Asked.{asks}
+use Rattle.asked_records.specs.Asked.{displaced_by}
 use Rattle.asked_records.specs.declared.question.Question.{Question}
 use Rattle.relations.specs.declared.phase.Phase.{Phase}
 use Rattle.relations.specs.Plugging.{plug_answer_in}
@@ -30,7 +30,7 @@ use Rattle.device_frames.specs.Sendable.{AreSendable}
 use Rattle.device_frames.specs.Sent.{Sent, bytes_of}
 use Rattle.device_core.specs.declared.calls.Serving.{Serving}
 use Rattle.device_core.specs.State.{State, counter_of, with_rest}
-use Rattle.device_core.specs.Handled.{Handled, answer_from, handled_answer, handled_effect, handled_new, handled_own, handled_plug_answer, handled_plug_end, handled_prm_end, handled_question, handled_response, handled_unanswered, handled_write, served}
+use Rattle.device_core.specs.Handled.{Handled, answer_from, handled_answer, handled_effect, handled_new, handled_own, handled_plug_answer, handled_plug_end, handled_prm_end, handled_asked, handled_response, handled_unanswered, handled_write, served}
 use Rattle.device_core.specs.Machine.{end_of}
 
 -- The device after it.
@@ -100,7 +100,8 @@ owned old serving operation = handled_own old.station old.live serving.caller.no
 
 -- The outcome of a call that asks this.
 abbrev pub question_asked : {F : Type 0} → State F → Question → List ℕ → Handled
-question_asked old question octets = handled_question old.station old.live question (asks question octets old.live.rest.asked)
+question_asked old question octets = handled_asked old.station old.live (question, octets)
+    (displaced_by old.station.options.asks_own_first question old.live.rest.asked)
 
 -- The call, without where its octets lie.
 abbrev pub call_of : Serving → Call

@@ -17,7 +17,7 @@ use Rattle.dcp_core.specs.Identify.{matches}
 use Rattle.rpc_core.specs.declared.response.Status.{Status}
 use Rattle.rpc_core.specs.Call.{Asked as Call}
 use Rattle.rpc_core.specs.Response.{Answered, answer_to}
-use Rattle.rpc_core.specs.Cache.{Kept, Reported as Looked, new, again, old, looked, kept_more}
+use Rattle.rpc_core.specs.Cache.{Kept, Reported as Looked, new, again, old}
 use Rattle.records.specs.declared.status.operation.Operation.{Operation}
 use Rattle.records.specs.declared.status.operation.Operation.TheVariants.{Connect, Release, Read, Write, Control, ReadImplicit}
 use Rattle.records.specs.declared.status.call_fault.CallFault.{CallFault}
@@ -40,7 +40,7 @@ use Rattle.pn_alarms.specs.declared.pdu.Header.{Header}
 use Rattle.cyclic_data.specs.declared.exchange.received.Received.{Received}
 use Rattle.cyclic_data.specs.declared.exchange.received.Received.TheVariants as received
 use Rattle.asked_records.specs.Answers.{Gives, gives_octets, gives_done, gives_refusal, answer_blocks, answer_status, judged, unanswered_status}
-use Rattle.asked_records.specs.Asked.{AskedState, asks, is_repeat, settled}
+use Rattle.asked_records.specs.Asked.{AskedState, asks, behind_displaced, displaced_by, is_repeat, settled}
 use Rattle.asked_records.specs.Questions.{operation_of as operation_asked}
 use Rattle.asked_records.specs.declared.answering.AnswerFault.{AnswerFault}
 use Rattle.asked_records.specs.declared.question.Question.{Question}
@@ -81,7 +81,7 @@ use Rattle.device_frames.specs.declared.note.Note.TheVariants as note
 use Rattle.frame_codec.specs.declared.udp.Caller.{Caller}
 use Rattle.lldp.specs.Peer.{Peer}
 use Rattle.device_core.specs.State.{Station, Rest, Live, alias_in, counter_of, units_after}
-use Rattle.device_core.specs.Asking.{Asking, answered_link, asked_later, asking_of, calls_after, ended_by, late_calls, late_in, late_sent, left_asked, question_replies, released_by, reply_to}
+use Rattle.device_core.specs.Asking.{Asking, answered_link, asked_later, asking_of, calls_after, ended_by, is_kept, kept_if, late_calls, late_in, late_sent, later_calls, later_replies, left_asked, looked_if, question_replies, refused_calls, refused_sent, released_by, reply_to}
 use Rattle.device_core.specs.Modules.{call_after, calling_after, changed_rest, next_call_sent, outside, plug_of, pull_of, sent_after, slot_pull_of}
 use Rattle.device_core.specs.Several.{Judged, judged_each}
 use Rattle.device_core.specs.Log.{arguments_log, but_rest, connect_log, end_log, err_log, release_log, with_log}
@@ -156,24 +156,37 @@ came_with (Err fault) blocks = Err fault
 abbrev pub kept_for : Identity → Call → Sent → Kept
 kept_for identity call answer = record { activity = call.header.activity; sequence = call.header.sequence; frame = bytes_of identity answer }
 
--- The state after a call that had this answer and left this relation. The last answer of each of the last four
--- activities is kept.
+-- The state after a call that had this answer, which is stored or not, and left this relation.
+abbrev pub behind_answer : Bool → Identity → Rest → Call → Sent → Option RelationState → Rest
+behind_answer is_kept identity rest call answer link =
+    record rest { calls = kept_if is_kept (kept_for identity call answer) rest.calls; link = link }
+
+-- The same if it is stored.
 abbrev pub kept_behind : Identity → Rest → Call → Sent → Option RelationState → Rest
-kept_behind identity rest call answer link =
-    record rest { calls = kept_more 4 (kept_for identity call answer) rest.calls; link = link }
+kept_behind identity rest call answer link = behind_answer true identity rest call answer link
 
 -- A call with this outcome that leaves this relation: it is answered, and then this is sent.
 abbrev pub served : Station → Live → Caller → Call → Operation → Result (List ℕ) CallFault → Option RelationState → List Sent → Handled
 served station live caller call operation outcome link behind =
     let answer = answer_from live.values.running.suite.address caller call operation outcome in
-    Moves (kept_behind station.identity live.rest call answer link) (answer ∷ behind)
+    Moves (behind_answer (is_kept station.options operation) station.identity live.rest call answer link) (answer ∷ behind)
 
--- The response to a call that was asked, and the rest before it: it is sent and kept, unless a later call of its activity was
--- answered meanwhile.
+-- The response to a call that is not asked, and the rest before it: it is sent and stored, unless a later call of its activity was
+-- answered meanwhile. That of a Read Implicit may be sent only.
 abbrev pub replied : Station → Live → Rest → Question → Status → List ℕ → Handled
 replied station live rest question status blocks =
     let answer = reply_to live.values.running.suite.address question status blocks in
-    Moves (record rest { calls = calls_after station.identity question answer rest.calls }) (question_replies question answer rest.calls)
+    let is_stored = is_kept station.options (operation_asked question.request) in
+    Moves (record rest { calls = calls_after is_stored station.identity question answer rest.calls }) (question_replies is_stored question answer rest.calls)
+
+-- The response to a call that was asked before: the same, if the device still has an IP address.
+abbrev pub replied_later : Station → Live → Rest → Question → Status → List ℕ → Handled
+replied_later station live rest question status blocks =
+    let address = live.values.running.suite.address in
+    let answer = reply_to address question status blocks in
+    let is_stored = is_kept station.options (operation_asked question.request) in
+    Moves (record rest { calls = later_calls is_stored station.identity address question answer rest.calls })
+    (later_replies is_stored address question answer rest.calls)
 
 -- What follows an accepted PrmEnd: ApplicationReady, unless the application says when it is ready.
 abbrev pub ready_behind : Bool → List ℕ → Option RelationState → Result ControlBlock CallFault → List Sent
@@ -277,17 +290,26 @@ handled_own station live caller call blocks ReadImplicit =
     let read = implicit_read (known_of station live) station.identity live.rest.real live.values.running blocks in
     served station live caller call ReadImplicit read (updated (answered (implicitly (partner_of caller) live.rest.link blocks) read) live.rest.link) []
 
--- A call for a record of the application: it is asked, or refused while another one is.
-abbrev pub handled_question : Station → Live → Question → Option AskedState → Handled
-handled_question station live question (Some asked) = Moves (record live.rest { asked = asked }) []
-handled_question station live question None =
+-- A call for a record of the application: it is asked, and the call that it displaces, if it displaces one, is refused; or it is refused
+-- while another one is asked.
+abbrev pub handled_question : Station → Live → Question → Option Question → Option AskedState → Handled
+handled_question station live question displaced (Some asked) =
+    let address = live.values.running.suite.address in
+    Moves (record live.rest { asked = asked; calls = refused_calls station.options station.identity address Busy displaced live.rest.calls })
+    (refused_sent station.options address Busy displaced live.rest.calls)
+handled_question station live question displaced None =
     replied station live live.rest question (unanswered_status (operation_asked question.request) Busy) []
+
+-- What a call displaces, and what is asked after it.
+abbrev pub handled_asked : Station → Live → Asking → Option Question → Handled
+handled_asked station live asking displaced =
+    handled_question station live asking.0 displaced (asks asking.0 asking.1 (behind_displaced displaced live.rest.asked))
 
 -- A new call, by what it asks of the application.
 abbrev pub handled_asking : Station → Live → Caller → Call → List ℕ → Operation → Result (Option Asking) CallFault → Handled
 handled_asking station live caller call blocks operation (Ok None) = handled_own station live caller call blocks operation
 handled_asking station live caller call blocks operation (Ok (Some asking)) =
-    handled_question station live asking.0 (asks asking.0 asking.1 live.rest.asked)
+    handled_asked station live asking (displaced_by station.options.asks_own_first asking.0 live.rest.asked)
 handled_asking station live caller call blocks operation (Err fault) = served station live caller call operation (Err fault) live.rest.link []
 
 -- A new call, by its operation.
@@ -309,12 +331,13 @@ handled_looked station live caller call blocks operation (again frame) = Moves l
 handled_looked station live caller call blocks operation old = Refuses note.OldCall
 
 -- If the lengths of the blocks are wrong, that is answered whatever the cache contains, and the answer is not stored. A
--- Connect is logged.
+-- Connect is logged. A call whose answer is not stored is handled as one that was not answered.
 abbrev pub handled_blocks : Station → Live → Caller → Call → Operation → Option (List ℕ) → Handled
 handled_blocks station live caller call operation None =
     Moves (with_log (arguments_log operation) live.rest) (answer_from live.values.running.suite.address caller call operation (Err Arguments) ∷ [])
 handled_blocks station live caller call operation (Some blocks) =
-    handled_looked station live caller call blocks operation (looked call.header.activity call.header.sequence live.rest.calls)
+    handled_looked station live caller call blocks operation
+    (looked_if (is_kept station.options operation) call.header.activity call.header.sequence live.rest.calls)
 
 -- A call with an unknown operation is dropped.
 abbrev pub handled_call : Station → Live → Caller → Call → Option Operation → Handled
@@ -497,7 +520,7 @@ handled_ready_at live slot subslot =
 abbrev pub handled_judged : Station → Live → Gives → Result Question AnswerFault → Handled
 handled_judged station live given (Ok question) =
     let rest = record live.rest { asked = settled live.rest.asked; link = answered_link question given live.rest.link } in
-    replied station live rest question (answer_status question.request given) (answer_blocks question.request given)
+    replied_later station live rest question (answer_status question.request given) (answer_blocks question.request given)
 handled_judged station live given (Err fault) = Refuses note.Refused
 
 -- What an answer under a number does.
@@ -590,20 +613,22 @@ unit_rest live =
     })
 
 -- The rest after a unit of time of what is asked, after the relation sent this many frames.
-abbrev pub counted_rest : Identity → List ℕ → ℕ → Rest → Rest
-counted_rest identity address count rest =
-    record rest { asked = asked_later count rest.asked; calls = late_calls identity address (late_in count rest.asked) rest.calls }
+abbrev pub counted_rest : Station → List ℕ → ℕ → Rest → Rest
+counted_rest station address count rest = record rest {
+  asked = asked_later count rest.asked;
+  calls = late_calls station.options station.identity address (late_in count rest.asked) rest.calls;
+}
 
 -- What is sent then: a call that has no answer in time is refused.
-abbrev pub counted_sent : List ℕ → ℕ → Rest → List Sent
-counted_sent address count rest = late_sent address (late_in count rest.asked) rest.calls
+abbrev pub counted_sent : Station → List ℕ → ℕ → Rest → List Sent
+counted_sent station address count rest = late_sent station.options address (late_in count rest.asked) rest.calls
 
 -- The state after a unit of time: first of the relation, then of what is asked.
 abbrev pub ticked : Station → Live → Handled
 ticked station live =
     let address = live.values.running.suite.address in
     let sent = unit_sent live in
-    Moves (counted_rest station.identity address (length sent) (unit_rest live)) (sent ++ counted_sent address (length sent) (unit_rest live))
+    Moves (counted_rest station address (length sent) (unit_rest live)) (sent ++ counted_sent station address (length sent) (unit_rest live))
 
 -- What each event does to a device: the cases of its machine.
 abbrev pub handled : Station → Live → Heard → Handled

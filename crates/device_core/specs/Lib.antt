@@ -11,4 +11,5 @@ pub mod Steps
 pub mod Local
 pub mod Cycle
 pub mod Leaps
+pub mod Repeats
 pub mod OpenAlarm

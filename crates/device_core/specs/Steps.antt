@@ -21,6 +21,7 @@ use Rattle.device_core.specs.State.{Station, State, Live, alias_in, store_of}
 use Rattle.device_frames.specs.Sent.{answer_frame}
 use Rattle.device_frames.specs.Sendable.{AreSendable}
 use Rattle.device_frames.specs.Heard.{Heard, Asks, Reported, Calls, heard_of}
+use Rattle.device_core.specs.Asking.{is_kept}
 use Rattle.device_core.specs.Handled.{is_running}
 use Rattle.device_core.specs.Machine.{Stepped, items_of, heard_step, step_of, first_step, later_steps, run_of}
 use Rattle.device_core.specs.Faults.{StepGoesOn}
@@ -74,9 +75,9 @@ AnswersBy station settings live = (outcomes : List Outcome) (event : Event) (ask
     → heard_of station.identity event ≡ Asks asker request → request.service ≡ Identify
     → IsIdentified station.identity settings live asker request (step_of outcomes station live event)
 
--- A call that is handled was received: to the running address, of an operation of a device, with the right lengths of
--- its blocks.
-pub record IsServed (live : Live) (heard : Heard) (call : Called) : Type 0 where
+-- A call that is handled was received: to the running address, of an operation of a device whose answers are stored, with the right
+-- lengths of its blocks.
+pub record IsServed (station : Station) (live : Live) (heard : Heard) (call : Called) : Type 0 where
   pub caller : Caller
   pub address : List ℕ
   pub blocks : List ℕ
@@ -84,6 +85,7 @@ pub record IsServed (live : Live) (heard : Heard) (call : Called) : Type 0 where
   pub runs : is_running live.values.running address ≡ true
   pub operation : Operation
   pub served : operation_of call.header.operation ≡ Some operation
+  pub stored : is_kept station.options operation ≡ true
   pub counted : call.blocks ≡ Some blocks
 
 -- The stored frame of a call is sent, and nothing changes.

@@ -1,5 +1,5 @@
 // Records that the application answers: what a call asks of it, and the response to a call that was asked.
-ghost use Rattle.std.specs.Prelude.{◌≡◌, ◌<◌, ◌≤◌, ◌++◌, [], map, IfSome, IfOk, length, option_map, if◌then◌else◌};
+ghost use Rattle.std.specs.Prelude.{◌≡◌, ◌<◌, ◌≤◌, ◌+◌, ◌++◌, [], ◌∷◌, true, map, IfSome, IfOk, length, option_map, if◌then◌else◌};
 ghost use Rattle.arrayvec.specs.ArrayVec.{array_vec_len};
 ghost use Rattle.frame_codec.specs.Outbox.{boxed};
 ghost use Rattle.wire.specs.Codec.{Gives};
@@ -7,11 +7,12 @@ ghost use Rattle.rpc_core.specs.Call.{asked};
 ghost use Rattle.rpc_core.specs.Reported.{reported};
 ghost use Rattle.asked_records.specs.Answers.{gives, is_refusal};
 ghost use Rattle.asked_records.specs.Asked.{due_in, seen, seen_in};
+ghost use Rattle.asked_records.specs.Questions.{operation_of};
 ghost use Rattle.asked_records.specs.declared.question.Request.TheVariants as request;
-ghost use Rattle.device_frames.specs.Sendable.{AreSendable};
+ghost use Rattle.device_frames.specs.Sendable.{AreSendable, IsSendable};
 ghost use Rattle.device_frames.specs.Sent.{bytes_of};
 ghost use Rattle.device_core.specs.Asking.{answered_link, asking_of, asking_read, asking_write, calls_after, ended_by, is_new, left_asked};
-ghost use Rattle.device_core.specs.Asking.{question_of, released_by, question_replies, reply_to, write_within};
+ghost use Rattle.device_core.specs.Asking.{is_kept, later_calls, later_replies, looked_if, question_of, refused_calls, refused_sent, released_by, question_replies, reply_to, write_within};
 ghost use Rattle.device_core.specs.Behind.{CanSend, behind, frames_of, question_asked};
 ghost use Rattle.device_core.specs.Handled.{counted_rest, counted_sent, handled_gives};
 ghost use Rattle.device_core.specs.Machine.{end_of};
@@ -31,7 +32,7 @@ use pn_values::{Identity, Real};
 use records::{
     CallFault, Operation, check_relation, is_relation, read_request, request_within, single_block,
 };
-use relations::{Farewell, Relation};
+use relations::{DeviceOptions, Farewell, Relation};
 use rpc_core::{Looked, Status, Uuid};
 
 impl<F: Flash<S>, const S: usize> Device<F, S> {
@@ -49,7 +50,8 @@ impl<F: Flash<S>, const S: usize> Device<F, S> {
         self.asked.asked()
     }
 
-    // A call for a record of the application: it is asked, or refused while another one is.
+    // A call for a record of the application: it is asked, and the call that it displaces is refused; or it is refused while
+    // another one is asked.
     pub(crate) fn ask(&mut self, question: &Question, octets: &[u8], outbox: &mut Outbox) -> Note
         requires length { question.now.greatest_length ≤ 1308 }
         requires few { length octets.now ≤ 1308 }
@@ -59,14 +61,29 @@ impl<F: Flash<S>, const S: usize> Device<F, S> {
         ensures sendable { CanSend self.old (question_asked self.old question.now octets.now) }
         ensures note { result ≡ Note.Done }
     {
+        let displaced = self.asked.displace(self.options.asks_own_first, question);
+        let address = self.store.running().suite.address();
         if self.asked.ask(question, octets).is_some() {
+            self.answers.refuse(
+                &self.identity,
+                &self.options,
+                address,
+                Unanswered::Busy,
+                &displaced,
+                outbox,
+            );
             return Note::Done;
         }
         let status = Unanswered::Busy.number(question.request.operation());
-        let address = self.store.running().suite.address();
         self.answers.blocks.clear();
-        self.answers
-            .reply(&self.identity, address, question, status, outbox);
+        self.answers.reply(
+            &self.identity,
+            &self.options,
+            address,
+            question,
+            status,
+            outbox,
+        );
         Note::Done
     }
 
@@ -86,8 +103,9 @@ impl<F: Flash<S>, const S: usize> Device<F, S> {
         };
         hear_asker(&reply.question, given, &mut self.relation);
         let address = self.store.running().suite.address();
-        self.answers.reply(
+        self.answers.reply_later(
             &self.identity,
+            &self.options,
             address,
             &reply.question,
             reply.status,
@@ -99,12 +117,12 @@ impl<F: Flash<S>, const S: usize> Device<F, S> {
     // A unit of time of what is asked, after the relation has sent what is due: a call that has no answer in time is refused.
     #[inline(always)]
     pub(crate) fn count_asked(&mut self, outbox: &mut Outbox) -> Note
-        ensures state { self.new ≡ with_rest self.old (counted_rest self.old.station.identity
+        ensures state { self.new ≡ with_rest self.old (counted_rest self.old.station
             self.old.live.values.running.suite.address (array_vec_len outbox.old) self.old.live.rest) }
         ensures frames { boxed outbox.new ≡ boxed outbox.old ++ map (bytes_of self.old.station.identity)
-            (counted_sent self.old.live.values.running.suite.address (array_vec_len outbox.old) self.old.live.rest) }
+            (counted_sent self.old.station self.old.live.values.running.suite.address (array_vec_len outbox.old) self.old.live.rest) }
         ensures sendable { AreSendable self.old.station.identity
-            (counted_sent self.old.live.values.running.suite.address (array_vec_len outbox.old) self.old.live.rest) }
+            (counted_sent self.old.station self.old.live.values.running.suite.address (array_vec_len outbox.old) self.old.live.rest) }
         ensures note { result ≡ Note.Done }
     {
         if self.asked.due_in() == 1 {
@@ -118,12 +136,12 @@ impl<F: Flash<S>, const S: usize> Device<F, S> {
     #[inline(never)]
     fn refuse_late(&mut self, outbox: &mut Outbox) -> Note
         requires due { due_in self.old.live.rest.asked ≡ 1 }
-        ensures state { self.new ≡ with_rest self.old (counted_rest self.old.station.identity
+        ensures state { self.new ≡ with_rest self.old (counted_rest self.old.station
             self.old.live.values.running.suite.address (array_vec_len outbox.old) self.old.live.rest) }
         ensures frames { boxed outbox.new ≡ boxed outbox.old ++ map (bytes_of self.old.station.identity)
-            (counted_sent self.old.live.values.running.suite.address (array_vec_len outbox.old) self.old.live.rest) }
+            (counted_sent self.old.station self.old.live.values.running.suite.address (array_vec_len outbox.old) self.old.live.rest) }
         ensures sendable { AreSendable self.old.station.identity
-            (counted_sent self.old.live.values.running.suite.address (array_vec_len outbox.old) self.old.live.rest) }
+            (counted_sent self.old.station self.old.live.values.running.suite.address (array_vec_len outbox.old) self.old.live.rest) }
         ensures note { result ≡ Note.Done }
     {
         if outbox.len() == 4 {
@@ -132,21 +150,102 @@ impl<F: Flash<S>, const S: usize> Device<F, S> {
         let Some(question) = self.asked.question() else {
             return Note::Done;
         };
-        let question = *question;
+        let late = Some(*question);
         let _ = self.asked.tick();
-        let status = Unanswered::Late.number(question.request.operation());
         let address = self.store.running().suite.address();
-        self.answers.blocks.clear();
-        self.answers
-            .reply(&self.identity, address, &question, status, outbox);
+        self.answers.refuse(
+            &self.identity,
+            &self.options,
+            address,
+            Unanswered::Late,
+            &late,
+            outbox,
+        );
         Note::Done
     }
 }
 
 impl Answering {
+    // A call that was asked, if there is one, is refused for this reason.
+    fn refuse(
+        &mut self,
+        identity: &Identity,
+        options: &DeviceOptions,
+        address: [u8; 4],
+        reason: Unanswered,
+        question: &Option<Question>,
+        outbox: &mut Outbox,
+    )
+        requires room { array_vec_len outbox.old < 4 }
+        ensures frames { boxed outbox.new ≡ boxed outbox.old ++ map (bytes_of identity.now)
+            (refused_sent options.now address reason question.now self.old.kept) }
+        ensures sendable { AreSendable identity.now (refused_sent options.now address reason question.now self.old.kept) }
+        ensures kept { self.new.kept ≡ refused_calls options.now identity.now address reason question.now self.old.kept }
+    {
+        let Some(question) = question else {
+            return;
+        };
+        let status = reason.number(question.request.operation());
+        self.blocks.clear();
+        self.reply_later(identity, options, address, question, status, outbox);
+    }
+
+    // Appends the response to a call that was asked before to the outbox, if the device still has an IP address: no frame may say
+    // that it comes from 0.0.0.0.
+    fn reply_later(
+        &mut self,
+        identity: &Identity,
+        options: &DeviceOptions,
+        address: [u8; 4],
+        question: &Question,
+        status: Status,
+        outbox: &mut Outbox,
+    )
+        requires room { array_vec_len outbox.old < 4 }
+        ensures frames { boxed outbox.new ≡ boxed outbox.old ++ map (bytes_of identity.now)
+            (later_replies (is_kept options.now (operation_of question.now.request)) address question.now
+            (reply_to address question.now status self.old.blocks.items) self.old.kept) }
+        ensures sendable { AreSendable identity.now
+            (later_replies (is_kept options.now (operation_of question.now.request)) address question.now
+            (reply_to address question.now status self.old.blocks.items) self.old.kept) }
+        ensures kept { self.new.kept ≡ later_calls (is_kept options.now (operation_of question.now.request)) identity.now address question.now
+            (reply_to address question.now status self.old.blocks.items) self.old.kept }
+    {
+        if address == [0; 4] {
+            return;
+        }
+        self.reply(identity, options, address, question, status, outbox);
+    }
+
+    // Appends the response to a call that was asked to the outbox.
+    fn reply(
+        &mut self,
+        identity: &Identity,
+        options: &DeviceOptions,
+        address: [u8; 4],
+        question: &Question,
+        status: Status,
+        outbox: &mut Outbox,
+    )
+        requires room { array_vec_len outbox.old < 4 }
+        ensures frames { boxed outbox.new ≡ boxed outbox.old ++ map (bytes_of identity.now)
+            (question_replies (is_kept options.now (operation_of question.now.request)) question.now
+            (reply_to address question.now status self.old.blocks.items) self.old.kept) }
+        ensures sendable { AreSendable identity.now
+            (question_replies (is_kept options.now (operation_of question.now.request)) question.now
+            (reply_to address question.now status self.old.blocks.items) self.old.kept) }
+        ensures kept { self.new.kept ≡ calls_after (is_kept options.now (operation_of question.now.request)) identity.now question.now
+            (reply_to address question.now status self.old.blocks.items) self.old.kept }
+    {
+        if !is_kept(options, question.request.operation()) {
+            return self.send_reply(identity, address, question, status, outbox);
+        }
+        self.reply_and_keep(identity, address, question, status, outbox);
+    }
+
     // Appends the response to a call that was asked to the outbox, and keeps it, unless a later call of its activity was answered
     // meanwhile.
-    fn reply(
+    fn reply_and_keep(
         &mut self,
         identity: &Identity,
         address: [u8; 4],
@@ -156,21 +255,52 @@ impl Answering {
     )
         requires room { array_vec_len outbox.old < 4 }
         ensures frames { boxed outbox.new ≡ boxed outbox.old ++ map (bytes_of identity.now)
-            (question_replies question.now (reply_to address question.now status self.old.blocks.items) self.old.kept) }
+            (question_replies true question.now (reply_to address question.now status self.old.blocks.items) self.old.kept) }
         ensures sendable { AreSendable identity.now
-            (question_replies question.now (reply_to address question.now status self.old.blocks.items) self.old.kept) }
+            (question_replies true question.now (reply_to address question.now status self.old.blocks.items) self.old.kept) }
         ensures kept { self.new.kept
-            ≡ calls_after identity.now question.now (reply_to address question.now status self.old.blocks.items) self.old.kept }
+            ≡ calls_after true identity.now question.now (reply_to address question.now status self.old.blocks.items) self.old.kept }
     {
         let (activity, sequence) = (&question.header.activity, question.header.sequence);
         if !is_new(&self.kept.look(activity, sequence)) {
             return;
         }
-        let response = question.response(status, self.blocks.as_slice());
         let place = outbox.len();
-        send_response(identity, address, &question.caller, &response, outbox);
+        self.send_reply(identity, address, question, status, outbox);
         self.kept
             .keep(activity, sequence, &outbox.as_slice()[place]);
+    }
+
+    // Appends the response to a call that was asked to the outbox.
+    fn send_reply(
+        &self,
+        identity: &Identity,
+        address: [u8; 4],
+        question: &Question,
+        status: Status,
+        outbox: &mut Outbox,
+    )
+        requires room { array_vec_len outbox.old < 4 }
+        ensures frames { boxed outbox.new ≡ boxed outbox.old ++ bytes_of identity.now (reply_to address question.now status self.now.blocks.items) ∷ [] }
+        ensures one { array_vec_len outbox.new ≡ array_vec_len outbox.old + 1 }
+        ensures sendable { IsSendable identity.now (reply_to address question.now status self.now.blocks.items) }
+    {
+        let response = question.response(status, self.blocks.as_slice());
+        send_response(identity, address, &question.caller, &response, outbox);
+    }
+}
+
+/// Whether the answer to a call of this operation is stored.
+pub(crate) fn is_kept(options: &DeviceOptions, operation: Operation) -> bool
+    ensures { result ≡ is_kept options.now operation }
+{
+    match operation {
+        Operation::ReadImplicit => !options.reads_not_kept,
+        Operation::Connect
+        | Operation::Release
+        | Operation::Read
+        | Operation::Write
+        | Operation::Control => true,
     }
 }
 

@@ -17,6 +17,7 @@ ghost use Rattle.device_frames.specs.Sendable.{IsSendable};
 ghost use Rattle.device_frames.specs.Sent.{bytes_of};
 ghost use Rattle.device_core.specs.Handled.{Writes, WritesEach, answer_from, came_with, count_after, kept_for, handled, handled_call, outcome_of, partner_of};
 ghost use Rattle.device_core.specs.Behind.{CanSend, answer_to, behind, brings, called, exchanging_of, frames_of, owned, parameters_ended, plug_ended, ready_responded, refused, responded, unanswered, wrote};
+ghost use Rattle.device_core.specs.Asking.{kept_if};
 ghost use Rattle.device_core.specs.Log.{arguments_log, with_log};
 ghost use Rattle.device_core.specs.State.{with_rest};
 ghost use Rattle.device_core.specs.Machine.{end_of, written_as as comes_out};
@@ -24,7 +25,7 @@ ghost use Rattle.device_core.specs.Steps.{StaysReliable, Steps};
 ghost use Rattle.frame_codec.specs.Outbox.{boxed};
 
 use crate::arp::is_running;
-use crate::asking::{asking_of, leave, leave_released};
+use crate::asking::{asking_of, is_kept, leave, leave_released};
 use crate::logging::{log_answer, log_arguments, log_connect, log_release, uuid_of};
 use crate::several::{fill_texts, put_outcomes};
 use crate::{Device, Note};
@@ -144,6 +145,9 @@ impl<F: Flash<S>, const S: usize> Device<F, S> {
             operation,
             blocks,
         };
+        if !is_kept(&self.options, operation) {
+            return self.serve_unanswered(&serving, outbox);
+        }
         match self
             .answers
             .kept
@@ -182,7 +186,7 @@ impl<F: Flash<S>, const S: usize> Device<F, S> {
         Note::Done
     }
 
-    // A call that was not answered: a repeat of the one that is asked of the application is dropped.
+    // A call that was not answered, or whose answer is not stored: a repeat of the one that is asked of the application is dropped.
     fn serve_unanswered(&mut self, serving: &Serving<'_>, outbox: &mut Outbox) -> Note
         requires stored { Holds (F.image self.old.flash) self.old.live.values }
         requires empty { outbox.old.items ≡ [] }
@@ -212,7 +216,7 @@ impl<F: Flash<S>, const S: usize> Device<F, S> {
         }
     }
 
-    // A new call that the device answers by itself: its answer is sent and stored.
+    // A new call that the device answers by itself: its answer is sent, and stored or not.
     fn serve_own(&mut self, serving: &Serving<'_>, outbox: &mut Outbox) -> Note
         requires stored { Holds (F.image self.old.flash) self.old.live.values }
         requires empty { outbox.old.items ≡ [] }
@@ -424,8 +428,9 @@ impl<F: Flash<S>, const S: usize> Device<F, S> {
         self.relation
             .hear_controller(&source_of(serving.caller), is_named, came);
         let address = self.store.running().suite.address();
+        let is_stored = is_kept(&self.options, serving.operation);
         self.answers
-            .give(&self.identity, address, serving, came, outbox);
+            .give_if(is_stored, &self.identity, address, serving, came, outbox);
         Note::Done
     }
 
@@ -520,8 +525,15 @@ impl<F: Flash<S>, const S: usize> Device<F, S> {
         ensures note { result ≡ Note.Done }
     {
         let address = self.store.running().suite.address();
-        self.answers
-            .give(&self.identity, address, serving, Err(fault), outbox);
+        let is_stored = is_kept(&self.options, serving.operation);
+        self.answers.give_if(
+            is_stored,
+            &self.identity,
+            address,
+            serving,
+            Err(fault),
+            outbox,
+        );
         Note::Done
     }
 
@@ -625,6 +637,30 @@ pub(crate) struct Answering {
 }
 
 impl Answering {
+    // Puts the answer to a new call into the empty outbox, and keeps it or not.
+    fn give_if(
+        &mut self,
+        is_stored: bool,
+        identity: &Identity,
+        address: [u8; 4],
+        serving: &Serving<'_>,
+        came: Result<(), CallFault>,
+        outbox: &mut Outbox,
+    )
+        requires empty { outbox.old.items ≡ [] }
+        ensures frames { boxed outbox.new
+            ≡ bytes_of identity.now (answer_to address serving.now (came_with came self.old.blocks.items)) ∷ [] }
+        ensures sendable { IsSendable identity.now (answer_to address serving.now (came_with came self.old.blocks.items)) }
+        ensures one { array_vec_len outbox.new ≡ 1 }
+        ensures kept { self.new.kept ≡ kept_if is_stored (kept_for identity.now (asked serving.now.call.now)
+            (answer_to address serving.now (came_with came self.old.blocks.items))) self.old.kept }
+    {
+        if is_stored {
+            return self.give(identity, address, serving, came, outbox);
+        }
+        self.send(identity, address, serving, came, outbox);
+    }
+
     // Puts the answer to a new call into the empty outbox, and keeps it.
     fn give(
         &mut self,
@@ -642,15 +678,31 @@ impl Answering {
         ensures kept { self.new.kept ≡ kept_more 4 (kept_for identity.now (asked serving.now.call.now)
             (answer_to address serving.now (came_with came self.old.blocks.items))) self.old.kept }
     {
-        let call = serving.call;
+        self.send(identity, address, serving, came, outbox);
+        let header = &serving.call.header;
+        self.kept
+            .keep(&header.activity, header.sequence, &outbox.as_slice()[0]);
+    }
+
+    // Puts the answer to a new call into the empty outbox.
+    fn send(
+        &mut self,
+        identity: &Identity,
+        address: [u8; 4],
+        serving: &Serving<'_>,
+        came: Result<(), CallFault>,
+        outbox: &mut Outbox,
+    )
+        requires empty { outbox.old.items ≡ [] }
+        ensures frames { boxed outbox.new
+            ≡ bytes_of identity.now (answer_to address serving.now (came_with came self.old.blocks.items)) ∷ [] }
+        ensures sendable { IsSendable identity.now (answer_to address serving.now (came_with came self.old.blocks.items)) }
+        ensures one { array_vec_len outbox.new ≡ 1 }
+        ensures kept { self.new.kept ≡ self.old.kept }
+    {
         let status = settle(serving.operation, came, &mut self.blocks);
-        let response = call.response(status, self.blocks.as_slice());
+        let response = serving.call.response(status, self.blocks.as_slice());
         send_response(identity, address, serving.caller, &response, outbox);
-        self.kept.keep(
-            &call.header.activity,
-            call.header.sequence,
-            &outbox.as_slice()[0],
-        );
     }
 }
 

@@ -5,6 +5,7 @@ ghost use Rattle.device_frames.specs.Heard.{heard_of};
 ghost use Rattle.device_frames.specs.declared.event.Event.{Event};
 ghost use Rattle.device_core.specs.Faults.{RunGoesOn};
 ghost use Rattle.device_core.specs.Local.{AnswersGoToTheQuestion, ApplicationIsLocal, OnlyPullsAndPlugsChangeModules};
+ghost use Rattle.device_core.specs.Repeats.{ReadsAreBetween, ReadsLeaveStoredAnswers, RepeatsAreAnsweredAlike};
 ghost use Rattle.device_core.specs.State.{State};
 ghost use Rattle.device_core.specs.Steps.{HandsOn, IsBehindCalls, IsExactRun, Runs, TakesRoom};
 
@@ -57,4 +58,19 @@ pub fn answers_go_to_the_question()
 /// definitions that specify `Device::step`; the function has no code.
 pub fn only_pulls_and_plugs_change_modules()
     ensures { OnlyPullsAndPlugsChangeModules }
+{}
+
+/// With the option `reads_not_kept`, a step with a Read Implicit, with its answer by the application or with its late refusal leaves the
+/// stored answers exactly as they are. This is a law of the definitions that specify `Device::step`; the function has no code.
+pub fn reads_leave_stored_answers()
+    ensures { ReadsLeaveStoredAnswers }
+{}
+
+/// A call whose answer is stored is answered with the same frame when it comes again, after any events, as long as answers to calls of
+/// fewer than four other activities were stored in between. With the option `reads_not_kept`, Read Implicit count for nothing. This
+/// is a law of the definitions that specify `Device::step`; the function has no code.
+pub fn repeats_are_answered_alike()
+    ensures alike { RepeatsAreAnsweredAlike }
+    // Any Read Implicit may come in between.
+    ensures reads { ReadsAreBetween }
 {}

@@ -24,7 +24,7 @@ pub use device_frames::{Caller, Event, Local, Note, Octets};
 pub use headline::{cycle, cycle_with, restart};
 pub use law::{
     answers_go_to_the_question, application_is_local, only_pulls_and_plugs_change_modules,
-    steps_make_runs,
+    reads_leave_stored_answers, repeats_are_answered_alike, steps_make_runs,
 };
 pub use leaps::leaps_are_ticks;
 pub use sink::Sink;

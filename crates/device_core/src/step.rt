@@ -73,7 +73,7 @@ impl<F: Flash<S>, const S: usize> Device<F, S> {
             Identifies self.old asker request (boxed outbox.new) result self.new }
 
         // A call that was answered gets the same frame again, while that frame is kept.
-        ensures again { (call : Called) (frame : List ℕ) → IsServed self.old.live (heard_of self.old.station.identity event.now) call →
+        ensures again { (call : Called) (frame : List ℕ) → IsServed self.old.station self.old.live (heard_of self.old.station.identity event.now) call →
             looked call.header.activity call.header.sequence self.old.live.rest.calls ≡ again frame →
             IsAgain self.old frame (boxed outbox.new) result self.new }
     {

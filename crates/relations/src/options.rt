@@ -41,6 +41,12 @@ pub struct DeviceOptions {
     /// the Connect leaves the choice to the device, and the endpoint of its alarms. Each relation has the next of 14,336, so
     /// that a late frame of an earlier one is refused. A host that counts its starts begins with another number at each.
     pub numbers_from: Option<u16>,
+    /// Whether the answers to Read Implicit are not stored. Any station may call it, and the device stores the answers of four
+    /// activities only. With this option a Read Implicit takes none of these places: each one is handled again, also a repeat.
+    pub reads_not_kept: bool,
+    /// Whether a Read or a Write within the relation takes the place of a Read Implicit of which the application is asked. That
+    /// one is refused as busy then. Without this option the later call is refused as busy, whichever it is.
+    pub asks_own_first: bool,
 }
 
 impl Default for DeviceOptions {
@@ -50,7 +56,8 @@ impl Default for DeviceOptions {
     ghost is_default = { λ options. options ≡ default_options };
 
     /// Any interval is accepted, inputs begin good, the device is ready as soon as its parameters have ended, any station may
-    /// hold a relation, each record is kept, and the numbers of a relation are always the first ones.
+    /// hold a relation, each record is kept, the numbers of a relation are always the first ones, each answer is stored, and
+    /// what is asked of the application is asked until it is answered.
     fn default() -> DeviceOptions {
         DeviceOptions {
             smallest_interval: 1,
@@ -59,6 +66,8 @@ impl Default for DeviceOptions {
             only_own_controller: false,
             records_passed_on: false,
             numbers_from: None,
+            reads_not_kept: false,
+            asks_own_first: false,
         }
     }
 }

@@ -13,7 +13,7 @@ returns-clause-frames g c =
     let given = gives c.args.given.now in
     let one : judged c.args.number given old.live.rest.asked ≡ Ok c.in-Ok.reply.question = rw (← c.self.view_is) c.in-Ok.ensures.question in
     let it = ap (λ (who : Result Question AnswerFault). end_of old.station old.live (handled_judged old.station old.live given who)) one in
-    let frames = rw (c.requires.empty, c.in-Ok.ensures.status, c.in-Ok.ensures.blocks, c.address-address.ensures.value, c.running.ensures) at c.reply.ensures.frames in
+    let frames = rw (c.requires.empty, c.in-Ok.ensures.status, c.in-Ok.ensures.blocks, c.address-address.ensures.value, c.running.ensures) at c.reply_later.ensures.frames in
     rw it (rw (← c.self.view_is) frames)
 
 pub returns-clause-sendable : goal.returns-clause-sendable
@@ -22,5 +22,5 @@ returns-clause-sendable g c =
     let given = gives c.args.given.now in
     let one : judged c.args.number given old.live.rest.asked ≡ Ok c.in-Ok.reply.question = rw (← c.self.view_is) c.in-Ok.ensures.question in
     let it = ap (λ (who : Result Question AnswerFault). end_of old.station old.live (handled_judged old.station old.live given who)) one in
-    let sendable = rw (c.in-Ok.ensures.status, c.in-Ok.ensures.blocks, c.address-address.ensures.value, c.running.ensures) at c.reply.ensures.sendable in
+    let sendable = rw (c.in-Ok.ensures.status, c.in-Ok.ensures.blocks, c.address-address.ensures.value, c.running.ensures) at c.reply_later.ensures.sendable in
     rw it (rw (← c.self.view_is) sendable)

@@ -51,8 +51,8 @@ returns-in_default-clause-sendable g c =
     let none : question_in c.self.inside.asked ≡ None = rw c.in_default.is at (sym c.question.ensures.value) in
     absurd (one_asked c.self.inside.asked (rw (← c.self.view_is) at c.requires.due) none)
 
-pub reply-requires : goal.reply-requires
-reply-requires g c = omega (arith, c.len.ensures.value, c.len.ensures.most, c.if-len-eq4.false)
+pub refuse-requires : goal.refuse-requires
+refuse-requires g c = omega (arith, c.len.ensures.value, c.len.ensures.most, c.if-len-eq4.false)
 
 pub returns-clause-state : goal.returns-clause-state
 returns-clause-state g c =
@@ -64,7 +64,7 @@ returns-clause-state g c =
     let inside : question_in c.self.inside.asked ≡ Some c.in-Some.question.now = rw c.in-Some.is at (sym c.question.ensures.value) in
     let found : question_in asked ≡ Some c.in-Some.question.now = rw (← c.self.view_is) inside in
     let one : late_in count asked ≡ Some c.in-Some.question.now = late_if count asked over room ∙ found in
-    let kept = rw (c.clear.ensures, c.number-status.ensures.value, c.operation.ensures, c.address-address.ensures.value, c.running.ensures) at c.reply.ensures.kept in
+    let kept = rw (c.address-address.ensures.value, c.running.ensures) at c.refuse.ensures.kept in
     rw (goes_if count asked room, one) (rw (← c.self.view_is) (rw (c.tick.ensures.state, kept) refl))
 
 pub returns-clause-frames : goal.returns-clause-frames
@@ -77,7 +77,7 @@ returns-clause-frames g c =
     let inside : question_in c.self.inside.asked ≡ Some c.in-Some.question.now = rw c.in-Some.is at (sym c.question.ensures.value) in
     let found : question_in asked ≡ Some c.in-Some.question.now = rw (← c.self.view_is) inside in
     let one : late_in count asked ≡ Some c.in-Some.question.now = late_if count asked over room ∙ found in
-    let frames = rw (c.clear.ensures, c.number-status.ensures.value, c.operation.ensures, c.address-address.ensures.value, c.running.ensures) at c.reply.ensures.frames in
+    let frames = rw (c.address-address.ensures.value, c.running.ensures) at c.refuse.ensures.frames in
     rw one (rw (← c.self.view_is) frames)
 
 pub returns-clause-sendable : goal.returns-clause-sendable
@@ -90,5 +90,5 @@ returns-clause-sendable g c =
     let inside : question_in c.self.inside.asked ≡ Some c.in-Some.question.now = rw c.in-Some.is at (sym c.question.ensures.value) in
     let found : question_in asked ≡ Some c.in-Some.question.now = rw (← c.self.view_is) inside in
     let one : late_in count asked ≡ Some c.in-Some.question.now = late_if count asked over room ∙ found in
-    let sendable = rw (c.clear.ensures, c.number-status.ensures.value, c.operation.ensures, c.address-address.ensures.value, c.running.ensures) at c.reply.ensures.sendable in
+    let sendable = rw (c.address-address.ensures.value, c.running.ensures) at c.refuse.ensures.sendable in
     rw one (rw (← c.self.view_is) sendable)

@@ -2,7 +2,7 @@
 use Rattle.std.proofs.Common.{◌≡◌, None, Some, Ok, Err, refl, sym, ap, ◌∙◌}
 use Rattle.rpc_core.specs.Call.{asked}
 use Rattle.relations.specs.RelationState.{uuid_of}
-use Rattle.asked_records.specs.Asked.{asks}
+use Rattle.asked_records.specs.Asked.{asks, behind_displaced, displaced_by}
 use Rattle.device_core.specs.Asking.{asking_of}
 use Rattle.device_core.specs.Handled.{handled_asking, handled_question}
 use Rattle.device_core.proofs.Handled.{question_asks_nothing, question_done}
@@ -28,11 +28,12 @@ returns-in-Ok-Some-clause-steps g c = λ heard is.
     let octets = c.in-Ok-Some.octets.now in
     let asks_it : asking_of old.live.rest.real old.station.named (uuid_of old.live.rest.link) serving.caller.now call serving.blocks.now serving.operation ≡ Ok (Some (question, octets)) =
     rw (← c.self.view_is) (rw (← c.uuid.ensures) (rw (c.in-Ok-Some.is, c.in-Ok-Some.field-0-is) at c.asking_of.ensures.value)) in
-    inactive_steps g.F.Flash old _ heard (handled_question old.station old.live question (asks question octets old.live.rest.asked)) _ _ c.requires.stored
+    let displaced = displaced_by old.station.options.asks_own_first question old.live.rest.asked in
+    let asked = asks question octets (behind_displaced displaced old.live.rest.asked) in
+    inactive_steps g.F.Flash old _ heard (handled_question old.station old.live question displaced asked) _ _ c.requires.stored
     (is ∙ ap (handled_asking old.station old.live serving.caller.now call serving.blocks.now serving.operation) asks_it)
-    (question_asks_nothing old.station old.live question (asks question octets old.live.rest.asked))
-    c.ask.ensures.state c.ask.ensures.frames
-    (c.ask.ensures.note ∙ sym (question_done old.station old.live question (asks question octets old.live.rest.asked))) c.ask.ensures.sendable
+    (question_asks_nothing old.station old.live question displaced asked) c.ask.ensures.state c.ask.ensures.frames
+    (c.ask.ensures.note ∙ sym (question_done old.station old.live question displaced asked)) c.ask.ensures.sendable
 
 pub returns-in-Err-clause-steps : goal.returns-in-Err-clause-steps
 returns-in-Err-clause-steps g c = λ heard is.

@@ -23,7 +23,7 @@ returns-clause-frames g c =
     let f = bytes_of old.station.identity in
     let count = count_sent f c.pass_unit_of_relation.new.outbox.items sent c.pass_unit_of_relation.ensures.frames in
     let frames = rw (c.pass_unit_of_relation.ensures.state, count, c.pass_unit_of_relation.ensures.frames) at c.count_asked.ensures.frames in
-    frames ∙ rw (map-append f sent (counted_sent address (length sent) (unit_rest old.live))) refl
+    frames ∙ rw (map-append f sent (counted_sent old.station address (length sent) (unit_rest old.live))) refl
 
 pub returns-clause-sendable : goal.returns-clause-sendable
 returns-clause-sendable g c =
@@ -31,5 +31,5 @@ returns-clause-sendable g c =
     let sent = unit_sent old.live in
     let address = old.live.values.running.suite.address in
     let count = count_sent (bytes_of old.station.identity) c.pass_unit_of_relation.new.outbox.items sent c.pass_unit_of_relation.ensures.frames in
-    all_sendable old.station.identity sent (counted_sent address (length sent) (unit_rest old.live)) c.pass_unit_of_relation.ensures.sendable
+    all_sendable old.station.identity sent (counted_sent old.station address (length sent) (unit_rest old.live)) c.pass_unit_of_relation.ensures.sendable
     (rw (c.pass_unit_of_relation.ensures.state, count) at c.count_asked.ensures.sendable)
