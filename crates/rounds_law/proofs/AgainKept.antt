@@ -208,14 +208,17 @@ module _ (setup : Setup) (identity : Identity) (station : Station) (live : Live)
       subst (λ (step : Stepped). IsRefused Is setup identity live step) (sym stepped) (
         bytes_of station.identity sent,
         refl,
-        (record {
-          status = status_of Connect because;
-          negative = negative Connect because;
-          fits = (subst (λ (messages : List Sent). AreSendable identity messages)
-              (ap (λ (step : Stepped). step.sent) stepped ∙ ap (λ (s : Sent). s ∷ []) message) sendable).0.1;
-          frame = ap (λ (s : Sent). bytes_of station.identity s) message
-              ∙ ap (λ (i : Identity). bytes_of i (answer_from setup.plan.station.suite.address caller call Connect (Err because))) same;
-        }, is),
+        (
+          record {
+            status = status_of Connect because;
+            negative = negative Connect because;
+            fits = (subst (λ (messages : List Sent). AreSendable identity messages)
+                (ap (λ (step : Stepped). step.sent) stepped ∙ ap (λ (s : Sent). s ∷ []) message) sendable).0.1;
+            frame = ap (λ (s : Sent). bytes_of station.identity s) message
+                ∙ ap (λ (i : Identity). bytes_of i (answer_from setup.plan.station.suite.address caller call Connect (Err because))) same;
+          },
+          is,
+        ),
         refl,
         ap link_by refused,
         λ activity other none. none_more activity (kept_for station.identity call sent) live.rest.calls other none,
